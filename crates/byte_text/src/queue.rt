@@ -1,0 +1,99 @@
+// Bytes that come at the end and leave at the front.
+ghost use Rattle.std.specs.Prelude.{◌≡◌, ℕ, ◌+◌, ◌-◌, ◌<◌, ◌≤◌, ◌==◌, List, [], ◌++◌, length, take, drop, vec_len, vec_capacity, OnOk, OnErr};
+
+use crate::OutOfMemory;
+use std::alloc::Global;
+use std::marker::Model;
+
+/// Takes the first `start` bytes away, by moving the others down.
+fn move_down(bytes: &mut Vec<u8>, start: usize)
+    requires { start ≤ vec_len bytes.old }
+    ensures items { bytes.new.items ≡ drop start bytes.old.items }
+    ensures len { vec_len bytes.new + start ≡ vec_len bytes.old }
+    ensures capacity { vec_capacity bytes.new ≡ vec_capacity bytes.old }
+{
+    let len = bytes.len();
+    bytes.copy_within(start..len, 0);
+    bytes.truncate(len - start);
+}
+
+/// A queue of bytes that grows. Contracts see it as the list of the bytes that wait, the next to leave first.
+///
+/// Bytes leave by a start offset, and are moved down only when more than half of the buffer is free at its front: so
+/// each byte is moved a bounded number of times, and a queue that runs empty moves none.
+#[derive(Drop)]
+pub struct ByteQueue {
+    bytes: Vec<u8>,
+    start: usize,
+}
+
+impl Model for ByteQueue {
+    ghost Value = { List ℕ };
+
+    ghost view = { λ q. drop q.start q.bytes.items };
+
+    ghost invariant = { λ q. q.start ≤ vec_len q.bytes };
+}
+
+impl ByteQueue {
+    /// The empty queue, which takes no memory.
+    pub fn new(alloc: Global) -> ByteQueue
+        ensures { result ≡ [] }
+    {
+        ByteQueue {
+            bytes: Vec::new(alloc),
+            start: 0,
+        }
+    }
+
+    pub fn len(&self) -> usize
+        ensures { result ≡ length self.now }
+    {
+        self.bytes.len() - self.start
+    }
+
+    pub fn is_empty(&self) -> bool
+        ensures { result ≡ (length self.now == 0) }
+    {
+        self.start == self.bytes.len()
+    }
+
+    /// All bytes that wait.
+    pub fn front(&self) -> &[u8]
+        ensures { result.now ≡ self.now }
+    {
+        &self.bytes.as_slice()[self.start..]
+    }
+
+    /// Drops the first bytes.
+    pub fn used(&mut self, count: usize)
+        requires { count ≤ length self.old }
+        ensures { self.new ≡ drop count self.old }
+    {
+        self.start += count;
+        if self.start == self.bytes.len() {
+            self.bytes.clear();
+            self.start = 0;
+        }
+    }
+
+    /// Drops all bytes, and keeps their memory for the next.
+    pub fn clear(&mut self)
+        ensures { self.new ≡ [] }
+    {
+        self.bytes.clear();
+        self.start = 0;
+    }
+
+    pub fn append(&mut self, more: &[u8]) -> Result<(), OutOfMemory>
+        ensures ok { OnOk result (self.new ≡ self.old ++ more.now) }
+        ensures err { OnErr result (self.new ≡ self.old) }
+    {
+        if self.bytes.len() - self.start < self.start {
+            move_down(&mut self.bytes, self.start);
+            self.start = 0;
+        }
+        self.bytes.extend_from_slice(more)?;
+        Ok(())
+    }
+}
