@@ -1,0 +1,6 @@
+//! File jobs: what a request asks of the files, what they answer, and the trees that an answer comes from.
+#![tactic(auto)]
+
+mod job;
+
+pub use job::{Ask, JobAnswer, Node, is_fitting};

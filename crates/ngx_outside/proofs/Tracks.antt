@@ -1,0 +1,95 @@
+-- Each step of a connection keeps track of what has come and gone.
+use Rattle.std.proofs.Common.{◌≡◌, ℕ, ◌≤◌, Bool, true, false, ◌&&◌, List, [], ◌++◌, Some, refl, sym, ap, ◌∙◌, append_assoc, arith}
+use Rattle.std.specs.Prelude.{is_none}
+use Rattle.std.proofs.lemmas.List.{append-nil}
+use Rattle.file_tree.specs.Tree.{Trees}
+use Rattle.ngx_outside.specs.Outside.{Grow}
+use Rattle.ngx_outside.specs.Views.{ConnView, Course, Start, Moved, is_live, no_bytes, no_nodes, no_jobs}
+use Rattle.ngx_outside.specs.Runs.{IsPrefixOf, Agree, TracksBegin, StepsKeepTrack, StopsKeepTrack, TracksNarrow, AllIsSentWhenIdle}
+
+pub tracks_begin : TracksBegin
+tracks_begin whole told newest v f = record {
+  front = λ raceless trees agree. (whole.bytes trees [] v.starts, refl);
+  on = λ live raceless trees agree more later.
+      ap (λ s. whole.bytes trees more (s ++ later)) f.starts ∙ ap (λ (c : Course). c.bytes trees more later) (sym f.comes);
+  heavy = λ live raceless trees agree more later h.
+      ap (λ s. whole.heavy trees more (s ++ later)) f.starts ∙ ap (λ (c : Course). c.heavy trees more later) (sym f.comes) ∙ h;
+}
+
+-- with nothing more to come
+front_of : (whole : Course) (trees : Trees) (v : ConnView) (came went : List ℕ) →
+    ((more : List ℕ) (later : List Start) → whole.bytes trees (came ++ more) (v.starts ++ later) ≡ went ++ v.course.bytes trees more later) →
+    IsPrefixOf went (whole.bytes trees came v.starts)
+front_of whole trees v came went on =
+    (v.course.bytes trees [] [], ap (λ c. whole.bytes trees c v.starts) (sym (append-nil came)) ∙ ap (λ s. whole.bytes trees (came ++ []) s) (sym (append-nil v.starts)) ∙ on [] [])
+
+pub steps_keep_track : StepsKeepTrack
+steps_keep_track whole told newest ground old new came went came' went' started holds t w = record {
+  front = λ raceless trees agree. front_of whole trees new (came ++ came') (went ++ went') (go (sym m.raceless ∙ raceless) trees agree);
+  on = λ live raceless trees agree. go (sym m.raceless ∙ raceless) trees agree;
+  heavy = λ live raceless trees agree. foreseen (sym m.raceless ∙ raceless) trees agree;
+}
+  where
+    m : Moved ground old new came' went' started
+    m = w.moved
+
+    go : old.raceless ≡ true → (trees : Trees) → Agree told newest trees → (more : List ℕ) (later : List Start) →
+        whole.bytes trees ((came ++ came') ++ more) (new.starts ++ later) ≡ (went ++ went') ++ new.course.bytes trees more later
+    go raceless trees agree more later =
+        ap (λ c. whole.bytes trees c (new.starts ++ later)) (append_assoc came came' more)
+        ∙ ap (λ s. whole.bytes trees (came ++ (came' ++ more)) s) (ap (λ s. s ++ later) m.starts ∙ append_assoc old.starts started later)
+        ∙ t.on w.before raceless trees agree (came' ++ more) (started ++ later)
+        ∙ ap (λ r. went ++ r) (m.bytes trees (holds raceless trees agree) more later)
+        ∙ sym (append_assoc went went' (new.course.bytes trees more later))
+
+    foreseen : old.raceless ≡ true → (trees : Trees) → Agree told newest trees → (more : List ℕ) (later : List Start) →
+        new.course.heavy trees more later ≡ true → whole.heavy trees ((came ++ came') ++ more) (new.starts ++ later) ≡ true
+    foreseen raceless trees agree more later h =
+        ap (λ c. whole.heavy trees c (new.starts ++ later)) (append_assoc came came' more)
+        ∙ ap (λ s. whole.heavy trees (came ++ (came' ++ more)) s) (ap (λ s. s ++ later) m.starts ∙ append_assoc old.starts started later)
+        ∙ t.heavy w.before raceless trees agree (came' ++ more) (started ++ later) (m.heavy trees (holds raceless trees agree) more later h)
+
+-- a connection with a cause isn't live
+dead : (v : ConnView) {A : Type 0} (cause : A) (is : Bool) → is ≡ is_live v → is_none (Some cause) ≡ is_none v.cause → is ≡ true → ⊥
+dead v cause is e f h = let k : is_live v ≡ true = sym e ∙ h in clash v.held (is_none v.cause) k (sym f)
+  where
+    clash : (a b : Bool) → (a && b) ≡ true → b ≡ false → ⊥
+    clash true true h g = cc
+    clash true false h g = cc
+    clash false b h g = cc
+
+pub stops_keep_track : StopsKeepTrack
+stops_keep_track whole told newest cause old new came went more started t s = record {
+  front = λ raceless trees agree.
+      (old.course.bytes trees more started, ap (λ x. whole.bytes trees (came ++ more) x) s.starts ∙ t.on s.before (sym s.raceless ∙ raceless) trees agree more started);
+  on = λ live. absurd (stopped live);
+  heavy = λ live. absurd (stopped live);
+}
+  where
+    stopped : is_live new ≡ true → ⊥
+    stopped live = dead new cause (is_live new) refl (ap is_none (sym s.why)) live
+
+narrow : (told told' : Trees) (newest newest' : ℕ) → Grow newest newest' told told' → (trees : Trees) → Agree told' newest' trees → Agree told newest trees
+narrow told told' newest newest' g trees a = record {
+  same = λ of within path. a.same of (let r : newest ≤ newest' = g.rises in omega arith) path ∙ g.same of within path;
+}
+
+pub tracks_narrow : TracksNarrow
+tracks_narrow whole told told' newest newest' v came went g t = record {
+  front = λ raceless trees agree. t.front raceless trees (narrow told told' newest newest' g trees agree);
+  on = λ live raceless trees agree. t.on live raceless trees (narrow told told' newest newest' g trees agree);
+  heavy = λ live raceless trees agree. t.heavy live raceless trees (narrow told told' newest newest' g trees agree);
+}
+
+first_and : (a b c d : Bool) → (a && b && c && d) ≡ true → a ≡ true
+first_and true b c d h = refl
+first_and false true true true h = cc
+first_and false true true false h = cc
+first_and false true false d h = cc
+first_and false false c d h = cc
+
+pub all_is_sent_when_idle : AllIsSentWhenIdle
+all_is_sent_when_idle whole told newest v came went t sound idle raceless trees agree later =
+    ap (λ c. whole.bytes trees c (v.starts ++ later)) (sym (append-nil came))
+    ∙ t.on (first_and (is_live v) (no_bytes v.pending) (no_nodes v.ready) (no_jobs v.jobs) idle) raceless trees agree [] later
+    ∙ ap (λ r. went ++ r) (sound.idle idle trees later) ∙ append-nil went

@@ -1,0 +1,6 @@
+pub mod Causes
+pub mod Views
+pub mod Wants
+pub mod Runs
+pub mod Outside
+pub mod Linked

@@ -1,0 +1,27 @@
+// Laws of what comes and goes on a connection, which the drivers of a core rest on.
+ghost use Rattle.ngx_outside.specs.Runs.{TracksBegin, StepsKeepTrack, StopsKeepTrack, TracksNarrow, AllIsSentWhenIdle};
+
+/// A connection that is opened is tracked, with nothing come and gone.
+pub fn tracks_begin()
+    ensures { TracksBegin }
+{}
+
+/// A tracked connection stays tracked at each step that it goes on by: what came and what went compose.
+pub fn steps_keep_track()
+    ensures { StepsKeepTrack }
+{}
+
+/// A tracked connection stays tracked at its stop.
+pub fn stops_keep_track()
+    ensures { StopsKeepTrack }
+{}
+
+/// A tracked connection stays tracked while the files tell more trees.
+pub fn tracks_narrow()
+    ensures { TracksNarrow }
+{}
+
+/// On an idle connection all has gone that was to come.
+pub fn all_is_sent_when_idle()
+    ensures { AllIsSentWhenIdle }
+{}
