@@ -1,5 +1,6 @@
 // A core, by what its events do.
-ghost use Rattle.std.specs.Prelude.{◌≡◌, ◌≤◌, ◌<◌, ◌^◌, ◌↔◌, ℕ, Bool, true, List, Contains, option_copied};
+ghost use Rattle.std.specs.Prelude.{◌≡◌, ◌≤◌, ◌<◌, ◌^◌, ◌↔◌, ℕ, Bool, true, List, Contains, IfSome, option_copied};
+ghost use Rattle.file_tree.specs.Tree.{tree_of};
 ghost use Rattle.std.specs.List.Sorted.{IsStrictlyIncreasing};
 ghost use Rattle.http_types.specs.declared.words.Addr.{Addr as End};
 ghost use Rattle.ngx_outside.specs.Views.{ConnView, Course, Start, Steps, OpensIf, LeftBy, CountsRefused, IsSound, now_after, ask_in};
@@ -59,7 +60,8 @@ pub trait EventCore {
         ensures wants { result.now ≡ wants_at conn (view self.now conn) }
         ensures sound { IsSound (view self.now conn) };
 
-    /// The job of a node; none where it has no job that waits.
+    /// The job of a node; none where it has no job that waits. No job asks of a tree that is newer than the core's.
     fn ask(&self, conn: u32, node: u32) -> Option<&Ask>
-        ensures { option_copied result ≡ ask_in (view self.now conn).jobs node };
+        ensures job { option_copied result ≡ ask_in (view self.now conn).jobs node }
+        ensures known { IfSome result (λ ask. tree_of ask.now ≤ (now self.now).tree) };
 }
