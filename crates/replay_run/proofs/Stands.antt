@@ -1,0 +1,123 @@
+-- Each event keeps account of what came and went on each connection.
+use Rattle.std.proofs.Common.{◌≡◌, ◌≢◌, ℕ, ◌+◌, ◌<◌, ◌≤◌, Bool, true, false, ◌&&◌, ◌⊎◌, inl, inr, List, [], ◌∷◌, ◌++◌, length, take, drop, Option, None, Some, refl, sym, ap, ◌∙◌, subst, append_assoc, arith}
+use Rattle.std.specs.Prelude.{is_none}
+use Rattle.std.proofs.lemmas.List.{append-nil, take-append-drop}
+use Rattle.file_tree.specs.Tree.{Trees}
+use Rattle.http_types.specs.declared.words.Addr.{Addr}
+use Rattle.ngx_outside.specs.Views.{ConnView, Course, Start, Ground, Holds, Fresh, Went, Stopped, Ran, Goes, Halts, Refused, Ticked, GivesUp, Waits, StepsOwn, Steps, OneSteps, IsStart, is_live, kept_moment}
+use Rattle.ngx_outside.specs.Views.Ground.{Always, Raceless}
+use Rattle.ngx_outside.specs.Runs.{Tracked, Agree}
+use Rattle.ngx_outside.specs.declared.event.Event.{Event}
+use Rattle.ngx_outside.specs.declared.event.Event.TheVariants as ev
+use Rattle.ngx_outside.specs.declared.event.StepAnswer.{StepAnswer}
+use Rattle.ngx_outside.specs.declared.event.StepAnswer.TheVariants.{Done, Skipped, OutOfMemory}
+use Rattle.ngx_outside.specs.declared.event.StopCause.{StopCause}
+use Rattle.ngx_outside.proofs.Tracks.{tracks_begin, steps_keep_track, stops_keep_track}
+use Rattle.replay_run.specs.declared.lane.InputEnd.{InputEnd}
+use Rattle.replay_run.specs.Scene.{Lane, Gives, IsArrival, Offers, EndsIfDue, Ends, Waits as EndWaits, taken_of, offered_lane, ended_lane, written_lane, written_of}
+use Rattle.replay_run.specs.Standing.{Standing, Unopened, Opened}
+
+-- what a step does to a connection: it goes on, is stopped, or stays as it is
+pub data Passed (old new : ConnView) (came went : List ℕ) : Type 0 where
+  Moves : (ground : Ground) (started : List Start) → (old.raceless ≡ true → (trees : Trees) → Holds ground trees) → Went ground old new came went started → Passed old new came went
+  Stops : (cause : StopCause) (started : List Start) → came ≡ [] → went ≡ [] → Stopped cause old new started → Passed old new came went
+  Stays : came ≡ [] → went ≡ [] → new ≡ old → Passed old new came went
+
+and_held : (v : ConnView) → is_live v ≡ true → v.held ≡ true
+and_held v h = first v.held (is_none v.cause) h
+  where
+    first : (a b : Bool) → (a && b) ≡ true → a ≡ true
+    first true b h = refl
+    first false true h = cc
+    first false false h = cc
+
+unheld : {A : Type 0} (v : ConnView) → v.held ≡ false → is_live v ≡ true → A
+unheld v f live = let h = and_held v live in absurd (let e : true ≡ false = sym h ∙ f in cc)
+
+section_tracked : (whole : Course) (told : Trees) (newest : ℕ) (old new : ConnView) (came went came' went' : List ℕ) → Passed old new came' went' → Tracked whole told newest old came went → Tracked whole told newest new (came ++ came') (went ++ went')
+section_tracked whole told newest old new came went came' went' (Moves ground started holds w) t =
+    steps_keep_track whole told newest ground old new came went came' went' started (λ raceless trees agree. holds raceless trees) t w
+section_tracked whole told newest old new came went came' went' (Stops cause started e f s) t =
+    subst (λ x. Tracked whole told newest new (came ++ came') (went ++ x)) (sym f) (subst (λ x. Tracked whole told newest new (came ++ came') x) (sym (append-nil went)) (stops_keep_track whole told newest cause old new came went came' started t s))
+section_tracked whole told newest old new came went came' went' (Stays e f same) t =
+    subst (λ x. Tracked whole told newest new (came ++ x) (went ++ went')) (sym e)
+    (subst (λ x. Tracked whole told newest new (came ++ []) (went ++ x)) (sym f)
+        (subst (λ x. Tracked whole told newest new x (went ++ [])) (sym (append-nil came))
+            (subst (λ x. Tracked whole told newest new came x) (sym (append-nil went)) (subst (λ v. Tracked whole told newest v came went) (sym same) t))))
+
+-- where it was held it stays held
+passed_held : {old new : ConnView} {came went : List ℕ} → Passed old new came went → old.held ≡ true → new.held ≡ true
+passed_held {new = new} (Moves ground started holds w) h = and_held new w.after
+passed_held (Stops cause started e f s) h = s.held
+passed_held (Stays e f same) h = ap (λ (v : ConnView). v.held) same ∙ h
+
+-- and where it wasn't nothing happened
+passed_unheld : {old new : ConnView} {came went : List ℕ} → Passed old new came went → old.held ≡ false → (came ≡ []) × (went ≡ []) × (new ≡ old)
+passed_unheld {old = old} (Moves ground started holds w) h = unheld old h w.before
+passed_unheld {old = old} (Stops cause started e f s) h = unheld old h s.before
+passed_unheld (Stays e f same) h = (e, f, same)
+
+pub standing : (fresh : Addr → Addr → Course) (told : Trees) (newest : ℕ) (old new : ConnView) (lane lane' : Lane) (sent came went : List ℕ) → Passed old new came went → lane.queue ≡ came ++ lane'.queue → lane'.went ≡ lane.went ++ went →
+    Standing fresh told newest old lane sent → Standing fresh told newest new lane' sent
+standing fresh told newest old new lane lane' sent came went p q w (Unopened h e s) =
+    let n = passed_unheld p h in
+    Unopened (ap (λ (v : ConnView). v.held) n.2 ∙ h) (w ∙ ap (λ x. lane.went ++ x) n.1 ∙ append-nil lane.went ∙ e) (s ∙ q ∙ ap (λ x. x ++ lane'.queue) n.0)
+standing fresh told newest old new lane lane' sent came went p q w (Opened local peer before h s t) =
+    Opened local peer (before ++ came) (passed_held p h) (s ∙ ap (λ x. before ++ x) q ∙ sym (append_assoc before came lane'.queue))
+    (subst (λ x. Tracked (fresh local peer) told newest new (before ++ came) x) (sym w) (section_tracked (fresh local peer) told newest old new before lane.went came went p t))
+
+refused_stops : {now : Start} {old new : ConnView} → Refused now old new → Passed old new [] []
+refused_stops r = Stops _ r.0 refl refl r.2
+
+-- each event, by its answer
+pub arrived_passed : (course : Course) (now : Start) (e : Event) (c : ℕ) (queue : List ℕ) (a : StepAnswer) (old new : ConnView) → IsArrival e c queue → StepsOwn course now e a old new → Passed old new (take (taken_of a) queue) []
+arrived_passed course now (ev.Arrived conn bytes) c queue (Done taken) old new is s = Moves Always [] (λ raceless trees. tt) (subst (λ q. Went Always old new (take taken q) [] []) is.1 s.1)
+arrived_passed course now (ev.Arrived conn bytes) c queue Skipped old new is s = Stays refl refl s.same
+arrived_passed course now (ev.Arrived conn bytes) c queue OutOfMemory old new is s = refused_stops s
+arrived_passed course now (ev.Opened conn local peer) c queue a old new is s = absurd is
+arrived_passed course now (ev.Ended conn) c queue a old new is s = absurd is
+arrived_passed course now (ev.Wrote conn count) c queue a old new is s = absurd is
+arrived_passed course now (ev.LinkFailed conn) c queue a old new is s = absurd is
+arrived_passed course now (ev.FileDone conn node answer) c queue a old new is s = absurd is
+arrived_passed course now (ev.JobFailed conn node) c queue a old new is s = absurd is
+arrived_passed course now (ev.Run conn node) c queue a old new is s = absurd is
+arrived_passed course now (ev.Tick moment) c queue a old new is s = absurd is
+arrived_passed course now (ev.Tree to) c queue a old new is s = absurd is
+arrived_passed course now (ev.Gone conn) c queue a old new is s = absurd is
+
+pub ended_passed : (course : Course) (now : Start) (conn : ℕ) (a : StepAnswer) (old new : ConnView) → StepsOwn course now (ev.Ended conn) a old new → Passed old new [] []
+ended_passed course now conn (Done taken) old new s = Moves Always [] (λ raceless trees. tt) s.2
+ended_passed course now conn Skipped old new s = Stays refl refl s.same
+ended_passed course now conn OutOfMemory old new s = absurd s
+
+pub wrote_passed : (course : Course) (now : Start) (conn count : ℕ) (a : StepAnswer) (old new : ConnView) → StepsOwn course now (ev.Wrote conn count) a old new → Passed old new [] (written_of a count old.pending)
+wrote_passed course now conn count (Done taken) old new s = Moves Always [] (λ raceless trees. tt) s.2
+wrote_passed course now conn count Skipped old new s = Stays refl refl s.same
+wrote_passed course now conn count OutOfMemory old new s = absurd s
+
+ran_passed : (now : Start) (old new : ConnView) → Ran now old new → Passed old new [] []
+ran_passed now old new (Goes started is w) = Moves (Raceless old.raceless) started (λ raceless trees. raceless) w
+ran_passed now old new (Halts count started is s heavy) = Stops _ started refl refl s
+
+pub run_passed : (course : Course) (now : Start) (conn node : ℕ) (a : StepAnswer) (old new : ConnView) → StepsOwn course now (ev.Run conn node) a old new → Passed old new [] []
+run_passed course now conn node (Done taken) old new s = ran_passed now old new s.1
+run_passed course now conn node Skipped old new s = Stays refl refl s.same
+run_passed course now conn node OutOfMemory old new s = refused_stops s
+
+pub job_failed_passed : (course : Course) (now : Start) (conn node : ℕ) (a : StepAnswer) (old new : ConnView) → StepsOwn course now (ev.JobFailed conn node) a old new → Passed old new [] []
+job_failed_passed course now conn node (Done taken) old new s = Stops _ [] refl refl s.1
+job_failed_passed course now conn node Skipped old new s = Stays refl refl s.same
+job_failed_passed course now conn node OutOfMemory old new s = absurd s
+
+pub ticked_passed : (now : ℕ) (old new : ConnView) → Ticked now old new → Passed old new [] []
+ticked_passed now old new (GivesUp due is before s) = Stops _ [] refl refl s
+ticked_passed now old new (Waits not same) = Stays refl refl same
+
+-- a connection that is opened
+pub standing_opened : (fresh : Addr → Addr → Course) (told : Trees) (newest : ℕ) (now : Start) (conn : ℕ) (local peer : Addr) (a : StepAnswer) (old new : ConnView) (lane : Lane) (sent : List ℕ) →
+    StepsOwn (fresh local peer) now (ev.Opened conn local peer) a old new → Standing fresh told newest old lane sent → Standing fresh told newest new lane sent
+standing_opened fresh told newest now conn local peer (Done taken) old new lane sent s (Unopened h e q) =
+    Opened local peer [] (and_held new s.1.live) q (subst (λ x. Tracked (fresh local peer) told newest new [] x) (sym e) (tracks_begin (fresh local peer) told newest new s.1))
+standing_opened fresh told newest now conn local peer (Done taken) old new lane sent s (Opened l p came h q t) = absurd (let f : true ≡ false = sym h ∙ s.0 in cc)
+standing_opened fresh told newest now conn local peer Skipped old new lane sent s st = subst (λ v. Standing fresh told newest v lane sent) (sym s) st
+standing_opened fresh told newest now conn local peer OutOfMemory old new lane sent s st = subst (λ v. Standing fresh told newest v lane sent) (sym s) st

@@ -1,0 +1,61 @@
+-- The wants that a core lists are what it shows of its connections.
+use Rattle.std.proofs.Common.{◌≡◌, ℕ, Bool, true, false, cond, List, [], ◌∷◌, map, Option, None, Some, refl, sym, ap, ◌∙◌, subst}
+use Rattle.std.proofs.lemmas.List.Elements.{All-nil, All-cons, All-head, All-tail, All-append, All-map, All-contains_itself}
+use Rattle.std.specs.List.{All}
+use Rattle.ngx_outside.specs.Views.{ConnView, Job, no_bytes}
+use Rattle.ngx_outside.specs.Wants.{wants_at, wants_in, read_want}
+use Rattle.ngx_outside.specs.declared.event.Want.{Want}
+use Rattle.ngx_outside.specs.declared.event.Want.TheVariants as want
+use Rattle.replay_run.specs.Scene.{Lane, is_served, first_served, IsWanted}
+
+all_jobs : (P : Want → Type 0) (c : ℕ) (jobs : List Job) → ((n : ℕ) → P (want.Job c n)) → All P (map (λ (j : Job). want.Job c j.node) jobs)
+all_jobs P c [] h = All-nil P
+all_jobs P c (j ∷ jobs) h = All-cons P (want.Job c j.node) (map (λ (j : Job). want.Job c j.node) jobs) (h j.node) (all_jobs P c jobs h)
+
+wanted_at : (view : ℕ → ConnView) (c : ℕ) → All (IsWanted view) (wants_at c (view c))
+unfolding wants_at
+wanted_at view c =
+    All-append (IsWanted view) _ _
+    (All-append (IsWanted view) _ _
+    (All-append (IsWanted view) _ _
+    (All-append (IsWanted view) _ _ (reads (view c).room refl)
+    (All-map (IsWanted view) (λ node. want.Run c node) (view c).ready (All-contains_itself (view c).ready)))
+    (all_jobs (IsWanted view) c (view c).jobs (λ n. tt)))
+    (writes (no_bytes (view c).pending) refl))
+    (closes (view c).shut)
+  where
+    reads : (room : Option ℕ) → (view c).room ≡ room → All (IsWanted view) (read_want c room)
+    reads None e = All-nil (IsWanted view)
+    reads (Some room) e = All-cons (IsWanted view) (want.Read c room) [] e (All-nil (IsWanted view))
+
+    writes : (t : Bool) → no_bytes (view c).pending ≡ t → All (IsWanted view) (cond t [] (want.Write c ∷ []))
+    writes true e = All-nil (IsWanted view)
+    writes false e = All-cons (IsWanted view) (want.Write c) [] e (All-nil (IsWanted view))
+
+    closes : (t : Bool) → All (IsWanted view) (cond t (want.Close c ∷ []) [])
+    closes true = All-cons (IsWanted view) (want.Close c) [] tt (All-nil (IsWanted view))
+    closes false = All-nil (IsWanted view)
+
+wanted_in : (view : ℕ → ConnView) (conns : List ℕ) → All (IsWanted view) (wants_in conns view)
+wanted_in view [] = All-nil (IsWanted view)
+wanted_in view (c ∷ conns) = All-append (IsWanted view) (wants_at c (view c)) (wants_in conns view) (wanted_at view c) (wanted_in view conns)
+
+-- what holds of all wants holds of the first that can be served
+first_all : (P : Want → Type 0) (lanes : ℕ → Lane) (wants : List Want) (w : Want) → All P wants → first_served lanes wants ≡ Some w → P w
+first_all P lanes [] w all e = cc
+first_all P lanes (x ∷ wants) w all e = case (is_served lanes x) e (λ f. first_all P lanes wants w (All-tail P x wants all) f)
+  where
+    case : (t : Bool) → cond t (Some x) (first_served lanes wants) ≡ Some w → (first_served lanes wants ≡ Some w → P w) → P w
+    case true e later = subst P (let f : x ≡ w = cc in f) (All-head P x wants all)
+    case false e later = later e
+
+pub served_wanted : (view : ℕ → ConnView) (conns : List ℕ) (lanes : ℕ → Lane) (wants : List Want) (w : Want) → wants ≡ wants_in conns view → first_served lanes wants ≡ Some w → IsWanted view w
+served_wanted view conns lanes wants w e f = first_all (IsWanted view) lanes wants w (subst (All (IsWanted view)) (sym e) (wanted_in view conns)) f
+
+pub served_is : (lanes : ℕ → Lane) (wants : List Want) (w : Want) → first_served lanes wants ≡ Some w → is_served lanes w ≡ true
+served_is lanes [] w e = cc
+served_is lanes (x ∷ wants) w e = case (is_served lanes x) refl e (served_is lanes wants w)
+  where
+    case : (t : Bool) → is_served lanes x ≡ t → cond t (Some x) (first_served lanes wants) ≡ Some w → (first_served lanes wants ≡ Some w → is_served lanes w ≡ true) → is_served lanes w ≡ true
+    case true h e later = ap (is_served lanes) (let f : w ≡ x = cc in f) ∙ h
+    case false h e later = later e

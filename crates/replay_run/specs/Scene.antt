@@ -1,0 +1,248 @@
+-- A run of a script, between two of its lines.
+use Rattle.std.specs.Prelude.{◌≡◌, ◌≢◌, ℕ, ◌+◌, ◌*◌, ◌==◌, ◌||◌, min, Bool, true, false, List, [], ◌∷◌, ◌++◌, length, take, drop, sum_by, Option, None, Some, if◌then◌else◌}
+use Rattle.std.specs.List.{Contains}
+use Rattle.std.specs.Prelude.{◌↔◌}
+use Rattle.std.specs.List.Sorted.{IsStrictlyIncreasing}
+use Rattle.http_types.specs.declared.words.Addr.{Addr}
+use Rattle.ngx_outside.specs.Views.{ConnView, Course, Start, Steps, now_after, no_bytes}
+use Rattle.ngx_outside.specs.Wants.{wants_in}
+use Rattle.ngx_outside.specs.declared.event.Event.{Event}
+use Rattle.ngx_outside.specs.declared.event.Event.TheVariants.{Arrived, Ended, Wrote, Run}
+use Rattle.ngx_outside.specs.declared.event.StepAnswer.{StepAnswer}
+use Rattle.ngx_outside.specs.declared.event.StepAnswer.TheVariants.{Done, Skipped, OutOfMemory}
+use Rattle.ngx_outside.specs.declared.event.Want.{Want}
+use Rattle.ngx_outside.specs.declared.event.Want.TheVariants as want
+use Rattle.replay_run.specs.declared.lane.InputEnd.{InputEnd}
+use Rattle.replay_run.specs.declared.lane.InputEnd.TheVariants as input
+use Rattle.replay_run.specs.declared.lane.Lane.{Lane as LaneOf}
+
+-- what a script keeps of a connection: the bytes that wait to arrive, how they end, and what was emitted on it
+pub record Lane : Type 0 where
+  pub queue : List ℕ
+  pub tail : InputEnd
+  pub went : List ℕ
+
+abbrev pub empty_lane : Lane
+empty_lane = record { queue = []; tail = input.Open; went = [] }
+
+abbrev pub shown_lane : LaneOf → Lane
+shown_lane l = record { queue = l.queue; tail = l.tail; went = l.emitted }
+
+-- the lane of a connection
+abbrev pub lane_in : List LaneOf → ℕ → Lane
+lane_in [] c = empty_lane
+lane_in (l ∷ lanes) c = if l.conn == c then shown_lane l else lane_in lanes c
+
+-- what the core shows, when a request starts that is started now, and what the script keeps
+pub record Stage : Type 0 where
+  pub view : ℕ → ConnView
+  pub now : Start
+  pub lanes : ℕ → Lane
+
+abbrev pub stage : (ℕ → ConnView) → Start → List LaneOf → Stage
+stage view now lanes = record { view = view; now = now; lanes = lane_in lanes }
+
+-- a core is given an event, and answers so
+pub record Gives (fresh : Addr → Addr → Course) (e : Event) (a : StepAnswer) (view : ℕ → ConnView) (now : Start) (view' : ℕ → ConnView) (now' : Start) : Type 0 where
+  pub steps : Steps fresh now e a view view'
+  pub moment : now' ≡ now_after now e a
+
+-- one lane becomes this, and no other changes
+pub record OneLane (c : ℕ) (lane : Lane) (old new : ℕ → Lane) : Type 0 where
+  pub own : new c ≡ lane
+  pub others : (d : ℕ) → d ≢ c → new d ≡ old d
+
+abbrev pub SameLanes : (ℕ → Lane) → (ℕ → Lane) → Type 0
+SameLanes old new = (c : ℕ) → new c ≡ old c
+
+-- the bytes arrive on the connection
+abbrev pub IsArrival : Event → ℕ → List ℕ → Type 0
+IsArrival (Arrived conn bytes) c queue = (conn ≡ c) × (bytes.now ≡ queue)
+IsArrival e c queue = ⊥
+
+abbrev pub taken_of : StepAnswer → ℕ
+taken_of (Done taken) = taken
+taken_of Skipped = 0
+taken_of OutOfMemory = 0
+
+-- all that waits is offered to a connection
+pub record Offers (fresh : Addr → Addr → Course) (c : ℕ) (queue : List ℕ) (a : StepAnswer) (view : ℕ → ConnView) (now : Start) (view' : ℕ → ConnView) (now' : Start) : Type 0 where
+  pub event : Event
+  pub arrival : IsArrival event c queue
+  pub gives : Gives fresh event a view now view' now'
+
+abbrev pub offered_lane : Lane → StepAnswer → Lane
+offered_lane l a = record { queue = drop (taken_of a) l.queue; tail = l.tail; went = l.went }
+
+-- whether a lane's input ends now
+abbrev pub is_ending : Lane → Bool
+is_ending l = ends_by l.tail (no_bytes l.queue)
+  where
+    ends_by : InputEnd → Bool → Bool
+    ends_by input.Open b = false
+    ends_by input.Due b = b
+    ends_by input.Given b = b
+
+abbrev pub tail_after : StepAnswer → InputEnd → InputEnd
+tail_after (Done taken) tail = input.Given
+tail_after Skipped tail = tail
+tail_after OutOfMemory tail = tail
+
+abbrev pub ended_lane : Lane → StepAnswer → Lane
+ended_lane l a = record { queue = l.queue; tail = tail_after a l.tail; went = l.went }
+
+-- the core is told that a lane's input ends, where it does
+pub data EndsIfDue (fresh : Addr → Addr → Course) (c : ℕ) (lane lane' : Lane) (a : StepAnswer) (view : ℕ → ConnView) (now : Start) (view' : ℕ → ConnView) (now' : Start) : Type 0 where
+  Ends : is_ending lane ≡ true → Gives fresh (Ended c) a view now view' now' → lane' ≡ ended_lane lane a → EndsIfDue fresh c lane lane' a view now view' now'
+  Waits : is_ending lane ≡ false → a ≡ Skipped → view' ≡ view → now' ≡ now → lane' ≡ lane → EndsIfDue fresh c lane lane' a view now view' now'
+
+-- a line of two steps is refused where one of them was, and done where one was
+abbrev pub either : StepAnswer → StepAnswer → StepAnswer
+either OutOfMemory b = OutOfMemory
+either (Done taken) b = Done taken
+either Skipped b = b
+
+-- the bytes that a write emits
+abbrev pub written_of : StepAnswer → ℕ → List ℕ → List ℕ
+written_of (Done taken) count pending = take count pending
+written_of Skipped count pending = []
+written_of OutOfMemory count pending = []
+
+abbrev pub written_lane : Lane → StepAnswer → ℕ → List ℕ → Lane
+written_lane l a count pending = record { queue = l.queue; tail = l.tail; went = l.went ++ written_of a count pending }
+
+-- An event that touches no lane.
+pub record Plain (fresh : Addr → Addr → Course) (e : Event) (a : StepAnswer) (old new : Stage) : Type 0 where
+  pub gives : Gives fresh e a old.view old.now new.view new.now
+  pub lanes : SameLanes old.lanes new.lanes
+
+-- One lane changes so, and no other.
+pub record OnLane (c : ℕ) (Does : Lane → Lane → Type 0) (old new : ℕ → Lane) : Type 0 where
+  pub last : Lane
+  pub does : Does (old c) last
+  pub lanes : OneLane c last old new
+
+abbrev pub longer_lane : Lane → List ℕ → Lane
+longer_lane l bytes = record { queue = l.queue ++ bytes; tail = l.tail; went = l.went }
+
+-- Bytes are put behind those that wait, and all are offered; then the input ends where it is due.
+pub record Sends (fresh : Addr → Addr → Course) (c : ℕ) (bytes : List ℕ) (a : StepAnswer) (view : ℕ → ConnView) (now : Start) (view' : ℕ → ConnView) (now' : Start) (lane lane' : Lane) : Type 0 where
+  pub first : StepAnswer
+  pub second : StepAnswer
+  pub mid_view : ℕ → ConnView
+  pub mid_now : Start
+  pub offers : Offers fresh c (lane.queue ++ bytes) first view now mid_view mid_now
+  pub ends : EndsIfDue fresh c (offered_lane (longer_lane lane bytes) first) lane' second mid_view mid_now view' now'
+  pub answer : a ≡ either first second
+
+abbrev pub due_after : InputEnd → InputEnd
+due_after input.Open = input.Due
+due_after input.Due = input.Due
+due_after input.Given = input.Given
+
+abbrev pub due_lane : Lane → Lane
+due_lane l = record { queue = l.queue; tail = due_after l.tail; went = l.went }
+
+-- At most so many of the pending bytes are written.
+pub record Writes (fresh : Addr → Addr → Course) (c most : ℕ) (a : StepAnswer) (view : ℕ → ConnView) (now : Start) (view' : ℕ → ConnView) (now' : Start) (lane lane' : Lane) : Type 0 where
+  pub count : ℕ
+  pub counts : count ≡ min most (length (view c).pending)
+  pub gives : Gives fresh (Wrote c count) a view now view' now'
+  pub emits : lane' ≡ written_lane lane a count (view c).pending
+
+-- what waits is offered, or where nothing waits its end is told
+pub data Reads (fresh : Addr → Addr → Course) (c : ℕ) (a : StepAnswer) (view : ℕ → ConnView) (now : Start) (view' : ℕ → ConnView) (now' : Start) (lane lane' : Lane) : Type 0 where
+  Offered : no_bytes lane.queue ≡ false → Offers fresh c lane.queue a view now view' now' → lane' ≡ offered_lane lane a → Reads fresh c a view now view' now' lane lane'
+  Told : no_bytes lane.queue ≡ true → EndsIfDue fresh c lane lane' a view now view' now' → Reads fresh c a view now view' now' lane lane'
+
+-- What a line does, from stage to stage: bytes are sent, the input ends as soon as nothing waits, bytes are written.
+abbrev pub SendsLine : (Addr → Addr → Course) → ℕ → List ℕ → StepAnswer → Stage → Stage → Type 0
+SendsLine fresh c bytes a old new = OnLane c (Sends fresh c bytes a old.view old.now new.view new.now) old.lanes new.lanes
+
+abbrev pub EndsLine : (Addr → Addr → Course) → ℕ → StepAnswer → Stage → Stage → Type 0
+EndsLine fresh c a old new = OnLane c (λ l l'. EndsIfDue fresh c (due_lane l) l' a old.view old.now new.view new.now) old.lanes new.lanes
+
+abbrev pub WritesLine : (Addr → Addr → Course) → ℕ → ℕ → StepAnswer → Stage → Stage → Type 0
+WritesLine fresh c most a old new = OnLane c (Writes fresh c most a old.view old.now new.view new.now) old.lanes new.lanes
+
+-- whether bytes wait, or their end is due
+abbrev pub is_read : Lane → Bool
+is_read l = reads l.queue l.tail
+  where
+    reads : List ℕ → InputEnd → Bool
+    reads (b ∷ bytes) tail = true
+    reads [] input.Open = false
+    reads [] input.Due = true
+    reads [] input.Given = false
+
+-- whether a want can be served: a read where bytes wait or their end is due, a run, a write
+abbrev pub is_served : (ℕ → Lane) → Want → Bool
+is_served lanes (want.Read conn room) = is_read (lanes conn)
+is_served lanes (want.Run conn node) = true
+is_served lanes (want.Job conn node) = false
+is_served lanes (want.Write conn) = true
+is_served lanes (want.Close conn) = false
+
+-- the first want that can be served
+abbrev pub first_served : (ℕ → Lane) → List Want → Option Want
+first_served lanes [] = None
+first_served lanes (w ∷ wants) = if is_served lanes w then Some w else first_served lanes wants
+
+-- serving a want: what waits is offered, or its end told; a node runs; all that is pending is written
+abbrev pub Serves : (Addr → Addr → Course) → Want → Stage → Stage → Type 0
+Serves fresh (want.Read conn room) old new = (a : StepAnswer) × OnLane conn (Reads fresh conn a old.view old.now new.view new.now) old.lanes new.lanes
+Serves fresh (want.Run conn node) old new = (a : StepAnswer) × Plain fresh (Run conn node) a old new
+Serves fresh (want.Job conn node) old new = ⊥
+Serves fresh (want.Write conn) old new = (a : StepAnswer) × WritesLine fresh conn (length (old.view conn).pending) a old new
+Serves fresh (want.Close conn) old new = ⊥
+
+-- the connections that are held, by number
+pub record AreHeld (conns : List ℕ) (view : ℕ → ConnView) : Type 0 where
+  pub order : IsStrictlyIncreasing conns
+  pub held : (c : ℕ) → Contains conns c ↔ ((view c).held ≡ true)
+
+-- Wants are served, each the first that can be.
+pub data Drained (fresh : Addr → Addr → Course) (old : Stage) : Stage → Type 0 where
+  Begun : Drained fresh old old
+  Then : (mid new : Stage) (conns : List ℕ) (w : Want) → Drained fresh old mid → AreHeld conns mid.view → first_served mid.lanes (wants_in conns mid.view) ≡ Some w → Serves fresh w mid new → Drained fresh old new
+
+-- as long as one can be
+pub record Drains (fresh : Addr → Addr → Course) (old new : Stage) : Type 0 where
+  pub path : Drained fresh old new
+  pub conns : List ℕ
+  pub held : AreHeld conns new.view
+  pub none : first_served new.lanes (wants_in conns new.view) ≡ None
+
+-- the work that is left: each byte that waits may cost its price, and each end one step
+abbrev pub work_of : ℕ → LaneOf → ℕ
+work_of price l = (price + 1) * length l.queue + due l.tail
+  where
+    due : InputEnd → ℕ
+    due input.Open = 0
+    due input.Due = 1
+    due input.Given = 0
+
+abbrev pub work : ℕ → ℕ → List LaneOf → ℕ
+work price left lanes = left + sum_by (work_of price) lanes
+
+-- what a want says of its connection
+abbrev pub IsWanted : (ℕ → ConnView) → Want → Type 0
+IsWanted view (want.Read conn room) = (view conn).room ≡ Some room
+IsWanted view (want.Run conn node) = Contains (view conn).ready node
+IsWanted view (want.Job conn node) = Unit {0}
+IsWanted view (want.Write conn) = no_bytes (view conn).pending ≡ false
+IsWanted view (want.Close conn) = Unit {0}
+
+abbrev pub has_lane : ℕ → List LaneOf → Bool
+has_lane c [] = false
+has_lane c (l ∷ lanes) = l.conn == c || has_lane c lanes
+
+-- the first lane of a connection stands at i
+pub record LaneAt (c : ℕ) (lanes : List LaneOf) (i : ℕ) : Type 0 where
+  pub front : List LaneOf
+  pub here : LaneOf
+  pub back : List LaneOf
+  pub whole : lanes ≡ front ++ here ∷ back
+  pub size : length front ≡ i
+  pub number : here.conn ≡ c
+  pub before : has_lane c front ≡ false

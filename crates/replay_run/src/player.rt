@@ -1,0 +1,292 @@
+// Runs lines on a core.
+ghost use Rattle.std.specs.Prelude.{◌≡◌, ◌<◌, ◌≤◌, ◌+◌, ◌*◌, ◌∷◌, ◌++◌, ℕ, [], Some, None, true, false, min, length, take, MatchOption, OnOk, IfOk, IfSome, IfNone, sum_by, Contains};
+ghost use Rattle.ngx_outside.specs.Views.{no_bytes};
+ghost use Rattle.ngx_outside.specs.declared.event.Event.TheVariants.{Opened, JobFailed, Run, Tick, Tree};
+ghost use Rattle.replay_run.specs.Scene.{Stage, stage, lane_in, has_lane, LaneAt, SameLanes, OnLane, Plain, Gives, Sends, EndsIfDue, Writes, Reads, shown_lane, due_lane, empty_lane, either as either_of, is_read, is_served, first_served, Serves, Drains, Drained, SendsLine, EndsLine, WritesLine, IsWanted, work, work_of};
+
+use crate::serve::{end_if_due, offer, write as write_on};
+use crate::{InputEnd, Lane};
+use byte_text::OutOfMemory;
+use http_types::Addr;
+use ngx_outside::{Event, EventCore, StepAnswer, Want};
+use std::alloc::Global;
+
+// The place of a connection's lane.
+fn place(lanes: &[Lane], conn: u32) -> Option<usize>
+    ensures { MatchOption result (has_lane conn lanes.now ≡ false) (λ i. LaneAt conn lanes.now i) }
+{
+    for (i, lane) in lanes.iter().enumerate() {
+        if lane.conn == conn {
+            return Some(i);
+        }
+    }
+    None
+}
+
+// The place of a connection's lane, which is made where it has none.
+fn place_or_add(alloc: Global, lanes: &mut Vec<Lane>, conn: u32) -> Result<usize, OutOfMemory>
+    ensures place { IfOk result (λ i. LaneAt conn lanes.new.items i) }
+    ensures same { OnOk result (SameLanes (lane_in lanes.old.items) (lane_in lanes.new.items)) }
+    ensures work { OnOk result ((price : ℕ) → sum_by (work_of price) lanes.new.items ≡ sum_by (work_of price) lanes.old.items) }
+{
+    match place(lanes, conn) {
+        Some(at) => Ok(at),
+        None => {
+            let at = lanes.len();
+            lanes.push(Lane::new(alloc, conn))?;
+            Ok(at)
+        }
+    }
+}
+
+fn either(first: StepAnswer, second: StepAnswer) -> StepAnswer
+    ensures { result ≡ either_of first second }
+{
+    match first {
+        StepAnswer::Skipped => second,
+        StepAnswer::Done { taken: _ } => first,
+        StepAnswer::OutOfMemory => first,
+    }
+}
+
+// Bytes are put behind those that wait, and all are offered; then the input ends where it is due.
+fn send_on<E: EventCore>(
+    core: &mut E,
+    lane: &mut Lane,
+    bytes: &[u8],
+) -> Result<StepAnswer, OutOfMemory>
+    ensures sends { IfOk result (λ a. Sends (E.fresh core.old) lane.old.conn bytes.now a (E.view core.old) (E.now core.old) (E.view core.new) (E.now core.new) (shown_lane lane.old) (shown_lane lane.new)) }
+    ensures conn { lane.new.conn ≡ lane.old.conn }
+    ensures steady { OnOk result ((E.fresh core.new ≡ E.fresh core.old) × (E.price core.new ≡ E.price core.old)) }
+{
+    lane.queue.append(bytes)?;
+    let first = offer(core, lane);
+    let second = end_if_due(core, lane);
+    Ok(either(first, second))
+}
+
+// The input ends as soon as nothing waits.
+fn close_on<E: EventCore>(core: &mut E, lane: &mut Lane) -> StepAnswer
+    ensures ends { EndsIfDue (E.fresh core.old) lane.old.conn (due_lane (shown_lane lane.old)) (shown_lane lane.new) result (E.view core.old) (E.now core.old) (E.view core.new) (E.now core.new) }
+    ensures conn { lane.new.conn ≡ lane.old.conn }
+    ensures steady { (E.fresh core.new ≡ E.fresh core.old) × (E.price core.new ≡ E.price core.old) }
+{
+    match lane.tail {
+        InputEnd::Open => lane.tail = InputEnd::Due,
+        InputEnd::Due => {}
+        InputEnd::Given => {}
+    }
+    end_if_due(core, lane)
+}
+
+// What waits is offered, or where nothing waits its end is told.
+fn read_on<E: EventCore>(core: &mut E, lane: &mut Lane) -> StepAnswer
+    ensures reads { Reads (E.fresh core.old) lane.old.conn result (E.view core.old) (E.now core.old) (E.view core.new) (E.now core.new) (shown_lane lane.old) (shown_lane lane.new) }
+    ensures conn { lane.new.conn ≡ lane.old.conn }
+    ensures falls { (room : ℕ) → is_read (shown_lane lane.old) ≡ true → (E.view core.old lane.old.conn).room ≡ Some room → E.left core.new + work_of (E.price core.old) lane.new < E.left core.old + work_of (E.price core.old) lane.old }
+    ensures steady { (E.fresh core.new ≡ E.fresh core.old) × (E.price core.new ≡ E.price core.old) }
+{
+    if lane.queue.is_empty() {
+        end_if_due(core, lane)
+    } else {
+        offer(core, lane)
+    }
+}
+
+// Whether bytes wait to arrive, or their end is due.
+fn is_waiting(lane: &Lane) -> bool
+    ensures { result ≡ is_read (shown_lane lane.now) }
+{
+    match lane.tail {
+        InputEnd::Open => !lane.queue.is_empty(),
+        InputEnd::Due => true,
+        InputEnd::Given => !lane.queue.is_empty(),
+    }
+}
+
+fn waits(lanes: &[Lane], conn: u32) -> bool
+    ensures { result ≡ is_read (lane_in lanes.now conn) }
+{
+    for lane in lanes {
+        if lane.conn == conn {
+            return is_waiting(lane);
+        }
+    }
+    false
+}
+
+fn serves(want: Want, lanes: &[Lane]) -> bool
+    ensures { result ≡ is_served (lane_in lanes.now) want }
+{
+    match want {
+        Want::Read { conn, room: _ } => waits(lanes, conn),
+        Want::Run { conn: _, node: _ } => true,
+        Want::Job { conn: _, node: _ } => false,
+        Want::Write { conn: _ } => true,
+        Want::Close { conn: _ } => false,
+    }
+}
+
+// The first want that can be served.
+fn pick(wants: &[Want], lanes: &[Lane]) -> Option<Want>
+    ensures { result ≡ first_served (lane_in lanes.now) wants.now }
+{
+    for want in wants {
+        if serves(*want, lanes) {
+            return Some(*want);
+        }
+    }
+    None
+}
+
+fn run<E: EventCore>(core: &mut E, conn: u32, node: u32) -> StepAnswer
+    requires { Contains (E.view core.old conn).ready node }
+    ensures gives { Gives (E.fresh core.old) (Run conn node) result (E.view core.old) (E.now core.old) (E.view core.new) (E.now core.new) }
+    ensures falls { E.left core.new < E.left core.old }
+    ensures steady { (E.fresh core.new ≡ E.fresh core.old) × (E.price core.new ≡ E.price core.old) }
+{
+    let answer = core.step(Event::Run { conn, node });
+    match answer {
+        StepAnswer::Done { taken: _ } => answer,
+        StepAnswer::Skipped => answer,
+        StepAnswer::OutOfMemory => answer,
+    }
+}
+
+/// Runs the lines of a script on a core, and keeps for each connection what waits to arrive and what was emitted. It
+/// counts nothing: each call answers what became of its line's step.
+#[derive(Drop)]
+pub struct Player {
+    alloc: Global,
+    pub lanes: Vec<Lane>,
+}
+
+impl Player {
+    /// Nothing waits and nothing was emitted.
+    pub fn new(alloc: Global) -> Self
+        ensures { (conn : ℕ) → lane_in result.lanes.items conn ≡ empty_lane }
+    {
+        Player {
+            alloc,
+            lanes: Vec::new(alloc),
+        }
+    }
+
+    /// What was emitted on a connection.
+    pub fn emitted(&self, conn: u32) -> &[u8]
+        ensures { result.now ≡ (lane_in self.now.lanes.items conn).went }
+    {
+        for lane in &self.lanes {
+            if lane.conn == conn {
+                return lane.emitted.as_slice();
+            }
+        }
+        &[]
+    }
+
+    /// Gives an event that needs nothing of what waits.
+    pub fn give<E: EventCore>(&self, core: &mut E, event: Event) -> StepAnswer
+        ensures plain { Plain (E.fresh core.old) event.entry result (stage (E.view core.old) (E.now core.old) self.now.lanes.items) (stage (E.view core.new) (E.now core.new) self.now.lanes.items) }
+        ensures steady { (E.fresh core.new ≡ E.fresh core.old) × (E.price core.new ≡ E.price core.old) }
+    {
+        core.step(event)
+    }
+
+    /// Puts bytes behind those that wait on a connection, and offers it all; its input ends then where that is due.
+    pub fn send<E: EventCore>(
+        &mut self,
+        core: &mut E,
+        conn: u32,
+        bytes: &[u8],
+    ) -> Result<StepAnswer, OutOfMemory>
+        ensures sends { IfOk result (λ a. SendsLine (E.fresh core.old) conn bytes.now a (stage (E.view core.old) (E.now core.old) self.old.lanes.items) (stage (E.view core.new) (E.now core.new) self.new.lanes.items)) }
+        ensures steady { OnOk result ((E.fresh core.new ≡ E.fresh core.old) × (E.price core.new ≡ E.price core.old)) }
+    {
+        let at = place_or_add(self.alloc, &mut self.lanes, conn)?;
+        let lane = &mut self.lanes[at];
+        let answer = send_on(core, lane, bytes)?;
+        Ok(answer)
+    }
+
+    /// The input of a connection ends as soon as nothing waits.
+    pub fn close<E: EventCore>(
+        &mut self,
+        core: &mut E,
+        conn: u32,
+    ) -> Result<StepAnswer, OutOfMemory>
+        ensures ends { IfOk result (λ a. EndsLine (E.fresh core.old) conn a (stage (E.view core.old) (E.now core.old) self.old.lanes.items) (stage (E.view core.new) (E.now core.new) self.new.lanes.items)) }
+        ensures steady { OnOk result ((E.fresh core.new ≡ E.fresh core.old) × (E.price core.new ≡ E.price core.old)) }
+    {
+        let at = place_or_add(self.alloc, &mut self.lanes, conn)?;
+        let lane = &mut self.lanes[at];
+        let answer = close_on(core, lane);
+        Ok(answer)
+    }
+
+    /// Writes at most so many of the pending bytes of a connection.
+    pub fn write<E: EventCore>(
+        &mut self,
+        core: &mut E,
+        conn: u32,
+        most: u64,
+    ) -> Result<StepAnswer, OutOfMemory>
+        ensures writes { IfOk result (λ a. WritesLine (E.fresh core.old) conn most a (stage (E.view core.old) (E.now core.old) self.old.lanes.items) (stage (E.view core.new) (E.now core.new) self.new.lanes.items)) }
+        ensures steady { OnOk result ((E.fresh core.new ≡ E.fresh core.old) × (E.price core.new ≡ E.price core.old)) }
+        ensures falls { OnOk result (length (E.view core.old conn).pending ≤ most → no_bytes (E.view core.old conn).pending ≡ false → work (E.price core.old) (E.left core.new) self.new.lanes.items < work (E.price core.old) (E.left core.old) self.old.lanes.items) }
+    {
+        let at = place_or_add(self.alloc, &mut self.lanes, conn)?;
+        let lane = &mut self.lanes[at];
+        let answer = write_on(core, lane, most)?;
+        Ok(answer)
+    }
+
+    // Offers what waits on a connection, or tells its end where nothing does.
+    fn read<E: EventCore>(&mut self, core: &mut E, conn: u32) -> Result<StepAnswer, OutOfMemory>
+        requires { is_read (lane_in self.old.lanes.items conn) ≡ true }
+        ensures reads { IfOk result (λ a. OnLane conn (Reads (E.fresh core.old) conn a (E.view core.old) (E.now core.old) (E.view core.new) (E.now core.new)) (lane_in self.old.lanes.items) (lane_in self.new.lanes.items)) }
+        ensures steady { OnOk result ((E.fresh core.new ≡ E.fresh core.old) × (E.price core.new ≡ E.price core.old)) }
+        ensures falls { (room : ℕ) → (E.view core.old conn).room ≡ Some room → OnOk result (work (E.price core.old) (E.left core.new) self.new.lanes.items < work (E.price core.old) (E.left core.old) self.old.lanes.items) }
+    {
+        let at = place_or_add(self.alloc, &mut self.lanes, conn)?;
+        let lane = &mut self.lanes[at];
+        let answer = read_on(core, lane);
+        Ok(answer)
+    }
+
+    fn serve<E: EventCore>(&mut self, core: &mut E, want: Want) -> Result<(), OutOfMemory>
+        requires wanted { IsWanted (E.view core.old) want }
+        requires served { is_served (lane_in self.old.lanes.items) want ≡ true }
+        ensures serves { OnOk result (Serves (E.fresh core.old) want (stage (E.view core.old) (E.now core.old) self.old.lanes.items) (stage (E.view core.new) (E.now core.new) self.new.lanes.items)) }
+        ensures steady { OnOk result ((E.fresh core.new ≡ E.fresh core.old) × (E.price core.new ≡ E.price core.old)) }
+        ensures falls { OnOk result (work (E.price core.old) (E.left core.new) self.new.lanes.items < work (E.price core.old) (E.left core.old) self.old.lanes.items) }
+    {
+        match want {
+            Want::Read { conn, room: _ } => {
+                self.read(core, conn)?;
+                Ok(())
+            }
+            Want::Run { conn, node } => {
+                run(core, conn, node);
+                Ok(())
+            }
+            Want::Write { conn } => {
+                let most = core.pending(conn).len() as u64;
+                self.write(core, conn, most)?;
+                Ok(())
+            }
+            Want::Job { conn: _, node: _ } => Ok(()),
+            Want::Close { conn: _ } => Ok(()),
+        }
+    }
+
+    /// Serves wants as long as one can be, each the first.
+    pub fn drain<E: EventCore>(&mut self, core: &mut E) -> Result<(), OutOfMemory>
+        ensures drains { OnOk result (Drains (E.fresh core.old) (stage (E.view core.old) (E.now core.old) self.old.lanes.items) (stage (E.view core.new) (E.now core.new) self.new.lanes.items)) }
+        ensures steady { OnOk result ((E.fresh core.new ≡ E.fresh core.old) × (E.price core.new ≡ E.price core.old)) }
+    {
+        while let Some(want) = pick(core.wants(), &self.lanes) {
+            self.serve(core, want)?;
+        }
+        Ok(())
+    }
+}

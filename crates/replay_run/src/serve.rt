@@ -1,0 +1,99 @@
+// The events of one connection, and what they leave of its lane.
+ghost use Rattle.std.specs.Prelude.{◌≡◌, ◌<◌, ◌≤◌, ◌+◌, ◌*◌, ℕ, [], Some, true, false, min, length, take, ◌++◌, OnOk, IfOk};
+ghost use Rattle.ngx_outside.specs.Views.{no_bytes};
+ghost use Rattle.ngx_outside.specs.declared.event.Event.TheVariants.{Ended, Wrote};
+ghost use Rattle.replay_run.specs.Scene.{Gives, Offers, EndsIfDue, shown_lane, offered_lane, written_lane, is_ending, work_of};
+
+use crate::{InputEnd, Lane};
+use byte_text::OutOfMemory;
+use ngx_outside::{Event, EventCore, StepAnswer};
+
+/// Offers all that waits to the connection, and drops what it takes.
+pub fn offer<E: EventCore>(core: &mut E, lane: &mut Lane) -> StepAnswer
+    ensures offers { Offers (E.fresh core.old) lane.old.conn lane.old.queue result (E.view core.old) (E.now core.old) (E.view core.new) (E.now core.new) }
+    ensures lane { shown_lane lane.new ≡ offered_lane (shown_lane lane.old) result }
+    ensures conn { lane.new.conn ≡ lane.old.conn }
+    ensures falls { (room : ℕ) → no_bytes lane.old.queue ≡ false → (E.view core.old lane.old.conn).room ≡ Some room → E.left core.new + work_of (E.price core.old) lane.new < E.left core.old + work_of (E.price core.old) lane.old }
+    ensures steady { (E.fresh core.new ≡ E.fresh core.old) × (E.price core.new ≡ E.price core.old) }
+{
+    let answer = core.step(Event::Arrived {
+        conn: lane.conn,
+        bytes: lane.queue.front(),
+    });
+    match answer {
+        StepAnswer::Done { taken } => lane.queue.used(taken),
+        StepAnswer::Skipped => {}
+        StepAnswer::OutOfMemory => {}
+    }
+    answer
+}
+
+// Whether the input ends now.
+fn ends_now(lane: &Lane) -> bool
+    ensures { result ≡ is_ending (shown_lane lane.now) }
+{
+    match lane.tail {
+        InputEnd::Open => false,
+        InputEnd::Due => lane.queue.is_empty(),
+        InputEnd::Given => lane.queue.is_empty(),
+    }
+}
+
+/// Tells the core that the input ends, where it does.
+pub fn end_if_due<E: EventCore>(core: &mut E, lane: &mut Lane) -> StepAnswer
+    ensures ends { EndsIfDue (E.fresh core.old) lane.old.conn (shown_lane lane.old) (shown_lane lane.new) result (E.view core.old) (E.now core.old) (E.view core.new) (E.now core.new) }
+    ensures conn { lane.new.conn ≡ lane.old.conn }
+    ensures falls { (room : ℕ) → lane.old.queue ≡ [] → lane.old.tail ≡ InputEnd.Due → (E.view core.old lane.old.conn).room ≡ Some room → E.left core.new + work_of (E.price core.old) lane.new < E.left core.old + work_of (E.price core.old) lane.old }
+    ensures steady { (E.fresh core.new ≡ E.fresh core.old) × (E.price core.new ≡ E.price core.old) }
+{
+    if !ends_now(lane) {
+        return StepAnswer::Skipped;
+    }
+    let answer = core.step(Event::Ended { conn: lane.conn });
+    match answer {
+        StepAnswer::Done { taken: _ } => lane.tail = InputEnd::Given,
+        StepAnswer::Skipped => {}
+        StepAnswer::OutOfMemory => {}
+    }
+    answer
+}
+
+// The front of the pending bytes is kept as emitted.
+fn keep_front<E: EventCore>(core: &E, lane: &mut Lane, most: u64) -> Result<usize, OutOfMemory>
+    ensures count { IfOk result (λ count. count ≡ min most (length (E.view core.now lane.old.conn).pending)) }
+    ensures kept { IfOk result (λ count. lane.new.emitted ≡ lane.old.emitted ++ take count (E.view core.now lane.old.conn).pending) }
+    ensures same { (lane.new.conn ≡ lane.old.conn) × (lane.new.queue ≡ lane.old.queue) × (lane.new.tail ≡ lane.old.tail) }
+{
+    let pending = core.pending(lane.conn);
+    let count = if most < pending.len() as u64 {
+        most as usize
+    } else {
+        pending.len()
+    };
+    lane.emitted.extend(&pending[..count])?;
+    Ok(count)
+}
+
+/// Writes at most so many of the pending bytes.
+pub fn write<E: EventCore>(
+    core: &mut E,
+    lane: &mut Lane,
+    most: u64,
+) -> Result<StepAnswer, OutOfMemory>
+    ensures gives { IfOk result (λ a. (count : ℕ) × (count ≡ min most (length (E.view core.old lane.old.conn).pending)) × Gives (E.fresh core.old) (Wrote lane.old.conn count) a (E.view core.old) (E.now core.old) (E.view core.new) (E.now core.new) × (shown_lane lane.new ≡ written_lane (shown_lane lane.old) a count (E.view core.old lane.old.conn).pending)) }
+    ensures conn { lane.new.conn ≡ lane.old.conn }
+    ensures falls { OnOk result (length (E.view core.old lane.old.conn).pending ≤ most → no_bytes (E.view core.old lane.old.conn).pending ≡ false → E.left core.new + work_of (E.price core.old) lane.new < E.left core.old + work_of (E.price core.old) lane.old) }
+    ensures steady { OnOk result ((E.fresh core.new ≡ E.fresh core.old) × (E.price core.new ≡ E.price core.old)) }
+{
+    let count = keep_front(core, lane, most)?;
+    let answer = core.step(Event::Wrote {
+        conn: lane.conn,
+        count,
+    });
+    match answer {
+        StepAnswer::Done { taken: _ } => {}
+        StepAnswer::Skipped => {}
+        StepAnswer::OutOfMemory => {}
+    }
+    Ok(answer)
+}
