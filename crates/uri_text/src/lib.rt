@@ -1,0 +1,13 @@
+//! Request targets: the path and the arguments that a target names, and a path written with escapes.
+#![tactic(auto)]
+
+mod escape;
+mod fault;
+mod front;
+mod path;
+mod segment;
+mod target;
+
+pub use escape::escaped;
+pub use fault::UriFault;
+pub use target::{AbsoluteForm, absolute_form, is_target, normal};
