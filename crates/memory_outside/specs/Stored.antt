@@ -1,0 +1,41 @@
+-- What stands where in the files of memory.
+use Rattle.std.specs.Prelude.{◌≡◌, ◌≢◌, ℕ, ◌==◌, nat_le, Bool, true, false, ◌&&◌, List, [], ◌∷◌, ◌++◌, if◌then◌else◌}
+use Rattle.std.specs.Str.{bytes_eq}
+use Rattle.file_tree.specs.Tree.{Item, AFile, AFolder, ALocked, Nothing, Trees, Tree, IsChild}
+use Rattle.memory_outside.specs.declared.files.StoredItem.{StoredItem}
+use Rattle.memory_outside.specs.declared.files.Stored.{Stored}
+use Rattle.memory_outside.specs.declared.files.MemoryFiles.{MemoryFiles}
+use Rattle.memory_outside.specs.declared.files.StoredItem.TheVariants as stored
+
+abbrev pub item_of : StoredItem → Item
+item_of (stored.File bytes date) = AFile bytes date
+item_of stored.Folder = AFolder
+item_of stored.Locked = ALocked
+item_of stored.Missing = Nothing
+
+-- it stands at this path in the tree of this number
+abbrev pub is_at : ℕ → List ℕ → Stored → Bool
+is_at of path s = nat_le s.from of && bytes_eq s.path path
+
+-- the last of a path that is as old as the number, or what stood there before; the newest stand last
+unfoldable pub item_over : Item → List Stored → ℕ → List ℕ → Item
+item_over below [] of path = below
+item_over below (s ∷ items) of path = item_over (if is_at of path s then item_of s.item else below) items of path
+
+-- the trees of a list of what was stored; what isn't listed isn't there
+abbrev pub item_in : List Stored → Trees
+item_in items = item_over Nothing items
+
+-- from this number on the item stands at the path, and all else stays
+abbrev pub Replaces : ℕ → List ℕ → StoredItem → Trees → Trees → Type 0
+Replaces from path item old new = (of : ℕ) (q : List ℕ) → new of q ≡ (if nat_le from of && bytes_eq path q then item_of item else old of q)
+
+-- the trees that files in memory tell, the number of the newest and how often a call has failed
+abbrev pub trees_of : MemoryFiles → Trees
+trees_of f = item_in f.items.items
+
+abbrev pub newest_of : MemoryFiles → ℕ
+newest_of f = f.version
+
+abbrev pub file_faults_of : MemoryFiles → ℕ
+file_faults_of f = f.faults

@@ -1,0 +1,10 @@
+//! The outside in memory, for scripts and for tests: files of which every version is kept, a sink, clocks, and links to
+//! peers. Each has a list of the calls that are to fail.
+#![tactic(auto)]
+
+mod files;
+mod names;
+mod sink;
+
+pub use files::{FileCall, MemoryFiles, StoredItem};
+pub use sink::MemorySink;
