@@ -1,0 +1,10 @@
+pub mod LineLemmas
+pub mod PartLemmas
+pub mod HeadLemmas
+pub mod MeaningLemmas
+pub mod ScanLemmas
+pub mod StepLemmas
+pub mod FieldMaps
+pub mod Taken
+pub mod CodeLemmas
+pub mod MadeLemmas

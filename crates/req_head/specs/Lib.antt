@@ -1,0 +1,12 @@
+pub mod Lines
+pub mod Reading
+pub mod FirstLine
+pub mod Fields
+pub mod Options
+pub mod Host
+pub mod Rules
+pub mod Heads
+pub mod Values
+pub mod Scans
+pub mod Step
+pub mod Laws

@@ -1,0 +1,173 @@
+// Reading a whole head.
+ghost use Rattle.std.specs.Prelude.{◌≡◌, ℕ, ◌≤◌, List, length, IfOk, None};
+ghost use Rattle.httparse.specs.Grammar.{RequestHead};
+ghost use Rattle.httparse.specs.Spans.{IsRequestAt, IsRequestOf, IsRequestWithin, RequestOverflows};
+ghost use Rattle.req_head.specs.Lines.{lines, whole_lines};
+ghost use Rattle.req_head.specs.Reading.{Whole, Wrong, Short, read_request};
+
+use crate::fields::field_map;
+use crate::find::{Scan, find_head};
+use crate::host::host_of;
+use crate::lines::{LIMIT, asks_head, seen_of, whole_lines_of};
+use crate::options::keeps;
+use crate::rules::{body_of, find_fault, method_of, version_of};
+use byte_text::{ByteText, OutOfMemory};
+use http_header::HeaderMap;
+use http_types::{BodyKind, Method, Version};
+use httparse::spans::{EMPTY_HEADER_SPAN, HeaderSpan, RequestSpans};
+use std::alloc::Global;
+
+/// The head of a request, which passed all tests.
+#[derive(Drop)]
+pub struct Head {
+    pub method: Method,
+    pub version: Version,
+    /// The request target as it was sent.
+    pub target: ByteText,
+    /// The host of an absolute target, else that of the field Host: in lower case, without the port. Empty where neither
+    /// is there.
+    pub host: ByteText,
+    /// Each field, its value without the white space around it.
+    pub fields: HeaderMap,
+    pub body: BodyKind,
+    /// Whether the head alone lets the connection persist.
+    pub keep: bool,
+}
+
+/// What the bytes at the front of a connection's input decide.
+#[derive(Drop)]
+pub enum HeadStep {
+    /// Nothing yet: more bytes may make them a head.
+    More,
+    /// A head, and how many bytes it has.
+    Head {
+        head: Head,
+        size: usize,
+    },
+    /// No head, or one that is refused with this code.
+    Bad {
+        code: u16,
+        /// Whether the first line behind empty lines begins with the method HEAD, so that the response has no body.
+        no_body: bool,
+    },
+}
+
+ghost use Rattle.req_head.specs.Heads.{fault_with, head_with};
+ghost use Rattle.req_head.specs.Step.{head_step, looked, step_of};
+
+/// The head with these parts.
+fn make_head(
+    alloc: Global,
+    method: &[u8],
+    target: &[u8],
+    minor: u8,
+    fields: HeaderMap,
+) -> Result<Head, OutOfMemory>
+    requires { fault_with minor target.now fields ≡ None }
+    ensures { IfOk result (λ head. head ≡ head_with method.now target.now minor fields) }
+{
+    let host = host_of(alloc, target, &fields)?;
+    let body = body_of(&fields);
+    let keep = keeps(minor, &fields);
+    Ok(Head {
+        method: method_of(alloc, method)?,
+        version: version_of(minor),
+        target: ByteText::from_slice(alloc, target)?,
+        host,
+        fields,
+        body,
+        keep,
+    })
+}
+
+/// What lines decide that begin no head.
+fn refuse(seen: &[u8]) -> HeadStep
+    ensures { result ≡ step_of seen.now Wrong }
+{
+    HeadStep::Bad {
+        code: 400,
+        no_body: asks_head(seen),
+    }
+}
+
+/// What lines decide that have no whole head.
+fn wait(seen: &[u8]) -> HeadStep
+    ensures { result ≡ step_of seen.now Short }
+{
+    if seen.len() < LIMIT {
+        HeadStep::More
+    } else {
+        refuse(seen)
+    }
+}
+
+/// What the head decides that the spans show in the lines.
+fn test_head(
+    alloc: Global,
+    seen: &[u8],
+    text: &[u8],
+    slots: &[HeaderSpan],
+    spans: &RequestSpans,
+) -> Result<HeadStep, OutOfMemory>
+    requires short { length text.now ≤ 8192 }
+    requires few { spans.now.headers ≤ 64 }
+    requires within { IsRequestWithin text.now slots.now spans.now }
+    requires of { IsRequestOf text.now slots.now spans.now }
+    ensures { IfOk result (λ step. (h : RequestHead) → IsRequestAt text.now slots.now spans.now h → step ≡ step_of seen.now (Whole h)) }
+{
+    let target = spans.path.of(text);
+    let fields = field_map(alloc, text, &slots[..spans.headers])?;
+    match find_fault(spans.version, target, &fields) {
+        Some(code) => Ok(HeadStep::Bad {
+            code,
+            no_body: asks_head(seen),
+        }),
+        None => {
+            let head = make_head(alloc, spans.method.of(text), target, spans.version, fields)?;
+            Ok(HeadStep::Head {
+                head,
+                size: spans.len,
+            })
+        }
+    }
+}
+
+/// What lines decide that have more than 64 fields, whole or not.
+#[cold]
+fn read_long(alloc: Global, seen: &[u8], text: &[u8]) -> Result<HeadStep, OutOfMemory>
+    requires short { length text.now ≤ 8192 }
+    requires lines { whole_lines text.now ≡ text.now }
+    requires long { RequestOverflows 64 text.now }
+    ensures { IfOk result (λ step. step ≡ step_of seen.now (read_request (lines text.now))) }
+{
+    let mut room = vec![in alloc; EMPTY_HEADER_SPAN; 2731]?;
+    let slots: &mut [HeaderSpan] = &mut room;
+    match find_head(text, slots) {
+        Scan::Short => Ok(wait(seen)),
+        Scan::Wrong => Ok(refuse(seen)),
+        Scan::Whole(_) => Ok(refuse(seen)),
+        // There is room for more fields than the bytes can hold.
+        Scan::NoRoom => unreachable!(),
+    }
+}
+
+/// Reads the head of a request at the front of the bytes that a connection holds.
+///
+/// Looks at no more than 8192 bytes, and parses only those up to the last line feed.
+///
+/// # Errors
+///
+/// Want of memory alone.
+pub fn read_head(alloc: Global, bytes: &[u8]) -> Result<HeadStep, OutOfMemory>
+    ensures { IfOk result (λ step. step ≡ head_step bytes.now) }
+{
+    let seen = seen_of(bytes);
+    let text = whole_lines_of(seen);
+    let mut slots = [EMPTY_HEADER_SPAN; 64];
+    match find_head(text, &mut slots) {
+        Scan::Short => Ok(wait(seen)),
+        Scan::Wrong => Ok(refuse(seen)),
+        Scan::Whole(spans) => test_head(alloc, seen, text, &slots, &spans),
+        Scan::NoRoom => read_long(alloc, seen, text),
+    }
+}

@@ -1,0 +1,18 @@
+//! Reads the head of a request (RFC 9112).
+#![tactic(auto)]
+
+mod fields;
+mod find;
+mod head;
+mod host;
+mod laws;
+mod lines;
+mod options;
+mod rules;
+
+pub use head::{Head, HeadStep, read_head};
+pub use laws::{full_decides, grammar_decides, head_stays, refusal_stays, size_fits};
+pub use lines::may_decide;
+
+#[cfg(test)]
+mod tests;
