@@ -1,3 +1,4 @@
+pub mod Answered
 pub mod Counting
 pub mod Cutting
 pub mod Decoding
@@ -5,4 +6,7 @@ pub mod Entering
 pub mod Escaping
 pub mod Finishing
 pub mod Leading
+pub mod Merging
+pub mod NormalPaths
+pub mod ReadingBack
 pub mod Targets

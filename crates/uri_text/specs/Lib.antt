@@ -1,3 +1,4 @@
 pub mod Escape
+pub mod Laws
 pub mod Steps
 pub mod Target

@@ -4,6 +4,7 @@
 mod escape;
 mod fault;
 mod front;
+pub mod laws;
 mod path;
 mod segment;
 mod target;
@@ -11,3 +12,6 @@ mod target;
 pub use escape::escaped;
 pub use fault::UriFault;
 pub use target::{AbsoluteForm, absolute_form, is_target, normal};
+
+#[cfg(test)]
+mod tests;

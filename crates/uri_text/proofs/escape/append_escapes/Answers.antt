@@ -1,7 +1,7 @@
 use Rattle.std.proofs.Common.{sym, ◌∙◌, get_or}
 use Rattle.uri_text.proofs.Escaping.{escape_of-start, escape_of-more, escape_byte-escaped, escape_byte-kept}
-use Rattle.uri_text.proofs.escape.escaped.Goals as goal
-use Rattle.uri_text.proofs.escape.escaped.Goals.{then-must_be_escaped+in_ok-extend, else-must_be_escaped+in_ok-push}
+use Rattle.uri_text.proofs.escape.append_escapes.Goals as goal
+use Rattle.uri_text.proofs.escape.append_escapes.Goals.{then-must_be_escaped+in_ok-extend, else-must_be_escaped+in_ok-push}
 
 pub loop-byte-init : goal.loop-byte-init
 loop-byte-init c = escape_of-start c.reserve.new.self
