@@ -1,15 +1,16 @@
 -- The steps of the loop that only counts folders.
-use Rattle.std.proofs.Common.{◌≡◌, ℕ, ◌+◌, ◌-◌, ◌≤◌, Bool, true, false, List, [], ◌∷◌, ◌++◌, Option, None, Some, length, refl, sym, ap, ◌∙◌, arith}
-use Rattle.std.specs.Prelude.{is_ok, option_map, nat_lt}
+use Rattle.std.proofs.Common.{◌≡◌, ℕ, ◌+◌, ◌-◌, ◌≤◌, Bool, true, false, List, [], ◌∷◌, ◌++◌, Option, None, Some, length, refl, sym, ap, ◌∙◌, arith, take, drop}
+use Rattle.std.specs.Prelude.{fold, is_ok, option_map, nat_lt}
+use Rattle.std.specs.List.{prefix_len}
 use Rattle.std.proofs.lemmas.Bool.{lt-ltb, cond-true}
 use Rattle.std.proofs.lemmas.Option.{same_Some, cond_some}
 use Rattle.uri_text.specs.declared.fault.UriFault.{UriFault}
 use Rattle.uri_text.specs.declared.segment.Segment.{Segment}
 use Rattle.uri_text.specs.declared.segment.Segment.TheVariants.{Empty, Dot, Dots, Name}
 use Rattle.uri_text.specs.Target.{faulty, with_byte, decoded, kind_of, entered, path_with, path_of}
-use Rattle.uri_text.specs.Steps.{kind_with, depth_with, Counts}
-use Rattle.uri_text.proofs.Cutting.{has_no_slash-push, kind_of-push}
-use Rattle.uri_text.proofs.Leading.{behind_entered, path_behind-slash, path_behind-byte, path_behind-end, path_behind-fault, path_behind-start}
+use Rattle.uri_text.specs.Steps.{is_plain, kind_with, depth_with, Counts}
+use Rattle.uri_text.proofs.Cutting.{has_no_slash-push, has_no_slash-run, kind_of-push, kind_of-run, plain_front}
+use Rattle.uri_text.proofs.Leading.{behind_entered, path_behind-slash, path_behind-byte, path_behind-plain, path_behind-end, path_behind-fault, path_behind-start}
 use Rattle.uri_text.proofs.Finishing.{ended, ended-is, one_folder, no_folder}
 
 kind_of-none : kind_of [] ≡ Empty
@@ -27,6 +28,16 @@ counts-byte merge whole b rest behind depth kind l is other = record {
   kind_is = ap (λ k. kind_with k b) l.kind_is ∙ sym (kind_of-push l.segment b);
   segment_free = has_no_slash-push l.segment b l.segment_free other;
   same = ap is_ok (sym (path_behind-byte merge l.kept l.segment b rest behind is)) ∙ l.same;
+}
+
+pub counts-plain : (merge whole : Bool) (rest behind : List ℕ) (depth n : ℕ) (kind more : Segment) → Counts merge whole rest depth kind → n ≡ prefix_len is_plain rest → behind ≡ drop n rest → more ≡ fold kind_with kind (take n rest) → Counts merge whole behind depth more
+counts-plain merge whole rest behind depth n kind more l is behind_is more_is = record {
+  kept = l.kept;
+  segment = l.segment ++ take n rest;
+  depth_is = l.depth_is;
+  kind_is = more_is ∙ ap (λ k. fold kind_with k (take n rest)) l.kind_is ∙ sym (kind_of-run l.segment (take n rest));
+  segment_free = has_no_slash-run l.segment (take n rest) l.segment_free (plain_front rest n is);
+  same = ap is_ok (sym (path_behind-plain merge l.kept l.segment rest behind n is behind_is)) ∙ l.same;
 }
 
 -- as many folders as are counted

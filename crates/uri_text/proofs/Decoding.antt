@@ -10,7 +10,7 @@ pub decoded-nil : decoded [] ≡ nothing
 unfolding decoded
 decoded-nil = refl
 
-decoded-plain : (b : ℕ) (rest : List ℕ) → (b ≡ 37 → ⊥) → decoded (b ∷ rest) ≡ with_byte b (decoded rest)
+pub decoded-plain : (b : ℕ) (rest : List ℕ) → (b ≡ 37 → ⊥) → decoded (b ∷ rest) ≡ with_byte b (decoded rest)
 unfolding decoded
 decoded-plain b [] other = cond-false _ _ _ (ne_eqb b 37 other)
 decoded-plain b (c ∷ []) other = cond-false _ _ _ (ne_eqb b 37 other)

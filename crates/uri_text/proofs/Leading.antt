@@ -1,12 +1,14 @@
 -- The steps of the loops over a text with escapes.
-use Rattle.std.proofs.Common.{◌≡◌, ℕ, Bool, true, List, [], ◌∷◌, ◌++◌, Option, None, Some, Result, Err, refl, sym, ap, ◌∙◌, append_assoc, append-nil}
+use Rattle.std.proofs.Common.{◌≡◌, ℕ, Bool, true, List, [], ◌∷◌, ◌++◌, Option, None, Some, Result, Err, take, drop, refl, sym, ap, ◌∙◌, append_assoc, append-nil, take-append-drop}
 use Rattle.std.specs.Prelude.{option_and_then}
 use Rattle.uri_text.specs.declared.fault.UriFault.{UriFault}
 use Rattle.uri_text.specs.declared.fault.UriFault.TheVariants.{AboveRoot}
 use Rattle.uri_text.specs.Target.{Decoded, Segments, nothing, faulty, with_byte, decoded, segments, kind_of, entered, resolved, spelled, last_folder, last_name, path_with, fault_behind, path_from, path_of}
-use Rattle.uri_text.specs.Steps.{has_no_slash, Stands, SpellsAll, path_behind, Leads}
-use Rattle.uri_text.proofs.Decoding.{decoded-nil}
-use Rattle.uri_text.proofs.Cutting.{segments-folder, segments-name, has_no_slash-push}
+use Rattle.uri_text.specs.Steps.{has_no_slash, is_plain, Stands, SpellsAll, path_behind, Leads}
+use Rattle.std.specs.List.{prefix_len, list_all}
+use Rattle.std.proofs.lemmas.Bool.{and_parts}
+use Rattle.uri_text.proofs.Decoding.{decoded-nil, decoded-plain}
+use Rattle.uri_text.proofs.Cutting.{segments-folder, segments-name, has_no_slash-push, has_no_slash-run, plain-parts, plain_front}
 
 abbrev pub only : List ℕ → Segments
 only segment = record { folders = []; name = segment }
@@ -57,6 +59,20 @@ joined-byte merge kept segment b behind = ap (λ bytes. path_from merge kept (se
 pub path_behind-byte : (merge : Bool) (kept : List (List ℕ)) (segment : List ℕ) (b : ℕ) (rest behind : List ℕ) → decoded rest ≡ with_byte b (decoded behind) → path_behind merge kept segment rest ≡ path_behind merge kept (segment ++ b ∷ []) behind
 path_behind-byte merge kept segment b rest behind is = path_behind-is merge kept segment rest _ is ∙ joined-byte merge kept segment b behind
 
+-- a run of plain bytes
+pub path_behind-run : (merge : Bool) (kept : List (List ℕ)) (segment run behind : List ℕ) → list_all is_plain run ≡ true → path_behind merge kept segment (run ++ behind) ≡ path_behind merge kept (segment ++ run) behind
+path_behind-run merge kept segment [] behind plain = ap (λ s. path_behind merge kept s behind) (sym (append-nil segment))
+path_behind-run merge kept segment (b ∷ run) behind plain =
+    let parts = and_parts (is_plain b) (list_all is_plain run) plain in
+    path_behind-byte merge kept segment b (b ∷ (run ++ behind)) (run ++ behind) (decoded-plain b (run ++ behind) (plain-parts b parts.0).1)
+    ∙ path_behind-run merge kept (segment ++ b ∷ []) run behind parts.1
+    ∙ ap (λ s. path_behind merge kept s behind) (append_assoc segment (b ∷ []) run)
+
+pub path_behind-plain : (merge : Bool) (kept : List (List ℕ)) (segment rest behind : List ℕ) (n : ℕ) → n ≡ prefix_len is_plain rest → behind ≡ drop n rest → path_behind merge kept segment rest ≡ path_behind merge kept (segment ++ take n rest) behind
+path_behind-plain merge kept segment rest behind n is behind_is =
+    ap (path_behind merge kept segment) (sym (take-append-drop n rest)) ∙ path_behind-run merge kept segment (take n rest) (drop n rest) (plain_front rest n is)
+    ∙ ap (path_behind merge kept (segment ++ take n rest)) (sym behind_is)
+
 segments-end : (segment : List ℕ) → has_no_slash segment ≡ true → segments (segment ++ []) ≡ only segment
 segments-end segment free = rw append-nil (segments-name segment free)
 
@@ -96,6 +112,19 @@ leads-byte merge whole b rest behind text start l is other = record {
     segment_free = has_no_slash-push l.segment b l.stands.segment_free other;
   };
   same = sym (path_behind-byte merge l.kept l.segment b rest behind is) ∙ l.same;
+}
+
+pub leads-plain : (merge : Bool) (whole : Result (List ℕ) UriFault) (rest behind text new : List ℕ) (start n : ℕ) → Leads merge whole rest text start → n ≡ prefix_len is_plain rest → behind ≡ drop n rest → new ≡ text ++ take n rest → Leads merge whole behind new start
+leads-plain merge whole rest behind text new start n l is behind_is new_is = record {
+  kept = l.kept;
+  segment = l.segment ++ take n rest;
+  stands = record {
+    spells = new_is ∙ ap (λ t. t ++ take n rest) l.stands.spells ∙ append_assoc (spelled l.kept) l.segment (take n rest);
+    starts = l.stands.starts;
+    folders_free = l.stands.folders_free;
+    segment_free = has_no_slash-run l.segment (take n rest) l.stands.segment_free (plain_front rest n is);
+  };
+  same = sym (path_behind-plain merge l.kept l.segment rest behind n is behind_is) ∙ l.same;
 }
 
 leads-entered : (merge : Bool) (whole : Result (List ℕ) UriFault) (behind text : List ℕ) (start : ℕ) (stay : Option (List (List ℕ))) → SpellsAll stay text start → behind_entered merge stay behind ≡ whole → Leads merge whole behind text start

@@ -1,12 +1,12 @@
 -- What the steps over a target's bytes keep.
-use Rattle.std.specs.Prelude.{◌≡◌, ℕ, ◌+◌, ◌-◌, ◌<◌, Bool, true, not, ◌==◌, nat_lt, List, [], ◌++◌, length, Option, Some, None, Result, is_ok, if◌then◌else◌}
+use Rattle.std.specs.Prelude.{◌≡◌, ℕ, ◌+◌, ◌-◌, ◌<◌, Bool, true, not, ◌||◌, ◌==◌, nat_lt, List, [], ◌++◌, length, Option, Some, None, Result, is_ok, if◌then◌else◌}
 use Rattle.std.specs.List.{list_all}
 use Rattle.uri_text.specs.declared.fault.UriFault.{UriFault}
 use Rattle.uri_text.specs.declared.segment.Segment.{Segment}
 use Rattle.uri_text.specs.declared.segment.Segment.TheVariants.{Empty, Dot, Dots, Name}
 use Rattle.uri_text.specs.declared.front.Front.{Front}
 use Rattle.uri_text.specs.declared.front.Front.TheVariants.{End, Byte, Fault}
-use Rattle.uri_text.specs.Target.{slash, dot, faulty, with_byte, decoded, kind_of, segments, spelled, path_from}
+use Rattle.uri_text.specs.Target.{slash, percent, dot, faulty, with_byte, decoded, kind_of, segments, spelled, path_from}
 
 -- no byte is a slash
 abbrev pub has_no_slash : List ℕ → Bool
@@ -26,6 +26,10 @@ pub record Stands (kept : List (List ℕ)) (segment text : List ℕ) (start : �
 abbrev pub SpellsAll : Option (List (List ℕ)) → List ℕ → ℕ → Type 0
 SpellsAll None text start = ⊥
 SpellsAll (Some kept) text start = Stands kept [] text start
+
+-- a byte that stands for itself and ends no segment
+abbrev pub is_plain : ℕ → Bool
+is_plain b = not (b == slash || b == percent)
 
 -- what a text with escapes begins with
 abbrev pub IsFront : List ℕ → Front → Type 0

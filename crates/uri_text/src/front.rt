@@ -1,8 +1,9 @@
 // The first byte of a text with escapes.
-ghost use Rattle.std.specs.Prelude.{◌≡◌, ◌&&◌, if◌then◌else◌};
+ghost use Rattle.std.specs.Prelude.{◌≡◌, ◌&&◌, ◌≤◌, length, if◌then◌else◌};
 ghost use Rattle.std.specs.Char.{is_digit};
+ghost use Rattle.std.specs.List.{prefix_len};
 ghost use Rattle.uri_text.specs.Target.{escape_value};
-ghost use Rattle.uri_text.specs.Steps.{IsFront};
+ghost use Rattle.uri_text.specs.Steps.{IsFront, is_plain};
 
 use crate::UriFault;
 
@@ -35,6 +36,19 @@ pub fn front_of(text: &[u8]) -> Front<'_>
         Some(0) => Front::Fault(UriFault::Zero),
         Some(byte) => Front::Byte(byte, behind),
     }
+}
+
+/// How many bytes stand at the front as they are and end no segment.
+pub fn plain_len(text: &[u8]) -> usize
+    ensures within { result ≤ length text.now }
+    ensures value { result ≡ prefix_len is_plain text.now }
+{
+    for (i, &byte) in text.iter().enumerate() {
+        if byte == b'/' || byte == b'%' {
+            return i;
+        }
+    }
+    text.len()
 }
 
 /// The byte that two hexadecimal digits stand for.

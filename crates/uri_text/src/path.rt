@@ -4,8 +4,8 @@ ghost use Rattle.uri_text.specs.Target.{kind_of, entered, path_of, path_from, sp
 ghost use Rattle.uri_text.specs.Steps.{have_no_slash, Stands, SpellsAll, depth_with};
 
 use crate::UriFault;
-use crate::front::{Front, front_of};
-use crate::segment::{Segment, kind_of_bytes, kind_with_byte};
+use crate::front::{Front, front_of, plain_len};
+use crate::segment::{Segment, kind_of_bytes, kind_with_byte, kind_with_run};
 use byte_text::ByteText;
 
 #[inline]
@@ -97,7 +97,10 @@ pub fn write_path(text: &[u8], merge: bool, path: &mut ByteText) -> Result<(), U
     let mut start = 1;
     let mut rest = text;
     'bytes: loop {
-        match front_of(rest) {
+        let plain = plain_len(rest);
+        let run = &rest[..plain];
+        path.extend(run)?;
+        match front_of(&rest[plain..]) {
             Front::End => break,
             Front::Fault(fault) => return Err(fault),
             Front::Byte(b'/', behind) => {
@@ -137,7 +140,9 @@ pub fn is_path(text: &[u8], merge: bool) -> bool
     let mut kind = Segment::Empty;
     let mut rest = text;
     'bytes: loop {
-        match front_of(rest) {
+        let plain = plain_len(rest);
+        kind = kind_with_run(kind, &rest[..plain]);
+        match front_of(&rest[plain..]) {
             Front::End => break,
             Front::Fault(_) => return false,
             Front::Byte(b'/', behind) => {

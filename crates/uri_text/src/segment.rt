@@ -1,5 +1,5 @@
 // Kinds of segments.
-ghost use Rattle.std.specs.Prelude.{◌≡◌};
+ghost use Rattle.std.specs.Prelude.{◌≡◌, fold};
 ghost use Rattle.uri_text.specs.Target.{kind_of};
 ghost use Rattle.uri_text.specs.Steps.{kind_with};
 
@@ -59,5 +59,18 @@ pub fn kind_with_byte(kind: Segment, byte: u8) -> Segment
             }
         }
         Segment::Dots | Segment::Name => Segment::Name,
+    }
+}
+
+/// The segment's kind with these bytes more. Three make any segment a name.
+#[tactic(auto, unfolding(crate::specs::Steps::kind_with))]
+pub fn kind_with_run(kind: Segment, run: &[u8]) -> Segment
+    ensures { result ≡ fold kind_with kind run.now }
+{
+    match run {
+        [] => kind,
+        [first] => kind_with_byte(kind, *first),
+        [first, second] => kind_with_byte(kind_with_byte(kind, *first), *second),
+        _ => Segment::Name,
     }
 }
