@@ -1,0 +1,4 @@
+pub mod ValueLemmas
+pub mod LineLemmas
+pub mod SafeLemmas
+pub mod LawLemmas

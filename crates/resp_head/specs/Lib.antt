@@ -1,0 +1,4 @@
+pub mod Phrases
+pub mod Values
+pub mod Head
+pub mod Laws

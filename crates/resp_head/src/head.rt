@@ -1,0 +1,171 @@
+// The head of a response.
+ghost use Rattle.std.specs.Prelude.{◌≡◌, ◌++◌, OnOk, false};
+ghost use Rattle.http_moment.specs.Moment.{date_of};
+ghost use Rattle.resp_head.specs.Head.{is_bodiless as has_no_body, field_lines, type_fields, length_fields, modified_fields, location_fields, transfer_fields, head_with, head_of};
+
+use crate::lines::{
+    put_chunked, put_date, put_end, put_length, put_modified, put_status_line, put_target, put_type,
+};
+use byte_text::{ByteText, OutOfMemory};
+use http_moment::date_text;
+
+/// What the head of a response says.
+#[derive(Clone, Debug, Drop)]
+pub struct ReplyHead {
+    pub status: u16,
+    /// The second of Date, since the beginning of 1970.
+    pub moment: u64,
+    /// The media type of Content-Type. A byte that a field's value may not have is written as a space.
+    pub kind: Option<ByteText>,
+    /// The length of the content, where it is known.
+    pub length: Option<u64>,
+    /// The second of Last-Modified.
+    pub modified: Option<u64>,
+    /// The target of Location. Bytes up to the space and from 0x7F on are written as percent escapes.
+    pub location: Option<ByteText>,
+    /// Whether content of unknown length is sent in chunks.
+    pub chunked: bool,
+    /// Whether the connection stays open behind the response.
+    pub keep: bool,
+}
+
+/// The bytes of every part of a head but its Content-Type and its Location, at most.
+const FIXED_PARTS: usize = 320;
+
+/// Whether a response of this status has no content (RFC 9110, 15.3.5 and 15.4.5).
+#[tactic(auto, unfolding(crate::specs::Head::is_bodiless))]
+fn is_bodiless(status: u16) -> bool
+    ensures { result ≡ has_no_body status }
+{
+    status == 204 || status == 304
+}
+
+#[tactic(auto, unfolding(crate::specs::Head::type_fields, crate::specs::Head::field_lines, crate::specs::Head::optional))]
+fn put_type_of(head: &ReplyHead, out: &mut ByteText) -> Result<(), OutOfMemory>
+    ensures { OnOk result (out.new ≡ out.old ++ field_lines (type_fields head.now)) }
+{
+    if is_bodiless(head.status) {
+        return Ok(());
+    }
+    match &head.kind {
+        Some(kind) => {
+            put_type(kind.as_slice(), out)?;
+            Ok(())
+        }
+        None => Ok(()),
+    }
+}
+
+#[tactic(auto, unfolding(crate::specs::Head::length_fields, crate::specs::Head::field_lines, crate::specs::Head::optional))]
+fn put_length_of(head: &ReplyHead, out: &mut ByteText) -> Result<(), OutOfMemory>
+    ensures { OnOk result (out.new ≡ out.old ++ field_lines (length_fields head.now)) }
+{
+    if is_bodiless(head.status) {
+        return Ok(());
+    }
+    match head.length {
+        Some(length) => {
+            put_length(length, out)?;
+            Ok(())
+        }
+        None => Ok(()),
+    }
+}
+
+#[tactic(auto, unfolding(crate::specs::Head::modified_fields, crate::specs::Head::field_lines, crate::specs::Head::optional))]
+fn put_modified_of(head: &ReplyHead, out: &mut ByteText) -> Result<(), OutOfMemory>
+    ensures { OnOk result (out.new ≡ out.old ++ field_lines (modified_fields head.now)) }
+{
+    match head.modified {
+        Some(secs) => {
+            put_modified(secs, out)?;
+            Ok(())
+        }
+        None => Ok(()),
+    }
+}
+
+#[tactic(auto, unfolding(crate::specs::Head::location_fields, crate::specs::Head::field_lines, crate::specs::Head::optional))]
+fn put_location_of(head: &ReplyHead, out: &mut ByteText) -> Result<(), OutOfMemory>
+    ensures { OnOk result (out.new ≡ out.old ++ field_lines (location_fields head.now)) }
+{
+    match &head.location {
+        Some(to) => {
+            put_target(to.as_slice(), out)?;
+            Ok(())
+        }
+        None => Ok(()),
+    }
+}
+
+#[tactic(auto, unfolding(crate::specs::Head::transfer_fields, crate::specs::Head::field_lines))]
+fn put_transfer_of(head: &ReplyHead, out: &mut ByteText) -> Result<(), OutOfMemory>
+    ensures { OnOk result (out.new ≡ out.old ++ field_lines (transfer_fields head.now)) }
+{
+    if head.chunked && !(is_bodiless(head.status) || head.length.is_some()) {
+        put_chunked(out)?;
+        Ok(())
+    } else {
+        Ok(())
+    }
+}
+
+/// The most bytes that a head takes.
+fn most_bytes(head: &ReplyHead) -> usize {
+    let kind = match &head.kind {
+        Some(kind) => kind.len(),
+        None => 0,
+    };
+    let location = match &head.location {
+        Some(to) => to.len(),
+        None => 0,
+    };
+    location
+        .saturating_mul(3)
+        .saturating_add(kind)
+        .saturating_add(FIXED_PARTS)
+}
+
+/// The same as [`head_text`], with the text of Date given, so that responses of one second share it.
+pub fn head_text_dated(
+    head: &ReplyHead,
+    date: &[u8; 29],
+    out: &mut ByteText,
+) -> Result<(), OutOfMemory>
+    ensures text { OnOk result (out.new ≡ out.old ++ head_with date.now head.now) }
+    ensures of_moment { date.now ≡ date_of head.now.moment → OnOk result (out.new ≡ out.old ++ head_of head.now) }
+{
+    out.reserve(most_bytes(head))?;
+    put_status_line(head.status, out)?;
+    put_date(date, out)?;
+    put_type_of(head, out)?;
+    put_length_of(head, out)?;
+    put_modified_of(head, out)?;
+    put_location_of(head, out)?;
+    put_transfer_of(head, out)?;
+    put_end(head.keep, out)?;
+    Ok(())
+}
+
+/// Appends the head of a response (RFC 9112, 4 and 5): the status line, Server, Date, Content-Type, Content-Length,
+/// Last-Modified, Location, Transfer-Encoding and Connection, as far as they apply, and the empty line. `out` grows
+/// once at most. After want of memory it holds some part of the head.
+#[tactic(auto, unfolding(crate::specs::Head::head_of))]
+pub fn head_text(head: &ReplyHead, out: &mut ByteText) -> Result<(), OutOfMemory>
+    ensures { OnOk result (out.new ≡ out.old ++ head_of head.now) }
+{
+    head_text_dated(head, &date_text(head.moment), out)?;
+    Ok(())
+}
+
+impl ReplyHead {
+    /// The head of the same response to a HEAD request, which names no transfer coding.
+    pub fn for_head(self) -> ReplyHead
+        ensures { result ≡ record self { chunked = false } }
+    {
+        ReplyHead {
+            chunked: false,
+            ..self
+        }
+    }
+}
