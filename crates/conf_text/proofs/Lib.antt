@@ -1,0 +1,5 @@
+pub mod PlaceLaws
+pub mod WordLaws
+pub mod TokenLaws
+pub mod StatementLaws
+pub mod StepLaws

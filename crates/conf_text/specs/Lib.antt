@@ -1,0 +1,7 @@
+pub mod Words
+pub mod Tokens
+pub mod Places
+pub mod Statements
+pub mod Blocks
+pub mod Reading
+pub mod Steps

@@ -1,0 +1,16 @@
+//! The text of a configuration file, read into its directives.
+#![tactic(auto)]
+
+mod directive;
+mod fault;
+mod reader;
+mod statement;
+mod token;
+mod word;
+
+pub use directive::{Directive, Directives, split_block};
+pub use fault::{ConfError, ConfFault, FaultKind};
+pub use reader::parse;
+
+#[cfg(test)]
+mod tests;
