@@ -1,3 +1,5 @@
 pub mod Stored
 pub mod Names
 pub mod Taken
+pub mod Peers
+pub mod Told

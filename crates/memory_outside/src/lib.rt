@@ -3,8 +3,11 @@
 #![tactic(auto)]
 
 mod files;
+mod links;
 mod names;
+mod peer;
 mod sink;
 
 pub use files::{FileCall, MemoryFiles, StoredItem};
+pub use links::{LinkCall, MemoryLinks, ScriptedNotice};
 pub use sink::MemorySink;

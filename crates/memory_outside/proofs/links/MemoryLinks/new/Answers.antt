@@ -1,0 +1,8 @@
+use Rattle.memory_outside.proofs.Ids.{absent_none}
+use Rattle.memory_outside.proofs.links.MemoryLinks.new.Goals as goal
+
+pub returns-clause-unused : goal.returns-clause-unused
+returns-clause-unused c = λ id. (absent_none c.new.result.items id c.new.ensures.items).used
+
+pub returns-clause-none_open : goal.returns-clause-none_open
+returns-clause-none_open c = λ id. (absent_none c.new.result.items id c.new.ensures.items).held

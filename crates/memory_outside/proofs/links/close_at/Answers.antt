@@ -1,0 +1,18 @@
+use Rattle.memory_outside.proofs.Ids.{closes_at}
+use Rattle.memory_outside.proofs.links.close_at.Goals as goal
+
+pub returns-clause-told : goal.returns-clause-told
+returns-clause-told c =
+    (closes_at c.args.peers.now c.args.at c.close.new.self c.index-peers-at.result c.requires c.close.ensures.told c.close.ensures.held c.close.ensures.faults).told
+
+pub returns-clause-used : goal.returns-clause-used
+returns-clause-used c =
+    (closes_at c.args.peers.now c.args.at c.close.new.self c.index-peers-at.result c.requires c.close.ensures.told c.close.ensures.held c.close.ensures.faults).used
+
+pub returns-clause-held : goal.returns-clause-held
+returns-clause-held c =
+    (closes_at c.args.peers.now c.args.at c.close.new.self c.index-peers-at.result c.requires c.close.ensures.told c.close.ensures.held c.close.ensures.faults).held
+
+pub returns-clause-later : goal.returns-clause-later
+returns-clause-later c =
+    (closes_at c.args.peers.now c.args.at c.close.new.self c.index-peers-at.result c.requires c.close.ensures.told c.close.ensures.held c.close.ensures.faults).later
