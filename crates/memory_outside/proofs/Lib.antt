@@ -1,3 +1,4 @@
 pub mod Stores
 pub mod Children
 pub mod Ids
+pub mod Calls

@@ -3,3 +3,4 @@ pub mod Names
 pub mod Taken
 pub mod Peers
 pub mod Told
+pub mod Moments

@@ -2,12 +2,15 @@
 //! peers. Each has a list of the calls that are to fail.
 #![tactic(auto)]
 
+mod clocks;
 mod files;
 mod links;
 mod names;
 mod peer;
 mod sink;
 
+pub use clocks::{FixedClock, ListClock};
 pub use files::{FileCall, MemoryFiles, StoredItem};
 pub use links::{LinkCall, MemoryLinks, ScriptedNotice};
 pub use sink::MemorySink;
+
