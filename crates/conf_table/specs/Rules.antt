@@ -1,0 +1,15 @@
+-- Sets of places.
+use Rattle.std.specs.Prelude.{Bool}
+use Rattle.conf_table.specs.declared.rule.Place.{Place}
+use Rattle.conf_table.specs.declared.rule.Place.TheVariants.{Top, Events, Http, Server, Location, ServerIf, LocationIf}
+use Rattle.conf_table.specs.declared.rule.Places.{Places}
+
+-- the place is in the set
+abbrev pub has_place : Places → Place → Bool
+has_place places Top = places.top
+has_place places Events = places.events
+has_place places Http = places.http
+has_place places Server = places.server
+has_place places Location = places.location
+has_place places ServerIf = places.server_if
+has_place places LocationIf = places.location_if

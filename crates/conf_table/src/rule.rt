@@ -1,0 +1,90 @@
+// What a configuration says of each directive.
+ghost use Rattle.std.specs.Prelude.{◌≡◌};
+ghost use Rattle.conf_table.specs.Rules.{has_place};
+
+/// A place in which directives stand.
+#[derive(Clone, Copy, Debug, PartialEq, Eq)]
+pub enum Place {
+    /// At the top of the configuration, outside each block.
+    Top,
+    /// In `events`.
+    Events,
+    /// In `http`.
+    Http,
+    /// In a `server`.
+    Server,
+    /// In a `location`.
+    Location,
+    /// In an `if` of a server.
+    ServerIf,
+    /// In an `if` of a location.
+    LocationIf,
+}
+
+/// A set of places.
+#[derive(Clone, Copy, Debug, PartialEq, Eq)]
+pub struct Places {
+    pub top: bool,
+    pub events: bool,
+    pub http: bool,
+    pub server: bool,
+    pub location: bool,
+    pub server_if: bool,
+    pub location_if: bool,
+}
+
+impl Places {
+    /// Whether the place is in the set.
+    pub fn contains(self, place: Place) -> bool
+        ensures { result ≡ has_place self place }
+    {
+        match place {
+            Place::Top => self.top,
+            Place::Events => self.events,
+            Place::Http => self.http,
+            Place::Server => self.server,
+            Place::Location => self.location,
+            Place::ServerIf => self.server_if,
+            Place::LocationIf => self.location_if,
+        }
+    }
+}
+
+/// The feature of this server that gives a directive its effect.
+#[derive(Clone, Copy, Debug, PartialEq, Eq)]
+pub enum Feature {
+    /// Reading configuration at all, one server with plain locations, `return` of a text, and static files; also the
+    /// directives that are accepted without effect.
+    Core,
+    /// The choice of a server by its names, and of a location by each of its modifiers.
+    Matching,
+    /// Rewrite programs, variables of one's own, and the form of redirects.
+    Rewriting,
+    /// Index files, `try_files`, error pages and the size of request bodies.
+    Content,
+    /// Access by address and by subrequest.
+    Access,
+    /// Server side includes.
+    Includes,
+    /// Texts added before and after a response.
+    Addition,
+}
+
+/// What holds of a directive: where it may stand, how many words may follow its name, and whether it has a block and
+/// may stand several times in one level.
+#[derive(Clone, Copy, Debug, PartialEq, Eq)]
+pub struct DirectiveRule {
+    pub places: Places,
+    /// The least number of words behind the name.
+    pub least: u32,
+    /// The greatest number of words behind the name, if there is a bound.
+    pub greatest: Option<u32>,
+    /// Whether a block is due, and else none may stand.
+    pub block: bool,
+    /// Whether it may stand several times in one level.
+    pub many: bool,
+    /// Whether it is accepted and has no effect.
+    pub ignored: bool,
+    /// The feature that gives it its effect.
+    pub served_by: Feature,
+}
