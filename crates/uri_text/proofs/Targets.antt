@@ -1,9 +1,10 @@
 -- The parts of a target.
-use Rattle.std.proofs.Common.{◌≡◌, ℕ, ◌+◌, ◌-◌, ◌<◌, ◌≤◌, min, Bool, true, false, ◌==◌, List, ◌∷◌, Option, None, Some, Result, Ok, Err, length, take, drop, refl, sym, ap, ◌∙◌}
+use Rattle.std.proofs.Common.{◌≡◌, ℕ, ◌+◌, ◌-◌, ◌<◌, ◌≤◌, min, Bool, true, false, ◌==◌, List, [], ◌∷◌, Option, None, Some, Result, Ok, Err, length, take, drop, refl, sym, ap, ◌∙◌}
 use Rattle.std.specs.Prelude.{nat_eq, codes, is_ok, unwrap_or, option_map}
 use Rattle.std.specs.List.{prefix_len, position_or_len, before_first, after_first, starts_with}
-use Rattle.std.proofs.lemmas.Bool.{lt-ltb, le-ltb, and_from, and_left, and_right, cond-true, cond-false, eq-eqb, ne_eqb}
+use Rattle.std.proofs.lemmas.Bool.{lt-ltb, le-ltb, and_from, and_left, and_right, cond-true, cond-false, cond_both, eqb-true, eq-eqb, ne_eqb}
 use Rattle.std.proofs.lemmas.List.{take_rest, drop_min}
+use Rattle.std.proofs.lemmas.Option.{none-some}
 use Rattle.uri_text.specs.declared.fault.UriFault.{UriFault}
 use Rattle.uri_text.specs.declared.fault.UriFault.TheVariants.{NotAPath}
 use Rattle.uri_text.specs.Target.{is_host_byte, ends_host, host_and_rest, absolute_of, strip_slash, behind_or_host, behind_root, path_and_query, path_of, with_args, normal_behind, normal_of}
@@ -76,3 +77,23 @@ normal-some raw merge text path query is parts =
 pub is_ok-with_args : (args : List ℕ) (r : Result (List ℕ) UriFault) → is_ok r ≡ is_ok (with_args args r)
 is_ok-with_args args (Ok path) = refl
 is_ok-with_args args (Err fault) = refl
+
+-- ---- an absolute form names what stands behind its host
+
+absolute-slash : (text : List ℕ) → absolute_of (47 ∷ text) ≡ None
+unfolding absolute_of
+absolute-slash text = refl
+
+absolute-no_slash : (raw : List ℕ) (form : List ℕ × List ℕ) → absolute_of raw ≡ Some form → strip_slash raw ≡ None
+absolute-no_slash [] form is = refl
+absolute-no_slash (b ∷ text) form is =
+    cond_both (b == 47) (Some text) None (λ o. o ≡ None)
+    (λ slash. absurd (none-some form (sym (ap (λ c. absolute_of (c ∷ text)) (eqb-true b 47 slash) ∙ absolute-slash text) ∙ is)))
+    (λ _. refl)
+
+pub normal-absolute : (raw host rest : List ℕ) (merge : Bool) → absolute_of raw ≡ Some (host, rest) → normal_of raw merge ≡ normal_of (47 ∷ unwrap_or (strip_slash rest) rest) merge
+unfolding normal_of
+normal-absolute raw host rest merge is =
+    ap (normal_behind merge)
+    (behind_root-host raw host rest (strip_slash rest) (absolute-no_slash raw (host, rest) is) is refl
+    ∙ sym (behind_root-slash (47 ∷ unwrap_or (strip_slash rest) rest) (unwrap_or (strip_slash rest) rest) refl))

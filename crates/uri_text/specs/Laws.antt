@@ -1,9 +1,9 @@
 -- What holds of every target and every path.
-use Rattle.std.specs.Prelude.{◌≡◌, ℕ, ◌<◌, Bool, true, false, not, ◌&&◌, List, [], Option, Some, None, Ok, is_ok, All}
+use Rattle.std.specs.Prelude.{◌≡◌, ℕ, ◌<◌, Bool, true, false, not, ◌&&◌, List, [], ◌∷◌, Option, Some, None, unwrap_or, Ok, is_ok, All}
 use Rattle.std.specs.List.{list_all}
 use Rattle.uri_text.specs.declared.segment.Segment.{Segment}
 use Rattle.uri_text.specs.declared.segment.Segment.TheVariants.{Empty, Dot, Dots, Name}
-use Rattle.uri_text.specs.Target.{Segments, segments, kind_of, strip_slash, normal_of}
+use Rattle.uri_text.specs.Target.{slash, Segments, segments, kind_of, absolute_of, strip_slash, normal_of}
 use Rattle.uri_text.specs.Escape.{needs_escape, escape_of}
 
 -- a folder that is neither resolved nor merged
@@ -49,3 +49,7 @@ EscapedPathsAreReadBack = (path : List ℕ) (merge : Bool) → is_normal merge p
 -- A target that names a path where slashes are merged names one where they aren't.
 abbrev pub MergedTargetsPass : Type 0
 MergedTargetsPass = (raw : List ℕ) → is_ok (normal_of raw true) ≡ true → is_ok (normal_of raw false) ≡ true
+
+-- A target `http://host..` names what stands behind its host, with a slash before it where it has none.
+abbrev pub AbsoluteFormsNameTheirPath : Type 0
+AbsoluteFormsNameTheirPath = (raw host rest : List ℕ) (merge : Bool) → absolute_of raw ≡ Some (host, rest) → normal_of raw merge ≡ normal_of (slash ∷ unwrap_or (strip_slash rest) rest) merge

@@ -1,5 +1,5 @@
 //! What holds of every target and every path: each function's contract is a law, and its body does nothing.
-ghost use Rattle.uri_text.specs.Laws.{PathsAreNormal, NormalPathsStay, EscapedPathsAreReadBack, MergedTargetsPass};
+ghost use Rattle.uri_text.specs.Laws.{PathsAreNormal, NormalPathsStay, EscapedPathsAreReadBack, MergedTargetsPass, AbsoluteFormsNameTheirPath};
 
 /// A path that [`crate::normal`] answers begins with `/` and has no segment `.` or `..`, and none that is empty but the last
 /// where slashes are merged. So no path leads out of the folder that it is put behind.
@@ -20,4 +20,9 @@ pub fn escaped_paths_are_read_back()
 /// A target that names a path where slashes are merged names one where they aren't.
 pub fn merged_targets_pass()
     ensures { MergedTargetsPass }
+{}
+
+/// A target `http://host..` names what stands behind its host, with a slash before it where it has none.
+pub fn absolute_forms_name_their_path()
+    ensures { AbsoluteFormsNameTheirPath }
 {}
