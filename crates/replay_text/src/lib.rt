@@ -18,3 +18,6 @@ mod words;
 pub use faults::{FaultKind, ScriptError, ScriptFault};
 pub use parts::{Conf, Confs, EventLine, EventLines, Script, TreeLine, TreeLines};
 pub use reading::read;
+
+#[cfg(test)]
+mod tests;
