@@ -1,0 +1,5 @@
+mod Splits
+mod Settings
+mod Evals
+mod Tokens
+mod Settles

@@ -1,0 +1,141 @@
+// Where the file of a request stands.
+ghost use Rattle.std.specs.Prelude.{◌≡◌, ℕ, ◌+◌, ◌-◌, ◌<◌, ◌≤◌, List, [], ◌∷◌, ◌++◌, length, false, IfOk, OnOk, OnErr};
+ghost use Rattle.ngx_variables.specs.Grammar.{begins_with};
+ghost use Rattle.ngx_variables.specs.Paths.{text_of, without_last_slash, merged, start, without_prefix, behind_start, joined};
+
+use crate::request::Place;
+use crate::value::Value;
+use byte_text::{ByteText, OutOfMemory};
+use std::alloc::Global;
+
+impl Place {
+    /// The text of `root` or `alias`.
+    pub fn text(&self) -> &Value
+        ensures { result.now ≡ text_of self.now }
+    {
+        match self {
+            Place::Root(text) => text,
+            Place::Rest { text, prefix: _ } => text,
+            Place::Whole(text) => text,
+        }
+    }
+}
+
+#[tactic(auto, unfolding(crate::specs::Paths::without_last_slash))]
+fn without_last_slash(text: &[u8]) -> &[u8]
+    ensures { result.now ≡ without_last_slash text.now }
+{
+    match text.last() {
+        Some(b'/') => &text[..text.len() - 1],
+        _ => text,
+    }
+}
+
+fn without_prefix<'a>(prefix: &[u8], path: &'a [u8]) -> &'a [u8]
+    ensures { result.now ≡ without_prefix prefix.now path.now }
+{
+    if path.starts_with(prefix) {
+        &path[prefix.len()..]
+    } else {
+        path
+    }
+}
+
+/// Whether two slashes are neighbours.
+#[tactic(auto, unfolding(crate::specs::Paths::merged))]
+fn has_double_slash(path: &[u8]) -> bool
+    ensures { result ≡ false → merged path.now ≡ path.now }
+{
+    let mut rest = path;
+    while let [first, behind @ ..] = rest {
+        if *first == b'/' && begins_with_slash(behind) {
+            return true;
+        }
+        rest = behind;
+    }
+    false
+}
+
+fn begins_with_slash(text: &[u8]) -> bool
+    ensures { result ≡ begins_with 47 text.now }
+{
+    match text {
+        [b'/', ..] => true,
+        _ => false,
+    }
+}
+
+/// The path with slashes that are neighbours as one.
+#[tactic(auto, unfolding(crate::specs::Paths::merged))]
+fn merged(alloc: Global, path: ByteText) -> Result<ByteText, OutOfMemory>
+    ensures { IfOk result (λ text. text ≡ merged path) }
+{
+    if !has_double_slash(path.as_slice()) {
+        return Ok(path);
+    }
+    let mut text = ByteText::new(alloc);
+    let mut rest = path.as_slice();
+    while let [first, behind @ ..] = rest {
+        if !(*first == b'/' && begins_with_slash(behind)) {
+            text.push(*first)?;
+        }
+        rest = behind;
+    }
+    Ok(text)
+}
+
+/// Writes the path of a file: `text` is what the text of `root` or `alias` evaluates to, `path` the request's path, and
+/// `folder` where a relative text starts. Slashes that are neighbours are one, and a last one is dropped.
+///
+/// Whether such a path may stand for a file, with its segments `.` and `..`, is not asked here. After want of memory
+/// `out` is fit to be dropped alone.
+#[tactic(auto, unfolding(crate::specs::Paths::joined))]
+pub fn joined(
+    alloc: Global,
+    place: &Place,
+    text: &[u8],
+    path: &[u8],
+    folder: &[u8],
+    out: &mut ByteText,
+) -> Result<(), OutOfMemory>
+    ensures { OnOk result (out.new ≡ out.old ++ joined place.now text.now path.now folder.now) }
+{
+    let mut whole = ByteText::new(alloc);
+    append_start(folder, text, &mut whole)?;
+    append_behind(place, text, path, &mut whole)?;
+    let path = merged(alloc, whole)?;
+    out.extend(without_last_slash(path.as_slice()))?;
+    Ok(())
+}
+
+fn append_start(folder: &[u8], text: &[u8], out: &mut ByteText) -> Result<(), OutOfMemory>
+    ensures { OnOk result (out.new ≡ out.old ++ start folder.now text.now) }
+{
+    if !begins_with_slash(text) {
+        out.extend(folder)?;
+        out.push(b'/')?;
+    }
+    Ok(())
+}
+
+fn append_behind(
+    place: &Place,
+    text: &[u8],
+    path: &[u8],
+    out: &mut ByteText,
+) -> Result<(), OutOfMemory>
+    ensures { OnOk result (out.new ≡ out.old ++ behind_start place.now text.now path.now) }
+{
+    match place {
+        Place::Root(_) => {
+            out.extend(without_last_slash(text))?;
+            out.extend(path)?;
+        }
+        Place::Rest { text: _, prefix } => {
+            out.extend(text)?;
+            out.extend(without_prefix(prefix.as_slice(), path))?;
+        }
+        Place::Whole(_) => out.extend(text)?,
+    }
+    Ok(())
+}

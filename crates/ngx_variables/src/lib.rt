@@ -1,0 +1,26 @@
+//! Texts with variables, the table of the variables that a configuration sets, and the data of a request of which
+//! variables speak.
+#![tactic(auto)]
+
+mod argument;
+mod compile;
+mod eval;
+mod fault;
+mod field;
+mod joining;
+mod laws;
+mod request;
+mod table;
+mod value;
+mod variable;
+
+pub use fault::{EvalFault, ValueFault};
+pub use joining::joined;
+pub use laws::value_settles;
+pub use request::{Groups, Main, Place, Request, Role, method_name};
+pub use table::{Setting, VarTable};
+pub use value::{Piece, Value};
+pub use variable::{Variable, is_builtin};
+
+#[cfg(test)]
+mod tests;
