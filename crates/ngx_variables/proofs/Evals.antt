@@ -1,5 +1,5 @@
 -- Evaluated texts, piece by piece.
-use Rattle.std.proofs.Common.{◌≡◌, ℕ, suc, ◌+◌, ◌<◌, ◌≤◌, Bool, true, false, cond, ◌||◌, List, [], ◌∷◌, ◌++◌, length, get_or, drop, Option, Some, None, refl, sym, ◌∙◌, ap, subst, arith, add-one, length-append, append_assoc}
+use Rattle.std.proofs.Common.{◌≡◌, ℕ, suc, ◌+◌, ◌<◌, ◌≤◌, true, false, ◌||◌, List, [], ◌∷◌, ◌++◌, length, get_or, drop, Some, None, refl, sym, ◌∙◌, ap, arith, add-one, length-append, append_assoc}
 use Rattle.std.proofs.Math.Seq.{drop-cons}
 use Rattle.std.proofs.lemmas.Bool.{lt-ltb, ltb-true, cond-true, false≢true}
 use Rattle.acts.specs.Vars.{Vars}
@@ -10,7 +10,7 @@ use Rattle.ngx_variables.specs.declared.request.Main.{Main}
 use Rattle.ngx_variables.specs.declared.request.Request.{Request}
 use Rattle.ngx_variables.specs.declared.request.Place.{Place}
 use Rattle.ngx_variables.specs.declared.eval.FilePaths.{FilePaths}
-use Rattle.ngx_variables.specs.Texts.{piece_text, pieces_text, variable_text, is_too_long, is_path, asks_for_paths, no_paths, paths_by, paths_at, place_paths, value_text}
+use Rattle.ngx_variables.specs.Texts.{piece_text, pieces_text, variable_text, is_too_long, is_path, asks_for_paths, no_paths, paths_at, place_paths, value_text}
 
 module _ (main : Main) (request : Request) (vars : Vars) where
   -- one piece more

@@ -1,5 +1,5 @@
 -- How the reading of a text goes on behind a run of literal bytes, and behind a variable.
-use Rattle.std.proofs.Common.{◌≡◌, ℕ, zero, suc, ◌+◌, ◌<◌, ◌≤◌, Bool, true, false, cond, not, List, [], ◌∷◌, ◌++◌, length, map, take, drop, get_or, ◌≢◌, eqb, Result, Ok, Err, refl, sym, ◌∙◌, ap, subst, arith, append_assoc}
+use Rattle.std.proofs.Common.{◌≡◌, ℕ, zero, suc, ◌+◌, ◌<◌, Bool, true, false, cond, not, List, [], ◌∷◌, ◌++◌, length, take, drop, get_or, ◌≢◌, eqb, Result, Ok, Err, refl, sym, ◌∙◌, ap, arith, append_assoc}
 use Rattle.std.proofs.lemmas.List.{append-nil}
 use Rattle.std.proofs.lemmas.Bool.{cond-true, cond-false, ne_eqb}
 use Rattle.std.specs.List.{position_or_len}
@@ -8,7 +8,7 @@ use Rattle.ngx_variables.specs.declared.value.Piece.TheVariants.{Literal}
 use Rattle.ngx_variables.specs.declared.fault.ValueFault.{ValueFault}
 use Rattle.ngx_variables.specs.declared.fault.ValueFault.TheVariants.{BadName, Unclosed, OutOfMemory}
 use Rattle.ngx_variables.specs.declared.compile.Reference.{Reference}
-use Rattle.ngx_variables.specs.Grammar.{Token, Bytes, Name, Tokens, reference_at, onto_bytes, with_byte, with_name, with_reference, name_in, tokens_behind, lowercase, piece_named, piece_of, pieces_of, compiled, with_pieces, IsFaultOf}
+use Rattle.ngx_variables.specs.Grammar.{Bytes, Tokens, reference_at, with_byte, with_name, with_reference, name_in, tokens_behind, lowercase, piece_named, pieces_of, compiled, with_pieces, IsFaultOf}
 
 abbrev pub is_dollar : ℕ → Bool
 is_dollar b = eqb b 36

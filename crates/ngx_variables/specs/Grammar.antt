@@ -1,7 +1,7 @@
 -- How a text with variables is read: `$name` and `${name}` stand for variables, all other bytes for themselves. A name is
 -- of letters, digits and `_`, in any case, and `$1` to `$9` take one digit
 -- (https://nginx.org/en/docs/http/ngx_http_rewrite_module.html).
-use Rattle.std.specs.Prelude.{◌≡◌, ℕ, zero, suc, ◌+◌, ◌-◌, Bool, true, false, ◌&&◌, ◌||◌, List, [], ◌∷◌, ◌++◌, map, take, drop, codes, ◌==◌, nat_le, Result, Ok, Err, if◌then◌else◌}
+use Rattle.std.specs.Prelude.{◌≡◌, ℕ, zero, suc, ◌+◌, ◌-◌, Bool, false, ◌&&◌, ◌||◌, List, [], ◌∷◌, ◌++◌, map, take, drop, codes, ◌==◌, nat_le, Result, Ok, Err, if◌then◌else◌}
 use Rattle.std.specs.List.{prefix_len, list_any}
 use Rattle.std.specs.Option.{option_map_or}
 use Rattle.std.specs.Char.{is_ascii_alphanumeric, to_ascii_lowercase}

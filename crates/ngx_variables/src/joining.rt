@@ -9,6 +9,21 @@ use byte_text::{ByteText, OutOfMemory};
 use std::alloc::Global;
 
 impl Place {
+    /// The same place once more.
+    pub fn copy(&self, alloc: Global) -> Result<Place, OutOfMemory>
+        ensures { IfOk result (λ copy. copy ≡ self.now) }
+    {
+        match self {
+            Place::Root(text) => Ok(Place::Root(text.copy(alloc)?)),
+            Place::Rest { text, prefix } => {
+                let text = text.copy(alloc)?;
+                let prefix = ByteText::from_slice(alloc, prefix.as_slice())?;
+                Ok(Place::Rest { text, prefix })
+            }
+            Place::Whole(text) => Ok(Place::Whole(text.copy(alloc)?)),
+        }
+    }
+
     /// The text of `root` or `alias`.
     pub fn text(&self) -> &Value
         ensures { result.now ≡ text_of self.now }

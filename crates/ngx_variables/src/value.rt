@@ -1,8 +1,9 @@
 // A text with variables.
-ghost use Rattle.std.specs.Prelude.{◌≡◌, Bool, List, [], ◌∷◌, length};
+ghost use Rattle.std.specs.Prelude.{◌≡◌, List, IfOk};
 
 use crate::variable::Variable;
-use byte_text::ByteText;
+use byte_text::{ByteText, OutOfMemory};
+use std::alloc::Global;
 use std::marker::Model;
 
 /// A piece of a text with variables.
@@ -24,8 +25,8 @@ pub enum Piece {
     Set(ByteText),
 }
 
-/// A text with variables, read once and evaluated for each request. Contracts see it as the list of its pieces, in which
-/// no two literals are neighbours and none is empty.
+/// A text with variables, read once and evaluated for each request. Contracts see it as the list of its pieces. In what
+/// `compile` reads no two literals are neighbours, and none is empty.
 #[derive(Drop)]
 pub struct Value {
     pieces: Vec<Piece>,
@@ -40,12 +41,46 @@ impl Model for Value {
     ghost view = { λ v. v.pieces.items };
 }
 
+impl Piece {
+    /// The same piece once more.
+    pub fn copy(&self, alloc: Global) -> Result<Piece, OutOfMemory>
+        ensures { IfOk result (λ copy. copy ≡ self.now) }
+    {
+        match self {
+            Piece::Literal(bytes) => Ok(Piece::Literal(copied(alloc, bytes)?)),
+            Piece::Group(number) => Ok(Piece::Group(*number)),
+            Piece::Builtin(variable) => Ok(Piece::Builtin(*variable)),
+            Piece::Argument(name) => Ok(Piece::Argument(copied(alloc, name)?)),
+            Piece::Field(name) => Ok(Piece::Field(copied(alloc, name)?)),
+            Piece::Cookie(name) => Ok(Piece::Cookie(copied(alloc, name)?)),
+            Piece::Set(name) => Ok(Piece::Set(copied(alloc, name)?)),
+        }
+    }
+}
+
+fn copied(alloc: Global, text: &ByteText) -> Result<ByteText, OutOfMemory>
+    ensures { IfOk result (λ copy. copy ≡ text.now) }
+{
+    ByteText::from_slice(alloc, text.as_slice())
+}
+
 impl Value {
     /// Takes the pieces over, with no copy.
-    pub(crate) fn from_pieces(pieces: Vec<Piece>) -> Self
+    pub fn from_pieces(pieces: Vec<Piece>) -> Self
         ensures { result ≡ pieces.items }
     {
         Value { pieces }
+    }
+
+    /// The same value once more.
+    pub fn copy(&self, alloc: Global) -> Result<Value, OutOfMemory>
+        ensures { IfOk result (λ copy. copy ≡ self.now) }
+    {
+        let mut pieces = Vec::new(alloc);
+        for piece in &self.pieces {
+            pieces.push(piece.copy(alloc)?)?;
+        }
+        Ok(Value { pieces })
     }
 
     /// The pieces, in their order.

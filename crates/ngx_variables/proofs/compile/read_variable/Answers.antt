@@ -1,4 +1,4 @@
-use Rattle.std.proofs.Common.{◌≡◌, [], ◌∷◌, take, drop, sym, ◌∙◌, ap, arith}
+use Rattle.std.proofs.Common.{◌≡◌, [], ◌∷◌, drop, sym, ◌∙◌, ap}
 use Rattle.ngx_variables.specs.Grammar.{compiled, with_pieces, piece_named, lowercase, name_in}
 use Rattle.ngx_variables.proofs.Tokens as tokens
 use Rattle.ngx_variables.proofs.compile.read_variable.Goals as goal

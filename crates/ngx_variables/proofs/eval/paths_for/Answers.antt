@@ -1,4 +1,4 @@
-use Rattle.std.proofs.Common.{◌≡◌, Bool, true, false, Err, sym, ◌∙◌, ap, rules}
+use Rattle.std.proofs.Common.{◌≡◌, true, false, Err, ◌∙◌, ap, rules}
 use Rattle.ngx_variables.specs.declared.fault.EvalFault.TheVariants.{TooLong}
 use Rattle.ngx_variables.specs.Texts.{pieces_text, asks_for_paths}
 use Rattle.ngx_variables.proofs.Evals as evals

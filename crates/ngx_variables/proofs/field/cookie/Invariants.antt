@@ -1,4 +1,4 @@
-use Rattle.std.proofs.Common.{◌≡◌, ◌++◌, length}
+use Rattle.std.proofs.Common.{◌≡◌, length}
 use Rattle.ngx_variables.specs.Pairs.{cookie}
 use Rattle.ngx_variables.proofs.field.cookie.Given as goal
 
