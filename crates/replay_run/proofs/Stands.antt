@@ -42,8 +42,8 @@ section_tracked whole told newest old new came went came' went' (Stops cause sta
 section_tracked whole told newest old new came went came' went' (Stays e f same) t =
     subst (λ x. Tracked whole told newest new (came ++ x) (went ++ went')) (sym e)
     (subst (λ x. Tracked whole told newest new (came ++ []) (went ++ x)) (sym f)
-        (subst (λ x. Tracked whole told newest new x (went ++ [])) (sym (append-nil came))
-            (subst (λ x. Tracked whole told newest new came x) (sym (append-nil went)) (subst (λ v. Tracked whole told newest v came went) (sym same) t))))
+    (subst (λ x. Tracked whole told newest new x (went ++ [])) (sym (append-nil came))
+    (subst (λ x. Tracked whole told newest new came x) (sym (append-nil went)) (subst (λ v. Tracked whole told newest v came went) (sym same) t))))
 
 -- where it was held it stays held
 passed_held : {old new : ConnView} {came went : List ℕ} → Passed old new came went → old.held ≡ true → new.held ≡ true
