@@ -85,8 +85,8 @@ unfolding item_over
 has_path below [] of path h = inl h
 has_path below (s ∷ items) of path h =
     elim (is_at of path s) as (λ b. is_at of path s ≡ b → item_over (if b then item_of s.item else below) items of path ≢ Nothing → (below ≢ Nothing) ⊎ ((s.path ≡ path) ⊎ HasPath items path)) [
-      true ↦ (λ e g. inr (inl ((bytes_eq-Decides s.path path).0 (second (nat_le s.from of) (bytes_eq s.path path) e))))
-    | false ↦ (λ e g. behind (has_path below items of path g))
+      | true ↦ (λ e g. inr (inl ((bytes_eq-Decides s.path path).0 (second (nat_le s.from of) (bytes_eq s.path path) e))))
+      | false ↦ (λ e g. behind (has_path below items of path g))
     ] refl h
   where
     second : (a b : Bool) → (a && b) ≡ true → b ≡ true

@@ -54,8 +54,8 @@ at_other {A} f none (q ∷ peers) zero p id h =
     ap (λ b. cond b (f p) (at_id f none peers (id - 1))) no ∙ sym (ap (λ b. cond b (f q) (at_id f none peers (id - 1))) no)
 at_other {A} f none (q ∷ peers) (suc i) p id h =
     elim (eqb id 1) as (λ b. eqb id 1 ≡ b → cond b (f q) (at_id f none (set peers i p) (id - 1)) ≡ cond b (f q) (at_id f none peers (id - 1))) [
-      true ↦ (λ e. refl)
-    | false ↦ (λ e. at_other f none peers i p (id - 1) (λ n. h (apart e n)))
+      | true ↦ (λ e. refl)
+      | false ↦ (λ e. at_other f none peers i p (id - 1) (λ n. h (apart e n)))
     ] refl
   where
     apart : eqb id 1 ≡ false → id - 1 ≡ i + 1 → id ≡ suc i + 1
@@ -69,8 +69,8 @@ set_own f none peers i p id h e =
 same_or_apart : (a b : ℕ) → (a ≡ b) ⊎ (a ≢ b)
 same_or_apart a b =
     elim (eqb a b) as (λ t. eqb a b ≡ t → (a ≡ b) ⊎ (a ≢ b)) [
-      true ↦ (λ e. let is : a ≡ b = grind (arith, nat_tests) in inl is)
-    | false ↦ (λ e. inr (λ is. let yes : eqb a b ≡ true = test_yes a b is in cc))
+      | true ↦ (λ e. let is : a ≡ b = grind (arith, nat_tests) in inl is)
+      | false ↦ (λ e. inr (λ is. let yes : eqb a b ≡ true = test_yes a b is in cc))
     ] refl
 
 -- one link changes, and no other
@@ -145,8 +145,8 @@ unfolding at_id
 push_other {A} f none [] p id h = ap (λ b. cond b (f p) none) (test_no id 1 (λ n. h (omega arith)))
 push_other {A} f none (q ∷ peers) p id h =
     elim (eqb id 1) as (λ b. eqb id 1 ≡ b → cond b (f q) (at_id f none (peers ++ p ∷ []) (id - 1)) ≡ cond b (f q) (at_id f none peers (id - 1))) [
-      true ↦ (λ e. refl)
-    | false ↦ (λ e. push_other f none peers p (id - 1) (λ n. h (apart e n)))
+      | true ↦ (λ e. refl)
+      | false ↦ (λ e. push_other f none peers p (id - 1) (λ n. h (apart e n)))
     ] refl
   where
     apart : eqb id 1 ≡ false → id - 1 ≡ length peers + 1 → id ≡ length (q ∷ peers) + 1
@@ -162,10 +162,13 @@ begun_push peers p id local peer e is = record {
 
 pub marked_push : (f : Peer → Bool) (peers : List Peer) (p : Peer) (id : ℕ) → id ≡ length peers + 1 → f p ≡ true →
     (at_id f false peers id ≡ false) × Marked id true (at_id f false peers) (at_id f false (peers ++ p ∷ []))
-marked_push f peers p id e is = (at_past f false peers id (omega arith), record {
-  own = push_own f false peers p id e ∙ is;
-  others = λ c ne. push_other f false peers p c (λ n. ne (n ∙ sym e));
-})
+marked_push f peers p id e is = (
+  at_past f false peers id (omega arith),
+  record {
+    own = push_own f false peers p id e ∙ is;
+    others = λ c ne. push_other f false peers p c (λ n. ne (n ∙ sym e));
+  },
+)
 
 pub later_push : (peers : List Peer) (p : Peer) → (id : ℕ) → faults_in peers id ≤ faults_in (peers ++ p ∷ []) id
 later_push peers p id = pick (same_or_apart id (length peers + 1))
@@ -242,8 +245,8 @@ pub absent_else : (peers : List Peer) (id : ℕ) → ¬ ((0 < id) × (id ≤ len
 absent_else peers zero h = absent_zero peers zero refl
 absent_else peers (suc id) h =
     elim (nat_lt (length peers) (suc id)) as (λ t. nat_lt (length peers) (suc id) ≡ t → IsAbsent peers (suc id)) [
-      true ↦ (λ e. let past : length peers < suc id = grind (arith, nat_tests) in absent_past peers (suc id) past)
-    | false ↦ (λ e. absurd (let within : suc id ≤ length peers = grind (arith, nat_tests) in h (omega arith, within)))
+      | true ↦ (λ e. let past : length peers < suc id = grind (arith, nat_tests) in absent_past peers (suc id) past)
+      | false ↦ (λ e. absurd (let within : suc id ≤ length peers = grind (arith, nat_tests) in h (omega arith, within)))
     ] refl
 
 pub is_at_own : (peers : List Peer) (id at : ℕ) (d : Peer) → id ≡ at + 1 → at < length peers → IsAt peers id (get_or peers at d)

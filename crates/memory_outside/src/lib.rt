@@ -13,4 +13,3 @@ pub use clocks::{FixedClock, ListClock};
 pub use files::{FileCall, MemoryFiles, StoredItem};
 pub use links::{LinkCall, MemoryLinks, ScriptedNotice};
 pub use sink::MemorySink;
-

@@ -113,13 +113,7 @@ fn read_at(peers: &mut [Peer], at: usize, fails: bool, buf: &mut [u8]) -> Input
 }
 
 // Writes to the link at a place.
-fn write_at(
-    peers: &mut [Peer],
-    at: usize,
-    fails: bool,
-    takes_none: bool,
-    bytes: &[u8],
-) -> Output
+fn write_at(peers: &mut [Peer], at: usize, fails: bool, takes_none: bool, bytes: &[u8]) -> Output
     requires { at < length peers.old }
     ensures count { PutWithin result (length bytes.now) }
     ensures told { Changes (at + 1) (after_write result bytes.now) peers.old peers.new }
@@ -266,13 +260,19 @@ fn report(
         return Notice::Failed;
     }
     match script.pop() {
-        Some(ScriptedNotice::Opened {
-            local,
-            peer,
-            input,
-            ends,
-            window,
-        }) => open_next(peers, faults, new_peer(alloc, local, peer, input, ends, window)),
+        Some(
+            ScriptedNotice::Opened {
+                local,
+                peer,
+                input,
+                ends,
+                window,
+            },
+        ) => open_next(
+            peers,
+            faults,
+            new_peer(alloc, local, peer, input, ends, window),
+        ),
         Some(ScriptedNotice::Readable { id }) => hear(peers, id),
         Some(ScriptedNotice::Writable { id, more }) => widen(peers, id, more),
         Some(ScriptedNotice::Nothing) => Notice::Nothing,
@@ -394,7 +394,13 @@ impl Links for MemoryLinks {
         let call = LinkCall::Next(self.nexts);
         self.nexts = self.nexts.saturating_add(1);
         let fails = self.failing.contains(&call);
-        report(self.alloc, &mut self.script, &mut self.peers, &mut self.faults, fails)
+        report(
+            self.alloc,
+            &mut self.script,
+            &mut self.peers,
+            &mut self.faults,
+            fails,
+        )
     }
 
     fn read(&mut self, id: u32, buf: &mut [u8]) -> Input {

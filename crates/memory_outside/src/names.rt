@@ -85,7 +85,11 @@ fn add_name(
 fn rest_of(texts: &[ByteText], start: usize) -> &[ByteText]
     ensures { result.now ≡ drop start texts.now }
 {
-    if start < texts.len() { &texts[start..] } else { &[] }
+    if start < texts.len() {
+        &texts[start..]
+    } else {
+        &[]
+    }
 }
 
 /// Adds the names of a folder of the tree of a number, each once.

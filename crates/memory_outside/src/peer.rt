@@ -31,14 +31,22 @@ pub(crate) struct Peer {
 fn rest_of(bytes: &[u8], start: usize) -> &[u8]
     ensures { result.now ≡ drop start bytes.now }
 {
-    if start < bytes.len() { &bytes[start..] } else { &[] }
+    if start < bytes.len() {
+        &bytes[start..]
+    } else {
+        &[]
+    }
 }
 
 // What lies before a place.
 fn front_of(bytes: &[u8], end: usize) -> &[u8]
     ensures { result.now ≡ take end bytes.now }
 {
-    if end < bytes.len() { &bytes[..end] } else { bytes }
+    if end < bytes.len() {
+        &bytes[..end]
+    } else {
+        bytes
+    }
 }
 
 // Copies a front into the buffer, as much as it holds.
@@ -95,7 +103,11 @@ impl Peer {
     {
         if fails || takes_none {
             self.faults = self.faults.saturating_add(1);
-            return if fails { Output::Failed } else { Output::Put(0) };
+            return if fails {
+                Output::Failed
+            } else {
+                Output::Put(0)
+            };
         }
         if bytes.is_empty() {
             return Output::Put(0);

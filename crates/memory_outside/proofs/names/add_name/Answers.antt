@@ -22,4 +22,4 @@ returns c =
     subst (λ (out : List (List ℕ)). AddsName tree c.args.folder.now c.args.entry.now.path c.args.start c.args.out.now out)
     (sym (c.in_ok-push.ensures.ok ∙ ap (λ n. c.args.out.now ++ n ∷ []) c.in_ok-copy.ensures))
     (adds_one tree c.args.folder.now c.args.entry.now.path c.args.start c.args.out.now c.in-Some.name.now c.in-Some.ensures.0 (sym c.as_slice.ensures ∙ c.in-Some.ensures.1)
-     (λ e. c.is_there.ensures.0 c.if-not-is_there.false (ap tree c.as_slice-2.ensures ∙ e)))
+    (λ e. c.is_there.ensures.0 c.if-not-is_there.false (ap tree c.as_slice-2.ensures ∙ e)))
