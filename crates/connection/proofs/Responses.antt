@@ -1,0 +1,32 @@
+-- A response as it is put together.
+use Rattle.std.proofs.Common.{◌≡◌, ℕ, Bool, false, List, [], ◌++◌, length, Option, None, Some, refl, sym, ap, ◌∙◌, append_assoc, ◌&&◌, true, ◌+◌, nat_lt}
+use Rattle.ngx_outside.specs.Views.{Start}
+use Rattle.resp_head.specs.declared.head.ReplyHead.{ReplyHead}
+use Rattle.resp_head.specs.Head.{head_of}
+use Rattle.site_model.specs.Serving.{Reply, page_reply}
+use Rattle.req_head.specs.declared.head.Head.{Head as RequestHead}
+use Rattle.connection.specs.Answers.{response, reply_head, content_of, keeps}
+
+abbrev parts_head : ℕ → ℕ → List ℕ → ℕ → Bool → ReplyHead
+parts_head status moment kind len keep = record { status = status; moment = moment; kind = Some kind; length = Some len; modified = None; location = None; chunked = false; keep = keep }
+
+pub head_is : (status moment : ℕ) (kind : List ℕ) (len : ℕ) (keep : Bool) (r : Reply) (start : Start) → status ≡ r.status → moment ≡ start.moment → kind ≡ r.kind → len ≡ length r.body →
+    record { status = status; moment = moment; kind = Some kind; length = Some len; modified = None; location = None; chunked = false; keep = keep } ≡ reply_head r start keep
+unfolding reply_head
+head_is status moment kind len keep r start s m k l =
+    ap (λ x. parts_head x moment kind len keep) s ∙ ap (λ x. parts_head r.status x kind len keep) m ∙ ap (λ x. parts_head r.status start.moment x len keep) k ∙ ap (λ x. parts_head r.status start.moment r.kind x keep) l
+
+pub response_is : (out mid new text body : List ℕ) (head : ReplyHead) (r : Reply) (start : Start) (no_body keep : Bool) → mid ≡ out ++ text → new ≡ mid ++ body → text ≡ head_of head → head ≡ reply_head r start keep → body ≡ content_of r no_body →
+    new ≡ out ++ response r start no_body keep
+unfolding response
+response_is out mid new text body head r start no_body keep m n t h b =
+    n ∙ ap (λ x. x ++ body) (m ∙ ap (λ x. out ++ x) (t ∙ ap head_of h)) ∙ append_assoc out (head_of (reply_head r start keep)) body ∙ ap (λ x. out ++ (head_of (reply_head r start keep) ++ x)) b
+
+-- behind the page of a request that isn't implemented the connection is closed
+pub unread_closes : (k : ℕ) (head : RequestHead) → keeps k head (page_reply 501) ≡ false
+unfolding page_reply
+unread_closes k head = none head.keep
+  where
+    none : (a : Bool) → (a && false && nat_lt (k + 1) 1000) ≡ false
+    none true = refl
+    none false = refl

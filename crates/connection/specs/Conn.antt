@@ -1,0 +1,78 @@
+-- What a connection shows.
+use Rattle.std.specs.Prelude.{◌≡◌, ◌≢◌, ℕ, ◌+◌, ◌-◌, ◌*◌, max, Bool, true, false, not, ◌&&◌, ◌||◌, is_some, is_none, List, [], ◌∷◌, ◌++◌, Option, None, Some, length, map, if◌then◌else◌}
+use Rattle.file_tree.specs.Tree.{Trees}
+use Rattle.ngx_outside.specs.Views.{ConnView, Course, start_of, Start, StepsOwn, LeftBy, IsSound, no_bytes}
+use Rattle.ngx_outside.specs.declared.event.Event.{Event}
+use Rattle.ngx_outside.specs.declared.event.StepAnswer.{StepAnswer}
+use Rattle.ngx_outside.specs.declared.event.Entry.{Entry}
+use Rattle.ngx_outside.specs.declared.event.StopCause.{StopCause}
+use Rattle.site_model.specs.declared.site.Site.{Site}
+use Rattle.req_head.specs.declared.head.HeadStep.{HeadStep}
+use Rattle.connection.specs.declared.conn.Conn.{Conn}
+use Rattle.connection.specs.Answers.{answers}
+use Rattle.connection.specs.Steps.{begins}
+
+-- what is to come on a connection that is opened now
+abbrev pub fresh_course : Site → Course
+fresh_course site = record { bytes = λ trees more later. answers site 0 trees more later; heavy = λ trees more later. false }
+
+-- the bytes that are still to come
+abbrev pub bytes_at : Site → List ℕ → List Entry → Bool → List ℕ → Trees → List ℕ → List Start → List ℕ
+bytes_at site pending journal closing held trees more later =
+    pending ++ (if closing then [] else answers site (length journal) trees (held ++ more) later)
+
+-- how many more bytes are taken: none after a stop, behind a response that closes or behind the input's end
+abbrev pub room_at : Bool → Bool → Bool → List ℕ → Option ℕ
+room_at stopped closing ended held = if stopped || closing || ended then None else Some (max 1 (8192 - length held))
+
+-- a further request may start
+abbrev pub starts_at : Bool → Bool → List ℕ → HeadStep → Bool
+starts_at stopped closing pending next = not stopped && not closing && no_bytes pending && begins next
+
+-- nothing is to be done until more arrives
+abbrev pub idle_at : Bool → Bool → List ℕ → HeadStep → Bool
+idle_at stopped closing pending next = not stopped && no_bytes pending && (closing || not (begins next))
+
+-- its link is to be closed: after a stop, behind a response that closes and is written, or where the input has ended and
+-- nothing is left to do
+abbrev pub shut_at : Bool → Bool → Bool → List ℕ → HeadStep → Bool
+shut_at stopped closing ended pending next = stopped || ((closing || ended) && idle_at false closing pending next)
+
+-- a connection by its parts
+abbrev pub view_at : Site → Option StopCause → List ℕ → List Entry → Bool → Bool → List ℕ → HeadStep → ConnView
+view_at site cause pending journal closing ended held next =
+    record {
+      held = true;
+      cause = cause;
+      pending = pending;
+      starts = map start_of journal;
+      course = record { bytes = bytes_at site pending journal closing held; heavy = λ trees more later. false };
+      room = room_at (is_some cause) closing ended held;
+      ready = if starts_at (is_some cause) closing pending next then 0 ∷ [] else [];
+      jobs = [];
+      shut = shut_at (is_some cause) closing ended pending next;
+      raceless = true;
+      deadline = None;
+    }
+
+abbrev pub view_of : Site → Conn → ConnView
+view_of site conn = view_at site conn.cause conn.pending conn.journal.items conn.closing conn.ended conn.held conn.next
+
+-- A response has at most 65536 bytes, since no more are kept for a peer, and each byte that is held may begin a head.
+unfoldable pub weight : ℕ
+weight = 65537
+
+abbrev pub left_at : Option StopCause → List ℕ → Bool → List ℕ → ℕ
+left_at cause pending closing held = if is_some cause then 0 else 1 + length pending + (if closing then 0 else weight * (length held + 1))
+
+abbrev pub left_of : Conn → ℕ
+left_of conn = left_at conn.cause conn.pending conn.closing conn.held
+
+-- what a byte that arrives, or an opening, may add to what is left
+unfoldable pub price : ℕ
+price = 65538
+
+-- what an event does to its connection
+pub record StepsConn (site : Site) (now : Start) (e : Event) (a : StepAnswer) (old new : Conn) : Type 0 where
+  pub own : (course : Course) → StepsOwn course now e a (view_of site old) (view_of site new)
+  pub left : LeftBy price e a (left_of old) (left_of new)

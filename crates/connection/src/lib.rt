@@ -1,0 +1,11 @@
+//! One connection: its input and what is answered to it.
+#![tactic(auto)]
+
+mod conn;
+mod respond;
+
+pub use conn::Conn;
+pub use respond::{Sent, put_answer, put_page};
+
+#[cfg(test)]
+mod tests;

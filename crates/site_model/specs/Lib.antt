@@ -1,0 +1,3 @@
+pub mod Listen
+pub mod Serving
+pub mod Shown
