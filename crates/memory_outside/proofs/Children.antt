@@ -1,11 +1,11 @@
 -- The names of a folder, entry by entry.
 use Rattle.std.proofs.Common.{◌≡◌, ◌≢◌, ℕ, suc, ◌+◌, ◌<◌, ◌≤◌, Bool, true, false, List, [], ◌∷◌, ◌++◌, length, drop, get_or, refl, sym, ap, subst, ◌∙◌, arith, inl, inr, append_assoc, length-append, drop-cons}
-use Rattle.std.specs.Prelude.{◌==◌, ◌&&◌, nat_le, Contains, ◌↔◌, IsTrue, ◌⊎◌, if◌then◌else◌}
+use Rattle.std.specs.Prelude.{◌&&◌, nat_le, Contains, ◌⊎◌, if◌then◌else◌}
 use Rattle.std.specs.Str.{bytes_eq}
 use Rattle.std.proofs.lemmas.Slice.Eq.{bytes_eq-Decides}
 use Rattle.std.proofs.lemmas.List.{append-nil, append_cancel_left, drop-append-le, drop_all}
 use Rattle.std.proofs.Math.Seq.{drop-append_seam}
-use Rattle.std.proofs.lemmas.List.Elements.{Contains-append_left, Contains-append_right, Contains-append_cases, Contains-push}
+use Rattle.std.proofs.lemmas.List.Elements.{Contains-append_left, Contains-append_cases, Contains-push}
 use Rattle.file_tree.specs.Tree.{Item, Tree, AFolder, Nothing, IsChild, child_path}
 use Rattle.ngx_outside.specs.Outside.{Names}
 use Rattle.memory_outside.specs.Stored.{item_over, item_in, item_of, is_at}

@@ -12,7 +12,7 @@ use Rattle.ngx_outside.specs.declared.links.Input.TheVariants as input
 use Rattle.ngx_outside.specs.declared.links.Output.{Output}
 use Rattle.ngx_outside.specs.declared.links.Output.TheVariants as output
 use Rattle.memory_outside.specs.declared.peer.Peer.{Peer}
-use Rattle.memory_outside.specs.Peers.{view_of, after_read, after_write, at_id, unopened, links_in, used_in, held_in, faults_in, Changes, IsAbsent, IsAt, Reports, Heard}
+use Rattle.memory_outside.specs.Peers.{view_of, after_read, after_write, at_id, unopened, links_in, used_in, held_in, faults_in, Changes, IsAbsent, IsAt, Reports}
 
 -- what was read is a longer front of the input
 pub taken_more : (input slice rest : List ℕ) (start count : ℕ) (buf : List ℕ) → slice ≡ input → rest ≡ drop start slice → take count buf ≡ take count rest →

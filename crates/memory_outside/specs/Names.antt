@@ -1,5 +1,5 @@
 -- The names of a folder of a tree.
-use Rattle.std.specs.Prelude.{◌≡◌, ◌≢◌, ℕ, ◌==◌, ◌≤◌, List, [], ◌∷◌, ◌++◌, Contains, ◌↔◌, length, drop, take, if◌then◌else◌, ◌⊎◌}
+use Rattle.std.specs.Prelude.{◌≡◌, ◌≢◌, ℕ, ◌==◌, ◌≤◌, List, [], ◌∷◌, ◌++◌, Contains, ◌↔◌, length, drop, if◌then◌else◌, ◌⊎◌}
 use Rattle.file_tree.specs.Tree.{Tree, IsChild, child_path}
 use Rattle.memory_outside.specs.declared.files.Stored.{Stored}
 

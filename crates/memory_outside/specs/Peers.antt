@@ -1,11 +1,11 @@
 -- What links in memory tell.
-use Rattle.std.specs.Prelude.{◌≡◌, ℕ, ◌+◌, ◌-◌, ◌==◌, ◌≤◌, nat_le, Bool, true, false, ◌||◌, List, [], ◌∷◌, ◌++◌, length, take, if◌then◌else◌}
+use Rattle.std.specs.Prelude.{◌≡◌, ℕ, ◌-◌, ◌==◌, ◌≤◌, Bool, true, false, List, [], ◌∷◌, take, if◌then◌else◌}
 use Rattle.std.specs.declared.net.ip_addr.IpAddr.TheVariants.{V4}
 use Rattle.http_types.specs.declared.words.Addr.{Addr}
 use Rattle.ngx_outside.specs.Causes.{Rose}
 use Rattle.ngx_outside.specs.declared.links.Notice.{Notice}
 use Rattle.ngx_outside.specs.declared.links.Notice.TheVariants as notice
-use Rattle.ngx_outside.specs.Linked.{LinkView, Updated, Same, Noticed, Opens, begun, got, put, set_due, set_full}
+use Rattle.ngx_outside.specs.Linked.{LinkView, Updated, Same, Noticed, Opens, got, put, set_due, set_full}
 use Rattle.ngx_outside.specs.declared.links.Input.{Input}
 use Rattle.ngx_outside.specs.declared.links.Input.TheVariants as input
 use Rattle.ngx_outside.specs.declared.links.Output.{Output}

@@ -1,7 +1,7 @@
 -- What stands where in the files of memory.
-use Rattle.std.specs.Prelude.{◌≡◌, ◌≢◌, ℕ, ◌==◌, nat_le, Bool, true, false, ◌&&◌, List, [], ◌∷◌, ◌++◌, if◌then◌else◌}
+use Rattle.std.specs.Prelude.{◌≡◌, ℕ, nat_le, Bool, ◌&&◌, List, [], ◌∷◌, if◌then◌else◌}
 use Rattle.std.specs.Str.{bytes_eq}
-use Rattle.file_tree.specs.Tree.{Item, AFile, AFolder, ALocked, Nothing, Trees, Tree, IsChild}
+use Rattle.file_tree.specs.Tree.{Item, AFile, AFolder, ALocked, Nothing, Trees}
 use Rattle.memory_outside.specs.declared.files.StoredItem.{StoredItem}
 use Rattle.memory_outside.specs.declared.files.Stored.{Stored}
 use Rattle.memory_outside.specs.declared.files.MemoryFiles.{MemoryFiles}

@@ -13,3 +13,6 @@ pub use clocks::{FixedClock, ListClock};
 pub use files::{FileCall, MemoryFiles, StoredItem};
 pub use links::{LinkCall, MemoryLinks, ScriptedNotice};
 pub use sink::MemorySink;
+
+#[cfg(test)]
+mod tests;

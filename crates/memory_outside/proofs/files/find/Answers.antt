@@ -1,4 +1,4 @@
-use Rattle.std.proofs.Common.{◌≡◌, ◌<◌, ◌≤◌, length, arith, sym, ◌∙◌}
+use Rattle.std.proofs.Common.{arith, sym, ◌∙◌}
 use Rattle.memory_outside.proofs.Stores.{found_last, passed_last, none_in_front}
 use Rattle.memory_outside.proofs.files.find.Goals as goal
 

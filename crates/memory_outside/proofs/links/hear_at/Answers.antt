@@ -1,4 +1,4 @@
-use Rattle.std.proofs.Common.{true, ◌≤◌, arith}
+use Rattle.std.proofs.Common.{true, arith}
 use Rattle.ngx_outside.specs.Linked.{set_due}
 use Rattle.memory_outside.proofs.Ids.{changes_set}
 use Rattle.memory_outside.proofs.links.hear_at.Goals as goal

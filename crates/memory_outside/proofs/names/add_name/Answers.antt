@@ -1,4 +1,4 @@
-use Rattle.std.proofs.Common.{◌≡◌, true, sym, refl, subst, ap, ◌∙◌, List, [], ◌∷◌, ◌++◌}
+use Rattle.std.proofs.Common.{◌≡◌, true, sym, subst, ap, ◌∙◌, List, [], ◌∷◌, ◌++◌}
 use Rattle.std.specs.Prelude.{ℕ}
 use Rattle.memory_outside.specs.Stored.{item_in}
 use Rattle.memory_outside.specs.Names.{AddsName}

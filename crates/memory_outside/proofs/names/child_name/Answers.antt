@@ -1,5 +1,5 @@
 use Rattle.std.proofs.Common.{◌≡◌, true}
-use Rattle.memory_outside.proofs.Children.{no_slash, no_name, a_name}
+use Rattle.memory_outside.proofs.Children.{no_slash, no_name}
 use Rattle.memory_outside.proofs.names.child_name.Goals as goal
 
 pub returns-in_default-after : goal.returns-in_default-after

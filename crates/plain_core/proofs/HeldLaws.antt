@@ -1,0 +1,218 @@
+-- The connection under its number, and nobody elsewhere.
+use Rattle.std.proofs.Common.{◌≡◌, ◌≢◌, ℕ, ◌+◌, ◌<◌, ◌≤◌, min, Bool, true, false, ◌&&◌, eqb, cond, List, [], ◌∷◌, ◌++◌, length, refl, sym, ap, subst, ◌∙◌, arith}
+use Rattle.std.specs.Prelude.{Contains, ◌↔◌, None, Some, not, map}
+use Rattle.std.specs.List.Sorted.{IsStrictlyIncreasing}
+use Rattle.std.proofs.lemmas.Bool.Decides.{nat_tests}
+use Rattle.std.proofs.lemmas.List.{append-nil}
+use Rattle.file_tree.specs.Tree.{is_fitting}
+use Rattle.file_tree.specs.declared.job.Ask.{Ask}
+use Rattle.file_tree.specs.declared.job.JobAnswer.{JobAnswer}
+use Rattle.ngx_outside.specs.Views.{ConnView, Course, Fresh, OneSteps, Ticked, GivesUp, Waits, Unmoved, IsSound, Start, kept_moment, nobody, ask_in, no_bytes, no_nodes}
+use Rattle.ngx_outside.specs.Wants.{wants_at, wants_in, read_want}
+use Rattle.ngx_outside.specs.declared.event.Entry.{Entry}
+use Rattle.ngx_outside.specs.declared.event.Want.{Want}
+use Rattle.ngx_outside.specs.declared.event.Want.TheVariants as want
+use Rattle.plain_core.specs.declared.conn.Life.{Life}
+use Rattle.plain_core.specs.declared.conn.Life.TheVariants as life
+use Rattle.plain_core.specs.Lines.{has_line, answers, course_of}
+use Rattle.plain_core.specs.Shown.{shown_at, is_live_at, is_absent_at, reads_at, can_run_at, is_shut_at}
+use Rattle.plain_core.specs.Held.{at_conn, conns_at, Begins, want_if}
+use Rattle.plain_core.proofs.LineLaws.{answers-none}
+
+test_yes : (a b : ℕ) → a ≡ b → eqb a b ≡ true
+test_yes a b e = grind (arith, nat_tests)
+
+test_no : (a b : ℕ) → a ≢ b → eqb a b ≡ false
+test_no a b e = grind (arith, nat_tests)
+
+pub at_own : (n c : ℕ) (v : ConnView) → c ≡ n → at_conn n v c ≡ v
+at_own n c v e = ap (λ b. cond b v nobody) (test_yes c n e)
+
+pub at_other : (n c : ℕ) (v : ConnView) → c ≢ n → at_conn n v c ≡ nobody
+at_other n c v e = ap (λ b. cond b v nobody) (test_no c n e)
+
+-- the connection does so
+pub own_step : (n c : ℕ) (Does : ConnView → ConnView → Type 0) (v v' : ConnView) → c ≡ n → Does v v' → OneSteps c Does (at_conn n v) (at_conn n v')
+own_step n c Does v v' e d = record {
+  own = subst (λ (a : ConnView). Does a (at_conn n v' c)) (sym (at_own n c v e)) (subst (λ (b : ConnView). Does v b) (sym (at_own n c v' e)) d);
+  others = λ k ne. at_other n k v' (λ q. ne (q ∙ sym e)) ∙ sym (at_other n k v (λ q. ne (q ∙ sym e)));
+}
+
+-- another number's event
+pub other_step : (n c : ℕ) (Does : ConnView → ConnView → Type 0) (v : ConnView) → c ≢ n → Does nobody nobody → OneSteps c Does (at_conn n v) (at_conn n v)
+other_step n c Does v e d = record {
+  own = subst (λ (a : ConnView). Does a a) (sym (at_other n c v e)) d;
+  others = λ k ne. refl;
+}
+
+-- an absent connection is nobody
+pub absent_is : (reply input output : List ℕ) (l : Life) (journal : List Entry) (ended : Bool) (due : ℕ) → is_absent_at l ≡ true →
+    shown_at reply l input output journal ended due ≡ nobody
+absent_is reply input output life.Absent journal ended due h = refl
+absent_is reply input output life.Live journal ended due h = cc
+absent_is reply input output (life.Stopped cause) journal ended due h = cc
+
+all_nobody : (n c : ℕ) (v : ConnView) → v ≡ nobody → at_conn n v c ≡ nobody
+all_nobody n c v e =
+    elim (eqb c n) as (λ t. cond t v nobody ≡ nobody) [ true ↦ e | false ↦ refl ]
+
+-- an opening
+pub begin_step : (n c : ℕ) (course : Course) (v v' : ConnView) (taken : ℕ) → v ≡ nobody → Fresh course v' →
+    OneSteps c (λ old new. (old.held ≡ false) × Fresh course new) (at_conn n v) (at_conn c v')
+begin_step n c course v v' taken e f = record {
+  own = (ap (λ (a : ConnView). a.held) (all_nobody n c v e), subst (Fresh course) (sym (at_own c c v' refl)) f);
+  others = λ k ne. at_other c k v' ne ∙ sym (all_nobody n k v e);
+}
+
+-- the clock
+pub tick_step : (n c now : ℕ) (v v' : ConnView) → Ticked now v v' → Ticked now (at_conn n v c) (at_conn n v' c)
+tick_step n c now v v' t =
+    elim (eqb c n) as (λ b. Ticked now (cond b v nobody) (cond b v' nobody)) [ true ↦ t | false ↦ Waits (λ due e. cc) refl ]
+
+pub kept_is : (now : ℕ) → kept_moment now ≡ min now 253402300799
+unfolding kept_moment
+kept_is now = refl
+
+-- no job waits
+pub jobs_none : (reply input output : List ℕ) (l : Life) (journal : List Entry) (ended : Bool) (due : ℕ) → (shown_at reply l input output journal ended due).jobs ≡ []
+jobs_none reply input output life.Absent journal ended due = refl
+jobs_none reply input output life.Live journal ended due = refl
+jobs_none reply input output (life.Stopped cause) journal ended due = refl
+
+pub no_jobs_at : (n c : ℕ) (v : ConnView) → v.jobs ≡ [] → (at_conn n v c).jobs ≡ []
+no_jobs_at n c v e = elim (eqb c n) as (λ t. (cond t v nobody).jobs ≡ []) [ true ↦ e | false ↦ refl ]
+
+pub no_ask : (n c node : ℕ) (v : ConnView) → v.jobs ≡ [] → ask_in (at_conn n v c).jobs node ≡ None
+no_ask n c node v e = ap (λ jobs. ask_in jobs node) (no_jobs_at n c v e)
+
+pub file_step : (n c node : ℕ) (v : ConnView) (answer : JobAnswer) → v.jobs ≡ [] →
+    OneSteps c (λ old new. Unmoved old new ((ask : Ask) → ask_in old.jobs node ≡ Some ask → is_fitting ask answer ≡ false)) (at_conn n v) (at_conn n v)
+file_step n c node v answer e = record {
+  own = record { same = refl; cause = λ ask h. let none : ask_in (at_conn n v c).jobs node ≡ None = no_ask n c node v e in cc };
+  others = λ k ne. refl;
+}
+
+pub job_step : (n c node : ℕ) (v : ConnView) → v.jobs ≡ [] → OneSteps c (λ old new. Unmoved old new (ask_in old.jobs node ≡ None)) (at_conn n v) (at_conn n v)
+job_step n c node v e = record { own = record { same = refl; cause = no_ask n c node v e }; others = λ k ne. refl }
+
+-- the wants of the connection, as they are added
+pub wants_are : (n : ℕ) (reply input output : List ℕ) (l : Life) (journal : List Entry) (ended : Bool) (due : ℕ) →
+    ((([] ++ want_if (reads_at l ended) (want.Read n 4096)) ++ want_if (can_run_at l input output) (want.Run n 0))
+    ++ want_if (not (no_bytes (shown_at reply l input output journal ended due).pending)) (want.Write n))
+    ++ want_if (is_shut_at l input output ended) (want.Close n)
+    ≡ wants_at n (shown_at reply l input output journal ended due)
+unfolding wants_at
+wants_are n reply input output life.Absent journal ended due = refl
+wants_are n reply input output (life.Stopped cause) journal ended due = refl
+wants_are n reply input output life.Live journal ended due =
+    elim ended as (λ e. whole e (no_bytes output) (has_line input)) [
+      | true ↦ elim (no_bytes output) as (λ o. whole true o (has_line input)) [
+        | true ↦ elim (has_line input) as (λ h. whole true true h) [ true ↦ refl | false ↦ refl ]
+        | false ↦ elim (has_line input) as (λ h. whole true false h) [ true ↦ refl | false ↦ refl ]
+      ]
+      | false ↦ elim (no_bytes output) as (λ o. whole false o (has_line input)) [
+        | true ↦ elim (has_line input) as (λ h. whole false true h) [ true ↦ refl | false ↦ refl ]
+        | false ↦ elim (has_line input) as (λ h. whole false false h) [ true ↦ refl | false ↦ refl ]
+      ]
+    ]
+  where
+    whole : Bool → Bool → Bool → Type 0
+    whole e o h =
+        ((([] ++ want_if (true && not e) (want.Read n 4096)) ++ want_if (true && o && h) (want.Run n 0)) ++ want_if (not o) (want.Write n))
+        ++ want_if (e && (o && not h)) (want.Close n)
+        ≡ read_want n (cond e None (Some 4096)) ++ map (λ node. want.Run n node) (cond (o && h) (0 ∷ []) []) ++ [] ++ (cond o [] (want.Write n ∷ [])) ++ cond (e && (o && not h)) (want.Close n ∷ []) []
+
+pub wants_nobody : (n : ℕ) → wants_at n nobody ≡ []
+unfolding wants_at
+wants_nobody n = refl
+
+no_bytes_is : (xs : List ℕ) → eqb (length xs) 0 ≡ no_bytes xs
+no_bytes_is [] = refl
+no_bytes_is (x ∷ xs) = test_no (length (x ∷ xs)) 0 (λ e. omega arith)
+
+-- the wants, written anew
+pub refilled : (n : ℕ) (reply input output pending : List ℕ) (l : Life) (journal : List Entry) (ended : Bool) (due : ℕ) (reads runs empty shut : Bool)
+    (w0 w1 w2 w3 w4 : List Want) → reads ≡ reads_at l ended → runs ≡ can_run_at l input output → empty ≡ eqb (length pending) 0 →
+    pending ≡ (shown_at reply l input output journal ended due).pending → shut ≡ is_shut_at l input output ended →
+    w0 ≡ [] → w1 ≡ w0 ++ want_if reads (want.Read n 4096) → w2 ≡ w1 ++ want_if runs (want.Run n 0) → w3 ≡ w2 ++ want_if (not empty) (want.Write n) →
+    w4 ≡ w3 ++ want_if shut (want.Close n) → w4 ≡ wants_at n (shown_at reply l input output journal ended due)
+refilled n reply input output pending l journal ended due reads runs empty shut w0 w1 w2 w3 w4 r u e p s e0 e1 e2 e3 e4 =
+    e4 ∙ ap (λ w. w ++ want_if shut (want.Close n)) (e3 ∙ ap (λ w. w ++ want_if (not empty) (want.Write n)) (e2 ∙ ap (λ w. w ++ want_if runs (want.Run n 0)) (e1 ∙ ap (λ w. w ++ want_if reads (want.Read n 4096)) e0)))
+    ∙ ap (λ t. ((([] ++ want_if t (want.Read n 4096)) ++ want_if runs (want.Run n 0)) ++ want_if (not empty) (want.Write n)) ++ want_if shut (want.Close n)) r
+    ∙ ap (λ t. ((([] ++ want_if (reads_at l ended) (want.Read n 4096)) ++ want_if t (want.Run n 0)) ++ want_if (not empty) (want.Write n)) ++ want_if shut (want.Close n)) u
+    ∙ ap (λ t. ((([] ++ want_if (reads_at l ended) (want.Read n 4096)) ++ want_if (can_run_at l input output) (want.Run n 0)) ++ want_if (not t) (want.Write n)) ++ want_if shut (want.Close n)) (e ∙ no_bytes_is pending ∙ ap no_bytes p)
+    ∙ ap (λ t. ((([] ++ want_if (reads_at l ended) (want.Read n 4096)) ++ want_if (can_run_at l input output) (want.Run n 0)) ++ want_if (not (no_bytes (shown_at reply l input output journal ended due).pending)) (want.Write n)) ++ want_if t (want.Close n)) s
+    ∙ wants_are n reply input output l journal ended due
+
+quiet_bytes : (reply input output : List ℕ) (later : List Start) → (no_bytes output ≡ true) × (has_line input ≡ false) → output ++ answers reply (input ++ []) later ≡ []
+quiet_bytes reply input [] later q = answers-none reply input later q.1
+quiet_bytes reply input (b ∷ output) later q = let no : no_bytes (b ∷ output) ≡ true = q.0 in cc
+
+idle_tests : (o h : Bool) → (o && no_nodes (cond (o && h) (0 ∷ []) []) && true) ≡ true → (o ≡ true) × (h ≡ false)
+idle_tests true true e = cc
+idle_tests true false e = (refl, refl)
+idle_tests false true e = cc
+idle_tests false false e = cc
+
+shut_tests : (e o h : Bool) → (e && (o && not h)) ≡ true → (o ≡ true) × (h ≡ false)
+shut_tests true true true q = cc
+shut_tests true true false q = (refl, refl)
+shut_tests true false h q = cc
+shut_tests false o h q = cc
+
+room_is : (ended : Bool) (room : ℕ) → cond ended None (Some 4096) ≡ Some room → 0 < room
+room_is true room e = cc
+room_is false room e = let is : 4096 ≡ room = cc in omega arith
+
+-- what it shows is sound
+pub sound_at : (reply input output : List ℕ) (l : Life) (journal : List Entry) (ended : Bool) (due : ℕ) → IsSound (shown_at reply l input output journal ended due)
+sound_at reply input output life.Absent journal ended due = record {
+  unsent = λ h. refl;
+  unready = λ h. refl;
+  unasked = λ h. refl;
+  unread = λ h. refl;
+  stopped = λ cause h e. cc;
+  absent = λ h. refl;
+  roomy = λ room e. cc;
+  idle = λ h trees later. cc;
+  shut = λ h s trees later. cc;
+}
+sound_at reply input output (life.Stopped cause) journal ended due = record {
+  unsent = λ h. refl;
+  unready = λ h. refl;
+  unasked = λ h. refl;
+  unread = λ h. refl;
+  stopped = λ cause h e. refl;
+  absent = λ h. cc;
+  roomy = λ room e. cc;
+  idle = λ h trees later. cc;
+  shut = λ h s trees later. cc;
+}
+sound_at reply input output life.Live journal ended due = record {
+  unsent = λ h. cc;
+  unready = λ h. cc;
+  unasked = λ h. cc;
+  unread = λ h. cc;
+  stopped = λ cause h e. cc;
+  absent = λ h. cc;
+  roomy = λ room e. room_is ended room e;
+  idle = λ h trees later. quiet_bytes reply input output later (idle_tests (no_bytes output) (has_line input) h);
+  shut = λ h s trees later. quiet_bytes reply input output later (shut_tests ended (no_bytes output) (has_line input) s);
+}
+
+sound_nobody : IsSound nobody
+sound_nobody = sound_at [] [] [] life.Absent [] false 0
+
+pub sound_view : (n c : ℕ) (v : ConnView) → IsSound v → IsSound (at_conn n v c)
+sound_view n c v s = elim (eqb c n) as (λ t. IsSound (cond t v nobody)) [ true ↦ s | false ↦ sound_nobody ]
+
+-- the wants of all connections are those of the one
+pub all_wants : (n : ℕ) (v : ConnView) → (v.held ≡ false → v ≡ nobody) → wants_in (conns_at n v) (at_conn n v) ≡ wants_at n v
+all_wants n v absent =
+    elim v.held as (λ t. v.held ≡ t → wants_in (cond t (n ∷ []) []) (at_conn n v) ≡ wants_at n v) [
+      | true ↦ (λ e. append-nil (wants_at n (at_conn n v n)) ∙ ap (wants_at n) (at_own n n v refl))
+      | false ↦ (λ e. sym (ap (wants_at n) (absent e) ∙ wants_nobody n))
+    ] refl
+
+pub other_wants : (n c : ℕ) (v : ConnView) → c ≢ n → wants_at c (at_conn n v c) ≡ []
+other_wants n c v e = ap (wants_at c) (at_other n c v e) ∙ wants_nobody c

@@ -1,0 +1,69 @@
+-- What the core shows of all connections.
+use Rattle.std.specs.Prelude.{◌≡◌, ℕ, ◌==◌, ◌+◌, ◌≤◌, Bool, true, false, List, [], ◌∷◌, ◌++◌, if◌then◌else◌}
+use Rattle.http_types.specs.declared.words.Addr.{Addr}
+use Rattle.ngx_outside.specs.Causes.{Rose}
+use Rattle.ngx_outside.specs.Views.{ConnView, Course, Start, Fresh, nobody}
+use Rattle.ngx_outside.specs.Wants.{wants_at}
+use Rattle.ngx_outside.specs.declared.event.StepAnswer.{StepAnswer}
+use Rattle.ngx_outside.specs.declared.event.StepAnswer.TheVariants.{Done, Skipped, OutOfMemory}
+use Rattle.ngx_outside.specs.declared.event.Want.{Want}
+use Rattle.plain_core.specs.declared.state.State.{State}
+use Rattle.plain_core.specs.Lines.{course_of}
+use Rattle.plain_core.specs.Shown.{shown, work_of, price_of, is_absent_at}
+
+-- one connection, and nobody elsewhere
+abbrev pub at_conn : ℕ → ConnView → ℕ → ConnView
+at_conn n v c = if c == n then v else nobody
+
+abbrev pub view_of : State → ℕ → ConnView
+view_of s = at_conn s.number (shown s.conn)
+
+abbrev pub conns_at : ℕ → ConnView → List ℕ
+conns_at n v = if v.held then n ∷ [] else []
+
+abbrev pub conns_of : State → List ℕ
+conns_of s = conns_at s.number (shown s.conn)
+
+abbrev pub now_of : State → Start
+now_of s = record { moment = s.moment; tree = s.tree }
+
+-- on each connection that is opened the same text is to come for each line
+abbrev pub fresh_of : State → Addr → Addr → Course
+fresh_of s local peer = course_of s.conn.reply [] []
+
+abbrev pub opens_of : State → ℕ → Addr → Bool
+opens_of s conn local = is_absent_at s.conn.life
+
+abbrev pub left_of : State → ℕ
+left_of s = work_of s.conn
+
+abbrev pub price_at : State → ℕ
+price_at s = price_of s.conn.reply
+
+abbrev pub refused_of : State → ℕ
+refused_of s = s.refused
+
+-- what an opening does
+abbrev pub Begins : Course → StepAnswer → ConnView → ConnView → Type 0
+Begins course (Done taken) old new = (old.held ≡ false) × Fresh course new
+Begins course Skipped old new = new ≡ old
+Begins course OutOfMemory old new = new ≡ old
+
+abbrev pub LeftBegun : ℕ → StepAnswer → ℕ → ℕ → Type 0
+LeftBegun price (Done taken) old new = new ≤ old + price
+LeftBegun price Skipped old new = new ≡ old
+LeftBegun price OutOfMemory old new = new ≡ old
+
+-- a refused event is counted, and no other
+abbrev pub RefusedBy : StepAnswer → ℕ → ℕ → Type 0
+RefusedBy (Done taken) old new = new ≡ old
+RefusedBy Skipped old new = new ≡ old
+RefusedBy OutOfMemory old new = Rose old new
+
+-- one want, or none
+abbrev pub want_if : Bool → Want → List Want
+want_if b w = if b then w ∷ [] else []
+
+-- what the core wants of its connection, by what it is
+abbrev pub wants_of_state : State → List Want
+wants_of_state s = wants_at s.number (shown s.conn)

@@ -1,0 +1,192 @@
+// The connection under its number, the clock and the tree.
+ghost use Rattle.std.specs.Prelude.{◌≡◌, ◌≤◌, ◌<◌, ℕ, Bool, true, false, [], List};
+ghost use Rattle.ngx_outside.specs.Views.{Steps, OpensIf, LeftBy, CountsRefused, OneSteps, Ticked, now_after, kept_moment};
+ghost use Rattle.ngx_outside.specs.declared.event.StepAnswer.TheVariants.{Skipped};
+ghost use Rattle.plain_core.specs.Lines.{course_of};
+ghost use Rattle.plain_core.specs.Shown.{Arrives, Ends, Writes, Fails, Runs, Goes, LeftTaken, LeftLower, LeftKept, is_absent_at};
+ghost use Rattle.plain_core.specs.Held.{view_of, now_of, fresh_of, opens_of, left_of, price_at, refused_of, Begins, LeftBegun, RefusedBy};
+
+use crate::conn::Conn;
+use ngx_outside::{Entry, Event, StepAnswer};
+
+/// The last second of the year 9999.
+const LAST_MOMENT: u64 = 253402300799;
+
+#[derive(Drop)]
+pub(crate) struct State {
+    pub(crate) number: u32,
+    pub(crate) conn: Conn,
+    pub(crate) moment: u64,
+    pub(crate) tree: u64,
+    pub(crate) refused: u64,
+}
+
+// Counts an event that was refused.
+fn count(refused: &mut u64, answer: StepAnswer)
+    ensures { RefusedBy answer refused.old refused.new }
+{
+    match answer {
+        StepAnswer::Done { taken: _ } => {}
+        StepAnswer::Skipped => {}
+        StepAnswer::OutOfMemory => *refused = refused.saturating_add(1),
+    }
+}
+
+impl State {
+    fn opened(&mut self, conn: u32) -> StepAnswer
+        ensures steps { OneSteps conn (Begins (course_of self.old.conn.reply [] []) result) (view_of self.old) (view_of self.new) }
+        ensures opens { result ≡ Skipped → is_absent_at self.old.conn.life ≡ false }
+        ensures done { (result ≡ Skipped → ⊥) → is_absent_at self.old.conn.life ≡ true }
+        ensures left { LeftBegun (price_at self.old) result (left_of self.old) (left_of self.new) }
+        ensures now { now_of self.new ≡ now_of self.old }
+        ensures reply { self.new.conn.reply ≡ self.old.conn.reply }
+        ensures refused { self.new.refused ≡ self.old.refused }
+    {
+        if !self.conn.is_absent() {
+            return StepAnswer::Skipped;
+        }
+        self.number = conn;
+        self.conn.open(self.moment);
+        StepAnswer::Done { taken: 0 }
+    }
+
+    fn arrived(&mut self, conn: u32, bytes: &[u8]) -> StepAnswer
+        ensures steps { OneSteps conn (Arrives (now_of self.old) bytes.now result) (view_of self.old) (view_of self.new) }
+        ensures left { LeftTaken (price_at self.old) result (left_of self.old) (left_of self.new) }
+        ensures now { now_of self.new ≡ now_of self.old }
+        ensures reply { self.new.conn.reply ≡ self.old.conn.reply }
+        ensures refused { RefusedBy result self.old.refused self.new.refused }
+    {
+        if conn != self.number {
+            return StepAnswer::Skipped;
+        }
+        let answer = self.conn.arrive(bytes, self.moment);
+        count(&mut self.refused, answer);
+        answer
+    }
+
+    fn ended(&mut self, conn: u32) -> StepAnswer
+        ensures steps { OneSteps conn (Ends result) (view_of self.old) (view_of self.new) }
+        ensures left { LeftKept result (left_of self.old) (left_of self.new) }
+        ensures now { now_of self.new ≡ now_of self.old }
+        ensures reply { self.new.conn.reply ≡ self.old.conn.reply }
+        ensures refused { self.new.refused ≡ self.old.refused }
+    {
+        if conn != self.number {
+            return StepAnswer::Skipped;
+        }
+        self.conn.end()
+    }
+
+    fn wrote(&mut self, conn: u32, count: usize) -> StepAnswer
+        ensures steps { OneSteps conn (Writes count result) (view_of self.old) (view_of self.new) }
+        ensures left { LeftLower result (left_of self.old) (left_of self.new) }
+        ensures now { now_of self.new ≡ now_of self.old }
+        ensures reply { self.new.conn.reply ≡ self.old.conn.reply }
+        ensures refused { self.new.refused ≡ self.old.refused }
+    {
+        if conn != self.number {
+            return StepAnswer::Skipped;
+        }
+        self.conn.wrote(count, self.moment)
+    }
+
+    fn failed(&mut self, conn: u32) -> StepAnswer
+        ensures steps { OneSteps conn (Fails result) (view_of self.old) (view_of self.new) }
+        ensures left { LeftLower result (left_of self.old) (left_of self.new) }
+        ensures now { now_of self.new ≡ now_of self.old }
+        ensures reply { self.new.conn.reply ≡ self.old.conn.reply }
+        ensures refused { self.new.refused ≡ self.old.refused }
+    {
+        if conn != self.number {
+            return StepAnswer::Skipped;
+        }
+        self.conn.fail()
+    }
+
+    fn runs(&mut self, conn: u32, node: u32) -> StepAnswer
+        ensures steps { OneSteps conn (Runs (now_of self.old) node result) (view_of self.old) (view_of self.new) }
+        ensures left { LeftLower result (left_of self.old) (left_of self.new) }
+        ensures now { now_of self.new ≡ now_of self.old }
+        ensures reply { self.new.conn.reply ≡ self.old.conn.reply }
+        ensures refused { RefusedBy result self.old.refused self.new.refused }
+    {
+        if conn != self.number {
+            return StepAnswer::Skipped;
+        }
+        let now = Entry {
+            moment: self.moment,
+            tree: self.tree,
+            log: None,
+        };
+        let answer = self.conn.run(node, now);
+        count(&mut self.refused, answer);
+        answer
+    }
+
+    fn gone(&mut self, conn: u32) -> StepAnswer
+        ensures steps { OneSteps conn (Goes result) (view_of self.old) (view_of self.new) }
+        ensures left { LeftLower result (left_of self.old) (left_of self.new) }
+        ensures now { now_of self.new ≡ now_of self.old }
+        ensures reply { self.new.conn.reply ≡ self.old.conn.reply }
+        ensures refused { self.new.refused ≡ self.old.refused }
+    {
+        if conn != self.number {
+            return StepAnswer::Skipped;
+        }
+        self.conn.go()
+    }
+
+    fn ticked(&mut self, now: u64)
+        ensures steps { (c : ℕ) → Ticked (kept_moment now) (view_of self.old c) (view_of self.new c) }
+        ensures left { left_of self.new ≤ left_of self.old }
+        ensures now { (self.new.moment ≡ kept_moment now) × (self.new.tree ≡ self.old.tree) }
+        ensures reply { self.new.conn.reply ≡ self.old.conn.reply }
+        ensures refused { self.new.refused ≡ self.old.refused }
+    {
+        let kept = now.min(LAST_MOMENT);
+        self.moment = kept;
+        self.conn.tick(kept);
+    }
+
+    /// Gives it one event.
+    pub(crate) fn happen(&mut self, event: Event) -> StepAnswer
+        ensures steps { Steps (fresh_of self.old) (now_of self.old) event.entry result (view_of self.old) (view_of self.new) }
+        ensures opens { OpensIf (opens_of self.old) event.entry result }
+        ensures now { now_of self.new ≡ now_after (now_of self.old) event.entry result }
+        ensures left { LeftBy (price_at self.old) event.entry result (left_of self.old) (left_of self.new) }
+        ensures refused { CountsRefused event.entry result (refused_of self.old) (refused_of self.new) }
+        ensures reply { self.new.conn.reply ≡ self.old.conn.reply }
+    {
+        match event {
+            Event::Opened {
+                conn,
+                local: _,
+                peer: _,
+            } => self.opened(conn),
+            Event::Arrived { conn, bytes } => self.arrived(conn, bytes),
+            Event::Ended { conn } => self.ended(conn),
+            Event::Wrote { conn, count } => self.wrote(conn, count),
+            Event::LinkFailed { conn } => self.failed(conn),
+            Event::FileDone {
+                conn: _,
+                node: _,
+                answer: _,
+            } => StepAnswer::Skipped,
+            Event::JobFailed { conn: _, node: _ } => StepAnswer::Skipped,
+            Event::Run { conn, node } => self.runs(conn, node),
+            Event::Tick { now } => {
+                self.ticked(now);
+                StepAnswer::Done { taken: 0 }
+            }
+            Event::Tree { to } => {
+                if to <= self.tree {
+                    return StepAnswer::Skipped;
+                }
+                self.tree = to;
+                StepAnswer::Done { taken: 0 }
+            }
+            Event::Gone { conn } => self.gone(conn),
+        }
+    }
+}
