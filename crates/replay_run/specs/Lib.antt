@@ -1,2 +1,3 @@
 pub mod Scene
 pub mod Standing
+pub mod Plays

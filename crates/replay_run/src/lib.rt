@@ -2,8 +2,10 @@
 #![tactic(auto)]
 
 mod lane;
+mod lines;
 mod player;
 mod serve;
 
 pub use lane::{InputEnd, Lane};
+pub use lines::{Counts, run_lines};
 pub use player::Player;
