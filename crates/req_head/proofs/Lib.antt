@@ -8,3 +8,4 @@ pub mod FieldMaps
 pub mod Taken
 pub mod CodeLemmas
 pub mod MadeLemmas
+pub mod KnownLemmas

@@ -6,7 +6,7 @@ pub mod Options
 pub mod Host
 pub mod Rules
 pub mod Heads
-pub mod Values
+pub mod Known
 pub mod Scans
 pub mod Step
 pub mod Laws

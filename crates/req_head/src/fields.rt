@@ -1,7 +1,7 @@
 // The fields of a head, as a map.
 
 ghost use Rattle.std.specs.Prelude.{◌≡◌, ℕ, ◌+◌, ◌<◌, ◌≤◌, List, [], length, map, IfOk, OnOk, All};
-ghost use Rattle.httparse.specs.Spans.{IsHeaderWithin, header_bytes};
+ghost use Rattle.httparse.specs.Spans.{IsHeaderWithin, IsWithin, header_bytes, span_bytes};
 ghost use Rattle.http_header.specs.Token.{lowercase};
 ghost use Rattle.http_header.specs.FieldName.{IsFieldName};
 ghost use Rattle.http_header.specs.FieldValue.{plain_value, IsFieldValue};
@@ -9,10 +9,9 @@ ghost use Rattle.http_header.specs.HeaderMap.{append, value_count};
 ghost use Rattle.req_head.specs.Fields.{with_field, with_fields, IsTaken};
 
 use byte_text::OutOfMemory;
-use http_header::{
-    HeaderMap, HeaderMapError, HeaderName, HeaderNameError, HeaderValue, HeaderValueError,
-};
-use httparse::spans::HeaderSpan;
+use bytes::Bytes;
+use http_header::{HeaderMap, HeaderMapError, HeaderName, HeaderNameError, HeaderValue};
+use httparse::spans::{HeaderSpan, Span};
 use std::alloc::Global;
 
 fn name_of(alloc: Global, bytes: &[u8]) -> Result<HeaderName, OutOfMemory>
@@ -26,15 +25,14 @@ fn name_of(alloc: Global, bytes: &[u8]) -> Result<HeaderName, OutOfMemory>
     }
 }
 
-fn value_of(alloc: Global, bytes: &[u8]) -> Result<HeaderValue, OutOfMemory>
-    requires { IsFieldValue bytes.now }
-    ensures { IfOk result (λ value. value ≡ plain_value bytes.now) }
+/// The value that a span shows, as a part of the shared text.
+fn value_of(text: &Bytes, span: Span) -> Result<HeaderValue, OutOfMemory>
+    requires within { IsWithin (length text.now) span }
+    requires taken { IsFieldValue (span_bytes text.now span) }
+    ensures { IfOk result (λ value. value ≡ plain_value (span_bytes text.now span)) }
 {
-    match HeaderValue::from_bytes(alloc, bytes) {
-        Ok(value) => Ok(value),
-        Err(HeaderValueError::Invalid) => unreachable!(),
-        Err(HeaderValueError::OutOfMemory) => Err(OutOfMemory),
-    }
+    let bytes = text.slice(span.start..span.end)?;
+    Ok(HeaderValue::from_known_valid(bytes))
 }
 
 fn add(map: &mut HeaderMap, name: HeaderName, value: HeaderValue) -> Result<(), OutOfMemory>
@@ -52,7 +50,7 @@ fn add(map: &mut HeaderMap, name: HeaderName, value: HeaderValue) -> Result<(), 
 /// Adds the field that a span shows.
 fn add_span(
     alloc: Global,
-    text: &[u8],
+    text: &Bytes,
     span: &HeaderSpan,
     fields: &mut HeaderMap,
 ) -> Result<(), OutOfMemory>
@@ -62,13 +60,39 @@ fn add_span(
     requires values { value_count fields.old ≤ 100 }
     ensures { OnOk result (fields.new ≡ with_field fields.old (header_bytes text.now span.now)) }
 {
-    let name = name_of(alloc, span.name.of(text))?;
-    let value = value_of(alloc, span.value.of(text))?;
+    let name = name_of(alloc, span.name.of(text.as_slice()))?;
+    let value = value_of(text, span.value)?;
     add(fields, name, value)?;
     Ok(())
 }
 
+/// A map with room for so many fields.
+fn map_for(alloc: Global, count: usize) -> Result<HeaderMap, OutOfMemory>
+    requires { count ≤ 64 }
+    ensures { IfOk result (λ m. m ≡ []) }
+{
+    match HeaderMap::with_capacity(alloc, count) {
+        Ok(map) => Ok(map),
+        Err(HeaderMapError::MaxSizeReached) => unreachable!(),
+        Err(HeaderMapError::OutOfMemory) => Err(OutOfMemory),
+    }
+}
+
 /// The fields that the spans show.
+fn fields_in(alloc: Global, text: &Bytes, spans: &[HeaderSpan]) -> Result<HeaderMap, OutOfMemory>
+    requires few { length spans.now ≤ 64 }
+    requires within { All (IsHeaderWithin (length text.now)) spans.now }
+    requires taken { All (λ s. IsTaken (header_bytes text.now s)) spans.now }
+    ensures { IfOk result (λ m. m ≡ with_fields [] (map (header_bytes text.now) spans.now)) }
+{
+    let mut fields = map_for(alloc, spans.len())?;
+    for span in spans {
+        add_span(alloc, text, span, &mut fields)?;
+    }
+    Ok(fields)
+}
+
+/// The fields that the spans show. Their values share one copy of the text.
 pub(crate) fn field_map(
     alloc: Global,
     text: &[u8],
@@ -79,9 +103,6 @@ pub(crate) fn field_map(
     requires taken { All (λ s. IsTaken (header_bytes text.now s)) spans.now }
     ensures { IfOk result (λ m. m ≡ with_fields [] (map (header_bytes text.now) spans.now)) }
 {
-    let mut fields = HeaderMap::new(alloc);
-    for span in spans {
-        add_span(alloc, text, span, &mut fields)?;
-    }
-    Ok(fields)
+    let shared = Bytes::copy_from_slice(alloc, text)?;
+    fields_in(alloc, &shared, spans)
 }

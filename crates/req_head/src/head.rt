@@ -8,9 +8,9 @@ ghost use Rattle.req_head.specs.Reading.{Whole, Wrong, Short, read_request};
 use crate::fields::field_map;
 use crate::find::{Scan, find_head};
 use crate::host::host_of;
+use crate::known::{Known, known_of};
 use crate::lines::{LIMIT, asks_head, seen_of, whole_lines_of};
-use crate::options::keeps;
-use crate::rules::{body_of, find_fault, method_of, version_of};
+use crate::rules::{body_of, find_fault, keeps, method_of, version_of};
 use byte_text::{ByteText, OutOfMemory};
 use http_header::HeaderMap;
 use http_types::{BodyKind, Method, Version};
@@ -53,6 +53,7 @@ pub enum HeadStep {
 }
 
 ghost use Rattle.req_head.specs.Heads.{fault_with, head_with};
+ghost use Rattle.req_head.specs.Known.{IsKnown};
 ghost use Rattle.req_head.specs.Step.{head_step, looked, step_of};
 
 /// The head with these parts.
@@ -61,22 +62,22 @@ fn make_head(
     method: &[u8],
     target: &[u8],
     minor: u8,
+    known: Known<'_>,
     fields: HeaderMap,
 ) -> Result<Head, OutOfMemory>
-    requires { fault_with minor target.now fields ≡ None }
+    requires known { IsKnown fields known }
+    requires passes { fault_with minor target.now fields ≡ None }
     ensures { IfOk result (λ head. head ≡ head_with method.now target.now minor fields) }
 {
-    let host = host_of(alloc, target, &fields)?;
-    let body = body_of(&fields);
-    let keep = keeps(minor, &fields);
+    let host = host_of(alloc, target, known.host)?;
     Ok(Head {
         method: method_of(alloc, method)?,
         version: version_of(minor),
         target: ByteText::from_slice(alloc, target)?,
         host,
         fields,
-        body,
-        keep,
+        body: body_of(known),
+        keep: keeps(minor, known),
     })
 }
 
@@ -116,14 +117,17 @@ fn test_head(
     ensures { IfOk result (λ step. (h : RequestHead) → IsRequestAt text.now slots.now spans.now h → step ≡ step_of seen.now (Whole h)) }
 {
     let target = spans.path.of(text);
-    let fields = field_map(alloc, text, &slots[..spans.headers])?;
-    match find_fault(spans.version, target, &fields) {
+    let shown = &slots[..spans.headers];
+    let known = known_of(text, shown);
+    match find_fault(spans.version, target, known) {
         Some(code) => Ok(HeadStep::Bad {
             code,
             no_body: asks_head(seen),
         }),
         None => {
-            let head = make_head(alloc, spans.method.of(text), target, spans.version, fields)?;
+            let method = spans.method.of(text);
+            let map = field_map(alloc, &text[..spans.len], shown)?;
+            let head = make_head(alloc, method, target, spans.version, known, map)?;
             Ok(HeadStep::Head {
                 head,
                 size: spans.len,

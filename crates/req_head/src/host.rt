@@ -1,13 +1,13 @@
 // The host that a request is for.
-ghost use Rattle.std.specs.Prelude.{◌≡◌, ℕ, ◌≤◌, length, take, codes, IfOk};
+ghost use Rattle.std.specs.Prelude.{◌≡◌, ℕ, ◌≤◌, List, length, take, IfOk};
 ghost use Rattle.http_header.specs.Token.{lowercase};
-ghost use Rattle.http_header.specs.HeaderMap.{get_all};
+ghost use Rattle.http_header.specs.FieldValue.{FieldValue};
 ghost use Rattle.req_head.specs.Host.{without_port, named_host, host_of, first_value};
+ghost use Rattle.req_head.specs.Known.{AreValues};
 ghost use Rattle.uri_text.specs.Target.{absolute_of};
 
-use crate::rules::{Values, values_of};
+use crate::known::Values;
 use byte_text::{ByteText, OutOfMemory};
-use http_header::HeaderMap;
 use std::alloc::Global;
 use uri_text::absolute_form;
 
@@ -30,22 +30,23 @@ fn name_end(host: &[u8]) -> usize
 }
 
 /// The value of the field Host.
-fn host_field(fields: &HeaderMap) -> &[u8]
-    ensures { result.now ≡ first_value (get_all fields.now (codes "host")) }
+fn host_field(host: Values<'_>) -> &[u8]
+    ensures { (values : List FieldValue) → AreValues values host.entry → result.now ≡ first_value values }
 {
-    match values_of(fields, "host") {
+    match host {
         Values::Nothing => &[],
-        Values::One(first) | Values::Many(first) => first,
+        Values::One(first) => first,
+        Values::Many(first) => first,
     }
 }
 
 /// The host that the target or the field names, with its port.
-fn named_host<'a>(target: &'a [u8], fields: &'a HeaderMap) -> &'a [u8]
-    ensures { result.now ≡ named_host (absolute_of target.now) (get_all fields.now (codes "host")) }
+fn named_host<'a>(target: &'a [u8], host: Values<'a>) -> &'a [u8]
+    ensures { (values : List FieldValue) → AreValues values host.entry → result.now ≡ named_host (absolute_of target.now) values }
 {
     match absolute_form(target) {
         Some(form) => form.host,
-        None => host_field(fields),
+        None => host_field(host),
     }
 }
 
@@ -59,14 +60,13 @@ fn lower(alloc: Global, bytes: &[u8]) -> Result<ByteText, OutOfMemory>
 }
 
 /// The host in lower case, without the port.
-#[tactic(auto, unfolding(crate::specs::Host::host_of))]
 pub(crate) fn host_of(
     alloc: Global,
     target: &[u8],
-    fields: &HeaderMap,
+    host: Values<'_>,
 ) -> Result<ByteText, OutOfMemory>
-    ensures { IfOk result (λ t. t ≡ host_of target.now (get_all fields.now (codes "host"))) }
+    ensures { IfOk result (λ t. (values : List FieldValue) → AreValues values host.entry → t ≡ host_of target.now values) }
 {
-    let host = named_host(target, fields);
-    lower(alloc, &host[..name_end(host)])
+    let name = named_host(target, host);
+    lower(alloc, &name[..name_end(name)])
 }

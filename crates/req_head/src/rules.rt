@@ -1,39 +1,19 @@
 // The tests on a head, and what its fields say.
-ghost use Rattle.std.specs.Prelude.{◌≡◌, ℕ, ◌≤◌, true, false, codes, length, IfOk};
+ghost use Rattle.std.specs.Prelude.{◌≡◌, ℕ, ◌≤◌, ◌&&◌, ◌||◌, ◌==◌, not, List, true, false, codes, length, IfOk};
 ghost use Rattle.std.specs.List.{list_all};
 ghost use Rattle.std.specs.Str.Parse.{digits_value};
-ghost use Rattle.http_header.specs.Token.{lowercase};
-ghost use Rattle.http_header.specs.HeaderMap.{get_all};
-ghost use Rattle.req_head.specs.Rules.{is_host_byte, is_digit, is_length, host_is_bad, coding_is_other, length_is_bad, is_there};
-ghost use Rattle.req_head.specs.Heads.{method_of, version_of, body_of, fault_with};
-ghost use Rattle.req_head.specs.Values.{AreValues};
+ghost use Rattle.http_header.specs.FieldValue.{FieldValue};
+ghost use Rattle.http_header.specs.HeaderMap.{Entries, get_all};
+ghost use Rattle.req_head.specs.Rules.{is_host_byte, is_digit, is_length, host_is_bad, coding_is_other, length_is_bad, is_there, first_fault};
+ghost use Rattle.req_head.specs.Heads.{method_of, version_of, sized, body_by_length, body_of, keeps, fault_with};
+ghost use Rattle.req_head.specs.Known.{AreValues, IsKnown};
 
+use crate::known::{Known, Values};
+use crate::options::is_same_word;
 use byte_text::{ByteText, OutOfMemory};
-use http_header::HeaderMap;
 use http_types::{BodyKind, Method, Version};
 use std::alloc::Global;
 use uri_text::is_target;
-
-/// The values of a field.
-#[derive(Clone, Copy)]
-pub(crate) enum Values<'m> {
-    Nothing,
-    One(&'m [u8]),
-    Many(&'m [u8]),
-}
-
-pub(crate) fn values_of<'m>(fields: &'m HeaderMap, name: &str) -> Values<'m>
-    ensures { AreValues (get_all fields.now (lowercase name.now)) result }
-{
-    let mut values = fields.get_all(name).iter();
-    match values.next() {
-        None => Values::Nothing,
-        Some(first) => match values.next() {
-            None => Values::One(first.as_bytes()),
-            Some(_) => Values::Many(first.as_bytes()),
-        },
-    }
-}
 
 fn is_host(bytes: &[u8]) -> bool
     ensures { result ≡ list_all is_host_byte bytes.now }
@@ -53,72 +33,82 @@ fn is_length(bytes: &[u8]) -> bool
     are_digits(bytes) && !bytes.is_empty() && bytes.len() <= 19
 }
 
-fn is_bad_host(fields: &HeaderMap, minor: u8) -> bool
-    ensures { result ≡ host_is_bad minor (get_all fields.now (codes "host")) }
+fn is_bad_host(host: Values<'_>, minor: u8) -> bool
+    ensures { (values : List FieldValue) → AreValues values host.entry → result ≡ host_is_bad minor values }
 {
-    match values_of(fields, "host") {
+    match host {
         Values::Nothing => minor == 1,
         Values::One(host) => !is_host(host),
         Values::Many(_) => true,
     }
 }
 
-fn is_bad_length(fields: &HeaderMap) -> bool
-    ensures { result ≡ length_is_bad (get_all fields.now (codes "content-length")) }
+fn is_bad_length(length: Values<'_>) -> bool
+    ensures { (values : List FieldValue) → AreValues values length.entry → result ≡ length_is_bad values }
 {
-    match values_of(fields, "content-length") {
+    match length {
         Values::Nothing => false,
         Values::One(bytes) => !is_length(bytes),
         Values::Many(_) => true,
     }
 }
 
-fn is_other_coding(fields: &HeaderMap) -> bool
-    ensures { result ≡ coding_is_other (get_all fields.now (codes "transfer-encoding")) }
+fn is_other_coding(coding: Values<'_>) -> bool
+    ensures { (values : List FieldValue) → AreValues values coding.entry → result ≡ coding_is_other values }
 {
-    match values_of(fields, "transfer-encoding") {
+    match coding {
         Values::Nothing => false,
-        Values::One(bytes) => !bytes.eq_ignore_ascii_case(b"chunked"),
+        Values::One(bytes) => !is_same_word(bytes, b"chunked"),
         Values::Many(_) => true,
     }
 }
 
-fn has_coding(fields: &HeaderMap) -> bool
-    ensures { result ≡ is_there (get_all fields.now (codes "transfer-encoding")) }
+fn are_there(found: Values<'_>) -> bool
+    ensures { (values : List FieldValue) → AreValues values found.entry → result ≡ is_there values }
 {
-    match values_of(fields, "transfer-encoding") {
+    match found {
         Values::Nothing => false,
-        _ => true,
+        Values::One(_) => true,
+        Values::Many(_) => true,
     }
 }
 
-fn has_length(fields: &HeaderMap) -> bool
-    ensures { result ≡ is_there (get_all fields.now (codes "content-length")) }
+/// Whether there is a Transfer-Encoding where there may be none: in HTTP/1.0, or beside a Content-Length.
+fn is_mixed(minor: u8, coding: Values<'_>, length: Values<'_>) -> bool
+    ensures { (codings lengths : List FieldValue) → AreValues codings coding.entry → AreValues lengths length.entry
+        → result ≡ (is_there codings && (minor == 0 || is_there lengths)) }
 {
-    match values_of(fields, "content-length") {
-        Values::Nothing => false,
-        _ => true,
-    }
+    are_there(coding) && (minor == 0 || are_there(length))
 }
 
-/// The code of the first test that a head with these parts fails.
-#[tactic(auto, unfolding(crate::specs::Heads::fault_with, crate::specs::Rules::fault_of))]
-pub(crate) fn find_fault(minor: u8, target: &[u8], fields: &HeaderMap) -> Option<u16>
-    ensures { result ≡ fault_with minor target.now fields.now }
+/// The code of the first of the tests that fails.
+fn first_fault(host: bool, mixed: bool, coding: bool, length: bool, target: bool) -> Option<u16>
+    ensures { result ≡ first_fault host mixed coding length target }
 {
-    if is_bad_host(fields, minor) {
+    if host {
         Some(400)
-    } else if has_coding(fields) && (minor == 0 || has_length(fields)) {
+    } else if mixed {
         Some(400)
-    } else if is_other_coding(fields) {
+    } else if coding {
         Some(501)
-    } else if is_bad_length(fields) {
+    } else if length {
         Some(400)
-    } else if !is_target(target, true) {
+    } else if target {
         Some(400)
     } else {
         None
     }
+}
+
+/// The code of the first test that a head with these parts fails.
+pub(crate) fn find_fault(minor: u8, target: &[u8], known: Known<'_>) -> Option<u16>
+    ensures { (fields : Entries FieldValue) → IsKnown fields known.entry → result ≡ fault_with minor target.now fields }
+{
+    let host = is_bad_host(known.host, minor);
+    let mixed = is_mixed(minor, known.coding, known.length);
+    let coding = is_other_coding(known.coding);
+    let length = is_bad_length(known.length);
+    first_fault(host, mixed, coding, length, !is_target(target, true))
 }
 
 #[tactic(auto, unfolding(crate::specs::Heads::method_of))]
@@ -159,20 +149,54 @@ fn number_of(digits: &[u8]) -> u64
     number
 }
 
-/// How the body behind the head is framed.
-#[tactic(auto, unfolding(crate::specs::Heads::body_of))]
-pub(crate) fn body_of(fields: &HeaderMap) -> BodyKind
-    requires { length_is_bad (get_all fields.now (codes "content-length")) ≡ false }
-    ensures { result ≡ body_of (get_all fields.now (codes "transfer-encoding")) (get_all fields.now (codes "content-length")) }
+/// The body of so many bytes.
+fn sized(length: u64) -> BodyKind
+    ensures { result ≡ sized length }
 {
-    if has_coding(fields) {
-        return BodyKind::Chunked;
+    if length == 0 {
+        BodyKind::Empty
+    } else {
+        BodyKind::Length(length)
     }
-    match values_of(fields, "content-length") {
+}
+
+/// How the body is framed that the values of Content-Length give.
+fn body_by_length(length: Values<'_>) -> BodyKind
+    requires { (values : List FieldValue) × AreValues values length × (length_is_bad values ≡ false) }
+    ensures { (values : List FieldValue) → AreValues values length.entry → result ≡ body_by_length values }
+{
+    match length {
         Values::Nothing => BodyKind::Empty,
-        Values::One(digits) | Values::Many(digits) => match number_of(digits) {
-            0 => BodyKind::Empty,
-            number => BodyKind::Length(number),
-        },
+        Values::One(digits) => sized(number_of(digits)),
+        Values::Many(_) => unreachable!(),
     }
+}
+
+/// How the body behind the head is framed.
+pub(crate) fn body_of(known: Known<'_>) -> BodyKind
+    requires { (fields : Entries FieldValue) × IsKnown fields known × (length_is_bad (get_all fields (codes "content-length")) ≡ false) }
+    ensures { (fields : Entries FieldValue) → IsKnown fields known.entry
+        → result ≡ body_of (get_all fields (codes "transfer-encoding")) (get_all fields (codes "content-length")) }
+{
+    let by_length = body_by_length(known.length);
+    if are_there(known.coding) {
+        BodyKind::Chunked
+    } else {
+        by_length
+    }
+}
+
+/// Whether a connection may persist.
+fn persists(minor: u8, continues: bool, closes: bool, keeps_alive: bool) -> bool
+    ensures { result ≡ (not continues && (not closes && (minor == 1 || keeps_alive))) }
+{
+    !continues && !closes && (minor == 1 || keeps_alive)
+}
+
+/// Whether the head alone lets the connection persist (RFC 9112, section 9.3).
+pub(crate) fn keeps(minor: u8, known: Known<'_>) -> bool
+    ensures { (fields : Entries FieldValue) → IsKnown fields known.entry
+        → result ≡ keeps minor (get_all fields (codes "connection")) (get_all fields (codes "expect")) }
+{
+    persists(minor, known.continues, known.closes, known.keeps_alive)
 }

@@ -5,7 +5,7 @@ use Rattle.http_header.specs.Token.{lowercase}
 use Rattle.http_header.specs.FieldValue.{plain_value}
 use Rattle.req_head.proofs.FieldMaps.{one_more_name, one_more_value, next_field, all_added}
 use Rattle.httparse.specs.declared.spans.HeaderSpan.{HeaderSpan}
-use Rattle.req_head.proofs.fields.field_map.Goals as goal
+use Rattle.req_head.proofs.fields.fields_in.Goals as goal
 
 pub loop-span-preserved : goal.loop-span-preserved
 loop-span-preserved c =
