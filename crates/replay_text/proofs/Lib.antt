@@ -5,3 +5,7 @@ pub mod AddrLaws
 pub mod TermLaws
 pub mod SumLaws
 pub mod SectionLaws
+pub mod PrintLaws
+pub mod PrintedAddrs
+pub mod PrintedEntries
+pub mod PrintedScripts

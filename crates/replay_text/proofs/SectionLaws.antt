@@ -89,12 +89,12 @@ confs_passed n m before line all rest total h at passed so_far =
     ap (λ k. confs_of before k rest) at ∙ sym step ∙ ap (confs_of before n) (sym h) ∙ so_far
 
 -- what a line that isn't passed over gives
-heads : ℕ → List Conf → List (List ℕ) → Result (Option (List ℕ)) ScriptFault → Result (List Conf × Place) ScriptFault
+unfoldable pub heads : ℕ → List Conf → List (List ℕ) → Result (Option (List ℕ)) ScriptFault → Result (List Conf × Place) ScriptFault
 heads n before rest (Ok None) = Ok (before, place (n + 1) rest)
 heads n before rest (Ok (Some path)) = behind_dot (before ++ record { path = path; bytes = raw_text rest } ∷ []) (n + 1) rest
 heads n before rest (Err f) = Err f
 
-heads_by : (n : ℕ) (before : List Conf) (rest : List (List ℕ)) (r : Result (Option (List ℕ)) ScriptFault) → (r >>= elim [
+pub heads_by : (n : ℕ) (before : List Conf) (rest : List (List ℕ)) (r : Result (Option (List ℕ)) ScriptFault) → (r >>= elim [
   | None ↦ Ok (before, place (n + 1) rest)
   | Some path ↦ behind_dot (before ++ record { path = path; bytes = raw_text rest } ∷ []) (n + 1) rest
 ]) ≡ heads n before rest r
@@ -103,7 +103,7 @@ heads_by n before rest (Ok None) = refl
 heads_by n before rest (Ok (Some path)) = refl
 heads_by n before rest (Err f) = refl
 
-confs_line : (n : ℕ) (before : List Conf) (line : List ℕ) (rest : List (List ℕ)) → is_passed line ≡ false → confs_of before n (line ∷ rest) ≡ heads n before rest (at_line n (head_of before line))
+pub confs_line : (n : ℕ) (before : List Conf) (line : List ℕ) (rest : List (List ℕ)) → is_passed line ≡ false → confs_of before n (line ∷ rest) ≡ heads n before rest (at_line n (head_of before line))
 unfolding confs_of
 confs_line n before line rest passed = rw passed (heads_by n before rest (at_line n (head_of before line)))
 
@@ -176,7 +176,7 @@ tree_dot used n front line all p total h next passed dot so_far =
     let step : tree_of used n (line ∷ p.lines) ≡ Ok ([], used, place (n + 1) p.lines) = rw (passed, dot) refl in
     sym so_far ∙ ap (λ ls. with_tree front (tree_of used n ls)) h ∙ ap (with_tree front) step ∙ (λ i. Ok (append-nil front i, used, same_place (n + 1) p next i))
 
-tree_line_step : (used n : ℕ) (line : List ℕ) (rest : List (List ℕ)) → is_passed line ≡ false → is_dot line ≡ false
+pub tree_line_step : (used n : ℕ) (line : List ℕ) (rest : List (List ℕ)) → is_passed line ≡ false → is_dot line ≡ false
     → tree_of used n (line ∷ rest) ≡ (at_line n (line_in_tree used line) >>= λ one. tree_of one.1 (n + 1) rest >>= λ others. Ok (one.0 ∷ others.0, others.1, others.2))
 unfolding tree_of
 tree_line_step used n line rest passed dot = rw (passed, dot) refl
@@ -213,7 +213,7 @@ head_passed n m line all rest total h at passed so_far =
     let step : behind_events n (line ∷ rest) ≡ behind_events (n + 1) rest = rw passed refl in
     ap (λ k. behind_events k rest) at ∙ sym step ∙ ap (behind_events n) (sym h) ∙ so_far
 
-head_step : (n : ℕ) (line : List ℕ) (rest : List (List ℕ)) → is_passed line ≡ false → behind_events n (line ∷ rest) ≡ (at_line n (events_head line) >>= λ _. Ok (place (n + 1) rest))
+pub head_step : (n : ℕ) (line : List ℕ) (rest : List (List ℕ)) → is_passed line ≡ false → behind_events n (line ∷ rest) ≡ (at_line n (events_head line) >>= λ _. Ok (place (n + 1) rest))
 unfolding behind_events
 head_step n line rest passed = rw passed refl
 
@@ -245,7 +245,7 @@ events_passed used n m front line all rest total h at passed so_far =
     let step : events_of used n (line ∷ rest) ≡ events_of used (n + 1) rest = rw passed refl in
     ap (λ k. with_events front (events_of used k rest)) at ∙ ap (with_events front) (sym step) ∙ ap (λ ls. with_events front (events_of used n ls)) (sym h) ∙ so_far
 
-events_step : (used n : ℕ) (line : List ℕ) (rest : List (List ℕ)) → is_passed line ≡ false → events_of used n (line ∷ rest) ≡ (at_line n (line_in_events used line) >>= λ one. events_of one.1 (n + 1) rest >>= λ others. Ok (one.0 ∷ others))
+pub events_step : (used n : ℕ) (line : List ℕ) (rest : List (List ℕ)) → is_passed line ≡ false → events_of used n (line ∷ rest) ≡ (at_line n (line_in_events used line) >>= λ one. events_of one.1 (n + 1) rest >>= λ others. Ok (one.0 ∷ others))
 unfolding events_of
 events_step used n line rest passed = rw passed refl
 

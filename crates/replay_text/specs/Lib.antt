@@ -8,3 +8,4 @@ pub mod Addrs
 pub mod Entries
 pub mod Grammar
 pub mod Steps
+pub mod Printed

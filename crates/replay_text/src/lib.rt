@@ -7,6 +7,7 @@ mod entries;
 mod escapes;
 mod faults;
 mod heads;
+mod laws;
 mod numbers;
 mod parts;
 mod places;
@@ -16,6 +17,7 @@ mod sums;
 mod words;
 
 pub use faults::{FaultKind, ScriptError, ScriptFault};
+pub use laws::printed_reads_back;
 pub use parts::{Conf, Confs, EventLine, EventLines, Script, TreeLine, TreeLines};
 pub use reading::read;
 
