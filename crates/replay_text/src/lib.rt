@@ -17,7 +17,7 @@ mod sums;
 mod words;
 
 pub use faults::{FaultKind, ScriptError, ScriptFault};
-pub use laws::printed_reads_back;
+pub use laws::{addresses_are_texts, printed_reads_back};
 pub use parts::{Conf, Confs, EventLine, EventLines, Script, TreeLine, TreeLines};
 pub use reading::read;
 
