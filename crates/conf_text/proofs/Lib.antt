@@ -3,3 +3,4 @@ pub mod WordLaws
 pub mod TokenLaws
 pub mod StatementLaws
 pub mod StepLaws
+pub mod PrintLaws

@@ -4,4 +4,5 @@ pub mod Places
 pub mod Statements
 pub mod Blocks
 pub mod Reading
+pub mod Printing
 pub mod Steps

@@ -3,6 +3,7 @@
 
 mod directive;
 mod fault;
+mod law;
 mod reader;
 mod statement;
 mod token;
@@ -10,6 +11,7 @@ mod word;
 
 pub use directive::{Directive, Directives, split_block};
 pub use fault::{ConfError, ConfFault, FaultKind};
+pub use law::what_is_printed_is_read;
 pub use reader::parse;
 
 #[cfg(test)]
