@@ -3,3 +3,4 @@ mod Settings
 mod Evals
 mod Tokens
 mod Settles
+mod Builtins

@@ -11,7 +11,7 @@ use Rattle.ngx_variables.specs.declared.request.Place.{Place}
 use Rattle.ngx_variables.specs.declared.request.Request.{Request}
 use Rattle.ngx_variables.specs.Paths.{text_of}
 use Rattle.ngx_variables.specs.Texts.{piece_text, pieces_text, variable_text, no_paths, paths_by, paths_at, place_paths, value_text}
-use Rattle.ngx_variables.specs.Acts.{inner_piece, inner_pieces, file_paths, piece, value, ValueSettles}
+use Rattle.ngx_variables.specs.Acts.{inner_piece, inner_pieces, file_paths, piece, value, ValueSettles, SettlesBehindValue}
 
 module _ {C R : Type 0} (main : Main) (request : Request) (vars : Vars) where
   -- an act that settles as a value, and what follows
@@ -53,3 +53,6 @@ module _ {C R : Type 0} (main : Main) (request : Request) (vars : Vars) where
 pub value_settles : {C R : Type 0} → ValueSettles C R
 unfolding value_text
 value_settles {C} {R} main request vars text = all_settle {C = C} {R = R} main request vars text
+
+pub settles_behind_value : {C R A : Type 0} → SettlesBehindValue C R A
+settles_behind_value {C} {R} {A} main request vars text k = then_does main request vars (value main request text) k (value_text main request vars text) (value_settles main request vars text)

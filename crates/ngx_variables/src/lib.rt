@@ -16,7 +16,7 @@ mod variable;
 
 pub use fault::{EvalFault, ValueFault};
 pub use joining::joined;
-pub use laws::value_settles;
+pub use laws::{builtin_is_not_set, settles_behind_value, value_settles};
 pub use request::{Groups, Main, Place, Request, Role, method_name};
 pub use table::{Setting, VarTable};
 pub use value::{Piece, Value};

@@ -53,15 +53,16 @@ fn request(alloc: Global) -> Result<Request, Fail> {
     let mut groups = Groups::new(alloc);
     groups.push(b"one")?;
     groups.push(b"two")?;
+    let place = Place::Rest {
+        text: Value::compile(alloc, b"docs/$v/")?,
+        prefix: text(alloc, b"/i/")?,
+    };
     Ok(Request {
         method: Method::Get,
         path: text(alloc, b"/i//x.html")?,
         args: text(alloc, b"b&a=1&A=2&c=")?,
         groups,
-        place: Some(Place::Rest {
-            text: Value::compile(alloc, b"docs/$v/")?,
-            prefix: text(alloc, b"/i/")?,
-        }),
+        place: Some(place.copy(alloc)?),
         role: Role::Main,
     })
 }
