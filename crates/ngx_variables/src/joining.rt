@@ -116,6 +116,8 @@ pub fn joined(
     ensures { OnOk result (out.new ≡ out.old ++ joined place.now text.now path.now folder.now) }
 {
     let mut whole = ByteText::new(alloc);
+    let size = folder.len().saturating_add(text.len());
+    whole.reserve(size.saturating_add(path.len()).saturating_add(1))?;
     append_start(folder, text, &mut whole)?;
     append_behind(place, text, path, &mut whole)?;
     let path = merged(alloc, whole)?;
