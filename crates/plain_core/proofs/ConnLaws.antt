@@ -1,15 +1,14 @@
 -- What the events do to the connection.
-use Rattle.std.proofs.Common.{◌≡◌, ◌≢◌, ℕ, suc, ◌+◌, ◌*◌, ◌<◌, ◌≤◌, min, Bool, true, false, ◌&&◌, eqb, List, [], ◌∷◌, ◌++◌, length, take, drop, get_or, refl, sym, ap, subst, ◌∙◌, arith, append_assoc, inr, length-append}
+use Rattle.std.proofs.Common.{◌≡◌, ℕ, ◌+◌, ◌*◌, ◌<◌, ◌≤◌, min, Bool, true, ◌&&◌, List, [], ◌∷◌, ◌++◌, length, take, drop, refl, sym, ap, subst, ◌∙◌, arith, append_assoc, inr, length-append}
 use Rattle.std.specs.Prelude.{Contains, map, Some, ◌==◌, if◌then◌else◌}
 use Rattle.std.proofs.lemmas.Bool.Decides.{nat_tests}
 use Rattle.std.proofs.lemmas.List.{append-nil, take-append-drop, length-take}
-use Rattle.file_tree.specs.Tree.{Trees}
-use Rattle.ngx_outside.specs.Views.{ConnView, Start, start_of, Ground, Always, Raceless, Holds, Moved, Went, Ran, Goes, no_bytes, is_live}
+use Rattle.ngx_outside.specs.Views.{Start, start_of, Always, Went, Ran, Goes, no_bytes}
 use Rattle.ngx_outside.specs.declared.event.Entry.{Entry}
 use Rattle.plain_core.specs.declared.conn.Life.{Life}
 use Rattle.plain_core.specs.declared.conn.Life.TheVariants as life
-use Rattle.plain_core.specs.Lines.{has_line, after_line, answers, course_of}
-use Rattle.plain_core.specs.Shown.{shown_at, is_live_at, reads_at, price_of, work_at}
+use Rattle.plain_core.specs.Lines.{has_line, after_line, answers}
+use Rattle.plain_core.specs.Shown.{shown_at, is_live_at, price_of, work_at}
 use Rattle.plain_core.proofs.LineLaws.{answers-line}
 
 live_is : (l : Life) → is_live_at l ≡ true → l ≡ life.Live

@@ -1,22 +1,21 @@
 -- The connection under its number, and nobody elsewhere.
-use Rattle.std.proofs.Common.{◌≡◌, ◌≢◌, ℕ, ◌+◌, ◌<◌, ◌≤◌, min, Bool, true, false, ◌&&◌, eqb, cond, List, [], ◌∷◌, ◌++◌, length, refl, sym, ap, subst, ◌∙◌, arith}
-use Rattle.std.specs.Prelude.{Contains, ◌↔◌, None, Some, not, map}
-use Rattle.std.specs.List.Sorted.{IsStrictlyIncreasing}
+use Rattle.std.proofs.Common.{◌≡◌, ◌≢◌, ℕ, ◌<◌, min, Bool, true, false, ◌&&◌, eqb, cond, List, [], ◌∷◌, ◌++◌, length, refl, sym, ap, subst, ◌∙◌, arith}
+use Rattle.std.specs.Prelude.{None, Some, not, map}
 use Rattle.std.proofs.lemmas.Bool.Decides.{nat_tests}
 use Rattle.std.proofs.lemmas.List.{append-nil}
 use Rattle.file_tree.specs.Tree.{is_fitting}
 use Rattle.file_tree.specs.declared.job.Ask.{Ask}
 use Rattle.file_tree.specs.declared.job.JobAnswer.{JobAnswer}
-use Rattle.ngx_outside.specs.Views.{ConnView, Course, Fresh, OneSteps, Ticked, GivesUp, Waits, Unmoved, IsSound, Start, kept_moment, nobody, ask_in, no_bytes, no_nodes}
+use Rattle.ngx_outside.specs.Views.{ConnView, Course, Fresh, OneSteps, Ticked, Waits, Unmoved, IsSound, Start, kept_moment, nobody, ask_in, no_bytes, no_nodes}
 use Rattle.ngx_outside.specs.Wants.{wants_at, wants_in, read_want}
 use Rattle.ngx_outside.specs.declared.event.Entry.{Entry}
 use Rattle.ngx_outside.specs.declared.event.Want.{Want}
 use Rattle.ngx_outside.specs.declared.event.Want.TheVariants as want
 use Rattle.plain_core.specs.declared.conn.Life.{Life}
 use Rattle.plain_core.specs.declared.conn.Life.TheVariants as life
-use Rattle.plain_core.specs.Lines.{has_line, answers, course_of}
-use Rattle.plain_core.specs.Shown.{shown_at, is_live_at, is_absent_at, reads_at, can_run_at, is_shut_at}
-use Rattle.plain_core.specs.Held.{at_conn, conns_at, Begins, want_if}
+use Rattle.plain_core.specs.Lines.{has_line, answers}
+use Rattle.plain_core.specs.Shown.{shown_at, is_absent_at, reads_at, can_run_at, is_shut_at}
+use Rattle.plain_core.specs.Held.{at_conn, conns_at, want_if}
 use Rattle.plain_core.proofs.LineLaws.{answers-none}
 
 test_yes : (a b : ℕ) → a ≡ b → eqb a b ≡ true

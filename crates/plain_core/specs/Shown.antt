@@ -1,6 +1,6 @@
 -- What the core shows of its connection.
-use Rattle.std.specs.Prelude.{◌≡◌, ◌≢◌, ℕ, ◌+◌, ◌*◌, ◌<◌, ◌≤◌, Bool, true, false, ◌&&◌, not, List, [], ◌∷◌, length, take, map, Contains, Option, None, Some, if◌then◌else◌}
-use Rattle.ngx_outside.specs.Views.{ConnView, Start, start_of, Ground, Always, Went, Stopped, Unmoved, Takes, Refused, Ran, nobody, no_bytes, is_live}
+use Rattle.std.specs.Prelude.{◌≡◌, ◌≢◌, ℕ, ◌+◌, ◌*◌, ◌<◌, ◌≤◌, Bool, true, false, ◌&&◌, not, List, [], ◌∷◌, length, take, map, Contains, None, Some, if◌then◌else◌}
+use Rattle.ngx_outside.specs.Views.{ConnView, Start, start_of, Always, Went, Stopped, Unmoved, Takes, Refused, Ran, nobody, no_bytes, is_live}
 use Rattle.ngx_outside.specs.declared.event.Entry.{Entry}
 use Rattle.ngx_outside.specs.declared.event.StepAnswer.{StepAnswer}
 use Rattle.ngx_outside.specs.declared.event.StepAnswer.TheVariants.{Done, Skipped, OutOfMemory}

@@ -1,4 +1,4 @@
-use Rattle.std.proofs.Common.{sym, ◌∙◌}
+use Rattle.std.proofs.Common.{sym}
 use Rattle.plain_core.specs.Shown.{shown}
 use Rattle.plain_core.proofs.HeldLaws.{sound_view, sound_at, other_wants}
 use Rattle.plain_core.proofs.plain.PlainCoreEventCore.wants_of.Goals as goal
