@@ -1,0 +1,6 @@
+pub mod Escapes
+pub mod Lines
+pub mod Report
+pub mod Kinds
+pub mod Faults
+pub mod Laws

@@ -1,0 +1,17 @@
+//! What the commands print: each connection of a run and the run's end, and the faults of scripts and configurations.
+#![tactic(auto)]
+
+mod escapes;
+mod faults;
+mod kinds;
+mod laws;
+mod lines;
+mod report;
+mod words;
+
+pub use faults::{conf_fault_text, script_fault_text};
+pub use laws::{printed_bytes_read_back, what_was_sent_is_read_back};
+pub use report::{ConnReport, ConnState, conn_text, end_text};
+
+#[cfg(test)]
+mod tests;
