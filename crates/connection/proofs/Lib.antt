@@ -1,2 +1,3 @@
 pub mod Responses
 pub mod Moves
+pub mod Sound

@@ -1,17 +1,13 @@
 -- The steps of a connection, by its parts.
-use Rattle.std.proofs.Common.{◌≡◌, ◌≢◌, ℕ, ◌+◌, ◌-◌, ◌*◌, ◌<◌, ◌≤◌, min, max, Bool, true, false, not, ◌&&◌, ◌||◌, cond, List, [], ◌∷◌, ◌++◌, length, take, drop, map, Option, None, Some, inl, inr, refl, sym, ap, ◌∙◌, subst, append_assoc, length-append, length-drop, arith}
-use Rattle.std.specs.Prelude.{is_some, is_none, ◌==◌}
+use Rattle.std.proofs.Common.{◌≡◌, ℕ, ◌+◌, ◌-◌, ◌*◌, ◌<◌, ◌≤◌, min, Bool, true, false, not, cond, List, [], ◌∷◌, ◌++◌, length, take, drop, map, Option, None, Some, inr, refl, sym, ap, ◌∙◌, subst, append_assoc, length-append, length-drop, arith}
+use Rattle.std.specs.Prelude.{nat_le, is_some, ◌==◌}
 use Rattle.std.specs.List.{Contains}
-use Rattle.std.proofs.Math.Nat.{mul-le-mul_left}
 use Rattle.std.proofs.lemmas.List.{append-nil, take-append-drop, map-append, drop-append-le}
 use Rattle.std.proofs.lemmas.Grind.{common_steps}
 use Rattle.std.proofs.lemmas.Bool.Decides.{nat_tests}
 use Rattle.file_tree.specs.Tree.{Trees}
-use Rattle.ngx_outside.specs.Views.{ConnView, Course, Start, start_of, Ground, Went, Moved, Ran, Goes, Takes, StepsOwn, is_live, no_bytes}
-use Rattle.ngx_outside.specs.Views.Ground.{Always, Raceless}
-use Rattle.ngx_outside.specs.declared.event.Event.{Event}
-use Rattle.ngx_outside.specs.declared.event.Event.TheVariants as ev
-use Rattle.ngx_outside.specs.declared.event.StepAnswer.TheVariants.{Done}
+use Rattle.ngx_outside.specs.Views.{Start, start_of, Went, Ran, Goes, is_live}
+use Rattle.ngx_outside.specs.Views.Ground.{Always}
 use Rattle.ngx_outside.specs.declared.event.Entry.{Entry}
 use Rattle.ngx_outside.specs.declared.event.StopCause.{StopCause}
 use Rattle.req_head.specs.declared.head.Head.{Head as RequestHead}
@@ -21,7 +17,7 @@ use Rattle.req_head.specs.Step.{head_step}
 use Rattle.req_head.specs.Laws.{HeadStays, RefusalStays, SizeFits}
 use Rattle.site_model.specs.declared.site.Site.{Site}
 use Rattle.site_model.specs.Serving.{page_reply}
-use Rattle.connection.specs.Answers.{answers, first_answer, response, reply_by, keeps, is_head, Responds}
+use Rattle.connection.specs.Answers.{answers, first_answer, response, reply_by, keeps, is_head}
 use Rattle.connection.specs.Steps.{begins, RanOne}
 use Rattle.connection.specs.Conn.{view_at, bytes_at, left_at, room_at, starts_at, weight, price}
 
@@ -59,9 +55,16 @@ wrote_left None pending pending' closing held n live e a b =
     omega arith
 wrote_left (Some cause) pending pending' closing held n live e a b = cc
 
+some_room : (t : Bool) (n room : ℕ) → nat_le 8192 n ≡ t → cond t None (Some (8192 - n)) ≡ Some room → 0 < room
+some_room true n room e h = cc
+some_room false n room e h =
+    let lt : n < 8192 = grind (arith, nat_tests) in
+    let r : 8192 - n ≡ room = cc in
+    omega arith
+
 -- bytes arrive
 pub room_some : (stopped closing ended : Bool) (held : List ℕ) (room : ℕ) → room_at stopped closing ended held ≡ Some room → (stopped ≡ false) × (closing ≡ false) × (ended ≡ false) × (0 < room)
-room_some false false false held room h = (refl, refl, refl, let e : max 1 (8192 - length held) ≡ room = cc in omega arith)
+room_some false false false held room h = (refl, refl, refl, some_room (nat_le 8192 (length held)) (length held) room refl h)
 room_some false false true held room h = cc
 room_some false true ended held room h = cc
 room_some true closing ended held room h = cc

@@ -1,5 +1,5 @@
 -- A response as it is put together.
-use Rattle.std.proofs.Common.{◌≡◌, ℕ, Bool, false, List, [], ◌++◌, length, Option, None, Some, refl, sym, ap, ◌∙◌, append_assoc, ◌&&◌, true, ◌+◌, nat_lt}
+use Rattle.std.proofs.Common.{◌≡◌, ℕ, Bool, false, List, ◌++◌, length, None, Some, refl, ap, ◌∙◌, append_assoc, ◌&&◌, true, ◌+◌, nat_lt}
 use Rattle.ngx_outside.specs.Views.{Start}
 use Rattle.resp_head.specs.declared.head.ReplyHead.{ReplyHead}
 use Rattle.resp_head.specs.Head.{head_of}

@@ -1,5 +1,5 @@
 -- What a connection shows.
-use Rattle.std.specs.Prelude.{◌≡◌, ◌≢◌, ℕ, ◌+◌, ◌-◌, ◌*◌, max, Bool, true, false, not, ◌&&◌, ◌||◌, is_some, is_none, List, [], ◌∷◌, ◌++◌, Option, None, Some, length, map, if◌then◌else◌}
+use Rattle.std.specs.Prelude.{ℕ, ◌+◌, ◌-◌, ◌*◌, nat_le, Bool, true, false, not, ◌&&◌, ◌||◌, is_some, List, [], ◌∷◌, ◌++◌, Option, None, Some, length, map, if◌then◌else◌}
 use Rattle.file_tree.specs.Tree.{Trees}
 use Rattle.ngx_outside.specs.Views.{ConnView, Course, start_of, Start, StepsOwn, LeftBy, IsSound, no_bytes}
 use Rattle.ngx_outside.specs.declared.event.Event.{Event}
@@ -21,9 +21,10 @@ abbrev pub bytes_at : Site → List ℕ → List Entry → Bool → List ℕ →
 bytes_at site pending journal closing held trees more later =
     pending ++ (if closing then [] else answers site (length journal) trees (held ++ more) later)
 
--- how many more bytes are taken: none after a stop, behind a response that closes or behind the input's end
+-- how many more bytes are taken, as far as 8192 are held: none after a stop, behind a response that closes or behind the
+-- input's end
 abbrev pub room_at : Bool → Bool → Bool → List ℕ → Option ℕ
-room_at stopped closing ended held = if stopped || closing || ended then None else Some (max 1 (8192 - length held))
+room_at stopped closing ended held = if stopped || closing || ended || nat_le 8192 (length held) then None else Some (8192 - length held)
 
 -- a further request may start
 abbrev pub starts_at : Bool → Bool → List ℕ → HeadStep → Bool
@@ -76,3 +77,7 @@ price = 65538
 pub record StepsConn (site : Site) (now : Start) (e : Event) (a : StepAnswer) (old new : Conn) : Type 0 where
   pub own : (course : Course) → StepsOwn course now e a (view_of site old) (view_of site new)
   pub left : LeftBy price e a (left_of old) (left_of new)
+
+-- what each connection shows is sound
+abbrev pub AllSound : Type 0
+AllSound = (site : Site) (conn : Conn) → IsSound (view_of site conn)

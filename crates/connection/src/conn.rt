@@ -188,16 +188,14 @@ impl Conn {
         self.cause.is_some()
     }
 
-    /// How many more bytes it takes now, where it takes any: what is left of 8192, and at least one.
+    /// How many more bytes it takes now, where it takes any: what is left of 8192.
     pub fn room(&self) -> Option<usize>
         ensures { result ≡ room_at (is_some self.now.cause) self.now.closing self.now.ended self.now.held }
     {
-        if self.is_stopped() || self.closing || self.ended {
+        if self.is_stopped() || self.closing || self.ended || 8192 <= self.held.len() {
             None
-        } else if self.held.len() < 8192 {
-            Some(8192 - self.held.len())
         } else {
-            Some(1)
+            Some(8192 - self.held.len())
         }
     }
 

@@ -2,9 +2,11 @@
 #![tactic(auto)]
 
 mod conn;
+mod law;
 mod respond;
 
 pub use conn::Conn;
+pub use law::connections_are_sound;
 pub use respond::{Sent, put_answer, put_page};
 
 #[cfg(test)]

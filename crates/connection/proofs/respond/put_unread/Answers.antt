@@ -1,4 +1,4 @@
-use Rattle.std.proofs.Common.{◌≡◌, ◌∙◌, sym, ap, ◌++◌, false}
+use Rattle.std.proofs.Common.{◌∙◌, sym, ap, ◌++◌, false}
 use Rattle.site_model.specs.Serving.{page_reply}
 use Rattle.connection.specs.Answers.{response, is_head}
 use Rattle.connection.proofs.Responses.{unread_closes}

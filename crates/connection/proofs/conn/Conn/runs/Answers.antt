@@ -1,4 +1,4 @@
-use Rattle.std.proofs.Common.{◌≡◌, ◌∙◌, sym, ap, subst, true, false, length, vec_len, arith}
+use Rattle.std.proofs.Common.{◌≡◌, subst, true, length, vec_len, arith}
 use Rattle.std.specs.Prelude.{is_some}
 use Rattle.file_tree.specs.Tree.{Trees, Nothing}
 use Rattle.ngx_outside.specs.Views.{Start}

@@ -1,0 +1,5 @@
+use Rattle.connection.proofs.Sound.{sound}
+use Rattle.connection.proofs.law.connections_are_sound.Goals as goal
+
+pub returns : goal.returns
+returns c = λ site s. sound site s.cause s.pending s.journal.items s.closing s.ended s.held s.next s.looked s.dropped

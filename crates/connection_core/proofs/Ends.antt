@@ -1,0 +1,246 @@
+-- A connection is held, or let go.
+use Rattle.std.proofs.Common.{◌≡◌, ◌≢◌, ℕ, ◌+◌, ◌*◌, ◌<◌, ◌≤◌, Bool, true, false, cond, eqb, not, ◌&&◌, List, [], ◌∷◌, ◌++◌, length, get_or, refl, sym, ap, ◌∙◌, subst, arith, length-append, suc, zero}
+use Rattle.std.specs.Prelude.{nat_lt, ◌↔◌}
+use Rattle.std.specs.List.{AllByRecursion, Contains, insert, remove}
+use Rattle.std.specs.List.Sorted.{IsStrictlyIncreasing}
+use Rattle.std.proofs.lemmas.Bool.Decides.{nat_tests}
+use Rattle.std.proofs.lemmas.List.Sums.{sum_by-append}
+use Rattle.ngx_outside.specs.Views.{ConnView, Start, StepsOwn, OneSteps, Fresh, nobody}
+use Rattle.ngx_outside.specs.Wants.{wants_at}
+use Rattle.http_types.specs.declared.words.Addr.{Addr}
+use Rattle.ngx_outside.specs.declared.event.Want.{Want}
+use Rattle.ngx_outside.specs.declared.event.Event.TheVariants as ev
+use Rattle.ngx_outside.specs.declared.event.StepAnswer.TheVariants.{Done, Skipped}
+use Rattle.site_model.specs.Listen.{listens_at}
+use Rattle.site_model.specs.declared.site.Site.{Site}
+use Rattle.connection.specs.declared.conn.Conn.{Conn}
+use Rattle.connection.specs.Conn.{view_of, left_of, price, weight, fresh_course}
+use Rattle.connection_core.specs.Table.{view_in, wants_held, left_in, price_each, most_held, opens_in, is_among, tally, StandsAt, BelongsAt, Splits}
+use Rattle.connection_core.proofs.Tables.{there, elsewhere, nowhere, none_of_two, wants_split, wants_joined}
+use Rattle.connection_core.proofs.Spliced.{wants_count}
+use Rattle.connection_core.proofs.Rows.{parted_between, inserted, removed, put_rises, cut_rises, among_here, among_none}
+use Rattle.connection_core.proofs.Held.{Seat, wants_of_held, left_split, seen}
+
+-- a place between those that are held
+pub record Gap (c at : ℕ) (ids : List ℕ) (conns : List Conn) : Type 0 where
+  pub belongs : BelongsAt c ids at
+  pub front : List Conn
+  pub back : List Conn
+  pub whole : conns ≡ front ++ back
+  pub size : length front ≡ at
+  pub even : length front ≡ length belongs.front
+
+belongs_within : (c at : ℕ) (ids : List ℕ) (conns : List Conn) → BelongsAt c ids at → length conns ≡ length ids → at ≤ length conns
+belongs_within c at ids conns b paired =
+    let e = ap length b.whole in
+    let f = length-append b.front b.back in
+    let g = b.size in
+    omega (arith, e, f, g, paired)
+
+gap_of : (c at : ℕ) (ids : List ℕ) (conns : List Conn) → (b : BelongsAt c ids at) → (front : List Conn) × (back : List Conn) × (conns ≡ front ++ back) × (length front ≡ at) → Gap c at ids conns
+gap_of c at ids conns b p = record {
+  belongs = b;
+  front = p.0;
+  back = p.1;
+  whole = p.2;
+  size = p.3;
+  even = p.3 ∙ sym b.size;
+}
+
+pub gap_at : (c at : ℕ) (ids : List ℕ) (conns : List Conn) → BelongsAt c ids at → length conns ≡ length ids → Gap c at ids conns
+gap_at c at ids conns b paired = gap_of c at ids conns b (parted_between conns at (belongs_within c at ids conns b paired))
+
+pub gap_splits : (site : Site) (c at : ℕ) (ids : List ℕ) (conns : List Conn) (wants : List Want) → Gap c at ids conns → wants ≡ wants_held site ids conns → Splits c wants 0
+gap_splits site c at ids conns wants g told = record {
+  lower = wants_held site g.belongs.front g.front;
+  own = [];
+  higher = wants_held site g.belongs.back g.back;
+  whole = told ∙ ap (λ l. wants_held site l conns) g.belongs.whole ∙ ap (λ l. wants_held site (g.belongs.front ++ g.belongs.back) l) g.whole ∙ wants_joined site g.belongs.front g.front g.belongs.back g.back g.even;
+  size = refl;
+  all_lower = wants_of_held (λ n. n < c) site g.belongs.front g.front g.belongs.below;
+  all_own = tt;
+  all_higher = wants_of_held (λ n. c < n) site g.belongs.back g.back g.belongs.above;
+}
+
+ids_put : (c at : ℕ) (ids : List ℕ) (conns : List Conn) (g : Gap c at ids conns) → insert ids at c ≡ g.belongs.front ++ c ∷ g.belongs.back
+ids_put c at ids conns g = inserted ids g.belongs.front g.belongs.back c at g.belongs.whole g.belongs.size
+
+conns_put : (c at : ℕ) (ids : List ℕ) (conns : List Conn) (x : Conn) (g : Gap c at ids conns) → insert conns at x ≡ g.front ++ x ∷ g.back
+conns_put c at ids conns x g = inserted conns g.front g.back x at g.whole g.size
+
+pub put_rising : (c at : ℕ) (ids ids' : List ℕ) → BelongsAt c ids at → ids' ≡ insert ids at c → IsStrictlyIncreasing ids → IsStrictlyIncreasing ids'
+put_rising c at ids ids' b e s =
+    subst (λ l. IsStrictlyIncreasing l) (sym (e ∙ inserted ids b.front b.back c at b.whole b.size)) (put_rises b.front b.back c (subst (λ l. IsStrictlyIncreasing l) b.whole s) b.below b.above)
+
+pub put_told : (site : Site) (c at : ℕ) (ids ids' : List ℕ) (conns conns' : List Conn) (wants wants' : List Want) (x : Conn) (g : Gap c at ids conns) → (told : wants ≡ wants_held site ids conns) → ids' ≡ insert ids at c → conns' ≡ insert conns at x →
+    wants' ≡ (gap_splits site c at ids conns wants g told).lower ++ (wants_at c (view_of site x) ++ (gap_splits site c at ids conns wants g told).higher) → wants' ≡ wants_held site ids' conns'
+unfolding gap_splits
+put_told site c at ids ids' conns conns' wants wants' x g told e f w =
+    w ∙ sym (ap (λ l. wants_held site l conns') (e ∙ ids_put c at ids conns g) ∙ ap (λ l. wants_held site (g.belongs.front ++ c ∷ g.belongs.back) l) (f ∙ conns_put c at ids conns x g) ∙ wants_split site g.belongs.front g.front c x g.belongs.back g.back g.even)
+
+put_before : (site : Site) (c at : ℕ) (ids : List ℕ) (conns : List Conn) (b : BelongsAt c ids at) → view_in site ids conns c ≡ nobody
+put_before site c at ids conns b = nowhere site ids conns c (subst (λ l. AllByRecursion (λ id. id ≢ c) l) (sym b.whole) (none_of_two b.front b.back c b.below b.above))
+
+put_after : (site : Site) (c at : ℕ) (ids ids' : List ℕ) (conns conns' : List Conn) (x : Conn) (g : Gap c at ids conns) → ids' ≡ insert ids at c → conns' ≡ insert conns at x → view_in site ids' conns' c ≡ view_of site x
+put_after site c at ids ids' conns conns' x g e f =
+    let b = g.belongs in
+    ap (λ l. view_in site l conns' c) (e ∙ ids_put c at ids conns g) ∙ ap (λ l. view_in site (b.front ++ c ∷ b.back) l c) (f ∙ conns_put c at ids conns x g) ∙ there site b.front g.front c x b.back g.back g.even b.below
+
+put_beside : (site : Site) (c at : ℕ) (ids ids' : List ℕ) (conns conns' : List Conn) (x : Conn) (g : Gap c at ids conns) → ids' ≡ insert ids at c → conns' ≡ insert conns at x → (q : ℕ) → q ≢ c →
+    view_in site ids' conns' q ≡ view_in site ids conns q
+put_beside site c at ids ids' conns conns' x g e f q ne =
+    let b = g.belongs in
+    ap (λ l. view_in site l conns' q) (e ∙ ids_put c at ids conns g) ∙ ap (λ l. view_in site (b.front ++ c ∷ b.back) l q) (f ∙ conns_put c at ids conns x g) ∙ elsewhere site b.front g.front c x b.back g.back q g.even ne
+    ∙ sym (ap (λ l. view_in site l conns q) b.whole ∙ ap (λ l. view_in site (b.front ++ b.back) l q) g.whole)
+
+pub put_steps : (site : Site) (c at : ℕ) (ids ids' : List ℕ) (conns conns' : List Conn) (x : Conn) (g : Gap c at ids conns) → ids' ≡ insert ids at c → conns' ≡ insert conns at x → Fresh (fresh_course site) (view_of site x) →
+    (now : Start) (local peer : Addr) (taken : ℕ) → OneSteps c (StepsOwn (fresh_course site) now (ev.Opened c local peer) (Done taken)) (view_in site ids conns) (view_in site ids' conns')
+put_steps site c at ids ids' conns conns' x g e f fresh now local peer taken = record {
+  own = (ap (λ (v : ConnView). v.held) (put_before site c at ids conns g.belongs), subst (λ v. Fresh (fresh_course site) v) (sym (put_after site c at ids ids' conns conns' x g e f)) fresh);
+  others = put_beside site c at ids ids' conns conns' x g e f;
+}
+
+left_joined : (front back : List Conn) → left_in (front ++ back) ≡ left_in front + left_in back
+left_joined front back = sum_by-append (λ conn. 1 + left_of conn) front back
+
+pub put_left : (c at : ℕ) (ids : List ℕ) (conns conns' : List Conn) (x : Conn) (g : Gap c at ids conns) → conns' ≡ insert conns at x → left_of x ≡ 1 + weight → left_in conns' ≤ left_in conns + price_each
+unfolding price weight
+put_left c at ids conns conns' x g f h =
+    let was = ap left_in g.whole ∙ left_joined g.front g.back in
+    let is = ap left_in (f ∙ conns_put c at ids conns x g) ∙ left_split g.front g.back x in
+    omega (arith, was, is, h)
+
+-- whether one can be opened
+pub opens_full : (site : Site) (ids : List ℕ) (c : ℕ) (local : Addr) → 512 ≤ length ids → opens_in site ids c local ≡ false
+unfolding most_held
+opens_full site ids c local h =
+    let e : nat_lt (length ids) 512 ≡ false = grind (arith, nat_tests) in
+    ap (λ t. not (is_among c ids) && (t && listens_at site.listens local)) e ∙ never (not (is_among c ids))
+  where
+    never : (t : Bool) → (t && false) ≡ false
+    never true = refl
+    never false = refl
+
+pub opens_deaf : (site : Site) (ids : List ℕ) (c : ℕ) (local : Addr) → listens_at site.listens local ≡ false → opens_in site ids c local ≡ false
+opens_deaf site ids c local h =
+    ap (λ t. not (is_among c ids) && (nat_lt (length ids) most_held && t)) h ∙ never (not (is_among c ids)) (nat_lt (length ids) most_held)
+  where
+    never : (s t : Bool) → (s && (t && false)) ≡ false
+    never true true = refl
+    never true false = refl
+    never false t = refl
+
+pub opens_held : (site : Site) (ids : List ℕ) (c at : ℕ) (local : Addr) → StandsAt c ids at → opens_in site ids c local ≡ false
+opens_held site ids c at local s =
+    ap (λ t. not t && (nat_lt (length ids) most_held && listens_at site.listens local)) (ap (is_among c) s.whole ∙ among_here s.front s.back c)
+
+pub opens_free : (site : Site) (ids : List ℕ) (c at : ℕ) (local : Addr) → BelongsAt c ids at → length ids < 512 → listens_at site.listens local ≡ true → opens_in site ids c local ≡ true
+unfolding most_held
+opens_free site ids c at local b h l =
+    let e : nat_lt (length ids) 512 ≡ true = grind (arith, nat_tests) in
+    ap (λ t. not t && (nat_lt (length ids) 512 && listens_at site.listens local)) (among_none ids c (subst (λ l. AllByRecursion (λ id. id ≢ c) l) (sym b.whole) (none_of_two b.front b.back c b.below b.above)))
+    ∙ ap (λ t. t && listens_at site.listens local) e ∙ l
+
+-- a connection is let go
+pub cut_rising : (c at : ℕ) (ids ids' : List ℕ) → StandsAt c ids at → ids' ≡ remove ids at → IsStrictlyIncreasing ids → IsStrictlyIncreasing ids'
+cut_rising c at ids ids' b e s =
+    subst (λ l. IsStrictlyIncreasing l) (sym (e ∙ removed ids b.front b.back c at b.whole b.size)) (cut_rises b.front b.back c (subst (λ l. IsStrictlyIncreasing l) b.whole s))
+
+ids_cut : (site : Site) (c at : ℕ) (ids : List ℕ) (conns : List Conn) (wants : List Want) (s : Seat site c at ids conns wants) → remove ids at ≡ s.stands.front ++ s.stands.back
+ids_cut site c at ids conns wants s = removed ids s.stands.front s.stands.back c at s.stands.whole s.stands.size
+
+conns_cut : (site : Site) (c at : ℕ) (ids : List ℕ) (conns : List Conn) (wants : List Want) (s : Seat site c at ids conns wants) → remove conns at ≡ s.placed.front ++ s.placed.back
+conns_cut site c at ids conns wants s = removed conns s.placed.front s.placed.back s.placed.here at s.placed.whole s.placed.size
+
+pub cut_told : (site : Site) (c at : ℕ) (ids ids' : List ℕ) (conns conns' : List Conn) (wants wants' : List Want) (s : Seat site c at ids conns wants) → ids' ≡ remove ids at → conns' ≡ remove conns at →
+    wants' ≡ s.placed.lower ++ s.placed.higher → wants' ≡ wants_held site ids' conns'
+cut_told site c at ids ids' conns conns' wants wants' s e f w =
+    let t = s.stands in
+    let p = s.placed in
+    w ∙ ap (λ l. l ++ p.higher) s.lower ∙ ap (λ l. wants_held site t.front p.front ++ l) s.higher
+    ∙ sym (ap (λ l. wants_held site l conns') (e ∙ ids_cut site c at ids conns wants s) ∙ ap (λ l. wants_held site (t.front ++ t.back) l) (f ∙ conns_cut site c at ids conns wants s) ∙ wants_joined site t.front p.front t.back p.back s.even)
+
+cut_after : (site : Site) (c at : ℕ) (ids ids' : List ℕ) (conns conns' : List Conn) (wants : List Want) (s : Seat site c at ids conns wants) → ids' ≡ remove ids at → view_in site ids' conns' c ≡ nobody
+cut_after site c at ids ids' conns conns' wants s e =
+    let t = s.stands in
+    nowhere site ids' conns' c (subst (λ l. AllByRecursion (λ id. id ≢ c) l) (sym (e ∙ ids_cut site c at ids conns wants s)) (none_of_two t.front t.back c t.below t.above))
+
+cut_beside : (site : Site) (c at : ℕ) (ids ids' : List ℕ) (conns conns' : List Conn) (wants : List Want) (s : Seat site c at ids conns wants) → ids' ≡ remove ids at → conns' ≡ remove conns at → (q : ℕ) → q ≢ c →
+    view_in site ids' conns' q ≡ view_in site ids conns q
+cut_beside site c at ids ids' conns conns' wants s e f q ne =
+    let t = s.stands in
+    let p = s.placed in
+    ap (λ l. view_in site l conns' q) (e ∙ ids_cut site c at ids conns wants s) ∙ ap (λ l. view_in site (t.front ++ t.back) l q) (f ∙ conns_cut site c at ids conns wants s)
+    ∙ sym (ap (λ l. view_in site l conns q) t.whole ∙ ap (λ l. view_in site (t.front ++ c ∷ t.back) l q) p.whole ∙ elsewhere site t.front p.front c p.here t.back p.back q s.even ne)
+
+pub cut_steps : (site : Site) (c at : ℕ) (ids ids' : List ℕ) (conns conns' : List Conn) (wants : List Want) (s : Seat site c at ids conns wants) → ids' ≡ remove ids at → conns' ≡ remove conns at → (view_of site s.placed.here).shut ≡ true →
+    (now : Start) (taken : ℕ) → OneSteps c (StepsOwn nobody.course now (ev.Gone c) (Done taken)) (view_in site ids conns) (view_in site ids' conns')
+cut_steps site c at ids ids' conns conns' wants s e f shut now taken = record {
+  own = (ap (λ (v : ConnView). v.shut) (seen site c at ids conns wants s) ∙ shut, cut_after site c at ids ids' conns conns' wants s e);
+  others = cut_beside site c at ids ids' conns conns' wants s e f;
+}
+
+pub cut_left : (site : Site) (c at : ℕ) (ids : List ℕ) (conns conns' : List Conn) (wants : List Want) (s : Seat site c at ids conns wants) → conns' ≡ remove conns at → left_in conns' < left_in conns
+cut_left site c at ids conns conns' wants s f =
+    let was = ap left_in s.placed.whole ∙ left_split s.placed.front s.placed.back s.placed.here in
+    let is = ap left_in (f ∙ conns_cut site c at ids conns wants s) ∙ left_joined s.placed.front s.placed.back in
+    omega (arith, was, is)
+
+-- there are few wants
+tally_few : (b : Bool) → tally b ≤ 1
+tally_few true = omega arith
+tally_few false = omega arith
+
+pub few_wants : (site : Site) (ids : List ℕ) (conns : List Conn) → length (wants_held site ids conns) ≤ 4 * length ids
+few_wants site [] conns = omega arith
+few_wants site (id ∷ ids) [] = omega arith
+few_wants site (id ∷ ids) (conn ∷ conns) =
+    let n = wants_count id site conn in
+    let more = few_wants site ids conns in
+    let e = length-append (wants_at id (view_of site conn)) (wants_held site ids conns) in
+    omega (arith, n, more, e, tally_few)
+
+-- the connections that are held
+test_is : (a b : ℕ) → a ≡ b → eqb a b ≡ true
+test_is a b e = grind (arith, nat_tests)
+
+test_means : (a b : ℕ) → eqb a b ≡ true → a ≡ b
+test_means a b e = grind (arith, nat_tests)
+
+shows : (site : Site) (ids : List ℕ) (conns : List Conn) (c k : ℕ) → length conns ≡ length ids → k < length ids → get_or ids k c ≡ c → (view_in site ids conns c).held ≡ true
+shows site [] conns c k e h g = absurd (omega (arith, h))
+shows site (id ∷ ids) [] c k e h g = absurd (omega (arith, e))
+shows site (id ∷ ids) (conn ∷ conns) c zero e h g = ap (λ t. (cond t (view_of site conn) (view_in site ids conns c)).held) (test_is id c g)
+shows site (id ∷ ids) (conn ∷ conns) c (suc k) e h g = either (eqb id c) (shows site ids conns c k (omega (arith, e)) (omega (arith, h)) g)
+  where
+    either : (t : Bool) → (view_in site ids conns c).held ≡ true → (cond t (view_of site conn) (view_in site ids conns c)).held ≡ true
+    either true s = refl
+    either false s = s
+
+stands_if : (site : Site) (id : ℕ) (ids : List ℕ) (conn : Conn) (conns : List Conn) (c : ℕ) → ((view_in site ids conns c).held ≡ true → Contains ids c) → (t : Bool) → eqb id c ≡ t →
+    (cond t (view_of site conn) (view_in site ids conns c)).held ≡ true → Contains (id ∷ ids) c
+stands_if site id ids conn conns c more true e s = (0, omega arith, test_means id c e)
+stands_if site id ids conn conns c more false e s = let r = more s in (suc r.0, (let lt = r.1 in omega (arith, lt)), r.2)
+
+stands : (site : Site) (ids : List ℕ) (conns : List Conn) (c : ℕ) → (view_in site ids conns c).held ≡ true → Contains ids c
+stands site [] conns c h = cc
+stands site (id ∷ ids) [] c h = cc
+stands site (id ∷ ids) (conn ∷ conns) c h = stands_if site id ids conn conns c (stands site ids conns c) (eqb id c) refl h
+
+pub held_as : (site : Site) (ids : List ℕ) (conns : List Conn) → length conns ≡ length ids → (c : ℕ) → Contains ids c ↔ ((view_in site ids conns c).held ≡ true)
+held_as site ids conns e c = (λ h. shows site ids conns c h.0 e h.1 h.2, stands site ids conns c)
+
+-- no connection has a job
+pub jobless : (site : Site) (ids : List ℕ) (conns : List Conn) (c : ℕ) → (view_in site ids conns c).jobs ≡ []
+jobless site [] conns c = refl
+jobless site (id ∷ ids) [] c = refl
+jobless site (id ∷ ids) (conn ∷ conns) c = elim (eqb id c) as (λ t. (cond t (view_of site conn) (view_in site ids conns c)).jobs ≡ []) [ true ↦ refl | false ↦ jobless site ids conns c ]
+
+-- nobody wants anything
+pub no_wants : (c : ℕ) → wants_at c nobody ≡ []
+unfolding wants_at
+no_wants c = refl
+
+-- one that isn't to be closed stays
+pub keeps_open : (site : Site) (c : ℕ) (ids : List ℕ) (conns : List Conn) (now : Start) → (view_in site ids conns c).shut ≡ false → OneSteps c (StepsOwn nobody.course now (ev.Gone c) Skipped) (view_in site ids conns) (view_in site ids conns)
+keeps_open site c ids conns now h = record { own = record { same = refl; cause = h }; others = λ q ne. refl }

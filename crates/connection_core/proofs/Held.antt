@@ -1,0 +1,305 @@
+-- What an event of one connection does to all.
+use Rattle.std.proofs.Common.{◌≡◌, ◌≢◌, ℕ, ◌+◌, ◌*◌, ◌<◌, ◌≤◌, Bool, true, false, cond, eqb, List, [], ◌∷◌, ◌++◌, length, set, get_or, map, Option, None, Some, refl, sym, ap, ◌∙◌, subst, arith, length-append}
+use Rattle.std.specs.List.{AllByRecursion}
+use Rattle.std.proofs.Math.Nat.{mul-le-mul_right}
+use Rattle.std.proofs.lemmas.List.Sums.{sum_by-append, sum_by-cons}
+use Rattle.std.proofs.lemmas.Bool.Decides.{nat_tests}
+use Rattle.ngx_outside.specs.Views.{ConnView, Course, Start, Job, StepsOwn, OneSteps, LeftBy, nobody}
+use Rattle.ngx_outside.specs.Wants.{wants_at, read_want}
+use Rattle.ngx_outside.specs.declared.event.Want.{Want}
+use Rattle.ngx_outside.specs.declared.event.Want.TheVariants as want
+use Rattle.ngx_outside.specs.declared.event.Event.{Event}
+use Rattle.ngx_outside.specs.declared.event.Event.TheVariants as ev
+use Rattle.ngx_outside.specs.declared.event.StepAnswer.{StepAnswer}
+use Rattle.ngx_outside.specs.declared.event.StepAnswer.TheVariants.{Done, Skipped, OutOfMemory}
+use Rattle.site_model.specs.declared.site.Site.{Site}
+use Rattle.connection.specs.declared.conn.Conn.{Conn}
+use Rattle.connection.specs.Conn.{view_of, left_of, price, StepsConn}
+use Rattle.connection_core.specs.Table.{view_in, journal_in, wants_held, left_in, conn_of, is_own, price_each, Below, StandsAt, BelongsAt, Splits, Placed, Replaced}
+use Rattle.connection_core.proofs.Tables.{there, elsewhere, nowhere, none_of_two, wants_split}
+use Rattle.connection_core.proofs.Rows.{Parted, parted_at}
+
+-- the wants of a connection are its own
+maybe : {X : Type 0} (P : X → Type 0) (b : Bool) (xs ys : List X) → AllByRecursion P xs → AllByRecursion P ys → AllByRecursion P (cond b xs ys)
+maybe P true xs ys a b = a
+maybe P false xs ys a b = b
+
+both : {X : Type 0} (P : X → Type 0) (xs ys : List X) → AllByRecursion P xs → AllByRecursion P ys → AllByRecursion P (xs ++ ys)
+both P [] ys a b = b
+both P (x ∷ xs) ys a b = (a.0, both P xs ys a.1 b)
+
+own_read : (c : ℕ) (o : Option ℕ) → AllByRecursion (λ w. conn_of w ≡ c) (read_want c o)
+own_read c None = tt
+own_read c (Some room) = (refl, tt)
+
+own_runs : (c : ℕ) (nodes : List ℕ) → AllByRecursion (λ w. conn_of w ≡ c) (map (λ node. want.Run c node) nodes)
+own_runs c [] = tt
+own_runs c (n ∷ nodes) = (refl, own_runs c nodes)
+
+own_jobs : (c : ℕ) (jobs : List Job) → AllByRecursion (λ w. conn_of w ≡ c) (map (λ job. want.Job c job.node) jobs)
+own_jobs c [] = tt
+own_jobs c (j ∷ jobs) = (refl, own_jobs c jobs)
+
+pub all_own : (c : ℕ) (v : ConnView) → AllByRecursion (λ w. conn_of w ≡ c) (wants_at c v)
+unfolding wants_at
+all_own c v =
+    both (λ w. conn_of w ≡ c) _ _
+    (both (λ w. conn_of w ≡ c) _ _
+    (both (λ w. conn_of w ≡ c) _ _ (both (λ w. conn_of w ≡ c) _ _ (own_read c v.room) (own_runs c v.ready)) (own_jobs c v.jobs))
+    (maybe (λ w. conn_of w ≡ c) _ [] (want.Write c ∷ []) tt (refl, tt)))
+    (maybe (λ w. conn_of w ≡ c) v.shut (want.Close c ∷ []) [] (refl, tt) tt)
+
+weaker : {X : Type 0} (P Q : X → Type 0) (xs : List X) → ((x : X) → P x → Q x) → AllByRecursion P xs → AllByRecursion Q xs
+weaker P Q [] f a = a
+weaker P Q (x ∷ xs) f a = (f x a.0, weaker P Q xs f a.1)
+
+-- those of all are of those that are held
+pub wants_of_held : (P : ℕ → Type 0) (site : Site) (ids : List ℕ) (conns : List Conn) → AllByRecursion P ids → AllByRecursion (λ w. P (conn_of w)) (wants_held site ids conns)
+wants_of_held P site [] conns a = tt
+wants_of_held P site (id ∷ ids) [] a = tt
+wants_of_held P site (id ∷ ids) (conn ∷ conns) a =
+    both (λ w. P (conn_of w)) (wants_at id (view_of site conn)) (wants_held site ids conns)
+    (weaker (λ w. conn_of w ≡ id) (λ w. P (conn_of w)) (wants_at id (view_of site conn)) (λ w e. subst P (sym e) a.0) (all_own id (view_of site conn)))
+    (wants_of_held P site ids conns a.1)
+
+-- a connection at its place, among its numbers
+pub record Seat (site : Site) (c at : ℕ) (ids : List ℕ) (conns : List Conn) (wants : List Want) : Type 0 where
+  pub stands : StandsAt c ids at
+  pub placed : Placed site c at conns wants
+  pub even : length placed.front ≡ length stands.front
+  pub lower : placed.lower ≡ wants_held site stands.front placed.front
+  pub higher : placed.higher ≡ wants_held site stands.back placed.back
+
+stands_within : (c at : ℕ) (ids : List ℕ) (conns : List Conn) → StandsAt c ids at → length conns ≡ length ids → at < length conns
+stands_within c at ids conns s paired =
+    let e = ap length s.whole in
+    let f = length-append s.front (c ∷ s.back) in
+    let g = s.size in
+    omega (arith, e, f, g, paired)
+
+seat_of : (site : Site) (c at : ℕ) (ids : List ℕ) (conns : List Conn) (wants : List Want) → (s : StandsAt c ids at) → (p : Parted conns at) → wants ≡ wants_held site ids conns → Seat site c at ids conns wants
+seat_of site c at ids conns wants s p told = record {
+  stands = s;
+  placed = record {
+    front = p.front;
+    here = p.here;
+    back = p.back;
+    whole = p.whole;
+    size = p.size;
+    lower = wants_held site s.front p.front;
+    higher = wants_held site s.back p.back;
+    wanted = told ∙ ap (λ l. wants_held site l conns) s.whole ∙ ap (λ l. wants_held site (s.front ++ c ∷ s.back) l) p.whole ∙ wants_split site s.front p.front c p.here s.back p.back (p.size ∙ sym s.size);
+    all_lower = wants_of_held (λ n. n < c) site s.front p.front s.below;
+    all_higher = wants_of_held (λ n. c < n) site s.back p.back s.above;
+  };
+  even = p.size ∙ sym s.size;
+  lower = refl;
+  higher = refl;
+}
+
+pub seat_at : (site : Site) (c at : ℕ) (ids : List ℕ) (conns : List Conn) (wants : List Want) → StandsAt c ids at → length conns ≡ length ids → wants ≡ wants_held site ids conns → Seat site c at ids conns wants
+seat_at site c at ids conns wants s paired told = seat_of site c at ids conns wants s (parted_at conns at (stands_within c at ids conns s paired)) told
+
+abbrev pub splits_of : (site : Site) (c at : ℕ) (conns : List Conn) (wants : List Want) (gone : ℕ) (p : Placed site c at conns wants) → gone ≡ length (wants_at c (view_of site p.here)) → Splits c wants gone
+splits_of site c at conns wants gone p e = record {
+  lower = p.lower;
+  own = wants_at c (view_of site p.here);
+  higher = p.higher;
+  whole = p.wanted;
+  size = sym e;
+  all_lower = p.all_lower;
+  all_own = all_own c (view_of site p.here);
+  all_higher = p.all_higher;
+}
+
+set_there : {X : Type 0} (front : List X) (here new : X) (back : List X) → set (front ++ here ∷ back) (length front) new ≡ front ++ new ∷ back
+set_there [] here new back = refl
+set_there (x ∷ front) here new back = ap (λ r. x ∷ r) (set_there front here new back)
+
+get_there : {X : Type 0} (front : List X) (here : X) (back : List X) (d : X) → get_or (front ++ here ∷ back) (length front) d ≡ here
+get_there [] here back d = refl
+get_there (x ∷ front) here back d = get_there front here back d
+
+-- the connection at the place
+pub here_is : (site : Site) (c at : ℕ) (conns : List Conn) (wants : List Want) (p : Placed site c at conns wants) (here : Conn) → here ≡ get_or conns at here → here ≡ p.here
+here_is site c at conns wants p here e =
+    e ∙ ap (λ l. get_or l at here) p.whole ∙ ap (λ k. get_or (p.front ++ p.here ∷ p.back) k here) (sym p.size) ∙ get_there p.front p.here p.back here
+
+-- another stands in its place
+pub replaced_at : (site : Site) (c at : ℕ) (conns : List Conn) (wants wants' : List Want) (Does : Conn → Conn → Type 0) (p : Placed site c at conns wants) (here new : Conn) → here ≡ get_or conns at here → Does here new →
+    wants' ≡ p.lower ++ (wants_at c (view_of site new) ++ p.higher) → Replaced site c at conns wants Does p (set conns at new) wants'
+replaced_at site c at conns wants wants' Does p here new e d w = record {
+  there = new;
+  does = subst (λ x. Does x new) (here_is site c at conns wants p here e) d;
+  whole = ap (λ l. set l at new) p.whole ∙ ap (λ k. set (p.front ++ p.here ∷ p.back) k new) (sym p.size) ∙ set_there p.front p.here new p.back;
+  wanted = w;
+}
+
+-- what the connection under the number shows
+pub seen : (site : Site) (c at : ℕ) (ids : List ℕ) (conns : List Conn) (wants : List Want) (s : Seat site c at ids conns wants) → view_in site ids conns c ≡ view_of site s.placed.here
+seen site c at ids conns wants s =
+    let p = s.placed in
+    let t = s.stands in
+    ap (λ l. view_in site l conns c) t.whole ∙ ap (λ l. view_in site (t.front ++ c ∷ t.back) l c) p.whole ∙ there site t.front p.front c p.here t.back p.back s.even t.below
+
+-- what it shows when it has changed
+changed : (site : Site) (c at : ℕ) (ids : List ℕ) (conns conns' : List Conn) (wants wants' : List Want) (Does : Conn → Conn → Type 0) (s : Seat site c at ids conns wants) →
+    (r : Replaced site c at conns wants Does s.placed conns' wants') → view_in site ids conns' c ≡ view_of site r.there
+changed site c at ids conns conns' wants wants' Does s r =
+    let p = s.placed in
+    let t = s.stands in
+    ap (λ l. view_in site l conns' c) t.whole ∙ ap (λ l. view_in site (t.front ++ c ∷ t.back) l c) r.whole ∙ there site t.front p.front c r.there t.back p.back s.even t.below
+
+-- other numbers see nothing of it
+beside : (site : Site) (c at : ℕ) (ids : List ℕ) (conns conns' : List Conn) (wants wants' : List Want) (Does : Conn → Conn → Type 0) (s : Seat site c at ids conns wants) →
+    Replaced site c at conns wants Does s.placed conns' wants' → (q : ℕ) → q ≢ c → view_in site ids conns' q ≡ view_in site ids conns q
+beside site c at ids conns conns' wants wants' Does s r q ne =
+    let p = s.placed in
+    let t = s.stands in
+    ap (λ l. view_in site l conns' q) t.whole ∙ ap (λ l. view_in site (t.front ++ c ∷ t.back) l q) r.whole ∙ elsewhere site t.front p.front c r.there t.back p.back q s.even ne
+    ∙ sym (ap (λ l. view_in site l conns q) t.whole ∙ ap (λ l. view_in site (t.front ++ c ∷ t.back) l q) p.whole ∙ elsewhere site t.front p.front c p.here t.back p.back q s.even ne)
+
+-- one connection has changed
+pub one_steps : (site : Site) (c at : ℕ) (ids : List ℕ) (conns conns' : List Conn) (wants wants' : List Want) (now : Start) (e : Event) (a : StepAnswer) (s : Seat site c at ids conns wants) →
+    Replaced site c at conns wants (λ old new. StepsConn site now e a old new) s.placed conns' wants' → (course : Course) → OneSteps c (StepsOwn course now e a) (view_in site ids conns) (view_in site ids conns')
+one_steps site c at ids conns conns' wants wants' now e a s r course = record {
+  own =
+      subst (λ v. StepsOwn course now e a v (view_in site ids conns' c)) (sym (seen site c at ids conns wants s))
+      (subst (λ v. StepsOwn course now e a (view_of site s.placed.here) v) (sym (changed site c at ids conns conns' wants wants' (λ old new. StepsConn site now e a old new) s r)) (r.does.own course));
+  others = beside site c at ids conns conns' wants wants' (λ old new. StepsConn site now e a old new) s r;
+}
+
+-- the wants of all are told
+pub told_after : (site : Site) (c at : ℕ) (ids : List ℕ) (conns conns' : List Conn) (wants wants' : List Want) (Does : Conn → Conn → Type 0) (s : Seat site c at ids conns wants) →
+    Replaced site c at conns wants Does s.placed conns' wants' → wants' ≡ wants_held site ids conns'
+told_after site c at ids conns conns' wants wants' Does s r =
+    let p = s.placed in
+    let t = s.stands in
+    r.wanted ∙ ap (λ l. l ++ (wants_at c (view_of site r.there) ++ p.higher)) s.lower ∙ ap (λ l. wants_held site t.front p.front ++ (wants_at c (view_of site r.there) ++ l)) s.higher
+    ∙ sym (ap (λ l. wants_held site l conns') t.whole ∙ ap (λ l. wants_held site (t.front ++ c ∷ t.back) l) r.whole ∙ wants_split site t.front p.front c r.there t.back p.back s.even)
+
+pub left_split : (front back : List Conn) (conn : Conn) → left_in (front ++ conn ∷ back) ≡ left_in front + ((1 + left_of conn) + left_in back)
+left_split front back conn =
+    sum_by-append (λ conn. 1 + left_of conn) front (conn ∷ back) ∙ ap (λ n. left_in front + n) (sum_by-cons (λ conn. 1 + left_of conn) conn back)
+
+-- the work that is left changes as that of the connection does
+left_more : (e : Event) (a : StepAnswer) (k m n x y : ℕ) → is_own e ≡ true → m ≡ k + x → n ≡ k + y → LeftBy price e a x y → LeftBy price_each e a m n
+left_more (ev.Opened conn local peer) a k m n x y o f g h = cc
+left_more (ev.Arrived conn bytes) (Done taken) k m n x y o f g h =
+    let p : price * taken ≤ price_each * taken = mul-le-mul_right taken (omega arith) in
+    omega (arith, p, f, g, h)
+left_more (ev.Arrived conn bytes) Skipped k m n x y o f g h = omega (arith, f, g, h)
+left_more (ev.Arrived conn bytes) OutOfMemory k m n x y o f g h = omega (arith, f, g, h)
+left_more (ev.Ended conn) (Done taken) k m n x y o f g h = omega (arith, f, g, h)
+left_more (ev.Ended conn) Skipped k m n x y o f g h = omega (arith, f, g, h)
+left_more (ev.Ended conn) OutOfMemory k m n x y o f g h = omega (arith, f, g, h)
+left_more (ev.Wrote conn count) (Done taken) k m n x y o f g h = omega (arith, f, g, h)
+left_more (ev.Wrote conn count) Skipped k m n x y o f g h = omega (arith, f, g, h)
+left_more (ev.Wrote conn count) OutOfMemory k m n x y o f g h = omega (arith, f, g, h)
+left_more (ev.LinkFailed conn) (Done taken) k m n x y o f g h = omega (arith, f, g, h)
+left_more (ev.LinkFailed conn) Skipped k m n x y o f g h = omega (arith, f, g, h)
+left_more (ev.LinkFailed conn) OutOfMemory k m n x y o f g h = omega (arith, f, g, h)
+left_more (ev.FileDone conn node answer) (Done taken) k m n x y o f g h = omega (arith, f, g, h)
+left_more (ev.FileDone conn node answer) Skipped k m n x y o f g h = omega (arith, f, g, h)
+left_more (ev.FileDone conn node answer) OutOfMemory k m n x y o f g h = omega (arith, f, g, h)
+left_more (ev.JobFailed conn node) (Done taken) k m n x y o f g h = omega (arith, f, g, h)
+left_more (ev.JobFailed conn node) Skipped k m n x y o f g h = omega (arith, f, g, h)
+left_more (ev.JobFailed conn node) OutOfMemory k m n x y o f g h = omega (arith, f, g, h)
+left_more (ev.Run conn node) (Done taken) k m n x y o f g h = omega (arith, f, g, h)
+left_more (ev.Run conn node) Skipped k m n x y o f g h = omega (arith, f, g, h)
+left_more (ev.Run conn node) OutOfMemory k m n x y o f g h = omega (arith, f, g, h)
+left_more (ev.Tick moment) a k m n x y o f g h = cc
+left_more (ev.Tree to) a k m n x y o f g h = cc
+left_more (ev.Gone conn) a k m n x y o f g h = cc
+
+pub left_after : (site : Site) (c at : ℕ) (ids : List ℕ) (conns conns' : List Conn) (wants wants' : List Want) (now : Start) (e : Event) (a : StepAnswer) (s : Seat site c at ids conns wants) → is_own e ≡ true →
+    Replaced site c at conns wants (λ old new. StepsConn site now e a old new) s.placed conns' wants' → LeftBy price_each e a (left_in conns) (left_in conns')
+left_after site c at ids conns conns' wants wants' now e a s o r =
+    let p = s.placed in
+    let was = ap left_in p.whole ∙ left_split p.front p.back p.here in
+    let is = ap left_in r.whole ∙ left_split p.front p.back r.there in
+    left_more e a (left_in p.front + (1 + left_in p.back)) (left_in conns) (left_in conns') (left_of p.here) (left_of r.there) o (omega (arith, was)) (omega (arith, is)) r.does.left
+
+-- an event of a connection that isn't held is skipped
+pub skips_nobody : (course : Course) (now : Start) (e : Event) → is_own e ≡ true → StepsOwn course now e Skipped nobody nobody
+skips_nobody course now (ev.Opened conn local peer) o = cc
+skips_nobody course now (ev.Arrived conn bytes) o = record { same = refl; cause = λ room h. cc }
+skips_nobody course now (ev.Ended conn) o = record { same = refl; cause = refl }
+skips_nobody course now (ev.Wrote conn count) o = record { same = refl; cause = λ h. h }
+skips_nobody course now (ev.LinkFailed conn) o = record { same = refl; cause = refl }
+skips_nobody course now (ev.FileDone conn node answer) o = record { same = refl; cause = λ ask h. cc }
+skips_nobody course now (ev.JobFailed conn node) o = record { same = refl; cause = refl }
+skips_nobody course now (ev.Run conn node) o = record { same = refl; cause = λ h. absurd (omega (arith, h.1)) }
+skips_nobody course now (ev.Tick moment) o = cc
+skips_nobody course now (ev.Tree to) o = cc
+skips_nobody course now (ev.Gone conn) o = cc
+
+pub unseen : (site : Site) (c at : ℕ) (ids : List ℕ) (conns : List Conn) → BelongsAt c ids at → view_in site ids conns c ≡ nobody
+unseen site c at ids conns b = nowhere site ids conns c (subst (λ l. AllByRecursion (λ id. id ≢ c) l) (sym b.whole) (none_of_two b.front b.back c b.below b.above))
+
+pub none_steps : (site : Site) (c at : ℕ) (ids : List ℕ) (conns : List Conn) (now : Start) (e : Event) (course : Course) → is_own e ≡ true → BelongsAt c ids at →
+    OneSteps c (StepsOwn course now e Skipped) (view_in site ids conns) (view_in site ids conns)
+none_steps site c at ids conns now e course o b = record {
+  own = subst (λ v. StepsOwn course now e Skipped v v) (sym (unseen site c at ids conns b)) (skips_nobody course now e o);
+  others = λ q ne. refl;
+}
+
+pub left_same : (e : Event) (n : ℕ) → LeftBy price_each e Skipped n n
+left_same (ev.Opened conn local peer) n = refl
+left_same (ev.Arrived conn bytes) n = refl
+left_same (ev.Ended conn) n = refl
+left_same (ev.Wrote conn count) n = refl
+left_same (ev.LinkFailed conn) n = refl
+left_same (ev.FileDone conn node answer) n = refl
+left_same (ev.JobFailed conn node) n = refl
+left_same (ev.Run conn node) n = refl
+left_same (ev.Tick moment) n = refl
+left_same (ev.Tree to) n = refl
+left_same (ev.Gone conn) n = refl
+
+-- the requests that were started on it
+journal_there : (front : List ℕ) (before : List Conn) (c : ℕ) (conn : Conn) (back : List ℕ) (after : List Conn) → length before ≡ length front → Below c front →
+    journal_in (front ++ c ∷ back) (before ++ conn ∷ after) c ≡ conn.journal.items
+journal_there [] [] c conn back after e b = ap (λ t. cond t conn.journal.items (journal_in back after c)) (let h : eqb c c ≡ true = grind (arith, nat_tests) in h)
+journal_there [] (x ∷ before) c conn back after e b = absurd (omega (arith, e))
+journal_there (f ∷ front) [] c conn back after e b = absurd (omega (arith, e))
+journal_there (f ∷ front) (x ∷ before) c conn back after e b =
+    let n = b.0 in
+    let h : eqb f c ≡ false = grind (arith, nat_tests) in
+    ap (λ t. cond t x.journal.items (journal_in (front ++ c ∷ back) (before ++ conn ∷ after) c)) h ∙ journal_there front before c conn back after (omega (arith, e)) b.1
+
+journal_nowhere : (ids : List ℕ) (conns : List Conn) (c : ℕ) → AllByRecursion (λ id. id ≢ c) ids → journal_in ids conns c ≡ []
+journal_nowhere [] conns c a = refl
+journal_nowhere (id ∷ ids) [] c a = refl
+journal_nowhere (id ∷ ids) (conn ∷ conns) c a =
+    let n = a.0 in
+    let h : eqb id c ≡ false = grind (arith, nat_tests) in
+    ap (λ t. cond t conn.journal.items (journal_in ids conns c)) h ∙ journal_nowhere ids conns c a.1
+
+pub journal_seen : (site : Site) (c at : ℕ) (ids : List ℕ) (conns : List Conn) (wants : List Want) (s : Seat site c at ids conns wants) → journal_in ids conns c ≡ s.placed.here.journal.items
+journal_seen site c at ids conns wants s =
+    let p = s.placed in
+    let t = s.stands in
+    ap (λ l. journal_in l conns c) t.whole ∙ ap (λ l. journal_in (t.front ++ c ∷ t.back) l c) p.whole ∙ journal_there t.front p.front c p.here t.back p.back s.even t.below
+
+pub journal_unseen : (c at : ℕ) (ids : List ℕ) (conns : List Conn) → BelongsAt c ids at → journal_in ids conns c ≡ []
+journal_unseen c at ids conns b = journal_nowhere ids conns c (subst (λ l. AllByRecursion (λ id. id ≢ c) l) (sym b.whole) (none_of_two b.front b.back c b.below b.above))
+
+-- a place that was found in what the numbers are lent as
+pub stands_in : (c at : ℕ) (lent ids : List ℕ) → lent ≡ ids → StandsAt c lent at → StandsAt c ids at
+stands_in c at lent ids e s = subst (λ l. StandsAt c l at) e s
+
+pub belongs_in : (c at : ℕ) (lent ids : List ℕ) → lent ≡ ids → BelongsAt c lent at → BelongsAt c ids at
+belongs_in c at lent ids e b = subst (λ l. BelongsAt c l at) e b
+
+abbrev pub splits_in : (c : ℕ) (lent wants : List Want) (n : ℕ) → lent ≡ wants → Splits c wants n → Splits c lent n
+splits_in c lent wants n e s = record {
+  lower = s.lower;
+  own = s.own;
+  higher = s.higher;
+  whole = e ∙ s.whole;
+  size = s.size;
+  all_lower = s.all_lower;
+  all_own = s.all_own;
+  all_higher = s.all_higher;
+}

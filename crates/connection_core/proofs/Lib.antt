@@ -1,0 +1,8 @@
+pub mod Tables
+pub mod Spliced
+pub mod Places
+pub mod Rows
+pub mod Held
+pub mod Ends
+pub mod Steps
+pub mod Shown

@@ -1,0 +1,39 @@
+-- What the core shows of each connection is sound.
+use Rattle.std.proofs.Common.{◌≡◌, ℕ, true, false, cond, eqb, List, [], ◌∷◌, refl}
+use Rattle.std.specs.Prelude.{map}
+use Rattle.ngx_outside.specs.Views.{start_of, IsSound, nobody}
+use Rattle.site_model.specs.declared.site.Site.{Site}
+use Rattle.connection.specs.declared.conn.Conn.{Conn}
+use Rattle.connection.specs.Conn.{view_of, AllSound}
+use Rattle.connection_core.specs.Table.{view_in, journal_in}
+
+nobody_sound : IsSound nobody
+nobody_sound = record {
+  unsent = λ h. refl;
+  unready = λ h. refl;
+  unasked = λ h. refl;
+  unread = λ h. refl;
+  stopped = λ cause h e. cc;
+  absent = λ h. refl;
+  roomy = λ room h. cc;
+  idle = λ h trees later. refl;
+  shut = λ h s trees later. refl;
+}
+
+pub sound_in : AllSound → (site : Site) (ids : List ℕ) (conns : List Conn) (c : ℕ) → IsSound (view_in site ids conns c)
+sound_in all site [] conns c = nobody_sound
+sound_in all site (id ∷ ids) [] c = nobody_sound
+sound_in all site (id ∷ ids) (conn ∷ conns) c =
+    elim (eqb id c) as (λ t. IsSound (cond t (view_of site conn) (view_in site ids conns c))) [ true ↦ all site conn | false ↦ sound_in all site ids conns c ]
+
+pub started_in : (site : Site) (ids : List ℕ) (conns : List Conn) (c : ℕ) → map start_of (journal_in ids conns c) ≡ (view_in site ids conns c).starts
+started_in site [] conns c = refl
+started_in site (id ∷ ids) [] c = refl
+started_in site (id ∷ ids) (conn ∷ conns) c =
+    elim (eqb id c) as (λ t. map start_of (cond t conn.journal.items (journal_in ids conns c)) ≡ (cond t (view_of site conn) (view_in site ids conns c)).starts) [ true ↦ refl | false ↦ started_in site ids conns c ]
+
+pub raceless_in : (site : Site) (ids : List ℕ) (conns : List Conn) (c : ℕ) → (view_in site ids conns c).raceless ≡ true
+raceless_in site [] conns c = refl
+raceless_in site (id ∷ ids) [] c = refl
+raceless_in site (id ∷ ids) (conn ∷ conns) c =
+    elim (eqb id c) as (λ t. (cond t (view_of site conn) (view_in site ids conns c)).raceless ≡ true) [ true ↦ refl | false ↦ raceless_in site ids conns c ]

@@ -1,0 +1,193 @@
+-- Where the wants of one connection stand among all, and how they are put in place of others.
+use Rattle.std.proofs.Common.{◌≡◌, ◌≢◌, ℕ, ◌+◌, ◌-◌, ◌<◌, ◌≤◌, Bool, true, false, cond, eqb, nat_lt, List, [], ◌∷◌, ◌++◌, length, take, drop, get_or, ◌⊎◌, inl, inr, refl, sym, ap, ◌∙◌, subst, arith, append_assoc, length-append, suc, zero}
+use Rattle.std.specs.List.{AllByRecursion}
+use Rattle.std.specs.List.Sorted.{IsPartitionedBy, IsPartitionPoint}
+use Rattle.std.proofs.Math.Seq.{get_or-append_right}
+use Rattle.std.proofs.lemmas.Bool.{cases_lt}
+use Rattle.std.proofs.lemmas.Bool.Decides.{nat_tests}
+use Rattle.std.proofs.lemmas.List.{get_or_append_left}
+use Rattle.std.specs.Prelude.{Option, None, Some, is_some, map, not}
+use Rattle.ngx_outside.specs.declared.event.Want.{Want}
+use Rattle.ngx_outside.specs.declared.event.Want.TheVariants as want
+use Rattle.ngx_outside.specs.Wants.{wants_at, read_want}
+use Rattle.ngx_outside.specs.Views.{no_bytes}
+use Rattle.site_model.specs.declared.site.Site.{Site}
+use Rattle.connection.specs.declared.conn.Conn.{Conn}
+use Rattle.connection.specs.Conn.{view_of, starts_at}
+use Rattle.connection_core.specs.Table.{conn_of, tally, Splits}
+
+at_all : {X : Type 0} (P : X → Type 0) (xs : List X) (k : ℕ) (d : X) → AllByRecursion P xs → k < length xs → P (get_or xs k d)
+at_all P [] k d a h = absurd (omega (arith, h))
+at_all P (x ∷ xs) zero d a h = a.0
+at_all P (x ∷ xs) (suc k) d a h = at_all P xs k d a.1 (omega (arith, h))
+
+both : {X : Type 0} (P : X → Type 0) (xs ys : List X) → AllByRecursion P xs → AllByRecursion P ys → AllByRecursion P (xs ++ ys)
+both P [] ys a b = b
+both P (x ∷ xs) ys a b = (a.0, both P xs ys a.1 b)
+
+weaker : {X : Type 0} (P Q : X → Type 0) (xs : List X) → ((x : X) → P x → Q x) → AllByRecursion P xs → AllByRecursion Q xs
+weaker P Q [] f a = a
+weaker P Q (x ∷ xs) f a = (f x a.0, weaker P Q xs f a.1)
+
+never : (b : Bool) → b ≡ true → b ≡ false → ⊥
+never true e f = cc
+never false e f = cc
+
+-- the first elements pass, and all others fail
+pub parted : {X : Type 0} (p : X → Bool) (xs ys : List X) → AllByRecursion (λ x. p x ≡ true) xs → AllByRecursion (λ x. p x ≡ false) ys → IsPartitionedBy p (xs ++ ys)
+parted p xs ys a b i j d le lt h = go (cases_lt j (length xs))
+  where
+    go : (j < length xs) ⊎ (length xs ≤ j) → p (get_or (xs ++ ys) i d) ≡ true
+    go (inl k) = ap p (get_or_append_left xs ys d i (omega (arith, le, k))) ∙ at_all (λ x. p x ≡ true) xs i d a (omega (arith, le, k))
+    go (inr k) = absurd (never (p (get_or (xs ++ ys) j d)) h (ap p (get_or-append_right xs ys j d k) ∙ at_all (λ x. p x ≡ false) ys (j - length xs) d b (let e = length-append xs ys in omega (arith, k, lt, e))))
+
+-- where they part
+pub point : {X : Type 0} (p : X → Bool) (xs ys : List X) (d : X) (i : ℕ) → AllByRecursion (λ x. p x ≡ true) xs → AllByRecursion (λ x. p x ≡ false) ys → i ≤ length (xs ++ ys) →
+    IsPartitionPoint (λ x. p x ≡ true) (λ x. p x ≡ false) (xs ++ ys) i → i ≡ length xs
+point p xs ys d i a b le at = go (cases_lt i (length xs)) (cases_lt (length xs) i)
+  where
+    whole : length (xs ++ ys) ≡ length xs + length ys
+    whole = length-append xs ys
+
+    low : i < length xs → ⊥
+    low h = never (p (get_or (xs ++ ys) i d)) (ap p (get_or_append_left xs ys d i h) ∙ at_all (λ x. p x ≡ true) xs i d a h) (at.1 i d (omega arith) (omega (arith, whole, h)))
+
+    high : length xs < i → ⊥
+    high h =
+        never (p (get_or (xs ++ ys) (length xs) d)) (at.0 (length xs) d (omega arith) h)
+        (ap p (get_or-append_right xs ys (length xs) d (omega arith)) ∙ at_all (λ x. p x ≡ false) ys (length xs - length xs) d b (omega (arith, whole, h, le)))
+
+    go : (i < length xs) ⊎ (length xs ≤ i) → (length xs < i) ⊎ (i ≤ length xs) → i ≡ length xs
+    go (inl h) k = absurd (low h)
+    go (inr h) (inl k) = absurd (high k)
+    go (inr h) (inr k) = omega (arith, h, k)
+
+is_lower : (c : ℕ) (w : Want) → conn_of w < c → nat_lt (conn_of w) c ≡ true
+is_lower c w h = grind (arith, nat_tests)
+
+is_own : (c : ℕ) (w : Want) → conn_of w ≡ c → nat_lt (conn_of w) c ≡ false
+is_own c w h = grind (arith, nat_tests)
+
+is_higher : (c : ℕ) (w : Want) → c < conn_of w → nat_lt (conn_of w) c ≡ false
+is_higher c w h = grind (arith, nat_tests)
+
+pub split_parted : (c : ℕ) (wants : List Want) (count : ℕ) (s : Splits c wants count) → IsPartitionedBy (λ w. nat_lt (conn_of w) c) wants
+split_parted c wants count s =
+    subst (IsPartitionedBy (λ w. nat_lt (conn_of w) c)) (sym s.whole)
+    (parted (λ w. nat_lt (conn_of w) c) s.lower (s.own ++ s.higher) (weaker (λ w. conn_of w < c) (λ w. nat_lt (conn_of w) c ≡ true) s.lower (is_lower c) s.all_lower)
+    (both (λ w. nat_lt (conn_of w) c ≡ false) s.own s.higher (weaker (λ w. conn_of w ≡ c) (λ w. nat_lt (conn_of w) c ≡ false) s.own (is_own c) s.all_own) (weaker (λ w. c < conn_of w) (λ w. nat_lt (conn_of w) c ≡ false) s.higher (is_higher c) s.all_higher)))
+
+pub split_point : (c : ℕ) (wants : List Want) (count : ℕ) (d : Want) (s : Splits c wants count) (i : ℕ) → i ≤ length wants →
+    IsPartitionPoint (λ w. nat_lt (conn_of w) c ≡ true) (λ w. nat_lt (conn_of w) c ≡ false) wants i → i ≡ length s.lower
+split_point c wants count d s i le at =
+    point (λ w. nat_lt (conn_of w) c) s.lower (s.own ++ s.higher) d i (weaker (λ w. conn_of w < c) (λ w. nat_lt (conn_of w) c ≡ true) s.lower (is_lower c) s.all_lower)
+    (both (λ w. nat_lt (conn_of w) c ≡ false) s.own s.higher (weaker (λ w. conn_of w ≡ c) (λ w. nat_lt (conn_of w) c ≡ false) s.own (is_own c) s.all_own) (weaker (λ w. c < conn_of w) (λ w. nat_lt (conn_of w) c ≡ false) s.higher (is_higher c) s.all_higher))
+    (subst (λ xs. i ≤ length xs) s.whole le)
+    (subst (λ xs. IsPartitionPoint (λ w. nat_lt (conn_of w) c ≡ true) (λ w. nat_lt (conn_of w) c ≡ false) xs i) s.whole at)
+
+front_is : {X : Type 0} (n : ℕ) (zs xs ys : List X) → zs ≡ xs ++ ys → length xs ≡ n → take n zs ≡ xs
+front_is n zs xs ys e s = ap (take n) e ∙ ap (λ k. take k (xs ++ ys)) (sym s) ∙ take_there xs ys
+  where
+    take_there : {X : Type 0} (xs ys : List X) → take (length xs) (xs ++ ys) ≡ xs
+    take_there [] ys = refl
+    take_there (x ∷ xs) ys = ap (λ r. x ∷ r) (take_there xs ys)
+
+back_is : {X : Type 0} (n : ℕ) (zs xs ys : List X) → zs ≡ xs ++ ys → length xs ≡ n → drop n zs ≡ ys
+back_is n zs xs ys e s = ap (drop n) e ∙ ap (λ k. drop k (xs ++ ys)) (sym s) ∙ drop_there xs ys
+  where
+    drop_there : {X : Type 0} (xs ys : List X) → drop (length xs) (xs ++ ys) ≡ ys
+    drop_there [] ys = refl
+    drop_there (x ∷ xs) ys = drop_there xs ys
+
+-- the last stand in place of some others
+pub settled : (xs mid new lower own higher last : List Want) (start gone added : ℕ) → xs ≡ lower ++ (own ++ (higher ++ last)) → length lower ≡ start → length own ≡ gone → length last ≡ added →
+    mid ≡ take start xs ++ (drop (length (drop start xs) - added) (drop start xs) ++ take (length (drop start xs) - added) (drop start xs)) →
+    new ≡ take (length mid - gone) (take (start + added) mid ++ (drop gone (drop (start + added) mid) ++ take gone (drop (start + added) mid))) →
+    new ≡ lower ++ (last ++ higher)
+settled xs mid new lower own higher last start gone added whole a b c m n =
+    n ∙ ap (take (length mid - gone)) turned ∙ front_is (length mid - gone) (lower ++ (last ++ (higher ++ own))) (lower ++ (last ++ higher)) own regrouped sizes
+  where
+    tail : drop start xs ≡ (own ++ higher) ++ last
+    tail = back_is start xs lower (own ++ (higher ++ last)) whole a ∙ sym (append_assoc own higher last)
+
+    count : length (own ++ higher) ≡ length (drop start xs) - added
+    count = let e = ap length tail in let f = length-append (own ++ higher) last in omega (arith, e, f, c)
+
+    first : mid ≡ lower ++ (last ++ (own ++ higher))
+    first =
+        m ∙ ap (λ l. l ++ (drop (length (drop start xs) - added) (drop start xs) ++ take (length (drop start xs) - added) (drop start xs))) (front_is start xs lower (own ++ (higher ++ last)) whole a)
+        ∙ ap (λ l. lower ++ (l ++ take (length (drop start xs) - added) (drop start xs))) (back_is (length (drop start xs) - added) (drop start xs) (own ++ higher) last tail count)
+        ∙ ap (λ l. lower ++ (last ++ l)) (front_is (length (drop start xs) - added) (drop start xs) (own ++ higher) last tail count)
+
+    grouped : mid ≡ (lower ++ last) ++ (own ++ higher)
+    grouped = first ∙ sym (append_assoc lower last (own ++ higher))
+
+    size : length (lower ++ last) ≡ start + added
+    size = let e = length-append lower last in omega (arith, e, a, c)
+
+    rest : drop (start + added) mid ≡ own ++ higher
+    rest = back_is (start + added) mid (lower ++ last) (own ++ higher) grouped size
+
+    turned : take (start + added) mid ++ (drop gone (drop (start + added) mid) ++ take gone (drop (start + added) mid)) ≡ lower ++ (last ++ (higher ++ own))
+    turned =
+        ap (λ l. l ++ (drop gone (drop (start + added) mid) ++ take gone (drop (start + added) mid))) (front_is (start + added) mid (lower ++ last) (own ++ higher) grouped size)
+        ∙ ap (λ l. (lower ++ last) ++ (l ++ take gone (drop (start + added) mid))) (back_is gone (drop (start + added) mid) own higher rest b)
+        ∙ ap (λ l. (lower ++ last) ++ (higher ++ l)) (front_is gone (drop (start + added) mid) own higher rest b)
+        ∙ append_assoc lower last (higher ++ own)
+
+    regrouped : lower ++ (last ++ (higher ++ own)) ≡ (lower ++ (last ++ higher)) ++ own
+    regrouped = ap (λ l. lower ++ l) (sym (append_assoc last higher own)) ∙ sym (append_assoc lower (last ++ higher) own)
+
+    sizes : length (lower ++ (last ++ higher)) ≡ length mid - gone
+    sizes =
+        let e = ap length first in
+        let f = length-append lower (last ++ (own ++ higher)) in
+        let g = length-append last (own ++ higher) in
+        let h = length-append own higher in
+        let i = length-append lower (last ++ higher) in
+        let j = length-append last higher in
+        omega (arith, e, f, g, h, i, j, b)
+
+-- how many wants there are
+parts_count : (number : ℕ) (o : Option ℕ) (t e s : Bool) →
+    tally (is_some o) + tally t + tally (not e) + tally s
+    ≡ length (read_want number o ++ map (λ node. want.Run number node) (cond t (0 ∷ []) []) ++ [] ++ (cond e [] (want.Write number ∷ [])) ++ cond s (want.Close number ∷ []) [])
+parts_count number None true true true = refl
+parts_count number None true true false = refl
+parts_count number None true false true = refl
+parts_count number None true false false = refl
+parts_count number None false true true = refl
+parts_count number None false true false = refl
+parts_count number None false false true = refl
+parts_count number None false false false = refl
+parts_count number (Some room) true true true = refl
+parts_count number (Some room) true true false = refl
+parts_count number (Some room) true false true = refl
+parts_count number (Some room) true false false = refl
+parts_count number (Some room) false true true = refl
+parts_count number (Some room) false true false = refl
+parts_count number (Some room) false false true = refl
+parts_count number (Some room) false false false = refl
+
+pub wants_count : (number : ℕ) (site : Site) (conn : Conn) →
+    tally (is_some (view_of site conn).room) + tally (starts_at (is_some conn.cause) conn.closing conn.pending conn.next) + tally (not (no_bytes conn.pending)) + tally (view_of site conn).shut ≡ length (wants_at number (view_of site conn))
+unfolding wants_at
+wants_count number site conn = parts_count number (view_of site conn).room (starts_at (is_some conn.cause) conn.closing conn.pending conn.next) (no_bytes conn.pending) (view_of site conn).shut
+
+-- all that stand before the last ones
+pub size_within : (c : ℕ) (wants : List Want) (count start len : ℕ) (s : Splits c wants count) → start ≡ length s.lower → len ≡ length wants → start + count ≤ len
+size_within c wants count start len s e f =
+    let g = ap length s.whole in
+    let h = length-append s.lower (s.own ++ s.higher) in
+    let i = length-append s.own s.higher in
+    let j = s.size in
+    omega (arith, e, f, g, h, i, j)
+
+-- with others behind them
+pub whole_behind : (c : ℕ) (wants mid more : List Want) (count : ℕ) (s : Splits c wants count) → mid ≡ wants ++ more → mid ≡ s.lower ++ (s.own ++ (s.higher ++ more))
+whole_behind c wants mid more count s e =
+    e ∙ ap (λ w. w ++ more) s.whole ∙ append_assoc s.lower (s.own ++ s.higher) more ∙ ap (λ w. s.lower ++ w) (append_assoc s.own s.higher more)
+
+pub no_bytes_is : (xs : List ℕ) → eqb (length xs) 0 ≡ no_bytes xs
+no_bytes_is [] = refl
+no_bytes_is (x ∷ xs) = let h : length (x ∷ xs) ≢ 0 = (λ e. omega arith) in grind (arith, nat_tests)

@@ -1,0 +1,53 @@
+use Rattle.std.proofs.Common.{◌≡◌, ◌≤◌, ◌*◌, length, subst, sym, ◌∙◌, arith}
+use Rattle.ngx_outside.specs.Views.{Start, nobody}
+use Rattle.connection.specs.Conn.{StepsConn}
+use Rattle.connection_core.proofs.Held.{seat_at, one_steps, told_after, left_after, none_steps, stands_in, belongs_in}
+use Rattle.connection_core.proofs.Ends.{few_wants}
+use Rattle.connection_core.proofs.table.Table.own.Goals as goal
+
+pub happen_at-requires-clause-placed : goal.happen_at-requires-clause-placed
+happen_at-requires-clause-placed c =
+    let t = c.args.self.now in
+    let even : length t.conns.items ≡ length t.ids.items = omega (arith, t.paired, t.ids.ok.0, t.conns.ok.0) in
+    (seat_at t.site c.args.conn c.in-Ok.at t.ids.items t.conns.items t.wants.items (stands_in c.args.conn c.in-Ok.at c.as_slice.result.now t.ids.items c.as_slice.ensures.value c.in-Ok.ensures) even t.told).placed
+
+pub happen_at-requires-clause-room : goal.happen_at-requires-clause-room
+happen_at-requires-clause-room c =
+    let t = c.args.self.now in
+    let few : length t.wants.items ≤ 4 * length t.ids.items = subst (λ l. length l ≤ 4 * length t.ids.items) (sym t.told) (few_wants t.site t.ids.items t.conns.items) in
+    omega (arith, few, t.roomy, t.ids.ok.0, t.wants.ok.0)
+
+pub invariant_of-self : goal.invariant_of-self
+invariant_of-self c =
+    let t = c.args.self.now in
+    let even : length t.conns.items ≡ length t.ids.items = omega (arith, t.paired, t.ids.ok.0, t.conns.ok.0) in
+    let s = seat_at t.site c.args.conn c.in-Ok.at t.ids.items t.conns.items t.wants.items (stands_in c.args.conn c.in-Ok.at c.as_slice.result.now t.ids.items c.as_slice.ensures.value c.in-Ok.ensures) even t.told in
+    let now : Start = record { moment = c.args.moment; tree = c.args.tree } in
+    record {
+      rising = t.rising;
+      paired = c.happen_at.ensures.len ∙ t.paired;
+      told = told_after t.site c.args.conn c.in-Ok.at t.ids.items t.conns.items c.happen_at.new.conns.items t.wants.items c.happen_at.new.wants.items (λ old new. StepsConn t.site now c.args.event c.happen_at.result old new) s (c.happen_at.ensures.replaced c.requires.own s.placed);
+      roomy = omega (arith, t.roomy, c.happen_at.ensures.capacity);
+    }
+
+pub returns-in-Ok-clause-steps : goal.returns-in-Ok-clause-steps
+returns-in-Ok-clause-steps c =
+    let t = c.args.self.now in
+    let even : length t.conns.items ≡ length t.ids.items = omega (arith, t.paired, t.ids.ok.0, t.conns.ok.0) in
+    let s = seat_at t.site c.args.conn c.in-Ok.at t.ids.items t.conns.items t.wants.items (stands_in c.args.conn c.in-Ok.at c.as_slice.result.now t.ids.items c.as_slice.ensures.value c.in-Ok.ensures) even t.told in
+    let now : Start = record { moment = c.args.moment; tree = c.args.tree } in
+    one_steps t.site c.args.conn c.in-Ok.at t.ids.items t.conns.items c.happen_at.new.conns.items t.wants.items c.happen_at.new.wants.items now c.args.event c.happen_at.result s (c.happen_at.ensures.replaced c.requires.own s.placed) nobody.course
+
+pub returns-in-Ok-clause-left : goal.returns-in-Ok-clause-left
+returns-in-Ok-clause-left c =
+    let t = c.args.self.now in
+    let even : length t.conns.items ≡ length t.ids.items = omega (arith, t.paired, t.ids.ok.0, t.conns.ok.0) in
+    let s = seat_at t.site c.args.conn c.in-Ok.at t.ids.items t.conns.items t.wants.items (stands_in c.args.conn c.in-Ok.at c.as_slice.result.now t.ids.items c.as_slice.ensures.value c.in-Ok.ensures) even t.told in
+    let now : Start = record { moment = c.args.moment; tree = c.args.tree } in
+    left_after t.site c.args.conn c.in-Ok.at t.ids.items t.conns.items c.happen_at.new.conns.items t.wants.items c.happen_at.new.wants.items now c.args.event c.happen_at.result s c.requires.own (c.happen_at.ensures.replaced c.requires.own s.placed)
+
+pub returns-in-Err-clause-steps : goal.returns-in-Err-clause-steps
+returns-in-Err-clause-steps c =
+    let t = c.args.self.now in
+    let now : Start = record { moment = c.args.moment; tree = c.args.tree } in
+    none_steps t.site c.args.conn c.in-Err.field-0 t.ids.items t.conns.items now c.args.event nobody.course c.requires.own (belongs_in c.args.conn c.in-Err.field-0 c.as_slice.result.now t.ids.items c.as_slice.ensures.value c.in-Err.ensures)

@@ -1,0 +1,203 @@
+// The core.
+ghost use Rattle.std.specs.Prelude.{◌≡◌};
+ghost use Rattle.connection_core.specs.Core.{Counted};
+
+use crate::table::Table;
+use byte_text::OutOfMemory;
+use connection::connections_are_sound;
+use file_tree::Ask;
+use http_types::Addr;
+use ngx_outside::{Entry, Event, EventCore, StepAnswer, StopCause, Want};
+use site_model::Site;
+use std::alloc::Global;
+
+/// No moment is later than the last second of the year 9999.
+const LAST_MOMENT: u64 = 253402300799;
+
+// Counts an event that was refused.
+fn count(refused: &mut u64, answer: StepAnswer)
+    ensures { Counted answer refused.old refused.new }
+{
+    match answer {
+        StepAnswer::Done { taken: _ } => {}
+        StepAnswer::Skipped => {}
+        StepAnswer::OutOfMemory => *refused = refused.saturating_add(1),
+    }
+}
+
+/// The core of a site: all connections that are held, at most 512, each under its number. The requests of all start by one
+/// clock and by one number of the tree.
+#[derive(Drop)]
+pub struct Hub {
+    pub(crate) alloc: Global,
+    pub(crate) table: Table,
+    pub(crate) moment: u64,
+    pub(crate) tree: u64,
+    pub(crate) refused: u64,
+}
+
+impl Hub {
+    ghost use Rattle.std.specs.Prelude.{◌≡◌, ◌↔◌, ℕ, Bool, true, IfOk, Contains};
+    ghost use Rattle.std.specs.List.Sorted.{IsStrictlyIncreasing};
+    ghost use Rattle.http_types.specs.declared.words.Addr.{Addr as End};
+    ghost use Rattle.ngx_outside.specs.Views.{Steps, OpensIf, LeftBy, CountsRefused, Course, now_after, nobody, is_idle as idle_in};
+    ghost use Rattle.connection.specs.Conn.{fresh_course};
+    ghost use Rattle.connection_core.specs.Table.{is_own, event_conn, price_each};
+    ghost use Rattle.connection_core.specs.Core.{view_at, journal_at, conns_held, fresh_at, now_at, left_at, refused_at};
+
+    /// A core that holds no connection, at moment 0 and tree 0.
+    pub fn new(alloc: Global, site: Site) -> Result<Self, OutOfMemory>
+        ensures empty { IfOk result (λ hub. (c : ℕ) → view_at hub c ≡ nobody) }
+        ensures fresh { IfOk result (λ hub. (local peer : End) → fresh_at hub local peer ≡ fresh_course site) }
+        ensures now { IfOk result (λ hub. now_at hub ≡ record { moment = 0; tree = 0 }) }
+    {
+        let table = Table::new(alloc, site)?;
+        Ok(Hub {
+            alloc,
+            table,
+            moment: 0,
+            tree: 0,
+            refused: 0,
+        })
+    }
+
+    /// Whether nothing is to be done on a connection until more arrives; false where it isn't held.
+    pub fn is_idle(&self, conn: u32) -> bool
+        ensures { result ≡ idle_in (view_at self.now conn) }
+    {
+        match self.table.get(conn) {
+            Some(held) => held.is_idle(),
+            None => false,
+        }
+    }
+
+    /// Whether the link of a connection is to be closed.
+    pub fn is_shut(&self, conn: u32) -> bool
+        ensures { result ≡ (view_at self.now conn).shut }
+    {
+        match self.table.get(conn) {
+            Some(held) => held.is_shut(),
+            None => false,
+        }
+    }
+
+    /// Why a connection was stopped, if it was.
+    pub fn cause(&self, conn: u32) -> Option<StopCause>
+        ensures { result ≡ (view_at self.now conn).cause }
+    {
+        match self.table.get(conn) {
+            Some(held) => held.cause(),
+            None => None,
+        }
+    }
+
+    /// The requests that were started on a connection, each with what was logged of it; none where it isn't held.
+    pub fn journal(&self, conn: u32) -> &[Entry]
+        ensures { result.now ≡ journal_at self.now conn }
+    {
+        match self.table.get(conn) {
+            Some(held) => held.journal(),
+            None => &[],
+        }
+    }
+
+    /// The numbers of the connections that are held, in their order.
+    pub fn ids(&self) -> &[u32]
+        ensures ids { result.now ≡ conns_held self.now }
+        ensures order { IsStrictlyIncreasing (conns_held self.now) }
+        ensures held { (c : ℕ) → Contains (conns_held self.now) c ↔ ((view_at self.now c).held ≡ true) }
+    {
+        self.table.ids.as_slice()
+    }
+
+    // An event of one connection.
+    fn own(&mut self, conn: u32, event: Event) -> StepAnswer
+        requires own { is_own event ≡ true }
+        requires conn { event_conn event ≡ conn }
+        ensures steps { (fresh : End → End → Course) → Steps fresh (now_at self.old) event.entry result (view_at self.old) (view_at self.new) }
+        ensures opens { (opens : ℕ → End → Bool) → OpensIf opens event.entry result }
+        ensures now { now_at self.new ≡ now_after (now_at self.old) event.entry result }
+        ensures left { LeftBy price_each event.entry result (left_at self.old) (left_at self.new) }
+        ensures refused { CountsRefused event.entry result (refused_at self.old) (refused_at self.new) }
+        ensures site { self.new.table.site ≡ self.old.table.site }
+    {
+        let answer = self
+            .table
+            .own(self.alloc, self.moment, self.tree, conn, event);
+        count(&mut self.refused, answer);
+        answer
+    }
+}
+
+impl EventCore for Hub {
+    ghost use Rattle.connection_core.specs.Core.{view_at, conns_held, fresh_at, opens_at, now_at, left_at, price_at, refused_at};
+
+    ghost view = { view_at };
+
+    ghost conns = { conns_held };
+
+    ghost fresh = { fresh_at };
+
+    ghost opens = { opens_at };
+
+    ghost now = { now_at };
+
+    ghost left = { left_at };
+
+    ghost price = { price_at };
+
+    ghost refused = { refused_at };
+
+    fn step(&mut self, event: Event) -> StepAnswer {
+        match event {
+            Event::Opened {
+                conn,
+                local,
+                peer: _,
+            } => self.table.open(self.alloc, conn, local),
+            Event::Arrived { conn, bytes: _ } => self.own(conn, event),
+            Event::Ended { conn } => self.own(conn, event),
+            Event::Wrote { conn, count: _ } => self.own(conn, event),
+            Event::LinkFailed { conn } => self.own(conn, event),
+            Event::FileDone {
+                conn,
+                node: _,
+                answer: _,
+            } => self.own(conn, event),
+            Event::JobFailed { conn, node: _ } => self.own(conn, event),
+            Event::Run { conn, node: _ } => self.own(conn, event),
+            Event::Tick { now } => {
+                self.moment = now.min(LAST_MOMENT);
+                StepAnswer::Done { taken: 0 }
+            }
+            Event::Tree { to } => {
+                if to <= self.tree {
+                    return StepAnswer::Skipped;
+                }
+                self.tree = to;
+                StepAnswer::Done { taken: 0 }
+            }
+            Event::Gone { conn } => self.table.close(conn),
+        }
+    }
+
+    fn pending(&self, conn: u32) -> &[u8] {
+        match self.table.get(conn) {
+            Some(held) => held.pending(),
+            None => &[],
+        }
+    }
+
+    fn wants(&self) -> &[Want] {
+        self.table.wants.as_slice()
+    }
+
+    fn wants_of(&self, conn: u32) -> &[Want] {
+        connections_are_sound();
+        self.table.wants_of(conn)
+    }
+
+    fn ask(&self, _conn: u32, _node: u32) -> Option<&Ask> {
+        None
+    }
+}

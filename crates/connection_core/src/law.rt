@@ -1,0 +1,11 @@
+// A law of the core, which those that print what it shows rest on.
+ghost use Rattle.connection_core.specs.Core.{AllShown};
+
+use connection::connections_are_sound;
+
+/// What a core shows of each connection is sound, and its journal tells when its requests started.
+pub fn cores_are_sound()
+    ensures { AllShown }
+{
+    connections_are_sound();
+}

@@ -1,0 +1,11 @@
+//! The core: all connections, each under its number.
+#![tactic(auto)]
+
+mod hub;
+mod law;
+mod place;
+mod table;
+mod wants;
+
+pub use hub::Hub;
+pub use law::cores_are_sound;

@@ -1,0 +1,92 @@
+// One connection among those that are held.
+ghost use Rattle.std.specs.Prelude.{◌≡◌, ◌+◌, ◌≤◌, ◌<◌, true, vec_len, vec_capacity, insert};
+ghost use Rattle.std.specs.Prelude.{MatchResult};
+ghost use Rattle.std.specs.List.Sorted.{IsStrictlyIncreasing};
+ghost use Rattle.connection.specs.Conn.{StepsConn};
+ghost use Rattle.connection_core.specs.Table.{is_own, StandsAt, BelongsAt, Placed, Replaced};
+
+use crate::wants::{count, rewrite};
+use connection::Conn;
+use ngx_outside::{Event, StepAnswer, Want};
+use site_model::Site;
+use std::alloc::Global;
+
+/// The place of a number, or the place where it belongs.
+pub(crate) fn place(ids: &[u32], conn: u32) -> Result<usize, usize>
+    requires { IsStrictlyIncreasing ids.now }
+    ensures { MatchResult result (λ i. StandsAt conn ids.now i) (λ i. BelongsAt conn ids.now i) }
+{
+    ids.binary_search(&conn)
+}
+
+/// Puts an item at a place, where there is room for it.
+pub(crate) fn put_at<T: Drop>(items: &mut Vec<T>, at: usize, item: T)
+    requires at { at ≤ vec_len items.old }
+    requires room { vec_len items.old < vec_capacity items.old }
+    ensures items { items.new.items ≡ insert items.old.items at item }
+    ensures len { vec_len items.new ≡ vec_len items.old + 1 }
+{
+    match items.insert(at, item) {
+        Ok(()) => {}
+        Err(_) => unreachable!(),
+    }
+}
+
+/// Gives a connection one event of its own; any other event is skipped.
+pub(crate) fn happen(
+    conn: &mut Conn,
+    alloc: Global,
+    site: &Site,
+    moment: u64,
+    tree: u64,
+    event: Event,
+) -> StepAnswer
+    ensures { is_own event.entry ≡ true → StepsConn site.now (record { moment = moment; tree = tree }) event.entry result conn.old conn.new }
+{
+    match event {
+        Event::Opened {
+            conn: _,
+            local: _,
+            peer: _,
+        } => StepAnswer::Skipped,
+        Event::Arrived { conn: _, bytes } => conn.arrived(alloc, bytes),
+        Event::Ended { conn: _ } => conn.input_ended(),
+        Event::Wrote { conn: _, count } => conn.wrote(count),
+        Event::LinkFailed { conn: _ } => conn.link_failed(),
+        Event::FileDone {
+            conn: _,
+            node: _,
+            answer: _,
+        } => StepAnswer::Skipped,
+        Event::JobFailed { conn: _, node: _ } => StepAnswer::Skipped,
+        Event::Run { conn: _, node } => conn.runs(alloc, site, moment, tree, node),
+        Event::Tick { now: _ } => StepAnswer::Skipped,
+        Event::Tree { to: _ } => StepAnswer::Skipped,
+        Event::Gone { conn: _ } => StepAnswer::Skipped,
+    }
+}
+
+/// Gives the connection at a place one event of its own, and writes its wants anew.
+pub(crate) fn happen_at(
+    conns: &mut Vec<Conn>,
+    wants: &mut Vec<Want>,
+    at: usize,
+    number: u32,
+    alloc: Global,
+    site: &Site,
+    moment: u64,
+    tree: u64,
+    event: Event,
+) -> StepAnswer
+    requires placed { Placed site.now number at conns.old.items wants.old.items }
+    requires room { vec_len wants.old + 4 ≤ vec_capacity wants.old }
+    ensures replaced { is_own event.entry ≡ true → (p : Placed site.now number at conns.old.items wants.old.items) → Replaced site.now number at conns.old.items wants.old.items (λ old new. StepsConn site.now (record { moment = moment; tree = tree }) event.entry result old new) p conns.new.items wants.new.items }
+    ensures len { vec_len conns.new ≡ vec_len conns.old }
+    ensures capacity { vec_capacity wants.new ≡ vec_capacity wants.old }
+{
+    let conn = &mut conns[at];
+    let gone = count(conn);
+    let answer = happen(conn, alloc, site, moment, tree, event);
+    rewrite(wants, number, gone, conn);
+    answer
+}

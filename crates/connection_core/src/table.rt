@@ -1,0 +1,194 @@
+// All connections that are held, each under its number.
+ghost use Rattle.std.specs.Prelude.{◌≡◌, ◌*◌, ◌+◌, ◌≤◌, ◌++◌, ℕ, List, length, vec_len, vec_capacity};
+ghost use Rattle.std.specs.List.Sorted.{IsStrictlyIncreasing};
+ghost use Rattle.ngx_outside.specs.declared.event.Want.{Want as AWant};
+ghost use Rattle.connection_core.specs.Table.{wants_held};
+
+use crate::place::{happen_at, place, put_at};
+use crate::wants::{count, remove, rewrite, start_of};
+use byte_text::OutOfMemory;
+use connection::Conn;
+use http_types::Addr;
+use ngx_outside::{Event, StepAnswer, Want};
+use site_model::Site;
+use std::alloc::Global;
+
+/// So many connections are held at most (nginx's `worker_connections`).
+const MOST: usize = 512;
+
+// A part of the wants.
+fn part(wants: &[Want], start: usize, count: usize) -> &[Want]
+    requires { start + count ≤ length wants.now }
+    ensures { (lower own higher : List AWant) → wants.now ≡ lower ++ (own ++ higher) → start ≡ length lower → count ≡ length own → result.now ≡ own }
+{
+    &wants[start..start + count]
+}
+
+/// The connections that are held for a site, each under its number, and what is to be done next on all of them.
+#[derive(Drop)]
+pub(crate) struct Table {
+    pub(crate) site: Site,
+    pub(crate) ids: Vec<u32>,
+    pub(crate) conns: Vec<Conn>,
+    pub(crate) wants: Vec<Want>,
+    ghost rising: { IsStrictlyIncreasing ids.items },
+    ghost paired: { vec_len conns ≡ vec_len ids },
+    ghost told: { wants.items ≡ wants_held site ids.items conns.items },
+    ghost roomy: { 4 * vec_len ids + 4 ≤ vec_capacity wants },
+}
+
+impl Table {
+    ghost use Rattle.std.specs.Prelude.{◌≡◌, ◌≢◌, ◌+◌, ◌*◌, ◌<◌, ◌≤◌, ℕ, List, [], true, false, IfOk, OnOk, MatchOption, length, insert, vec_len, vec_capacity};
+    ghost use Rattle.http_types.specs.declared.words.Addr.{Addr as End};
+    ghost use Rattle.ngx_outside.specs.Views.{Start, Steps, StepsOwn, OneSteps, LeftBy, OpensIf, Course, Fresh, nobody};
+    ghost use Rattle.ngx_outside.specs.Wants.{wants_at};
+    ghost use Rattle.ngx_outside.specs.declared.event.Event.TheVariants.{Opened, Gone};
+    ghost use Rattle.connection.specs.Conn.{view_of, fresh_course, left_of, weight};
+    ghost use Rattle.connection_core.specs.Table.{is_own, view_in, journal_in, left_in, price_each, opens_in, BelongsAt};
+
+    /// No connection is held.
+    pub(crate) fn new(alloc: Global, site: Site) -> Result<Self, OutOfMemory>
+        ensures { IfOk result (λ t. (t.site ≡ site) × (t.ids.items ≡ []) × (t.conns.items ≡ [])) }
+    {
+        let mut wants = Vec::new(alloc);
+        wants.reserve(4)?;
+        Ok(Table {
+            site,
+            ids: Vec::new(alloc),
+            conns: Vec::new(alloc),
+            wants,
+        })
+    }
+
+    /// The connection under a number.
+    pub(crate) fn get(&self, conn: u32) -> Option<&Conn>
+        ensures view { MatchOption result (view_in self.now.site self.now.ids.items self.now.conns.items conn ≡ nobody) (λ c. view_in self.now.site self.now.ids.items self.now.conns.items conn ≡ view_of self.now.site c.now) }
+        ensures journal { MatchOption result (journal_in self.now.ids.items self.now.conns.items conn ≡ []) (λ c. journal_in self.now.ids.items self.now.conns.items conn ≡ c.now.journal.items) }
+    {
+        match place(self.ids.as_slice(), conn) {
+            Ok(at) => Some(&self.conns[at]),
+            Err(_) => None,
+        }
+    }
+
+    /// What is to be done next on one connection.
+    pub(crate) fn wants_of(&self, conn: u32) -> &[Want]
+        ensures wants { result.now ≡ wants_at conn (view_in self.now.site self.now.ids.items self.now.conns.items conn) }
+    {
+        match place(self.ids.as_slice(), conn) {
+            Ok(at) => {
+                let start = start_of(self.wants.as_slice(), conn);
+                part(self.wants.as_slice(), start, count(&self.conns[at]))
+            }
+            Err(_) => &[],
+        }
+    }
+
+    // Room for one connection more, and the connection.
+    fn make(&mut self, alloc: Global) -> Result<Conn, OutOfMemory>
+        requires { vec_len self.old.ids < 512 }
+        ensures site { self.new.site ≡ self.old.site }
+        ensures ids { self.new.ids.items ≡ self.old.ids.items }
+        ensures conns { self.new.conns.items ≡ self.old.conns.items }
+        ensures ids_room { OnOk result (vec_len self.new.ids < vec_capacity self.new.ids) }
+        ensures conns_room { OnOk result (vec_len self.new.conns < vec_capacity self.new.conns) }
+        ensures wants_room { OnOk result (4 * vec_len self.new.ids + 8 ≤ vec_capacity self.new.wants) }
+        ensures fresh { IfOk result (λ c. (site : _) → Fresh (fresh_course site) (view_of site c)) }
+        ensures left { IfOk result (λ c. left_of c ≡ 1 + weight) }
+    {
+        self.ids.reserve(1)?;
+        self.conns.reserve(1)?;
+        let room = 4 * self.ids.len() + 8;
+        self.wants.reserve(room.saturating_sub(self.wants.len()))?;
+        let conn = Conn::new(alloc)?;
+        Ok(conn)
+    }
+
+    // Holds one connection more, for which there is room.
+    fn put(&mut self, at: usize, conn: u32, fresh: Conn)
+        requires belongs { BelongsAt conn self.old.ids.items at }
+        requires ids_room { vec_len self.old.ids < vec_capacity self.old.ids }
+        requires conns_room { vec_len self.old.conns < vec_capacity self.old.conns }
+        requires wants_room { 4 * vec_len self.old.ids + 8 ≤ vec_capacity self.old.wants }
+        ensures ids { self.new.ids.items ≡ insert self.old.ids.items at conn }
+        ensures conns { self.new.conns.items ≡ insert self.old.conns.items at fresh }
+        ensures site { self.new.site ≡ self.old.site }
+    {
+        rewrite(&mut self.wants, conn, 0, &fresh);
+        put_at(&mut self.ids, at, conn);
+        put_at(&mut self.conns, at, fresh);
+    }
+
+    /// Opens a connection under a number.
+    pub(crate) fn open(&mut self, alloc: Global, conn: u32, local: Addr) -> StepAnswer
+        ensures steps { (peer : End) (now : Start) → OneSteps conn (StepsOwn (fresh_course self.old.site) now (Opened conn local peer) result) (view_in self.old.site self.old.ids.items self.old.conns.items) (view_in self.new.site self.new.ids.items self.new.conns.items) }
+        ensures opens { (peer : End) → OpensIf (opens_in self.old.site self.old.ids.items) (Opened conn local peer) result }
+        ensures left { (peer : End) → LeftBy price_each (Opened conn local peer) result (left_in self.old.conns.items) (left_in self.new.conns.items) }
+        ensures site { self.new.site ≡ self.old.site }
+    {
+        if self.ids.len() >= MOST || !self.site.listens.at(local) {
+            return StepAnswer::Skipped;
+        }
+        match place(self.ids.as_slice(), conn) {
+            Ok(_) => StepAnswer::Skipped,
+            Err(at) => match self.make(alloc) {
+                Ok(fresh) => {
+                    self.put(at, conn, fresh);
+                    StepAnswer::Done { taken: 0 }
+                }
+                Err(OutOfMemory) => StepAnswer::OutOfMemory,
+            },
+        }
+    }
+
+    /// Gives a connection one event of its own.
+    pub(crate) fn own(
+        &mut self,
+        alloc: Global,
+        moment: u64,
+        tree: u64,
+        conn: u32,
+        event: Event,
+    ) -> StepAnswer
+        requires own { is_own event ≡ true }
+        ensures steps { OneSteps conn (StepsOwn nobody.course (record { moment = moment; tree = tree }) event.entry result) (view_in self.old.site self.old.ids.items self.old.conns.items) (view_in self.new.site self.new.ids.items self.new.conns.items) }
+        ensures left { LeftBy price_each event.entry result (left_in self.old.conns.items) (left_in self.new.conns.items) }
+        ensures ids { self.new.ids.items ≡ self.old.ids.items }
+        ensures site { self.new.site ≡ self.old.site }
+    {
+        match place(self.ids.as_slice(), conn) {
+            Ok(at) => happen_at(
+                &mut self.conns,
+                &mut self.wants,
+                at,
+                conn,
+                alloc,
+                &self.site,
+                moment,
+                tree,
+                event,
+            ),
+            Err(_) => StepAnswer::Skipped,
+        }
+    }
+
+    /// Lets a connection go, whose link is to be closed.
+    pub(crate) fn close(&mut self, conn: u32) -> StepAnswer
+        ensures steps { (now : Start) → OneSteps conn (StepsOwn nobody.course now (Gone conn) result) (view_in self.old.site self.old.ids.items self.old.conns.items) (view_in self.new.site self.new.ids.items self.new.conns.items) }
+        ensures left { LeftBy price_each (Gone conn) result (left_in self.old.conns.items) (left_in self.new.conns.items) }
+        ensures site { self.new.site ≡ self.old.site }
+    {
+        match place(self.ids.as_slice(), conn) {
+            Ok(at) => {
+                if !self.conns[at].is_shut() {
+                    return StepAnswer::Skipped;
+                }
+                remove(&mut self.wants, conn, count(&self.conns[at]));
+                self.ids.remove(at);
+                self.conns.remove(at);
+                StepAnswer::Done { taken: 0 }
+            }
+            Err(_) => StepAnswer::Skipped,
+        }
+    }
+}

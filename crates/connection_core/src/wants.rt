@@ -1,0 +1,126 @@
+// The wants of all connections, kept in the order of their numbers.
+ghost use Rattle.std.specs.Prelude.{◌≡◌, ◌++◌, ◌+◌, ◌≤◌, ◌<◌, ◌-◌, ℕ, List, length, take, drop, vec_len, vec_capacity};
+ghost use Rattle.ngx_outside.specs.Wants.{wants_at};
+ghost use Rattle.ngx_outside.specs.declared.event.Want.{Want as AWant};
+ghost use Rattle.site_model.specs.declared.site.Site.{Site as SiteParts};
+ghost use Rattle.connection.specs.Conn.{view_of};
+ghost use Rattle.connection_core.specs.Table.{conn_of as conn_wanting, tally, Splits};
+
+use connection::Conn;
+use ngx_outside::Want;
+
+fn conn_of(want: &Want) -> u32
+    ensures { result ≡ conn_wanting want.now }
+{
+    match want {
+        Want::Read { conn, room: _ } => *conn,
+        Want::Run { conn, node: _ } => *conn,
+        Want::Job { conn, node: _ } => *conn,
+        Want::Write { conn } => *conn,
+        Want::Close { conn } => *conn,
+    }
+}
+
+// Where the wants of a connection begin.
+pub(crate) fn start_of(wants: &[Want], conn: u32) -> usize
+    ensures { (count : ℕ) (s : Splits conn wants.now count) → result ≡ length s.lower }
+{
+    wants.partition_point(|want| conn_of(want) < conn)
+}
+
+fn one_if(test: bool) -> usize
+    ensures value { result ≡ tally test }
+    ensures few { result ≤ 1 }
+{
+    if test { 1 } else { 0 }
+}
+
+/// How many wants a connection has.
+pub(crate) fn count(conn: &Conn) -> usize
+    ensures value { (number : ℕ) (site : SiteParts) → result ≡ length (wants_at number (view_of site conn.now)) }
+    ensures few { result ≤ 4 }
+{
+    one_if(conn.room().is_some())
+        + one_if(conn.is_ready())
+        + one_if(!conn.pending().is_empty())
+        + one_if(conn.is_shut())
+}
+
+// Adds the wants of a connection; there is room for them.
+#[tactic(auto, unfolding(ngx_outside::specs::Wants::wants_at))]
+fn add(wants: &mut Vec<Want>, number: u32, conn: &Conn)
+    requires { vec_len wants.old + 4 ≤ vec_capacity wants.old }
+    ensures items { (site : SiteParts) → wants.new.items ≡ wants.old.items ++ wants_at number (view_of site conn.now) }
+    ensures len { vec_len wants.new ≤ vec_len wants.old + 4 }
+    ensures grows { vec_len wants.old ≤ vec_len wants.new }
+    ensures capacity { vec_capacity wants.new ≡ vec_capacity wants.old }
+{
+    if let Some(room) = conn.room() {
+        wants.push_reserved(Want::Read { conn: number, room });
+    }
+    if conn.is_ready() {
+        wants.push_reserved(Want::Run {
+            conn: number,
+            node: 0,
+        });
+    }
+    if !conn.pending().is_empty() {
+        wants.push_reserved(Want::Write { conn: number });
+    }
+    if conn.is_shut() {
+        wants.push_reserved(Want::Close { conn: number });
+    }
+}
+
+// The last wants, so many, come to stand at `start`.
+fn move_last(wants: &mut Vec<Want>, start: usize, count: usize)
+    requires { start + count ≤ vec_len wants.old }
+    ensures items { wants.new.items ≡ take start wants.old.items ++ (drop (length (drop start wants.old.items) - count) (drop start wants.old.items) ++ take (length (drop start wants.old.items) - count) (drop start wants.old.items)) }
+    ensures len { vec_len wants.new ≡ vec_len wants.old }
+    ensures capacity { vec_capacity wants.new ≡ vec_capacity wants.old }
+{
+    wants[start..].rotate_right(count);
+}
+
+// Takes out the wants from `start` on, so many.
+fn take_out(wants: &mut Vec<Want>, start: usize, count: usize)
+    requires { start + count ≤ vec_len wants.old }
+    ensures items { wants.new.items ≡ take (length wants.old.items - count) (take start wants.old.items ++ (drop count (drop start wants.old.items) ++ take count (drop start wants.old.items))) }
+    ensures capacity { vec_capacity wants.new ≡ vec_capacity wants.old }
+{
+    wants[start..].rotate_left(count);
+    wants.truncate(wants.len() - count);
+}
+
+// Puts the last wants, `added` of them, in place of the `gone` that begin at `start`.
+fn settle(wants: &mut Vec<Want>, start: usize, gone: usize, added: usize)
+    requires { start + gone + added ≤ vec_len wants.old }
+    ensures items { (lower own higher last : List AWant) → wants.old.items ≡ lower ++ (own ++ (higher ++ last)) → length lower ≡ start → length own ≡ gone → length last ≡ added → wants.new.items ≡ lower ++ (last ++ higher) }
+    ensures capacity { vec_capacity wants.new ≡ vec_capacity wants.old }
+{
+    move_last(wants, start, added);
+    take_out(wants, start + added, gone);
+}
+
+/// Writes the wants of a connection anew, in place of the `gone` that it had. Nothing is allocated.
+pub(crate) fn rewrite(wants: &mut Vec<Want>, number: u32, gone: usize, conn: &Conn)
+    requires room { vec_len wants.old + 4 ≤ vec_capacity wants.old }
+    requires splits { Splits number wants.old.items gone }
+    ensures items { (site : SiteParts) (s : Splits number wants.old.items gone) → wants.new.items ≡ s.lower ++ (wants_at number (view_of site conn.now) ++ s.higher) }
+    ensures capacity { vec_capacity wants.new ≡ vec_capacity wants.old }
+{
+    let start = start_of(wants.as_slice(), number);
+    let len = wants.len();
+    add(wants, number, conn);
+    settle(wants, start, gone, wants.len() - len);
+}
+
+/// Takes out the wants of a connection, `gone` of them.
+pub(crate) fn remove(wants: &mut Vec<Want>, number: u32, gone: usize)
+    requires splits { Splits number wants.old.items gone }
+    ensures items { (s : Splits number wants.old.items gone) → wants.new.items ≡ s.lower ++ s.higher }
+    ensures capacity { vec_capacity wants.new ≡ vec_capacity wants.old }
+{
+    let start = start_of(wants.as_slice(), number);
+    settle(wants, start, gone, 0);
+}
