@@ -1,0 +1,47 @@
+-- What is kept of the directives before, as one more is passed.
+use Rattle.std.proofs.Common.{◌≡◌, ℕ, Bool, true, false, ◌||◌, List, [], ◌∷◌, ◌++◌, bytes_eq, refl, sym, ap, ◌∙◌}
+use Rattle.std.specs.List.{list_any}
+use Rattle.std.proofs.lemmas.List.Folds.{list_any-append}
+use Rattle.std.proofs.lemmas.Slice.Eq.{bytes_eq-Decides}
+use Rattle.conf_text.specs.declared.directive.Directive.{Directive}
+use Rattle.http_types.specs.declared.words.Addr.{Addr}
+use Rattle.conf_table.specs.Table.{entry_of}
+use Rattle.conf_inherit.specs.Roles.{role_of}
+use Rattle.conf_inherit.specs.Listening.{in_front, address_by}
+use Rattle.conf_inherit.specs.Faults.{is_named}
+use Rattle.conf_inherit.specs.Before.{stands_once, with_name, Remembers}
+use Rattle.conf_inherit.proofs.LevelLaws.{listens-append}
+
+or_nothing : (b t : Bool) → t ≡ false → b ≡ (b || (t || false))
+or_nothing true t e = refl
+or_nothing false t e = sym (ap (λ t. t || false) e)
+
+true_is_not_false : true ≡ false → ⊥
+true_is_not_false e = cc
+
+-- a name of which one alone may stand is none of which several may
+other_name : (name other : List ℕ) → stands_once (entry_of other) ≡ true → stands_once (entry_of name) ≡ false → bytes_eq name other ≡ false
+other_name name other one several =
+    elim (bytes_eq name other) as (λ t. bytes_eq name other ≡ t → t ≡ false) [
+      | true ↦ λ t. absurd (true_is_not_false (sym one ∙ sym (ap (λ n. stands_once (entry_of n)) ((bytes_eq-Decides name other).0 t)) ∙ several))
+      | false ↦ λ t. refl
+    ] refl
+
+names-add : (names names' : List (List ℕ)) (d : Directive) (earlier : List Directive) (name : List ℕ) → stands_once (entry_of name) ≡ true
+    → list_any (λ n. bytes_eq n name) names ≡ is_named name earlier
+    → (s : Bool) → stands_once (entry_of d.name) ≡ s → names' ≡ with_name s names d.name
+    → list_any (λ n. bytes_eq n name) names' ≡ is_named name (earlier ++ d ∷ [])
+names-add names names' d earlier name one kept true t e =
+    ap (λ ns. list_any (λ n. bytes_eq n name) ns) e ∙ list_any-append (λ n. bytes_eq n name) names (d.name ∷ [])
+    ∙ ap (λ b. b || (bytes_eq d.name name || false)) kept ∙ sym (list_any-append (λ (d : Directive). bytes_eq d.name name) earlier (d ∷ []))
+names-add names names' d earlier name one kept false t e =
+    ap (λ ns. list_any (λ n. bytes_eq n name) ns) e ∙ kept ∙ or_nothing (is_named name earlier) (bytes_eq d.name name) (other_name d.name name one t)
+    ∙ sym (list_any-append (λ (d : Directive). bytes_eq d.name name) earlier (d ∷ []))
+
+pub remembers-add : (names names' : List (List ℕ)) (addrs addrs' : List Addr) (d : Directive) (earlier : List Directive)
+    → names' ≡ with_name (stands_once (entry_of d.name)) names d.name → addrs' ≡ addrs ++ in_front (address_by (role_of d.name) d) []
+    → Remembers names addrs earlier → Remembers names' addrs' (earlier ++ d ∷ [])
+remembers-add names names' addrs addrs' d earlier n a r = record {
+  once = λ name one. names-add names names' d earlier name one (r.once name one) (stands_once (entry_of d.name)) refl n;
+  listens = a ∙ ap (λ xs. xs ++ in_front (address_by (role_of d.name) d) []) r.listens ∙ sym (listens-append earlier (d ∷ []));
+}

@@ -1,0 +1,8 @@
+pub mod AddressLaws
+pub mod PortLaws
+pub mod ForestLaws
+pub mod LevelLaws
+pub mod BeforeLaws
+pub mod CheckLaws
+pub mod ServedLaws
+pub mod BuiltLaws

@@ -1,0 +1,24 @@
+-- What is kept of the directives that stand before one in its level.
+use Rattle.std.specs.Prelude.{◌≡◌, ℕ, List, [], ◌∷◌, ◌++◌, Bool, true, false, not, Option, None, Some, bytes_eq}
+use Rattle.std.specs.List.{list_any}
+use Rattle.conf_text.specs.declared.directive.Directive.{Directive}
+use Rattle.http_types.specs.declared.words.Addr.{Addr}
+use Rattle.conf_table.specs.declared.rule.DirectiveRule.{DirectiveRule}
+use Rattle.conf_table.specs.Table.{entry_of}
+use Rattle.conf_inherit.specs.Listening.{listens_of}
+use Rattle.conf_inherit.specs.Faults.{is_named}
+
+-- one alone of such a directive may stand in a level
+abbrev pub stands_once : Option DirectiveRule → Bool
+stands_once None = false
+stands_once (Some rule) = not rule.many
+
+-- a name behind the others, where it is kept
+abbrev pub with_name : Bool → List (List ℕ) → List ℕ → List (List ℕ)
+with_name true names name = names ++ name ∷ []
+with_name false names name = names
+
+-- These names tell which directives that stand once are there, and these are the addresses that are listened on.
+pub record Remembers (names : List (List ℕ)) (addrs : List Addr) (earlier : List Directive) : Type 0 where
+  pub once : (name : List ℕ) → stands_once (entry_of name) ≡ true → list_any (λ n. bytes_eq n name) names ≡ is_named name earlier
+  pub listens : addrs ≡ listens_of earlier

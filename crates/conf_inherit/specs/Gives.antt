@@ -1,0 +1,45 @@
+-- Reading that may find a fault.
+use Rattle.std.specs.Prelude.{◌≡◌, ⊤, Option, None, Some, Result, Ok, Err}
+use Rattle.conf_text.specs.declared.directive.Directive.{Directive}
+use Rattle.conf_text.specs.declared.fault.FaultKind.{FaultKind}
+use Rattle.conf_text.specs.declared.fault.ConfFault.{ConfFault}
+use Rattle.conf_text.specs.declared.fault.ConfError.{ConfError}
+use Rattle.conf_text.specs.declared.fault.ConfError.TheVariants as error
+
+-- the first fault, or the value of what follows
+infixl 10 ◌>>=◌
+unfoldable pub ◌>>=◌ : {A B E : Type 0} → Result A E → (A → Result B E) → Result B E
+(Ok x) >>= f = f x
+(Err e) >>= f = Err e
+
+infixl 10 ◌>>◌
+unfoldable pub ◌>>◌ : {A B E : Type 0} → Result A E → Result B E → Result B E
+(Ok x) >> r = r
+(Err e) >> r = Err e
+
+-- no fault
+abbrev pub sound : Result (Unit {0}) ConfFault
+sound = Ok tt
+
+-- a fault of this kind of a directive: at its place, and by its name
+abbrev pub fault_of : Directive → FaultKind → ConfFault
+fault_of d kind = record { kind = kind; file = d.file; line = d.line; word = Some d.name }
+
+-- the fault of this kind, if there is one
+unfoldable pub faulty : Directive → Option FaultKind → Result (Unit {0}) ConfFault
+faulty d None = sound
+faulty d (Some kind) = Err (fault_of d kind)
+
+-- an error is this fault, or want of memory
+abbrev pub IsError : ConfFault → ConfError → Type 0
+IsError fault (error.Fault f) = f ≡ fault
+IsError fault error.OutOfMemory = ⊤
+
+-- what was returned, seen by view, is what the definition gives, unless memory ran out
+abbrev pub Fails : {Y : Type 0} → ConfError → Result Y ConfFault → Type 0
+Fails (error.Fault f) meant = meant ≡ Err f
+Fails error.OutOfMemory meant = ⊤
+
+abbrev pub Gives : {X Y : Type 0} → (X → Y) → Result X ConfError → Result Y ConfFault → Type 0
+Gives view (Ok x) meant = meant ≡ Ok (view x)
+Gives view (Err e) meant = Fails e meant

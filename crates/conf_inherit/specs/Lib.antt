@@ -1,0 +1,10 @@
+pub mod Forest
+pub mod Gives
+pub mod Roles
+pub mod Listening
+pub mod Returning
+pub mod Faults
+pub mod Before
+pub mod Checked
+pub mod Served
+pub mod Built
