@@ -1,0 +1,162 @@
+// A node's buffer.
+ghost use Rattle.std.specs.Prelude.{◌≡◌, ℕ, ◌+◌, ◌-◌, ◌<◌, ◌≤◌, ◌==◌, true, false, Bool, List, [], ◌++◌, length, take, drop, min, vec_len, vec_capacity, IfOk, if◌then◌else◌};
+ghost use Rattle.postpone_filter.specs.Row.{most};
+ghost use Rattle.postpone_filter.specs.Buffers.{Buffer, is_kept};
+
+use byte_text::OutOfMemory;
+use std::alloc::Global;
+use std::marker::Model;
+
+/// The most bytes of one node that wait.
+pub const MOST: usize = 32768;
+
+/// Takes the first `start` bytes away, by moving the others down.
+fn move_down(bytes: &mut Vec<u8>, start: usize)
+    requires { start ≤ vec_len bytes.old }
+    ensures items { bytes.new.items ≡ drop start bytes.old.items }
+    ensures len { vec_len bytes.new + start ≡ vec_len bytes.old }
+    ensures capacity { vec_capacity bytes.new ≡ vec_capacity bytes.old }
+{
+    let len = bytes.len();
+    bytes.copy_within(start..len, 0);
+    bytes.truncate(len - start);
+}
+
+/// Drops all bytes, and gives their memory back where it serves no more.
+fn empty(bytes: &mut Vec<u8>, give_back: bool)
+    ensures items { bytes.new.items ≡ [] }
+    ensures len { vec_len bytes.new ≡ 0 }
+    ensures kept { give_back ≡ false → vec_capacity bytes.new ≡ vec_capacity bytes.old }
+    ensures given_back { give_back ≡ true → vec_capacity bytes.new ≡ 0 }
+{
+    bytes.clear();
+    if give_back {
+        bytes.shrink_to_fit();
+    }
+}
+
+/// The bytes of a node that wait, whether the node has not ended, and where its place was last found. Contracts see the
+/// bytes and whether it has not ended. Its buffer is taken when the node is made, and given back once the node has ended
+/// and no byte of it waits.
+#[derive(Drop)]
+pub struct Node {
+    bytes: Vec<u8>,
+    start: usize,
+    opened: bool,
+    hint: usize,
+}
+
+impl Model for Node {
+    ghost use Rattle.std.specs.Prelude.{drop, vec_len, vec_capacity};
+    ghost use Rattle.postpone_filter.specs.Buffers.{Buffer, IsReserved};
+
+    ghost Value = { Buffer };
+
+    ghost view = { λ n. record { held = drop n.start n.bytes.items; goes_on = n.opened } };
+
+    ghost invariant = { λ n. IsReserved n.opened n.start (vec_len n.bytes) (vec_capacity n.bytes) };
+}
+
+impl Node {
+    /// A node that has placed nothing, with its buffer.
+    pub fn new(alloc: Global, hint: usize) -> Result<Node, OutOfMemory>
+        ensures held { IfOk result (λ n. n.held ≡ []) }
+        ensures goes_on { IfOk result (λ n. n.goes_on ≡ true) }
+    {
+        Ok(Node {
+            bytes: Vec::with_capacity(alloc, MOST)?,
+            start: 0,
+            opened: true,
+            hint,
+        })
+    }
+
+    /// Where the node's place was last found, counted from the row's beginning.
+    pub fn hint(&self) -> usize {
+        self.hint
+    }
+
+    pub fn set_hint(&mut self, hint: usize)
+        ensures { self.new ≡ self.old }
+    {
+        self.hint = hint;
+    }
+
+    /// Whether the node has not ended.
+    pub fn goes_on(&self) -> bool
+        ensures { result ≡ self.now.goes_on }
+    {
+        self.opened
+    }
+
+    /// How many more bytes it takes.
+    pub fn room(&self) -> usize
+        ensures room { result ≡ (if self.now.goes_on then most - length self.now.held else 0) }
+        ensures bounded { length self.now.held ≤ most }
+    {
+        if self.opened {
+            MOST - (self.bytes.len() - self.start)
+        } else {
+            0
+        }
+    }
+
+    /// All bytes that wait.
+    pub fn front(&self) -> &[u8]
+        ensures { result.now ≡ self.now.held }
+    {
+        &self.bytes.as_slice()[self.start..]
+    }
+
+    /// Whether the node has a buffer: exactly where it has not ended or bytes of it wait.
+    pub fn has_buffer(&self) -> bool
+        ensures { result ≡ is_kept self.now.goes_on (length self.now.held) }
+    {
+        self.bytes.capacity() > 0
+    }
+
+    /// Takes as many of the bytes as fit, and answers how many: none of them once the node has ended.
+    pub fn append(&mut self, more: &[u8]) -> usize
+        ensures count { result ≡ (if self.old.goes_on then min (length more.now) (most - length self.old.held) else 0) }
+        ensures held { self.new.held ≡ self.old.held ++ take result more.now }
+        ensures goes_on { self.new.goes_on ≡ self.old.goes_on }
+        ensures bounded { length self.new.held ≤ most }
+    {
+        if !self.opened {
+            return 0;
+        }
+        let count = more.len().min(MOST - (self.bytes.len() - self.start));
+        if self.bytes.capacity() - self.bytes.len() < count {
+            move_down(&mut self.bytes, self.start);
+            self.start = 0;
+        }
+        // It takes no memory and can't fail: there is room.
+        self.bytes.extend_from_slice(&more[..count]).unwrap();
+        count
+    }
+
+    /// Drops the first bytes.
+    pub fn used(&mut self, count: usize)
+        requires { count ≤ length self.old.held }
+        ensures held { self.new.held ≡ drop count self.old.held }
+        ensures goes_on { self.new.goes_on ≡ self.old.goes_on }
+    {
+        self.start += count;
+        if self.start == self.bytes.len() {
+            self.start = 0;
+            empty(&mut self.bytes, !self.opened);
+        }
+    }
+
+    /// The node has ended.
+    pub fn end(&mut self)
+        ensures held { self.new.held ≡ self.old.held }
+        ensures goes_on { self.new.goes_on ≡ false }
+    {
+        self.opened = false;
+        if self.start == self.bytes.len() {
+            self.start = 0;
+            empty(&mut self.bytes, true);
+        }
+    }
+}
