@@ -1,3 +1,5 @@
 pub mod Responses
+pub mod Bodies
 pub mod Moves
 pub mod Sound
+pub mod Going

@@ -1,11 +1,10 @@
 -- A response as it is put together.
-use Rattle.std.proofs.Common.{◌≡◌, ℕ, Bool, false, List, ◌++◌, length, None, Some, refl, ap, ◌∙◌, append_assoc, ◌&&◌, true, ◌+◌, nat_lt}
+use Rattle.std.proofs.Common.{◌≡◌, ℕ, Bool, false, List, ◌++◌, length, None, Some, ap, ◌∙◌, append_assoc}
 use Rattle.ngx_outside.specs.Views.{Start}
 use Rattle.resp_head.specs.declared.head.ReplyHead.{ReplyHead}
 use Rattle.resp_head.specs.Head.{head_of}
-use Rattle.site_model.specs.Serving.{Reply, page_reply}
-use Rattle.req_head.specs.declared.head.Head.{Head as RequestHead}
-use Rattle.connection.specs.Answers.{response, reply_head, content_of, keeps}
+use Rattle.site_model.specs.Serving.{Reply}
+use Rattle.connection.specs.Answers.{response, reply_head, content_of}
 
 abbrev parts_head : ℕ → ℕ → List ℕ → ℕ → Bool → ReplyHead
 parts_head status moment kind len keep = record { status = status; moment = moment; kind = Some kind; length = Some len; modified = None; location = None; chunked = false; keep = keep }
@@ -21,12 +20,3 @@ pub response_is : (out mid new text body : List ℕ) (head : ReplyHead) (r : Rep
 unfolding response
 response_is out mid new text body head r start no_body keep m n t h b =
     n ∙ ap (λ x. x ++ body) (m ∙ ap (λ x. out ++ x) (t ∙ ap head_of h)) ∙ append_assoc out (head_of (reply_head r start keep)) body ∙ ap (λ x. out ++ (head_of (reply_head r start keep) ++ x)) b
-
--- behind the page of a request that isn't implemented the connection is closed
-pub unread_closes : (k : ℕ) (head : RequestHead) → keeps k head (page_reply 501) ≡ false
-unfolding page_reply
-unread_closes k head = none head.keep
-  where
-    none : (a : Bool) → (a && false && nat_lt (k + 1) 1000) ≡ false
-    none true = refl
-    none false = refl

@@ -4,7 +4,8 @@ use Rattle.file_tree.specs.Tree.{Trees}
 use Rattle.http_types.specs.declared.words.Method.{Method}
 use Rattle.http_types.specs.declared.words.Method.TheVariants as methods
 use Rattle.http_types.specs.declared.words.BodyKind.{BodyKind}
-use Rattle.http_types.specs.declared.words.BodyKind.TheVariants.{Empty, Length, Chunked}
+use Rattle.body_frame.specs.Outcome.{BodyOutcome, Whole, Short, Broken}
+use Rattle.body_frame.specs.State.{body_of}
 use Rattle.ngx_outside.specs.Views.{Start}
 use Rattle.resp_head.specs.declared.head.ReplyHead.{ReplyHead}
 use Rattle.resp_head.specs.Head.{head_of}
@@ -42,11 +43,9 @@ is_head methods.Head = true
 is_head methods.Post = false
 is_head (methods.Other name) = false
 
--- a request with content isn't implemented yet
-abbrev pub reply_by : BodyKind → Site → Trees → Start → Reply
-reply_by Empty site trees start = reply_of site.returned (trees start.tree)
-reply_by (Length n) site trees start = page_reply 501
-reply_by Chunked site trees start = page_reply 501
+-- the reply to any request
+abbrev pub reply_at : Site → Trees → Start → Reply
+reply_at site trees start = reply_of site.returned (trees start.tree)
 
 -- whether the connection stays open behind the response to a request that k others came before: the thousandth closes it
 -- (nginx's keepalive_requests)
@@ -58,16 +57,24 @@ pub record Responds (r : Reply) (start : Start) (k : ℕ) (head : RequestHead) (
   pub stays : keep ≡ keeps k head r
   pub put : new ≡ old ++ response r start (is_head head.method) (keeps k head r)
 
--- the response to the first head, and what is answered to the bytes behind it
-abbrev pub first_answer : Site → Trees → ℕ → Start → HeadStep → (ℕ → List ℕ) → List ℕ
+-- what is answered to the bytes behind a request's body (RFC 9112, section 6): nothing, where no whole body stands there
+abbrev pub behind_body : BodyOutcome → (ℕ → List ℕ) → List ℕ
+behind_body (Whole count) behind = behind count
+behind_body Short behind = []
+behind_body Broken behind = []
+
+-- the response to the first head, and what is answered to the bytes behind it and its body
+abbrev pub first_answer : Site → Trees → ℕ → Start → HeadStep → (ℕ → BodyKind → List ℕ) → List ℕ
 first_answer site trees k start (Head head size) behind =
-    let r = reply_by head.body site trees start in
-    response r start (is_head head.method) (keeps k head r) ++ (if keeps k head r then behind size else [])
+    let r = reply_at site trees start in
+    response r start (is_head head.method) (keeps k head r) ++ (if keeps k head r then behind size head.body else [])
 first_answer site trees k start (Bad code no_body) behind = response (page_reply code) start no_body false
 first_answer site trees k start More behind = []
 
 -- The answers to the input, of which k requests came before, each from the tree of its start. A request starts for each of
--- these entries, as far as the input has heads.
+-- these entries, as far as the input has heads and whole bodies behind them.
 unfoldable pub answers : Site → ℕ → Trees → List ℕ → List Start → List ℕ
 answers site k trees input [] = []
-answers site k trees input (start ∷ later) = first_answer site trees k start (head_step input) (λ size. answers site (k + 1) trees (drop size input) later)
+answers site k trees input (start ∷ later) =
+    first_answer site trees k start (head_step input)
+    (λ size kind. behind_body (body_of kind (drop size input)) (λ count. answers site (k + 1) trees (drop count (drop size input)) later))

@@ -1,7 +1,7 @@
 -- What a connection shows.
-use Rattle.std.specs.Prelude.{ℕ, ◌+◌, ◌-◌, ◌*◌, nat_le, Bool, true, false, not, ◌&&◌, ◌||◌, is_some, List, [], ◌∷◌, ◌++◌, Option, None, Some, length, map, if◌then◌else◌}
+use Rattle.std.specs.Prelude.{◌≡◌, ℕ, ◌+◌, ◌-◌, ◌*◌, nat_le, Bool, true, false, not, ◌&&◌, ◌||◌, is_some, List, [], ◌∷◌, ◌++◌, Option, None, Some, length, map, if◌then◌else◌}
 use Rattle.file_tree.specs.Tree.{Trees}
-use Rattle.ngx_outside.specs.Views.{ConnView, Course, start_of, Start, StepsOwn, LeftBy, IsSound, no_bytes}
+use Rattle.ngx_outside.specs.Views.{ConnView, Course, start_of, Start, StepsOwn, LeftBy, IsSound, is_live, no_bytes, no_nodes}
 use Rattle.ngx_outside.specs.declared.event.Event.{Event}
 use Rattle.ngx_outside.specs.declared.event.StepAnswer.{StepAnswer}
 use Rattle.ngx_outside.specs.declared.event.Entry.{Entry}
@@ -10,16 +10,17 @@ use Rattle.site_model.specs.declared.site.Site.{Site}
 use Rattle.req_head.specs.declared.head.HeadStep.{HeadStep}
 use Rattle.connection.specs.declared.conn.Conn.{Conn}
 use Rattle.connection.specs.Answers.{answers}
-use Rattle.connection.specs.Steps.{begins}
+use Rattle.body_frame.specs.declared.state.BodyState.{BodyState}
+use Rattle.connection.specs.Steps.{starts, past_body}
 
 -- what is to come on a connection that is opened now
 abbrev pub fresh_course : Site → Course
 fresh_course site = record { bytes = λ trees more later. answers site 0 trees more later; heavy = λ trees more later. false }
 
--- the bytes that are still to come
-abbrev pub bytes_at : Site → List ℕ → List Entry → Bool → List ℕ → Trees → List ℕ → List Start → List ℕ
-bytes_at site pending journal closing held trees more later =
-    pending ++ (if closing then [] else answers site (length journal) trees (held ++ more) later)
+-- the bytes that are still to come: behind those that are pending the answers to what stands behind the body that is dropped
+abbrev pub bytes_at : Site → List ℕ → List Entry → Bool → Option BodyState → List ℕ → Trees → List ℕ → List Start → List ℕ
+bytes_at site pending journal closing body held trees more later =
+    pending ++ (if closing then [] else past_body body (held ++ more) (λ input. answers site (length journal) trees input later))
 
 -- how many more bytes are taken, as far as 8192 are held: none after a stop, behind a response that closes or behind the
 -- input's end
@@ -27,37 +28,37 @@ abbrev pub room_at : Bool → Bool → Bool → List ℕ → Option ℕ
 room_at stopped closing ended held = if stopped || closing || ended || nat_le 8192 (length held) then None else Some (8192 - length held)
 
 -- a further request may start
-abbrev pub starts_at : Bool → Bool → List ℕ → HeadStep → Bool
-starts_at stopped closing pending next = not stopped && not closing && no_bytes pending && begins next
+abbrev pub starts_at : Bool → Bool → List ℕ → Option BodyState → HeadStep → Bool
+starts_at stopped closing pending body next = not stopped && not closing && no_bytes pending && starts body next
 
 -- nothing is to be done until more arrives
-abbrev pub idle_at : Bool → Bool → List ℕ → HeadStep → Bool
-idle_at stopped closing pending next = not stopped && no_bytes pending && (closing || not (begins next))
+abbrev pub idle_at : Bool → Bool → List ℕ → Option BodyState → HeadStep → Bool
+idle_at stopped closing pending body next = not stopped && no_bytes pending && (closing || not (starts body next))
 
 -- its link is to be closed: after a stop, behind a response that closes and is written, or where the input has ended and
 -- nothing is left to do
-abbrev pub shut_at : Bool → Bool → Bool → List ℕ → HeadStep → Bool
-shut_at stopped closing ended pending next = stopped || ((closing || ended) && idle_at false closing pending next)
+abbrev pub shut_at : Bool → Bool → Bool → List ℕ → Option BodyState → HeadStep → Bool
+shut_at stopped closing ended pending body next = stopped || ((closing || ended) && idle_at false closing pending body next)
 
 -- a connection by its parts
-abbrev pub view_at : Site → Option StopCause → List ℕ → List Entry → Bool → Bool → List ℕ → HeadStep → ConnView
-view_at site cause pending journal closing ended held next =
+abbrev pub view_at : Site → Option StopCause → List ℕ → List Entry → Bool → Bool → Option BodyState → List ℕ → HeadStep → ConnView
+view_at site cause pending journal closing ended body held next =
     record {
       held = true;
       cause = cause;
       pending = pending;
       starts = map start_of journal;
-      course = record { bytes = bytes_at site pending journal closing held; heavy = λ trees more later. false };
+      course = record { bytes = bytes_at site pending journal closing body held; heavy = λ trees more later. false };
       room = room_at (is_some cause) closing ended held;
-      ready = if starts_at (is_some cause) closing pending next then 0 ∷ [] else [];
+      ready = if starts_at (is_some cause) closing pending body next then 0 ∷ [] else [];
       jobs = [];
-      shut = shut_at (is_some cause) closing ended pending next;
+      shut = shut_at (is_some cause) closing ended pending body next;
       raceless = true;
       deadline = None;
     }
 
 abbrev pub view_of : Site → Conn → ConnView
-view_of site conn = view_at site conn.cause conn.pending conn.journal.items conn.closing conn.ended conn.held conn.next
+view_of site conn = view_at site conn.cause conn.pending conn.journal.items conn.closing conn.ended conn.body conn.held conn.next
 
 -- A response has at most 65536 bytes, since no more are kept for a peer, and each byte that is held may begin a head.
 unfoldable pub weight : ℕ
@@ -81,3 +82,10 @@ pub record StepsConn (site : Site) (now : Start) (e : Event) (a : StepAnswer) (o
 -- what each connection shows is sound
 abbrev pub AllSound : Type 0
 AllSound = (site : Site) (conn : Conn) → IsSound (view_of site conn)
+
+-- a connection that is live, and isn't to be closed, reads, runs or writes
+abbrev pub GoesOn : ConnView → Type 0
+GoesOn v = is_live v ≡ true → v.shut ≡ false → v.room ≡ None → no_bytes v.pending ≡ true → no_nodes v.ready ≡ false
+
+abbrev pub AllGoOn : Type 0
+AllGoOn = (site : Site) (conn : Conn) → GoesOn (view_of site conn)

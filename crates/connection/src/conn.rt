@@ -5,9 +5,12 @@ ghost use Rattle.req_head.specs.Step.{head_step};
 ghost use Rattle.site_model.specs.declared.site.Site.{Site as SiteParts};
 ghost use Rattle.file_tree.specs.Tree.{Trees};
 ghost use Rattle.ngx_outside.specs.declared.event.Entry.{Entry as Logged};
-ghost use Rattle.connection.specs.Steps.{begins as head_begins, RanOne};
+ghost use Rattle.connection.specs.Steps.{begins as head_begins, starts, rest_of, RanOne};
+ghost use Rattle.body_frame.specs.Outcome.{Short};
 
+use crate::body::{drop_body, drop_rest};
 use crate::respond::{put_answer, put_page};
+use body_frame::BodyState;
 use byte_text::{ByteQueue, OutOfMemory};
 use ngx_outside::{Entry, StepAnswer, StopCause};
 use req_head::{HeadStep, head_stays, may_decide, read_head, refusal_stays, size_fits};
@@ -55,6 +58,13 @@ fn first_bytes(bytes: &[u8], count: usize) -> &[u8]
     &bytes[..count]
 }
 
+fn last_bytes(bytes: &[u8], count: usize) -> &[u8]
+    requires { count ≤ length bytes.now }
+    ensures { result.now ≡ drop count bytes.now }
+{
+    &bytes[count..]
+}
+
 // The bytes behind the first ones.
 fn behind(held: &ByteQueue, size: usize) -> &[u8]
     requires { size ≤ length held.now }
@@ -91,12 +101,13 @@ fn run_one(
     tree: u64,
     held: &mut ByteQueue,
     next: &mut HeadStep,
+    body: &mut Option<BodyState>,
     pending: &mut ByteQueue,
     journal: &mut Vec<Entry>,
 ) -> Result<bool, OutOfMemory>
     requires looked { next.old ≡ head_step held.old }
     requires begins { head_begins next.old ≡ true }
-    ensures ran { (trees : Trees) → IfOk result (λ closing. RanOne site.now trees (record { moment = moment; tree = tree }) (vec_len journal.old) next.old held.old held.new pending.old pending.new closing) }
+    ensures ran { (trees : Trees) → IfOk result (λ closing. RanOne site.now trees (record { moment = moment; tree = tree }) (vec_len journal.old) next.old held.old held.new body.new pending.old pending.new closing) }
     ensures looked { OnOk result (next.new ≡ head_step held.new) }
     ensures journal { OnOk result ((entry : Logged) × (start_of entry ≡ record { moment = moment; tree = tree }) × (journal.new.items ≡ journal.old.items ++ entry ∷ [])) }
     ensures kept { OnErr result (journal.new.items ≡ journal.old.items) }
@@ -105,17 +116,20 @@ fn run_one(
     match next {
         HeadStep::Head { head, size } => {
             size_fits();
-            let size = *size;
+            let dropped = drop_body(BodyState::new(head.body), behind(held, *size));
+            let size = *size + dropped.used;
             let following = read_head(alloc, behind(held, size))?;
             let sent = put_answer(alloc, site, pending, head, journal.len(), moment)?;
             log(journal, moment, tree, sent.status, sent.length)?;
             held.used(size);
             *next = following;
-            Ok(!sent.keep)
+            *body = dropped.body;
+            Ok(!sent.keep || dropped.broken)
         }
         HeadStep::Bad { code, no_body } => {
             let length = put_page(alloc, pending, *code, moment, *no_body)?;
             log(journal, moment, tree, *code, length as u64)?;
+            *body = None;
             Ok(true)
         }
         HeadStep::More => Ok(false),
@@ -130,11 +144,14 @@ pub struct Conn {
     pending: ByteQueue,
     journal: Vec<Entry>,
     next: HeadStep,
+    body: Option<BodyState>,
     closing: bool,
     ended: bool,
     cause: Option<StopCause>,
     ghost looked: { is_some cause ≡ false → next ≡ head_step held },
     ghost dropped: { is_some cause ≡ true → pending ≡ [] },
+    ghost drained: { is_some body ≡ true → held ≡ [] },
+    ghost unended: { is_some body ≡ true → rest_of body [] ≡ Short },
 }
 
 impl Conn {
@@ -155,6 +172,7 @@ impl Conn {
             pending: ByteQueue::new(alloc),
             journal: Vec::new(alloc),
             next,
+            body: None,
             closing: false,
             ended: false,
             cause: None,
@@ -199,28 +217,38 @@ impl Conn {
         }
     }
 
+    // Whether the bytes that are held begin a request, once nothing of a body is to be dropped.
+    fn starts(&self) -> bool
+        ensures { result ≡ starts self.now.body self.now.next }
+    {
+        match self.body {
+            Some(_) => false,
+            None => begins(&self.next),
+        }
+    }
+
     /// Whether a further request may start.
     pub fn is_ready(&self) -> bool
-        ensures { result ≡ starts_at (is_some self.now.cause) self.now.closing self.now.pending self.now.next }
+        ensures { result ≡ starts_at (is_some self.now.cause) self.now.closing self.now.pending self.now.body self.now.next }
     {
-        !self.is_stopped() && !self.closing && self.pending.is_empty() && begins(&self.next)
+        !self.is_stopped() && !self.closing && self.pending.is_empty() && self.starts()
     }
 
     /// Whether nothing is to be done until more arrives.
     pub fn is_idle(&self) -> bool
-        ensures { result ≡ idle_at (is_some self.now.cause) self.now.closing self.now.pending self.now.next }
+        ensures { result ≡ idle_at (is_some self.now.cause) self.now.closing self.now.pending self.now.body self.now.next }
     {
-        !self.is_stopped() && self.pending.is_empty() && (self.closing || !begins(&self.next))
+        !self.is_stopped() && self.pending.is_empty() && (self.closing || !self.starts())
     }
 
     /// Whether its link is to be closed.
     pub fn is_shut(&self) -> bool
-        ensures { result ≡ shut_at (is_some self.now.cause) self.now.closing self.now.ended self.now.pending self.now.next }
+        ensures { result ≡ shut_at (is_some self.now.cause) self.now.closing self.now.ended self.now.pending self.now.body self.now.next }
     {
         self.is_stopped()
             || ((self.closing || self.ended)
                 && self.pending.is_empty()
-                && (self.closing || !begins(&self.next)))
+                && (self.closing || !self.starts()))
     }
 
     // It is stopped: what is unsent is dropped.
@@ -244,14 +272,21 @@ impl Conn {
             return StepAnswer::Skipped;
         }
         let taken = bytes.len().min(room);
+        let bytes = first_bytes(bytes, taken);
+        let dropped = drop_rest(self.body, bytes);
         match take_in(
             alloc,
             &mut self.held,
             &mut self.next,
-            first_bytes(bytes, taken),
+            last_bytes(bytes, dropped.used),
         ) {
-            Ok(()) => StepAnswer::Done { taken },
+            Ok(()) => {
+                self.body = dropped.body;
+                self.closing = dropped.broken;
+                StepAnswer::Done { taken }
+            }
             Err(OutOfMemory) => {
+                self.body = None;
                 self.pending.clear();
                 self.cause = Some(StopCause::Memory);
                 StepAnswer::OutOfMemory
@@ -318,6 +353,7 @@ impl Conn {
             tree,
             &mut self.held,
             &mut self.next,
+            &mut self.body,
             &mut self.pending,
             &mut self.journal,
         ) {
@@ -326,6 +362,7 @@ impl Conn {
                 StepAnswer::Done { taken: 0 }
             }
             Err(OutOfMemory) => {
+                self.body = None;
                 self.pending.clear();
                 self.cause = Some(StopCause::Memory);
                 StepAnswer::OutOfMemory

@@ -3,13 +3,13 @@ ghost use Rattle.std.specs.Prelude.{◌≡◌, ◌≤◌, ◌<◌, ◌+◌, ◌^
 ghost use Rattle.file_tree.specs.Tree.{Trees};
 ghost use Rattle.ngx_outside.specs.Views.{Start};
 ghost use Rattle.resp_head.specs.Head.{head_of};
-ghost use Rattle.site_model.specs.Serving.{Reply as Replied, page_reply as page_replied, reply_of};
+ghost use Rattle.site_model.specs.Serving.{Reply as Replied, page_reply as page_replied};
 ghost use Rattle.site_model.specs.Shown.{IsReply};
-ghost use Rattle.connection.specs.Answers.{response, reply_head, reply_by, content_of, Responds, is_head as asks_head};
+ghost use Rattle.connection.specs.Answers.{response, reply_head, reply_at, content_of, Responds, is_head as asks_head};
 
 use byte_text::{ByteQueue, ByteText, OutOfMemory};
 use error_page::page_text;
-use http_types::{BodyKind, Method};
+use http_types::Method;
 use req_head::Head;
 use resp_head::{ReplyHead, head_text};
 use site_model::{Reply, Site, page_reply};
@@ -123,8 +123,8 @@ pub struct Sent {
     pub keep: bool,
 }
 
-// The response of the site.
-fn put_reply(
+/// Appends the response to a request that so many others came before.
+pub fn put_answer(
     alloc: Global,
     site: &Site,
     out: &mut ByteQueue,
@@ -133,7 +133,7 @@ fn put_reply(
     moment: u64,
 ) -> Result<Sent, OutOfMemory>
     requires { count < 2 ^ 63 }
-    ensures put { (trees : Trees) (start : Start) → start.moment ≡ moment → IfOk result (λ sent. Responds (reply_of site.now.returned (trees start.tree)) start count head.now sent.keep out.old out.new) }
+    ensures put { (trees : Trees) (start : Start) → start.moment ≡ moment → IfOk result (λ sent. Responds (reply_at site.now trees start) start count head.now sent.keep out.old out.new) }
     ensures fits { OnOk result (length out.new ≤ length out.old + 65536) }
 {
     let reply = site.reply();
@@ -145,43 +145,4 @@ fn put_reply(
         length: content(reply, no_body).len() as u64,
         keep,
     })
-}
-
-// The response to a request whose content isn't read yet.
-fn put_unread(
-    alloc: Global,
-    out: &mut ByteQueue,
-    head: &Head,
-    count: usize,
-    moment: u64,
-) -> Result<Sent, OutOfMemory>
-    ensures put { (start : Start) → start.moment ≡ moment → IfOk result (λ sent. Responds (page_replied 501) start count head.now sent.keep out.old out.new) }
-    ensures fits { OnOk result (length out.new ≤ length out.old + 65536) }
-{
-    let length = put_page(alloc, out, 501, moment, is_head(&head.method))?;
-    Ok(Sent {
-        status: 501,
-        length: length as u64,
-        keep: false,
-    })
-}
-
-/// Appends the response to a request that so many others came before.
-pub fn put_answer(
-    alloc: Global,
-    site: &Site,
-    out: &mut ByteQueue,
-    head: &Head,
-    count: usize,
-    moment: u64,
-) -> Result<Sent, OutOfMemory>
-    requires { count < 2 ^ 63 }
-    ensures put { (trees : Trees) (start : Start) → start.moment ≡ moment → IfOk result (λ sent. Responds (reply_by head.now.body site.now trees start) start count head.now sent.keep out.old out.new) }
-    ensures fits { OnOk result (length out.new ≤ length out.old + 65536) }
-{
-    match head.body {
-        BodyKind::Empty => put_reply(alloc, site, out, head, count, moment),
-        BodyKind::Length(_) => put_unread(alloc, out, head, count, moment),
-        BodyKind::Chunked => put_unread(alloc, out, head, count, moment),
-    }
 }

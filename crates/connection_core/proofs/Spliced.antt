@@ -170,9 +170,9 @@ parts_count number (Some room) false false true = refl
 parts_count number (Some room) false false false = refl
 
 pub wants_count : (number : ℕ) (site : Site) (conn : Conn) →
-    tally (is_some (view_of site conn).room) + tally (starts_at (is_some conn.cause) conn.closing conn.pending conn.next) + tally (not (no_bytes conn.pending)) + tally (view_of site conn).shut ≡ length (wants_at number (view_of site conn))
+    tally (is_some (view_of site conn).room) + tally (starts_at (is_some conn.cause) conn.closing conn.pending conn.body conn.next) + tally (not (no_bytes conn.pending)) + tally (view_of site conn).shut ≡ length (wants_at number (view_of site conn))
 unfolding wants_at
-wants_count number site conn = parts_count number (view_of site conn).room (starts_at (is_some conn.cause) conn.closing conn.pending conn.next) (no_bytes conn.pending) (view_of site conn).shut
+wants_count number site conn = parts_count number (view_of site conn).room (starts_at (is_some conn.cause) conn.closing conn.pending conn.body conn.next) (no_bytes conn.pending) (view_of site conn).shut
 
 -- all that stand before the last ones
 pub size_within : (c : ℕ) (wants : List Want) (count start len : ℕ) (s : Splits c wants count) → start ≡ length s.lower → len ≡ length wants → start + count ≤ len

@@ -1,19 +1,14 @@
 -- The steps of the core, by the event.
 use Rattle.std.proofs.Common.{◌≡◌, ℕ, min, Bool, true, false, cond, eqb, List, [], ◌∷◌, Option, None, Some, refl, sym, subst}
-use Rattle.std.specs.Prelude.{is_some}
 use Rattle.http_types.specs.declared.words.Addr.{Addr}
-use Rattle.ngx_outside.specs.Views.{ConnView, Course, Start, StepsOwn, OneSteps, Steps, OpensIf, CountsRefused, Ticked, Waits, now_after, kept_moment, nobody, is_idle}
+use Rattle.ngx_outside.specs.Views.{ConnView, Course, Start, StepsOwn, OneSteps, Steps, OpensIf, CountsRefused, Ticked, Waits, now_after, kept_moment, nobody}
 use Rattle.ngx_outside.specs.declared.event.Event.{Event}
 use Rattle.ngx_outside.specs.declared.event.Event.TheVariants as ev
 use Rattle.ngx_outside.specs.declared.event.StepAnswer.{StepAnswer}
 use Rattle.ngx_outside.specs.declared.event.StepAnswer.TheVariants.{Done, Skipped, OutOfMemory}
-use Rattle.ngx_outside.specs.declared.event.Entry.{Entry}
-use Rattle.ngx_outside.specs.declared.event.StopCause.{StopCause}
-use Rattle.req_head.specs.declared.head.HeadStep.{HeadStep}
-use Rattle.req_head.specs.declared.head.HeadStep.TheVariants.{More, Head, Bad}
 use Rattle.site_model.specs.declared.site.Site.{Site}
 use Rattle.connection.specs.declared.conn.Conn.{Conn}
-use Rattle.connection.specs.Conn.{view_at, view_of, idle_at}
+use Rattle.connection.specs.Conn.{view_of}
 use Rattle.connection_core.specs.Table.{is_own, event_conn, view_in}
 use Rattle.connection_core.specs.Core.{Counted}
 
@@ -69,16 +64,6 @@ not_opening e OutOfMemory old new o h = h
 
 pub refused_own : (e : Event) (a : StepAnswer) (old new : ℕ) → is_own e ≡ true → Counted a old new → CountsRefused e a old new
 refused_own e a old new o h = not_opening e a old new o h
-
--- idle by its parts, and as it shows
-pub idle_shown : (site : Site) (cause : Option StopCause) (pending : List ℕ) (journal : List Entry) (closing ended : Bool) (held : List ℕ) (next : HeadStep) →
-    idle_at (is_some cause) closing pending next ≡ is_idle (view_at site cause pending journal closing ended held next)
-idle_shown site (Some why) pending journal closing ended held next = refl
-idle_shown site None (b ∷ pending) journal closing ended held next = refl
-idle_shown site None [] journal true ended held next = refl
-idle_shown site None [] journal false ended held More = refl
-idle_shown site None [] journal false ended held (Head head size) = refl
-idle_shown site None [] journal false ended held (Bad code no_body) = refl
 
 -- the clock's last moment
 pub kept_is : (n : ℕ) → min n 253402300799 ≡ kept_moment n

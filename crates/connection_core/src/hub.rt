@@ -48,7 +48,7 @@ impl Hub {
     /// A core that holds no connection, at moment 0 and tree 0.
     pub fn new(alloc: Global, site: Site) -> Result<Self, OutOfMemory>
         ensures empty { IfOk result (λ hub. (c : ℕ) → view_at hub c ≡ nobody) }
-        ensures fresh { IfOk result (λ hub. (local peer : End) → fresh_at hub local peer ≡ fresh_course site) }
+        ensures fresh { IfOk result (λ hub. fresh_at hub ≡ (λ local peer. fresh_course site)) }
         ensures now { IfOk result (λ hub. now_at hub ≡ record { moment = 0; tree = 0 }) }
     {
         let table = Table::new(alloc, site)?;

@@ -2,4 +2,4 @@ use Rattle.connection.proofs.Sound.{sound}
 use Rattle.connection.proofs.law.connections_are_sound.Goals as goal
 
 pub returns : goal.returns
-returns c = λ site s. sound site s.cause s.pending s.journal.items s.closing s.ended s.held s.next s.looked s.dropped
+returns c = λ site s. sound site s.cause s.pending s.journal.items s.closing s.ended s.body s.held s.next s.looked s.dropped s.drained s.unended

@@ -1,19 +1,34 @@
-use Rattle.std.proofs.Common.{◌≡◌, ◌∙◌, sym, ap, false, length, ◌++◌}
+use Rattle.std.proofs.Common.{◌≡◌, ◌≤◌, [], ◌∙◌, sym, ap, subst, false, length, drop, ◌++◌, List, ℕ, arith}
 use Rattle.std.specs.Prelude.{is_some, ◌==◌}
-use Rattle.connection.proofs.Moves.{room_some, arrived_went, arrived_left, some_taken, within_taken}
+use Rattle.std.proofs.lemmas.List.{length-take}
+use Rattle.ngx_outside.specs.Views.{Went}
+use Rattle.ngx_outside.specs.Views.Ground.{Always}
+use Rattle.connection.specs.Conn.{view_at}
+use Rattle.connection.proofs.Moves.{room_some, arrived_went, arrived_left, some_taken}
 use Rattle.connection.proofs.conn.Conn.arrived.Goals as goal
 
 pub returns-in-Ok : goal.returns-in-Ok
 returns-in-Ok c = λ site now conn.
     let s = c.args.self.now in
+    let d = c.drop_rest-dropped.result in
+    let n = c.take_in.new in
+    let first = c.first_bytes-bytes.result.now in
+    let kept : List ℕ = drop d.used first in
     let has = sym c.room.ensures ∙ c.in-Some.is in
     let r = room_some (is_some s.cause) s.closing s.ended s.held c.in-Some.room has in
     let some : (length c.args.bytes.now == 0) ≡ false = sym c.is_empty.ensures ∙ c.if-is_empty.false in
-    let is = c.in-Ok.ensures.held ∙ ap (λ x. s.held ++ x) c.first_bytes.ensures in
+    let held : n.held ≡ s.held ++ kept = c.in-Ok.ensures.held ∙ ap (λ x. s.held ++ x) c.last_bytes.ensures in
+    let drops = c.drop_rest-dropped.ensures.drops in
+    let few : length kept ≤ c.min-taken.result =
+    let a = drops.shorter in
+    let b = ap length c.first_bytes-bytes.ensures in
+    let e = length-take c.min-taken.result c.args.bytes.now in
+    omega (arith, a, b, e) in
     record {
       own = λ course. (
         record { most = c.in-Some.room; has_room = has; takes = c.min-taken.ensures; some = some_taken (length c.args.bytes.now) c.in-Some.room c.min-taken.result c.min-taken.ensures some r.3 },
-        arrived_went site s.cause s.pending s.journal.items s.closing s.ended s.held c.take_in.new.held s.next c.take_in.new.next _ r.0 is,
+        subst (λ b. Went Always (view_at site s.cause s.pending s.journal.items s.closing s.ended s.body s.held s.next) (view_at site s.cause s.pending s.journal.items d.broken s.ended d.body n.held n.next) b [] []) c.first_bytes-bytes.ensures
+            (arrived_went site s.cause s.pending s.journal.items s.closing d.broken s.ended s.body d.body s.held n.held kept s.next n.next first r.0 r.1 s.drained c.drop_rest-dropped.ensures.none drops held),
       );
-      left = arrived_left s.cause s.pending s.closing s.held c.take_in.new.held c.args.bytes.now c.min-taken.result is (within_taken (length c.args.bytes.now) c.in-Some.room c.min-taken.result c.min-taken.ensures);
+      left = arrived_left s.cause s.pending s.closing d.broken s.held n.held kept c.args.bytes.now c.min-taken.result r.1 held few;
     }

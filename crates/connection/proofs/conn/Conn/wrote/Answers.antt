@@ -9,6 +9,6 @@ returns c = λ site now conn.
     let within : c.args.count ≤ length s.pending = omega (arith, c.if-count-len.false, c.len.ensures) in
     let live = not_stopped s.cause s.pending c.args.count s.dropped some within in
     record {
-      own = λ course. (some, within, wrote_went site s.cause s.pending c.used.new.self s.journal.items s.closing s.ended s.held s.next c.args.count live c.used.ensures);
+      own = λ course. (some, within, wrote_went site s.cause s.pending c.used.new.self s.journal.items s.closing s.ended s.body s.held s.next c.args.count live c.used.ensures);
       left = wrote_left s.cause s.pending c.used.new.self s.closing s.held c.args.count live c.used.ensures some within;
     }

@@ -1,0 +1,151 @@
+// Runs a script.
+ghost use Rattle.std.specs.Prelude.{◌≡◌, ◌++◌, ℕ, List, Ok, Err, IfOk, IfErr, OnOk, map, is_some, if◌then◌else◌};
+ghost use Rattle.report_text.specs.declared.report.ConnState.TheVariants.{Stopped, Idle, Busy};
+ghost use Rattle.conf_text.specs.Reading.{OnFault};
+ghost use Rattle.replay_run.specs.Scene.{stage, AreHeld};
+ghost use Rattle.connection_core.specs.Core.{view_at, now_at, journal_at, conns_held};
+ghost use Rattle.report_text.specs.Report.{run_text, report_of};
+ghost use Rattle.ngx_cli.specs.Running.{main_path as path_of_main, main_text as text_of_main, site_of as site_described, parts_of, report_in, Ran, Replays};
+
+use byte_text::{ByteText, OutOfMemory};
+use conf_inherit::build;
+use conf_text::{ConfError, parse};
+use connection_core::{Hub, cores_are_sound};
+use ngx_outside::{StopCause, all_is_sent_when_idle, tracks_begin};
+use replay_run::{Counts, Player, run_lines};
+use replay_text::{Conf, EventLine, ScriptError, ScriptFault, read};
+use report_text::{ConnReport, ConnState, conf_fault_text, conn_text, end_text, script_fault_text};
+use site_model::Site;
+use std::alloc::Global;
+
+/// What a script came to.
+#[derive(Clone, Copy, Debug, PartialEq, Eq)]
+pub enum Outcome {
+    /// It was run.
+    Done,
+    /// Its bytes are outside its grammar.
+    ScriptFault(ScriptFault),
+    /// Its configuration has a fault.
+    ConfFault,
+}
+
+// The path and the text of the main configuration.
+fn main_path(confs: &[Conf]) -> &[u8]
+    ensures { result.now ≡ path_of_main confs.now }
+{
+    match confs {
+        [] => b"",
+        [main, ..] => main.path.as_slice(),
+    }
+}
+
+fn main_text(confs: &[Conf]) -> &[u8]
+    ensures { result.now ≡ text_of_main confs.now }
+{
+    match confs {
+        [] => b"",
+        [main, ..] => main.bytes.as_slice(),
+    }
+}
+
+// The site that a configuration's text describes.
+#[tactic(auto, unfolding(crate::specs::Running::site_of))]
+fn site_of(alloc: Global, text: &[u8]) -> Result<Site, ConfError>
+    ensures ok { IfOk result (λ site. site_described text.now ≡ Ok (parts_of site)) }
+    ensures fault { IfErr result (λ e. OnFault e (λ fault. site_described text.now ≡ Err fault)) }
+{
+    let directives = parse(alloc, 0, text)?;
+    build(alloc, directives.as_slice())
+}
+
+fn state_of(cause: Option<StopCause>, idle: bool) -> ConnState
+    ensures { result ≡ (if is_some cause then Stopped else (if idle then Idle else Busy)) }
+{
+    if cause.is_some() {
+        ConnState::Stopped
+    } else if idle {
+        ConnState::Idle
+    } else {
+        ConnState::Busy
+    }
+}
+
+// What is reported of a connection.
+fn report<'a>(hub: &'a Hub, player: &'a Player, conn: u32) -> ConnReport<'a>
+    ensures { report_of result ≡ report_in (stage (view_at hub.now) (now_at hub.now) player.now.lanes.items) (journal_at hub.now) conn }
+{
+    let cause = hub.cause(conn);
+    ConnReport {
+        conn,
+        state: state_of(cause, hub.is_idle(conn)),
+        closes: hub.is_shut(conn),
+        cause,
+        journal: hub.journal(conn),
+        sent: player.emitted(conn),
+    }
+}
+
+// Prints the run.
+#[tactic(auto, unfolding(report_text::specs::Report::run_text))]
+fn put_run(
+    hub: &Hub,
+    player: &Player,
+    counts: Counts,
+    out: &mut ByteText,
+) -> Result<(), OutOfMemory>
+    ensures held { AreHeld (conns_held hub.now) (view_at hub.now) }
+    ensures text { OnOk result (out.new ≡ out.old ++ run_text (map (report_in (stage (view_at hub.now) (now_at hub.now) player.now.lanes.items) (journal_at hub.now)) (conns_held hub.now)) counts.skipped counts.refused) }
+{
+    for conn in hub.ids() {
+        conn_text(&report(hub, player, *conn), out)?;
+    }
+    end_text(counts.skipped, counts.refused, out)?;
+    Ok(())
+}
+
+// Runs a script's lines on a new core, and prints the run.
+fn run(
+    alloc: Global,
+    site: Site,
+    events: &[EventLine],
+    out: &mut ByteText,
+) -> Result<(), OutOfMemory>
+    ensures { OnOk result ((text : List ℕ) × (out.new ≡ out.old ++ text) × Ran site events.now text) }
+{
+    tracks_begin();
+    all_is_sent_when_idle();
+    cores_are_sound();
+    let mut hub = Hub::new(alloc, site)?;
+    let mut player = Player::new(alloc);
+    let mut tree = 0;
+    let counts = run_lines(&mut player, &mut hub, &mut tree, events)?;
+    put_run(&hub, &player, counts, out)?;
+    Ok(())
+}
+
+/// Runs a script, and appends what is printed of it: what each connection came to, or the first fault of the script or of
+/// its configuration. After want of memory `out` holds some part of the text.
+pub fn replay(alloc: Global, bytes: &[u8], out: &mut ByteText) -> Result<Outcome, OutOfMemory>
+    ensures { IfOk result (λ o. (text : List ℕ) × (out.new ≡ out.old ++ text) × Replays bytes.now o text) }
+{
+    let script = match read(alloc, bytes) {
+        Ok(script) => script,
+        Err(ScriptError::Fault(fault)) => {
+            script_fault_text(fault, out)?;
+            return Ok(Outcome::ScriptFault(fault));
+        }
+        Err(ScriptError::OutOfMemory) => return Err(OutOfMemory),
+    };
+    let confs = script.confs.as_slice();
+    match site_of(alloc, main_text(confs)) {
+        Ok(site) => {
+            run(alloc, site, script.events.as_slice(), out)?;
+            Ok(Outcome::Done)
+        }
+        Err(ConfError::Fault(fault)) => {
+            conf_fault_text(&fault, main_path(confs), out)?;
+            Ok(Outcome::ConfFault)
+        }
+        Err(ConfError::OutOfMemory) => Err(OutOfMemory),
+    }
+}
