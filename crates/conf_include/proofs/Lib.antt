@@ -1,0 +1,9 @@
+pub mod ToldLaws
+pub mod PutLaws
+pub mod AnswerLaws
+pub mod PathLaws
+pub mod MaskLaws
+pub mod ListingLaws
+pub mod FileLaws
+pub mod IncludeLaws
+pub mod MainLaws

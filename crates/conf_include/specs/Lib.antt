@@ -1,0 +1,6 @@
+pub mod Paths
+pub mod Masks
+pub mod Listings
+pub mod Expansion
+pub mod Told
+pub mod Steps

@@ -1,0 +1,15 @@
+//! A configuration's text from its files: each `include` is replaced by the directives of the files that it names.
+#![tactic(auto)]
+
+mod include;
+mod listing;
+mod main_file;
+mod mask;
+mod open;
+mod paths;
+mod stop;
+
+pub use main_file::{ExpandError, Expanded, PlacedFault, expand};
+
+#[cfg(test)]
+mod tests;
