@@ -1,0 +1,6 @@
+pub mod Decided
+pub mod Scans
+pub mod Steps
+pub mod Feeds
+pub mod Insides
+pub mod Opens

@@ -1,0 +1,5 @@
+pub mod Marks
+pub mod Commands
+pub mod Split
+pub mod Moves
+pub mod Laws

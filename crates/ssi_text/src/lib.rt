@@ -1,0 +1,16 @@
+//! A document of server side includes, split into its text and its commands (nginx's ngx_http_ssi_module).
+#![tactic(auto)]
+
+mod command;
+mod laws;
+mod part;
+mod place;
+mod scan;
+mod state;
+
+pub use laws::{pieces_make_no_difference, what_is_held_is_open};
+pub use part::{Param, Params, Part};
+pub use state::SsiState;
+
+#[cfg(test)]
+mod tests;

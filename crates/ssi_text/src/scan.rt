@@ -1,0 +1,181 @@
+// The scan of bytes that may go on.
+ghost use Rattle.std.specs.Prelude.{◌≡◌, ℕ, ◌+◌, ◌-◌, ◌<◌, ◌≤◌, ◌++◌, [], ◌∷◌, length, take, drop, map, IfOk, IfSome, IfNone, MatchOption};
+ghost use Rattle.ssi_text.specs.Marks.{Byte, marks, part_marks};
+ghost use Rattle.ssi_text.specs.Moves.{Moved};
+ghost use Rattle.ssi_text.specs.Split.{split, with_text, limit, begun as begun_front, front, opening};
+ghost use Rattle.ssi_text.specs.Commands.{size};
+ghost use Rattle.ssi_text.specs.declared.place.Place.TheVariants.{Outside};
+
+use crate::command::made;
+use crate::part::{Front, Part};
+use crate::place::{Begun, begins_with, rest_of, size_of_command};
+use byte_text::{ByteText, OutOfMemory};
+use memchr::memmem;
+use std::alloc::Global;
+
+/// The most bytes that a command has.
+const LIMIT: usize = 8192;
+
+/// How many bytes of text stand first.
+fn text_len(bytes: &[u8]) -> usize
+    ensures within { result ≤ length bytes.now }
+    ensures text { split 0 bytes.now ≡ with_text (take result bytes.now) (split 0 (drop result bytes.now)) }
+{
+    match memmem::find(bytes, b"<!--#") {
+        Some(at) => at,
+        None => text_len_at_end(bytes),
+    }
+}
+
+/// The same where no `<!--#` stands in the bytes: all but what may be the beginning of one.
+fn text_len_at_end(bytes: &[u8]) -> usize
+    requires { (k : ℕ) → k + 5 ≤ length bytes.now → front (drop k bytes.now) ≡ Front.Plain }
+    ensures within { result ≤ length bytes.now }
+    ensures text { split 0 bytes.now ≡ with_text (take result bytes.now) (split 0 (drop result bytes.now)) }
+{
+    let len = bytes.len();
+    for at in len.saturating_sub(4)..len {
+        match begins_with(b"<!--#", rest_of(bytes, at)) {
+            Begun::No => {}
+            Begun::Yes => return at,
+            Begun::Maybe => return at,
+        }
+    }
+    len
+}
+
+/// As many of the bytes as a command may have.
+fn first_bytes(bytes: &[u8]) -> &[u8]
+    ensures value { result.now ≡ take limit bytes.now }
+    ensures len { 5 ≤ length bytes.now → 5 ≤ length result.now }
+    ensures within { length result.now ≤ length bytes.now }
+{
+    if bytes.len() > LIMIT {
+        &bytes[..LIMIT]
+    } else {
+        bytes
+    }
+}
+
+/// What stands behind `<!--#`, as far as a command goes.
+fn behind_opening(bytes: &[u8]) -> &[u8]
+    requires { 5 ≤ length bytes.now }
+    ensures value { result.now ≡ drop 5 (take limit bytes.now) }
+    ensures len { length result.now + 5 ≤ length bytes.now }
+{
+    let first = first_bytes(bytes);
+    rest_of(first, 5)
+}
+
+/// The inside of a command, of which so many bytes stand behind `<!--#`.
+fn inside_of(bytes: &[u8], size: usize) -> &[u8]
+    requires { 5 + size ≤ length bytes.now }
+    ensures { result.now ≡ take (size - 3) (drop 5 bytes.now) }
+{
+    let inside = rest_of(bytes, 5);
+    &inside[..size.saturating_sub(3)]
+}
+
+/// What a command is that has begun.
+fn begun(alloc: Global, bytes: &[u8]) -> Result<Front, OutOfMemory>
+    requires { 5 ≤ length bytes.now }
+    ensures { IfOk result (λ found. found ≡ begun_front bytes.now (size Outside (drop 5 (take limit bytes.now)))) }
+{
+    match size_of_command(behind_opening(bytes)) {
+        Some(n) => {
+            let part = made(alloc, inside_of(bytes, n))?;
+            Ok(Front::Whole(part, 5 + n))
+        }
+        None => {
+            if bytes.len() >= LIMIT {
+                Ok(Front::Whole(Part::Bad, LIMIT))
+            } else {
+                Ok(Front::Open)
+            }
+        }
+    }
+}
+
+/// What stands at the front.
+fn front_of(alloc: Global, bytes: &[u8]) -> Result<Front, OutOfMemory>
+    ensures { IfOk result (λ found. found ≡ front bytes.now) }
+{
+    match begins_with(b"<!--#", bytes) {
+        Begun::Yes => {
+            let found = begun(alloc, bytes)?;
+            Ok(found)
+        }
+        Begun::No => Ok(Front::Plain),
+        Begun::Maybe => Ok(Front::Open),
+    }
+}
+
+fn push_part(out: &mut Vec<Part>, part: Part) -> Result<(), OutOfMemory>
+    ensures { IfOk result (λ _. marks out.new.items ≡ marks out.old.items ++ part_marks part) }
+{
+    out.push(part)?;
+    Ok(())
+}
+
+/// Adds text, if there is some.
+pub fn push_text(alloc: Global, bytes: &[u8], out: &mut Vec<Part>) -> Result<(), OutOfMemory>
+    ensures { IfOk result (λ _. marks out.new.items ≡ marks out.old.items ++ map Byte bytes.now) }
+{
+    if bytes.is_empty() {
+        return Ok(());
+    }
+    let text = ByteText::from_slice(alloc, bytes)?;
+    push_part(out, Part::Text(text))?;
+    Ok(())
+}
+
+/// Takes the text that stands first.
+fn take_text(alloc: Global, bytes: &[u8], out: &mut Vec<Part>) -> Result<usize, OutOfMemory>
+    ensures within { IfOk result (λ n. n ≤ length bytes.now) }
+    ensures moved { IfOk result (λ n. Moved (marks out.old.items) (marks out.new.items) bytes.now (drop n bytes.now)) }
+{
+    let len = text_len(bytes);
+    push_text(alloc, &bytes[..len], out)?;
+    Ok(len)
+}
+
+/// Takes what stands at the front: nothing, where it is open.
+fn take_front(alloc: Global, bytes: &[u8], out: &mut Vec<Part>) -> Result<usize, OutOfMemory>
+    requires { 0 < length bytes.now }
+    ensures within { IfOk result (λ n. n ≤ length bytes.now) }
+    ensures moved { IfOk result (λ n. Moved (marks out.old.items) (marks out.new.items) bytes.now (drop n bytes.now)) }
+    ensures open { IfOk result (λ n. n ≡ 0 → split 0 bytes.now ≡ ([], bytes.now)) }
+{
+    match front_of(alloc, bytes)? {
+        Front::Open => Ok(0),
+        Front::Plain => {
+            push_text(alloc, &bytes[..1], out)?;
+            Ok(1)
+        }
+        Front::Whole(part, n) => {
+            push_part(out, part)?;
+            Ok(n)
+        }
+    }
+}
+
+/// Puts out what the bytes decide, and answers how many bytes that is.
+pub fn split_bytes(alloc: Global, bytes: &[u8], out: &mut Vec<Part>) -> Result<usize, OutOfMemory>
+    ensures within { IfOk result (λ n. n ≤ length bytes.now) }
+    ensures out { IfOk result (λ n. marks out.new.items ≡ marks out.old.items ++ (split 0 bytes.now).0) }
+    ensures held { IfOk result (λ n. drop n bytes.now ≡ (split 0 bytes.now).1) }
+{
+    let mut at = 0;
+    while at < bytes.len() {
+        at += take_text(alloc, rest_of(bytes, at), out)?;
+        if at == bytes.len() {
+            return Ok(at);
+        }
+        let used = take_front(alloc, rest_of(bytes, at), out)?;
+        if used == 0 {
+            return Ok(at);
+        }
+        at += used;
+    }
+    Ok(at)
+}

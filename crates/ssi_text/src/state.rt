@@ -1,0 +1,96 @@
+// The split of a document that comes in pieces.
+ghost use Rattle.std.specs.Prelude.{◌≡◌, ℕ, ◌+◌, ◌-◌, ◌<◌, ◌≤◌, ◌++◌, List, [], ◌∷◌, length, take, drop, map, min, IfOk};
+ghost use Rattle.ssi_text.specs.Marks.{Mark, Byte, marks};
+ghost use Rattle.ssi_text.specs.Split.{split, parts};
+
+use crate::part::Part;
+use crate::place::rest_of;
+use crate::scan::{push_text, split_bytes};
+use byte_text::{ByteQueue, OutOfMemory};
+use std::alloc::Global;
+use std::marker::Model;
+
+/// How many bytes are looked at beside held ones: as many as decide what those are.
+const NEAR: usize = 8192;
+
+/// The split of a document that comes in pieces. Contracts see the bytes that are held back, of which only those that
+/// come decide what they are.
+///
+/// Commands begin at `<!--#` and end with the first `-->` outside quotes, within 8192 bytes in all; all else is text
+/// (this project's profile of nginx's ngx_http_ssi_module). Text is found in one scan, and copied once.
+#[derive(Drop)]
+pub struct SsiState {
+    held: ByteQueue,
+}
+
+impl Model for SsiState {
+    ghost Value = { List ℕ };
+
+    ghost view = { λ s. s.held };
+}
+
+/// The next bytes, at most so many that they decide a command.
+fn near_of(bytes: &[u8], at: usize) -> &[u8]
+    requires { at ≤ length bytes.now }
+    ensures value { result.now ≡ take (length result.now) (drop at bytes.now) }
+    ensures within { at + length result.now ≤ length bytes.now }
+    ensures some { at < length bytes.now → 0 < length result.now }
+{
+    if bytes.len() - at > NEAR {
+        &bytes[at..at + NEAR]
+    } else {
+        &bytes[at..]
+    }
+}
+
+impl SsiState {
+    /// At the beginning of a document, with nothing held. Takes no memory.
+    pub fn new(alloc: Global) -> SsiState
+        ensures { result ≡ [] }
+    {
+        SsiState {
+            held: ByteQueue::new(alloc),
+        }
+    }
+
+    /// The next bytes of the document: puts out the parts that are decided by now, and holds the rest. After want of
+    /// memory the state and `out` may only be dropped.
+    pub fn feed(
+        &mut self,
+        alloc: Global,
+        piece: &[u8],
+        out: &mut Vec<Part>,
+    ) -> Result<(), OutOfMemory>
+        ensures out { IfOk result (λ _. marks out.new.items ≡ marks out.old.items ++ (split 0 (self.old ++ piece.now)).0) }
+        ensures held { IfOk result (λ _. self.new ≡ (split 0 (self.old ++ piece.now)).1) }
+    {
+        let mut at = 0;
+        'feeding: loop {
+            if self.held.is_empty() {
+                let rest = rest_of(piece, at);
+                let used = split_bytes(alloc, rest, out)?;
+                self.held.append(rest_of(rest, used))?;
+                return Ok(());
+            }
+            let near = near_of(piece, at);
+            self.held.append(near)?;
+            at += near.len();
+            let used = split_bytes(alloc, self.held.front(), out)?;
+            self.held.used(used);
+            if at == piece.len() {
+                return Ok(());
+            }
+        }
+    }
+
+    /// The document ends, so what is held is text; another may begin. After want of memory the state and `out` may only
+    /// be dropped.
+    pub fn end(&mut self, alloc: Global, out: &mut Vec<Part>) -> Result<(), OutOfMemory>
+        ensures out { IfOk result (λ _. marks out.new.items ≡ marks out.old.items ++ map Byte self.old) }
+        ensures held { IfOk result (λ _. self.new ≡ []) }
+    {
+        push_text(alloc, self.held.front(), out)?;
+        self.held.clear();
+        Ok(())
+    }
+}
