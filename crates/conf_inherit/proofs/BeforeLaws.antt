@@ -1,13 +1,15 @@
 -- What is kept of the directives before, as one more is passed.
 use Rattle.std.proofs.Common.{◌≡◌, ℕ, Bool, true, false, ◌||◌, List, [], ◌∷◌, ◌++◌, bytes_eq, refl, sym, ap, ◌∙◌}
 use Rattle.std.specs.List.{list_any}
+use Rattle.std.specs.BTreeSet.{BTreeSet}
 use Rattle.std.proofs.lemmas.List.Folds.{list_any-append}
 use Rattle.std.proofs.lemmas.Slice.Eq.{bytes_eq-Decides}
 use Rattle.conf_text.specs.declared.directive.Directive.{Directive}
 use Rattle.http_types.specs.declared.words.Addr.{Addr}
 use Rattle.conf_table.specs.Table.{entry_of}
 use Rattle.conf_inherit.specs.Roles.{role_of}
-use Rattle.conf_inherit.specs.Listening.{in_front, address_by}
+use Rattle.conf_inherit.specs.Listening.{address_by, in_front, listens_of, same_addr}
+use Rattle.conf_inherit.specs.Ends.{Key, has_end}
 use Rattle.conf_inherit.specs.Faults.{is_named}
 use Rattle.conf_inherit.specs.Before.{stands_once, with_name, Remembers}
 use Rattle.conf_inherit.proofs.LevelLaws.{listens-append}
@@ -38,10 +40,22 @@ names-add names names' d earlier name one kept false t e =
     ap (λ ns. list_any (λ n. bytes_eq n name) ns) e ∙ kept ∙ or_nothing (is_named name earlier) (bytes_eq d.name name) (other_name d.name name one t)
     ∙ sym (list_any-append (λ (d : Directive). bytes_eq d.name name) earlier (d ∷ []))
 
-pub remembers-add : (names names' : List (List ℕ)) (addrs addrs' : List Addr) (d : Directive) (earlier : List Directive)
-    → names' ≡ with_name (stands_once (entry_of d.name)) names d.name → addrs' ≡ addrs ++ in_front (address_by (role_of d.name) d) []
+or-swapped : (a b : Bool) → (a || b) ≡ (b || a)
+or-swapped true true = refl
+or-swapped true false = refl
+or-swapped false true = refl
+or-swapped false false = refl
+
+pub remembers-add : (names names' : List (List ℕ)) (addrs addrs' : BTreeSet Key) (d : Directive) (earlier : List Directive)
+    → names' ≡ with_name (stands_once (entry_of d.name)) names d.name
+    → ((q : Addr) → has_end addrs' q ≡ (list_any (λ a. same_addr a q) (in_front (address_by (role_of d.name) d) []) || has_end addrs q))
     → Remembers names addrs earlier → Remembers names' addrs' (earlier ++ d ∷ [])
 remembers-add names names' addrs addrs' d earlier n a r = record {
   once = λ name one. names-add names names' d earlier name one (r.once name one) (stands_once (entry_of d.name)) refl n;
-  listens = a ∙ ap (λ xs. xs ++ in_front (address_by (role_of d.name) d) []) r.listens ∙ sym (listens-append earlier (d ∷ []));
+  listens = λ q.
+      let more : List Addr = in_front (address_by (role_of d.name) d) [] in
+      a q ∙ ap (λ b. list_any (λ a. same_addr a q) more || b) (r.listens q)
+      ∙ or-swapped (list_any (λ a. same_addr a q) more) (list_any (λ a. same_addr a q) (listens_of earlier))
+      ∙ sym (list_any-append (λ a. same_addr a q) (listens_of earlier) more)
+      ∙ ap (λ xs. list_any (λ a. same_addr a q) xs) (sym (listens-append earlier (d ∷ [])));
 }

@@ -2,6 +2,7 @@ pub mod AddressLaws
 pub mod PortLaws
 pub mod ForestLaws
 pub mod LevelLaws
+pub mod EndsLaws
 pub mod BeforeLaws
 pub mod CheckLaws
 pub mod ServedLaws

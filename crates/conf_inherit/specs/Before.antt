@@ -1,11 +1,13 @@
 -- What is kept of the directives that stand before one in its level.
 use Rattle.std.specs.Prelude.{◌≡◌, ℕ, List, [], ◌∷◌, ◌++◌, Bool, true, false, not, Option, None, Some, bytes_eq}
 use Rattle.std.specs.List.{list_any}
+use Rattle.std.specs.BTreeSet.{BTreeSet}
 use Rattle.conf_text.specs.declared.directive.Directive.{Directive}
 use Rattle.http_types.specs.declared.words.Addr.{Addr}
 use Rattle.conf_table.specs.declared.rule.DirectiveRule.{DirectiveRule}
 use Rattle.conf_table.specs.Table.{entry_of}
-use Rattle.conf_inherit.specs.Listening.{listens_of}
+use Rattle.conf_inherit.specs.Listening.{same_addr, listens_of}
+use Rattle.conf_inherit.specs.Ends.{Key, has_end}
 use Rattle.conf_inherit.specs.Faults.{is_named}
 
 -- one alone of such a directive may stand in a level
@@ -19,6 +21,6 @@ with_name true names name = names ++ name ∷ []
 with_name false names name = names
 
 -- These names tell which directives that stand once are there, and these are the addresses that are listened on.
-pub record Remembers (names : List (List ℕ)) (addrs : List Addr) (earlier : List Directive) : Type 0 where
+pub record Remembers (names : List (List ℕ)) (addrs : BTreeSet Key) (earlier : List Directive) : Type 0 where
   pub once : (name : List ℕ) → stands_once (entry_of name) ≡ true → list_any (λ n. bytes_eq n name) names ≡ is_named name earlier
-  pub listens : addrs ≡ listens_of earlier
+  pub listens : (addr : Addr) → has_end addrs addr ≡ list_any (λ a. same_addr a addr) (listens_of earlier)

@@ -4,6 +4,7 @@ pub mod Roles
 pub mod Listening
 pub mod Returning
 pub mod Faults
+pub mod Ends
 pub mod Before
 pub mod Checked
 pub mod Served

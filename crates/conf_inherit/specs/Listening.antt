@@ -2,7 +2,7 @@
 use Rattle.std.specs.Prelude.{ℕ, ◌+◌, ◌*◌, ◌-◌, List, [], ◌∷◌, length, take, drop, ◌==◌, Bool, false, not, ◌&&◌, nat_le, Option, None, Some, option_map, codes, bytes_eq, if◌then◌else◌}
 use Rattle.std.specs.List.{list_all, position_or_len}
 use Rattle.std.specs.Net.Reader.{read_ipv4, read_ipv6, whole_value}
-use Rattle.std.specs.Net.Addr.{ipv4_octets, ipv6_segments}
+use Rattle.std.specs.Net.Addr.{ipv4_bits, ipv6_bits}
 use Rattle.std.specs.declared.net.ip_addr.IpAddr.{IpAddr}
 use Rattle.std.specs.declared.net.ip_addr.IpAddr.TheVariants.{V4, V6}
 use Rattle.http_types.specs.declared.words.Addr.{Addr}
@@ -80,15 +80,18 @@ listened (b ∷ bs) =
     else (if b == 42 then end_of (Some wildcard) (port_in (behind_colon (Some bs)))
     else plain_end (behind_byte 58 (b ∷ bs)) (b ∷ bs))
 
--- two addresses are the same
-abbrev pub same_ip : IpAddr → IpAddr → Bool
-same_ip (V4 a) (V4 b) = bytes_eq (ipv4_octets a) (ipv4_octets b)
-same_ip (V6 a) (V6 b) = bytes_eq (ipv6_segments a) (ipv6_segments b)
-same_ip (V4 a) (V6 b) = false
-same_ip (V6 a) (V4 b) = false
+-- the family of an address, and its bits
+abbrev pub family_of : IpAddr → ℕ
+family_of (V4 a) = 4
+family_of (V6 a) = 6
 
+abbrev pub bits_of : IpAddr → ℕ
+bits_of (V4 a) = ipv4_bits a
+bits_of (V6 a) = ipv6_bits a
+
+-- the same address of one family, and the same port
 abbrev pub same_addr : Addr → Addr → Bool
-same_addr a b = a.port == b.port && same_ip a.ip b.ip
+same_addr a b = (family_of a.ip == family_of b.ip && a.port == b.port) && bits_of a.ip == bits_of b.ip
 
 -- the address of a `listen`, by its words
 abbrev pub listened_by : List (List ℕ) → Option Addr

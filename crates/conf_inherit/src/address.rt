@@ -1,7 +1,7 @@
 // The addresses of `listen`.
 ghost use Rattle.std.specs.Prelude.{◌≡◌, ℕ, ◌+◌, ◌≤◌, ◌==◌, List, length, take, drop, option_map};
 ghost use Rattle.std.specs.List.{list_all, position_or_len};
-ghost use Rattle.conf_inherit.specs.Listening.{before_byte, behind_byte, ipv4_of, ipv6_of, wildcard, behind_colon, port_in, end_of, plain_end, listened, same_ip, same_addr, listened_by, is_default, has_known_parameters};
+ghost use Rattle.conf_inherit.specs.Listening.{before_byte, behind_byte, ipv4_of, ipv6_of, wildcard, behind_colon, port_in, end_of, plain_end, listened, listened_by, is_default, has_known_parameters};
 
 use crate::port::port_of;
 use byte_text::ByteText;
@@ -173,21 +173,4 @@ pub fn has_known_parameters(words: &[ByteText]) -> bool
         [] => false,
         [_, parameters @ ..] => are_default(parameters),
     }
-}
-
-fn same_ip(a: IpAddr, b: IpAddr) -> bool
-    ensures { result ≡ same_ip a b }
-{
-    match (a, b) {
-        (IpAddr::V4(a), IpAddr::V4(b)) => a.octets() == b.octets(),
-        (IpAddr::V6(a), IpAddr::V6(b)) => a.segments() == b.segments(),
-        (IpAddr::V4(_), IpAddr::V6(_)) => false,
-        (IpAddr::V6(_), IpAddr::V4(_)) => false,
-    }
-}
-
-pub fn same_addr(a: Addr, b: Addr) -> bool
-    ensures { result ≡ same_addr a b }
-{
-    a.port == b.port && same_ip(a.ip, b.ip)
 }

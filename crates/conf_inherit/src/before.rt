@@ -1,13 +1,16 @@
 // The directives that stand before one in its level, as far as its faults ask for them.
-ghost use Rattle.std.specs.Prelude.{◌≡◌, ℕ, List, [], ◌++◌, ◌∷◌, OnOk, bytes_eq, map};
+ghost use Rattle.std.specs.Prelude.{◌≡◌, ℕ, List, [], ◌++◌, ◌∷◌, ◌||◌, false, OnOk, bytes_eq, map};
 ghost use Rattle.std.specs.List.{list_any};
 ghost use Rattle.conf_text.specs.declared.directive.Directive.{Directive as Line};
+ghost use Rattle.http_types.specs.declared.words.Addr.{Addr as End};
 ghost use Rattle.conf_table.specs.Table.{entry_of};
 ghost use Rattle.conf_inherit.specs.Listening.{same_addr, address_by, in_front};
 ghost use Rattle.conf_inherit.specs.Roles.{role_of};
+ghost use Rattle.conf_inherit.specs.Ends.{has_end};
 ghost use Rattle.conf_inherit.specs.Before.{stands_once, with_name, Remembers};
 
-use crate::address::{listened_by, same_addr};
+use crate::address::listened_by;
+use crate::ends::Ends;
 use crate::role::{Role, role_of};
 use byte_text::OutOfMemory;
 use conf_table::entry;
@@ -19,7 +22,7 @@ use std::alloc::Global;
 #[derive(Drop)]
 pub struct Before<'a> {
     pub names: Vec<&'a [u8]>,
-    pub addrs: Vec<Addr>,
+    pub addrs: Ends,
 }
 
 /// Whether one alone of the directives of this name may stand in a level.
@@ -54,13 +57,13 @@ fn add_name<'a>(names: &mut Vec<&'a [u8]>, name: &'a [u8]) -> Result<(), OutOfMe
 }
 
 /// Keeps the address, if there is one.
-fn add_addr(addrs: &mut Vec<Addr>, addr: Option<Addr>) -> Result<(), OutOfMemory>
-    ensures { OnOk result (addrs.new.items ≡ addrs.old.items ++ in_front addr []) }
+fn add_addr(addrs: &mut Ends, addr: Option<Addr>) -> Result<(), OutOfMemory>
+    ensures { OnOk result ((q : End) → has_end addrs.new.keys q ≡ (list_any (λ a. same_addr a q) (in_front addr []) || has_end addrs.old.keys q)) }
 {
     match addr {
         None => Ok(()),
         Some(addr) => {
-            addrs.push(addr)?;
+            addrs.add(addr)?;
             Ok(())
         }
     }
@@ -70,11 +73,11 @@ impl<'a> Before<'a> {
     /// Nothing stands before the first of a level. Takes no memory.
     pub fn new(alloc: Global) -> Self
         ensures names { result.names.items ≡ [] }
-        ensures addrs { result.addrs.items ≡ [] }
+        ensures addrs { (q : End) → has_end result.addrs.keys q ≡ false }
     {
         Before {
             names: Vec::new(alloc),
-            addrs: Vec::new(alloc),
+            addrs: Ends::new(alloc),
         }
     }
 
@@ -90,19 +93,14 @@ impl<'a> Before<'a> {
     }
 
     pub fn has_addr(&self, addr: Addr) -> bool
-        ensures { result ≡ list_any (λ a. same_addr a addr) self.now.addrs.items }
+        ensures { result ≡ has_end self.now.addrs.keys addr }
     {
-        for kept in &self.addrs {
-            if same_addr(*kept, addr) {
-                return true;
-            }
-        }
-        false
+        self.addrs.has(addr)
     }
 
     /// The directive stands before the next.
     pub fn add(&mut self, directive: &'a Directive) -> Result<(), OutOfMemory>
-        ensures { OnOk result ((earlier : List Line) → Remembers (map (λ n. n.now) self.old.names.items) self.old.addrs.items earlier → Remembers (map (λ n. n.now) self.new.names.items) self.new.addrs.items (earlier ++ directive.now ∷ [])) }
+        ensures { OnOk result ((earlier : List Line) → Remembers (map (λ n. n.now) self.old.names.items) self.old.addrs.keys earlier → Remembers (map (λ n. n.now) self.new.names.items) self.new.addrs.keys (earlier ++ directive.now ∷ [])) }
     {
         let name = directive.name.as_slice();
         add_name(&mut self.names, name)?;

@@ -27,7 +27,7 @@ fn line_fault(line: &Directive) -> Option<FaultKind>
 /// What is wrong with a directive alone that stands here, behind these of its level.
 #[tactic(auto, unfolding(crate::specs::Checked::fault_in))]
 fn fault_in(here: Content, before: &Before<'_>, directive: &Directive) -> Option<FaultKind>
-    ensures { (earlier : List Line) → Remembers (map (λ n. n.now) before.now.names.items) before.now.addrs.items earlier → result ≡ fault_in here earlier directive.now }
+    ensures { (earlier : List Line) → Remembers (map (λ n. n.now) before.now.names.items) before.now.addrs.keys earlier → result ≡ fault_in here earlier directive.now }
 {
     match here {
         Content::Directives(place) => own_fault(place, before, directive),

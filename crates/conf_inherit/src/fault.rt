@@ -3,7 +3,10 @@ ghost use Rattle.std.specs.Prelude.{◌≡◌, ℕ, List, Some, map};
 ghost use Rattle.conf_text.specs.declared.directive.Directive.{Directive as Line};
 ghost use Rattle.conf_table.specs.Table.{entry_of};
 ghost use Rattle.conf_inherit.specs.Gives.{IsError, fault_of, faulty, Gives};
-ghost use Rattle.conf_inherit.specs.Listening.{listened_by as address, has_known_parameters as known};
+ghost use Rattle.std.specs.List.{list_any};
+ghost use Rattle.http_types.specs.declared.words.Addr.{Addr as End};
+ghost use Rattle.conf_inherit.specs.Listening.{listened_by as address, has_known_parameters as known, same_addr};
+ghost use Rattle.conf_inherit.specs.Ends.{has_end};
 ghost use Rattle.conf_inherit.specs.Returning.{form_of as form};
 ghost use Rattle.conf_inherit.specs.Faults.{within, is_counted, listen_fault, return_fault, value_fault, rule_fault, own_fault};
 ghost use Rattle.conf_inherit.specs.Before.{Remembers};
@@ -65,7 +68,7 @@ fn is_counted(rule: &DirectiveRule, directive: &Directive) -> bool
 }
 
 fn listen_fault(before: &Before<'_>, words: &[ByteText]) -> Option<FaultKind>
-    ensures { result ≡ listen_fault (address words.now) before.now.addrs.items (known words.now) }
+    ensures { (earlier : List End) → ((addr : End) → has_end before.now.addrs.keys addr ≡ list_any (λ a. same_addr a addr) earlier) → result ≡ listen_fault (address words.now) earlier (known words.now) }
 {
     match listened_by(words) {
         None => Some(FaultKind::BadValue),
@@ -93,7 +96,7 @@ fn return_fault(words: &[ByteText]) -> Option<FaultKind>
 
 /// What is wrong with the values of a directive.
 fn value_fault(role: Role, before: &Before<'_>, directive: &Directive) -> Option<FaultKind>
-    ensures { (earlier : List Line) → Remembers (map (λ n. n.now) before.now.names.items) before.now.addrs.items earlier → result ≡ value_fault role earlier directive.now }
+    ensures { (earlier : List Line) → Remembers (map (λ n. n.now) before.now.names.items) before.now.addrs.keys earlier → result ≡ value_fault role earlier directive.now }
 {
     match role {
         Role::Listen => listen_fault(before, directive.args.as_slice()),
@@ -110,7 +113,7 @@ fn rule_fault(
     directive: &Directive,
 ) -> Option<FaultKind>
     requires { entry_of directive.now.name ≡ Some rule.now }
-    ensures { (earlier : List Line) → Remembers (map (λ n. n.now) before.now.names.items) before.now.addrs.items earlier → result ≡ rule_fault (Some rule.now) here earlier directive.now }
+    ensures { (earlier : List Line) → Remembers (map (λ n. n.now) before.now.names.items) before.now.addrs.keys earlier → result ≡ rule_fault (Some rule.now) here earlier directive.now }
 {
     let name = directive.name.as_slice();
     if !rule.places.contains(here) {
@@ -127,7 +130,7 @@ fn rule_fault(
 /// What is wrong with a directive that stands here, behind these of its level.
 #[tactic(auto, unfolding(crate::specs::Faults::own_fault))]
 pub fn own_fault(here: Place, before: &Before<'_>, directive: &Directive) -> Option<FaultKind>
-    ensures { (earlier : List Line) → Remembers (map (λ n. n.now) before.now.names.items) before.now.addrs.items earlier → result ≡ own_fault here earlier directive.now }
+    ensures { (earlier : List Line) → Remembers (map (λ n. n.now) before.now.names.items) before.now.addrs.keys earlier → result ≡ own_fault here earlier directive.now }
 {
     match entry(directive.name.as_slice()) {
         None => Some(FaultKind::Unknown),

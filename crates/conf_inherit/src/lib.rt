@@ -5,6 +5,7 @@ mod address;
 mod before;
 mod branch;
 mod check;
+mod ends;
 mod fault;
 mod port;
 mod returned;

@@ -257,9 +257,18 @@ fn a_long_level_is_read(rt: HostRuntime) -> Result<(), Fail> {
     for _ in 0..1000 {
         text.extend(b"gzip_types a;\n")?;
     }
-    text.extend(b"listen 80; listen 80; } }")?;
+    for octet in 0..10 {
+        for port in 1..101 {
+            text.extend(b"listen 10.0.0.")?;
+            number_onto(&mut text, octet)?;
+            text.push(b':')?;
+            number_onto(&mut text, port)?;
+            text.extend(b";\n")?;
+        }
+    }
+    text.extend(b"listen 10.0.0.10:1;\nlisten 10.0.0.3:70; } }")?;
     let found = read(rt.alloc(), text.as_slice())?;
-    assert_eq!(rt; found.as_slice(), b"!14 0:1002 listen".as_slice());
+    assert_eq!(rt; found.as_slice(), b"!14 0:2003 listen".as_slice());
     blocks_stand_behind();
     Ok(())
 }

@@ -7,7 +7,7 @@ decreases-check_level l = length l.level.now
 
 -- what was passed has no fault
 abbrev pub invariant-loop-branch : goal.invariant-loop-branch
-invariant-loop-branch l = Standing l.here (map (λ n. n.now) l.before.names.items) l.before.addrs.items l.rest l.level × (length l.rest ≤ length l.level)
+invariant-loop-branch l = Standing l.here (map (λ n. n.now) l.before.names.items) l.before.addrs.keys l.rest l.level × (length l.rest ≤ length l.level)
 
 abbrev pub decreases-loop-branch : goal.decreases-loop-branch
 decreases-loop-branch l = length l.rest
