@@ -53,6 +53,22 @@ impl SsiState {
         }
     }
 
+    /// Goes on where another state held these bytes.
+    pub fn from_held(alloc: Global, held: &[u8]) -> Result<SsiState, OutOfMemory>
+        ensures { IfOk result (λ state. state ≡ held.now) }
+    {
+        let mut queue = ByteQueue::new(alloc);
+        queue.append(held)?;
+        Ok(SsiState { held: queue })
+    }
+
+    /// The bytes that are held.
+    pub fn held(&self) -> &[u8]
+        ensures { result.now ≡ self.now }
+    {
+        self.held.front()
+    }
+
     /// The next bytes of the document: puts out the parts that are decided by now, and holds the rest. After want of
     /// memory the state and `out` may only be dropped.
     pub fn feed(
