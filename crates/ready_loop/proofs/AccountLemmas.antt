@@ -1,0 +1,182 @@
+-- An account of a connection goes on with each event, and stays while others go on.
+use Rattle.std.proofs.Common.{◌≡◌, ◌≢◌, ℕ, ◌≤◌, Bool, true, false, ◌&&◌, inl, inr, List, [], ◌∷◌, ◌++◌, Option, None, Some, refl, sym, ap, ◌∙◌, subst, append_assoc, arith}
+use Rattle.std.specs.Prelude.{is_none}
+use Rattle.std.proofs.lemmas.List.{append-nil}
+use Rattle.file_tree.specs.Tree.{Trees}
+use Rattle.http_types.specs.declared.words.Addr.{Addr}
+use Rattle.ngx_outside.specs.Linked.{LinkView}
+use Rattle.ngx_outside.specs.Views.{ConnView, Course, Start, Ground, Holds, IsStart, Fresh, IsSound, is_live, no_bytes, kept_moment}
+use Rattle.ngx_outside.specs.Runs.{Tracked, Agree}
+use Rattle.ngx_outside.specs.declared.event.StopCause.{StopCause}
+use Rattle.ngx_outside.specs.declared.event.StopCause.TheVariants as stop
+use Rattle.ngx_outside.proofs.Tracks.{tracks_begin, steps_keep_track, stops_keep_track, tracks_narrow}
+use Rattle.ready_loop.specs.Seen.{FilesSeen, ClockSeen, Grown, IsDated, Later, Started, last_moment}
+use Rattle.ready_loop.specs.Passing.{Behind, Foreseen, Passed, Goes, Stops}
+use Rattle.ready_loop.specs.Standing.{Account, WasHeavy, Stands, Unused, TurnedAway, Open, Closed}
+
+-- what a live connection is
+pub live_held : (v : ConnView) → is_live v ≡ true → v.held ≡ true
+live_held v h = first v.held (is_none v.cause) h
+  where
+    first : (a b : Bool) → (a && b) ≡ true → a ≡ true
+    first true b h = refl
+    first false true h = cc
+    first false false h = cc
+
+caused : {A : Type 0} (v : ConnView) (cause : StopCause) → is_live v ≡ true → v.cause ≡ Some cause → A
+caused v cause live e = absurd (clash v.held v.cause live e)
+  where
+    clash : (a : Bool) (o : Option StopCause) → (a && is_none o) ≡ true → o ≡ Some cause → ⊥
+    clash true None h f = cc
+    clash true (Some c) h f = cc
+    clash false None h f = cc
+    clash false (Some c) h f = cc
+
+-- what stands behind a cause
+pub behind : {L F R H L' F' R' H' : Type 0} → (L → L') → (F → F') → (R → R') → (H → H') → (cause : StopCause) → Behind L F R H cause → Behind L' F' R' H' cause
+behind l f r h stop.LinkFault b = l b
+behind l f r h stop.FileFault b = f b
+behind l f r h stop.Memory b = r b
+behind l f r h (stop.SubLimit started) b = h b
+behind l f r h (stop.Deadline due now) b = b
+
+-- the clock's last moment
+pub last_moment-append : (told : List ℕ) (m : ℕ) → last_moment (told ++ m ∷ []) ≡ kept_moment m
+unfolding last_moment
+last_moment-append [] m = refl
+last_moment-append (a ∷ []) m = refl
+last_moment-append (a ∷ b ∷ told) m = last_moment-append (b ∷ told) m
+
+-- a request starts at the last moment that was told
+pub dated_on : (told : List ℕ) (starts started : List Start) (now : Start) → now.moment ≡ last_moment told → IsStart now started → IsDated told starts → IsDated told (starts ++ started)
+dated_on told starts started now e (inl none) d = subst (IsDated told) (sym (ap (λ s. starts ++ s) none ∙ append-nil starts)) d
+dated_on told starts started now e (inr one) d =
+    subst (λ s. IsDated told (starts ++ s)) (sym one) (record {
+      before = d.before;
+      since = d.since;
+      last = d.last;
+      all = d.all;
+      dated = Started d.since starts d.last now (e ∙ ap last_moment d.all ∙ ap last_moment (sym (append_assoc d.before d.since (d.last ∷ []))) ∙ last_moment-append (d.before ++ d.since) d.last) d.dated;
+    })
+
+-- another moment is told
+pub dated_later : (told : List ℕ) (m : ℕ) (starts : List Start) → IsDated told starts → IsDated (told ++ m ∷ []) starts
+dated_later told m starts d = record {
+  before = d.before;
+  since = d.since ++ d.last ∷ [];
+  last = m;
+  all = ap (λ x. x ++ m ∷ []) d.all ∙ append_assoc d.before (d.since ++ d.last ∷ []) (m ∷ []);
+  dated = Later (d.since ++ d.last ∷ []) starts m d.dated;
+}
+
+pub agree_narrow : (old new : FilesSeen) → Grown old new → (trees : Trees) → Agree new.trees new.newest trees → Agree old.trees old.newest trees
+agree_narrow old new g trees a = record {
+  same = λ of within path. a.same of (let r : old.newest ≤ new.newest = g.trees.rises in omega arith) path ∙ g.trees.same of within path;
+}
+
+-- an account stays while the files tell more trees, and counts rise
+pub account_stays : {L F R L' F' R' : Type 0} (whole : Course) (files files' : FilesSeen) (clock : ClockSeen) (v : ConnView) (came went : List ℕ) → (L → L') → (F → F') → (R → R') → Grown files files' →
+    Account L F R whole files clock v came went → Account L' F' R' whole files' clock v came went
+account_stays whole files files' clock v came went l f r g a = record {
+  tracked = tracks_narrow whole files.trees files'.trees files.newest files'.newest v came went g.trees a.tracked;
+  cause = λ cause is. behind l f r (λ heavy raceless trees agree. heavy raceless trees (agree_narrow files files' g trees agree)) cause (a.cause cause is);
+  dated = a.dated;
+}
+
+-- it goes on with an event
+pub account_passed : {L F R L1 F1 R1 : Type 0} (whole : Course) (files : FilesSeen) (clock : ClockSeen) (now : Start) (ground : Ground) (v v' : ConnView) (came went came' went' : List ℕ) → (L1 → L) → (F1 → F) → (R1 → R) →
+    (v.raceless ≡ true → (trees : Trees) → Agree files.trees files.newest trees → Holds ground trees) → (clock.tells ≡ true → now.moment ≡ last_moment clock.told) →
+    Passed now ground L1 F1 R1 v v' came' went' → Account L F R whole files clock v came went → Account L F R whole files clock v' (came ++ came') (went ++ went')
+account_passed whole files clock now ground v v' came went came' went' l f r holds moment (Goes started is w) a = record {
+  tracked = steps_keep_track whole files.trees files.newest ground v v' came went came' went' started holds a.tracked w;
+  cause = λ cause e. caused v' cause w.after e;
+  dated = λ t. subst (IsDated clock.told) (sym w.moved.starts) (dated_on clock.told v.starts started now (moment t) is (a.dated t));
+}
+account_passed {L = L} {F = F} {R = R} whole files clock now ground v v' came went came' went' l f r holds moment (Stops why started is b none s) a = record {
+  tracked = subst (λ x. Tracked whole files.trees files.newest v' (came ++ came') x) (sym (ap (λ x. went ++ x) none ∙ append-nil went)) (stops_keep_track whole files.trees files.newest why v v' came went came' started a.tracked s);
+  cause = λ cause e. subst (Behind L F R (WasHeavy whole files v' (came ++ came'))) (same (sym s.why ∙ e)) (behind l f r heavy why b);
+  dated = λ t. subst (IsDated clock.told) (sym s.starts) (dated_on clock.told v.starts started now (moment t) is (a.dated t));
+}
+  where
+    same : {x y : StopCause} → Some x ≡ Some y → x ≡ y
+    same e = cc
+
+    heavy : Foreseen v started → WasHeavy whole files v' (came ++ came')
+    heavy h raceless trees agree =
+        let calm : v.raceless ≡ true = sym s.raceless ∙ raceless in
+        ap (λ x. whole.heavy trees (came ++ came') x) s.starts
+        ∙ a.tracked.heavy s.before calm trees agree came' started (ap (λ x. v.course.heavy trees came' x) (sym (append-nil started)) ∙ h calm trees came' [])
+
+-- and begins with an opening
+pub account_begins : {L F R : Type 0} (whole : Course) (files : FilesSeen) (clock : ClockSeen) (v : ConnView) → Fresh whole v → (clock.tells ≡ true → IsDated clock.told v.starts) → Account L F R whole files clock v [] []
+account_begins whole files clock v fresh dated = record {
+  tracked = tracks_begin whole files.trees files.newest v fresh;
+  cause = λ cause e. caused v cause fresh.live e;
+  dated = dated;
+}
+
+was_live : {now : Start} {ground : Ground} {L F R : Type 0} {v v' : ConnView} {came went : List ℕ} → Passed now ground L F R v v' came went → is_live v ≡ true
+was_live (Goes started s w) = w.before
+was_live (Stops cause started s b none e) = e.before
+
+held_on : {now : Start} {ground : Ground} {L F R : Type 0} {v v' : ConnView} {came went : List ℕ} → Passed now ground L F R v v' came went → v'.held ≡ true
+held_on {v' = v'} (Goes started s w) = live_held v' w.after
+held_on (Stops cause started s b none e) = e.held
+
+unheld : {A : Type 0} (v : ConnView) → v.held ≡ false → is_live v ≡ true → A
+unheld v f live = let h = live_held v live in absurd (let e : true ≡ false = sym h ∙ f in cc)
+
+-- A connection whose link is is_open stands so after an event.
+pub stands_passed : {L F R L1 F1 R1 : Type 0} (whole : Addr → Addr → Course) (files : FilesSeen) (clock : ClockSeen) (now : Start) (ground : Ground) (v v' : ConnView) (l l' : LinkView) (used used' is_open is_open' : Bool) (came went : List ℕ) → (L1 → L) → (F1 → F) → (R1 → R) →
+    (v.raceless ≡ true → (trees : Trees) → Agree files.trees files.newest trees → Holds ground trees) → (clock.tells ≡ true → now.moment ≡ last_moment clock.told) → is_open' ≡ is_open →
+    l'.local ≡ l.local → l'.peer ≡ l.peer → l'.taken ≡ l.taken ++ came → l'.sent ≡ l.sent ++ went →
+    Passed now ground L1 F1 R1 v v' came went → Stands L F R whole files clock v l used is_open → Stands L F R whole files clock v' l' used' is_open'
+stands_passed {L = L} {F = F} {R = R} whole files clock now ground v v' l l' used used' is_open is_open' came went fl ff fr holds moment same local peer taken sent p (Open held o a) =
+    Open (held_on p) (same ∙ o)
+    (subst (λ x. Account L F R (whole x l'.peer) files clock v' l'.taken l'.sent) (sym local)
+    (subst (λ x. Account L F R (whole l.local x) files clock v' l'.taken l'.sent) (sym peer)
+    (subst (λ x. Account L F R (whole l.local l.peer) files clock v' x l'.sent) (sym taken)
+    (subst (λ x. Account L F R (whole l.local l.peer) files clock v' (l.taken ++ came) x) (sym sent)
+    (account_passed (whole l.local l.peer) files clock now ground v v' l.taken l.sent came went fl ff fr holds moment p a)))))
+stands_passed whole files clock now ground v v' l l' used used' is_open is_open' came went fl ff fr holds moment same local peer taken sent p (Unused held o u) = unheld v held (was_live p)
+stands_passed whole files clock now ground v v' l l' used used' is_open is_open' came went fl ff fr holds moment same local peer taken sent p (TurnedAway held o t s) = unheld v held (was_live p)
+stands_passed whole files clock now ground v v' l l' used used' is_open is_open' came went fl ff fr holds moment same local peer taken sent p (Closed last held o sound shut a) = unheld v held (was_live p)
+
+-- it stays while neither it nor its link changes but in what is due and full
+pub stands_stays : {L F R L' F' R' : Type 0} (whole : Addr → Addr → Course) (files files' : FilesSeen) (clock : ClockSeen) (v v' : ConnView) (l l' : LinkView) (used used' is_open is_open' : Bool) → (L → L') → (F → F') → (R → R') → Grown files files' →
+    v' ≡ v → l'.local ≡ l.local → l'.peer ≡ l.peer → l'.taken ≡ l.taken → l'.sent ≡ l.sent → used' ≡ used → is_open' ≡ is_open →
+    Stands L F R whole files clock v l used is_open → Stands L' F' R' whole files' clock v' l' used' is_open'
+stands_stays whole files files' clock v v' l l' used used' is_open is_open' fl ff fr g ev local peer taken sent eu eo (Unused held o u) = Unused (ap (λ (x : ConnView). x.held) ev ∙ held) (eo ∙ o) (eu ∙ u)
+stands_stays whole files files' clock v v' l l' used used' is_open is_open' fl ff fr g ev local peer taken sent eu eo (TurnedAway held o t s) = TurnedAway (ap (λ (x : ConnView). x.held) ev ∙ held) (eo ∙ o) (taken ∙ t) (sent ∙ s)
+stands_stays {L' = L'} {F' = F'} {R' = R'} whole files files' clock v v' l l' used used' is_open is_open' fl ff fr g ev local peer taken sent eu eo (Open held o a) =
+    Open (ap (λ (x : ConnView). x.held) ev ∙ held) (eo ∙ o)
+    (subst (λ x. Account L' F' R' (whole l'.local l'.peer) files' clock x l'.taken l'.sent) (sym ev)
+    (subst (λ x. Account L' F' R' (whole x l'.peer) files' clock v l'.taken l'.sent) (sym local)
+    (subst (λ x. Account L' F' R' (whole l.local x) files' clock v l'.taken l'.sent) (sym peer)
+    (subst (λ x. Account L' F' R' (whole l.local l.peer) files' clock v x l'.sent) (sym taken)
+    (subst (λ x. Account L' F' R' (whole l.local l.peer) files' clock v l.taken x) (sym sent)
+    (account_stays (whole l.local l.peer) files files' clock v l.taken l.sent fl ff fr g a))))))
+stands_stays {L' = L'} {F' = F'} {R' = R'} whole files files' clock v v' l l' used used' is_open is_open' fl ff fr g ev local peer taken sent eu eo (Closed last held o sound shut a) =
+    Closed last (ap (λ (x : ConnView). x.held) ev ∙ held) (eo ∙ o) sound shut
+    (subst (λ x. Account L' F' R' (whole x l'.peer) files' clock last l'.taken l'.sent) (sym local)
+    (subst (λ x. Account L' F' R' (whole l.local x) files' clock last l'.taken l'.sent) (sym peer)
+    (subst (λ x. Account L' F' R' (whole l.local l.peer) files' clock last x l'.sent) (sym taken)
+    (subst (λ x. Account L' F' R' (whole l.local l.peer) files' clock last l.taken x) (sym sent)
+    (account_stays (whole l.local l.peer) files files' clock last l.taken l.sent fl ff fr g a)))))
+
+-- it is closed
+pub stands_closed : {L F R : Type 0} (whole : Addr → Addr → Course) (files : FilesSeen) (clock : ClockSeen) (v v' : ConnView) (l : LinkView) (used used' is_open is_open' : Bool) → is_open ≡ true → is_open' ≡ false → v'.held ≡ false → IsSound v → v.shut ≡ true →
+    Stands L F R whole files clock v l used is_open → Stands L F R whole files clock v' l used' is_open'
+stands_closed whole files clock v v' l used used' is_open is_open' is is' gone sound shut (Open held o a) = Closed v gone is' sound shut a
+stands_closed whole files clock v v' l used used' is_open is_open' is is' gone sound shut (Unused held o u) = absurd (let e : true ≡ false = sym is ∙ o in cc)
+stands_closed whole files clock v v' l used used' is_open is_open' is is' gone sound shut (TurnedAway held o t s) = absurd (let e : true ≡ false = sym is ∙ o in cc)
+stands_closed whole files clock v v' l used used' is_open is_open' is is' gone sound shut (Closed last held o s h a) = absurd (let e : true ≡ false = sym is ∙ o in cc)
+
+-- less may stand behind a cause
+pub passed_weaker : {L F R L' F' R' : Type 0} {now : Start} {ground : Ground} {v v' : ConnView} {came went : List ℕ} → (L → L') → (F → F') → (R → R') → Passed now ground L F R v v' came went → Passed now ground L' F' R' v v' came went
+passed_weaker l f r (Goes started is w) = Goes started is w
+passed_weaker l f r (Stops cause started is b none s) = Stops cause started is (behind l f r (λ h. h) cause b) none s
+
+pub some_bytes : {bytes : List ℕ} → no_bytes bytes ≡ false → bytes ≢ []
+some_bytes {bytes = []} h e = cc
+some_bytes {bytes = b ∷ bytes} h e = cc

@@ -1,0 +1,48 @@
+-- What the account of a connection comes to.
+use Rattle.std.proofs.Common.{◌≡◌, ℕ, Bool, true, false, ◌&&◌, List, [], ◌∷◌, ◌++◌, refl, sym, ap, ◌∙◌, subst}
+use Rattle.std.proofs.Common.{arith}
+use Rattle.ready_loop.specs.Standing.{Unused}
+use Rattle.std.specs.Prelude.{is_none}
+use Rattle.std.specs.List.{All, Contains}
+use Rattle.std.proofs.lemmas.List.{append-nil}
+use Rattle.std.proofs.lemmas.List.Elements.{All-nil, All-push, All-weaker, Contains-append_left, Contains-append_right, Contains-push}
+use Rattle.ngx_outside.specs.Views.{ConnView, Start, IsSound, is_live, kept_moment}
+use Rattle.ready_loop.specs.Seen.{Dated, Begun, Later, Started}
+use Rattle.ready_loop.specs.Laws.{ClosedUnstoppedSentAll, KeptBegins, MomentsWereTold}
+
+pub begins : KeptBegins
+begins core links files clock unheld shut unused now = record {
+  fresh = λ c u. refl;
+  link_marks = λ c. omega arith;
+  file_marks = omega arith;
+  refused_marks = omega arith;
+  now = now;
+  all = λ c. Unused (unheld c) (shut c) (unused c);
+}
+
+-- one that isn't held isn't to be closed
+held_shut : (v : ConnView) → IsSound v → v.shut ≡ true → v.held ≡ true
+held_shut v sound shut = go v.held refl
+  where
+    go : (t : Bool) → v.held ≡ t → v.held ≡ true
+    go true e = e
+    go false e = absurd (let f : false ≡ true = ap (λ (x : ConnView). x.shut) (sym (sound.absent e)) ∙ shut in cc)
+
+pub closed_sent_all : ClosedUnstoppedSentAll
+closed_sent_all whole files clock last came went a sound shut unstopped raceless trees agree later =
+    let live : is_live last ≡ true = ap (λ h. h && is_none last.cause) (held_shut last sound shut) ∙ ap (λ c. true && is_none c) unstopped in
+    ap (λ c. whole.bytes trees c (last.starts ++ later)) (sym (append-nil came)) ∙ a.tracked.on live raceless trees agree [] later ∙ ap (λ r. went ++ r) (sound.shut live shut trees later) ∙ append-nil went
+
+IsTold : List ℕ → Start → Type 0
+IsTold told s = (moment : ℕ) × Contains told moment × (s.moment ≡ kept_moment moment)
+
+told : (since : List ℕ) (starts : List Start) → Dated since starts → All (IsTold since) starts
+unfolding IsTold
+told _ _ (Begun moment) = All-nil (IsTold (moment ∷ []))
+told _ _ (Later before starts moment d) = All-weaker (IsTold before) (IsTold (before ++ moment ∷ [])) (λ s t. (t.0, Contains-append_left before (moment ∷ []) t.0 t.1, t.2)) starts (told before starts d)
+told _ _ (Started before starts moment start is d) = All-push (IsTold (before ++ moment ∷ [])) starts start (told (before ++ moment ∷ []) starts d) (moment, Contains-push before moment, is)
+
+pub moments_told : MomentsWereTold
+unfolding IsTold
+moments_told all starts d =
+    All-weaker (IsTold (d.since ++ d.last ∷ [])) (IsTold all) (λ s t. (t.0, subst (λ xs. Contains xs t.0) (sym d.all) (Contains-append_right d.before (d.since ++ d.last ∷ []) t.0 t.1), t.2)) starts (told (d.since ++ d.last ∷ []) starts d.dated)

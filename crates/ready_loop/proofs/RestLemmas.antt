@@ -1,0 +1,265 @@
+-- When a connection rests, and that it goes on resting.
+use Rattle.std.proofs.Common.{◌≡◌, ◌≢◌, ℕ, ◌+◌, ◌<◌, ◌⊎◌, inl, inr, Bool, true, false, not, cond, ◌||◌, List, [], ◌∷◌, ◌++◌, map, length, take, get_or, Option, None, Some, refl, sym, ap, ◌∙◌, subst, arith}
+use Rattle.std.specs.Prelude.{nat_eq}
+use Rattle.std.specs.List.{All, Contains, list_any}
+use Rattle.std.proofs.lemmas.Bool.{cases_eq}
+use Rattle.std.proofs.lemmas.Bool.Decides.{nat_tests}
+use Rattle.std.proofs.lemmas.List.Elements.{All-nil, All-cons, All-head, All-tail, All-contains}
+use Rattle.std.proofs.lemmas.List.Folds.{list_any_more, list_any_at}
+use Rattle.ngx_outside.specs.Linked.{LinkView}
+use Rattle.ngx_outside.specs.Views.{ConnView, Job, Ticked, GivesUp, Waits, no_bytes}
+use Rattle.ngx_outside.specs.Wants.{wants_at, wants_in, read_want}
+use Rattle.ngx_outside.specs.declared.event.Want.{Want}
+use Rattle.ngx_outside.specs.declared.event.Want.TheVariants as want
+use Rattle.ready_loop.specs.Ids.{has}
+use Rattle.ready_loop.specs.declared.ids.Ids.{Ids}
+use Rattle.ready_loop.specs.Turns.{AtRest, IsRested, IsWanted, IsHeard, IsHeardBut, IsGivenUp, AllRest, RestsBut, ChangedAs, DueHasWants, conn_of, doable}
+use Rattle.ready_loop.specs.Seen.{Elsewhere}
+use Rattle.ready_loop.specs.Standing.{IsMatched}
+use Rattle.ready_loop.specs.declared.hear.Heard.{Heard}
+use Rattle.ready_loop.specs.declared.hear.Heard.TheVariants as heard
+use Rattle.ready_loop.proofs.WantLemmas.{wanted_at}
+
+all_left : (P : Want → Type 0) (xs ys : List Want) → All P (xs ++ ys) → All P xs
+all_left P [] ys all = All-nil P
+all_left P (x ∷ xs) ys all = All-cons P x xs (All-head P x (xs ++ ys) all) (all_left P xs ys (All-tail P x (xs ++ ys) all))
+
+all_right : (P : Want → Type 0) (xs ys : List Want) → All P (xs ++ ys) → All P ys
+all_right P [] ys all = all
+all_right P (x ∷ xs) ys all = all_right P xs ys (All-tail P x (xs ++ ys) all)
+
+-- the parts of a connection's wants
+pub record Parts (P : Want → Type 0) (c : ℕ) (v : ConnView) : Type 0 where
+  pub reads : All P (read_want c v.room)
+  pub runs : All P (map (λ node. want.Run c node) v.ready)
+  pub jobs : All P (map (λ (job : Job). want.Job c job.node) v.jobs)
+  pub writes : All P (cond (no_bytes v.pending) [] (want.Write c ∷ []))
+  pub closes : All P (cond v.shut (want.Close c ∷ []) [])
+
+parts : (P : Want → Type 0) (c : ℕ) (v : ConnView) → All P (wants_at c v) → Parts P c v
+unfolding wants_at
+parts P c v all =
+    let a1 = all_left P (read_want c v.room ++ map (λ node. want.Run c node) v.ready ++ map (λ (job : Job). want.Job c job.node) v.jobs ++ cond (no_bytes v.pending) [] (want.Write c ∷ [])) (cond v.shut (want.Close c ∷ []) []) all in
+    let a2 = all_left P (read_want c v.room ++ map (λ node. want.Run c node) v.ready ++ map (λ (job : Job). want.Job c job.node) v.jobs) (cond (no_bytes v.pending) [] (want.Write c ∷ [])) a1 in
+    let a3 = all_left P (read_want c v.room ++ map (λ node. want.Run c node) v.ready) (map (λ (job : Job). want.Job c job.node) v.jobs) a2 in
+    record {
+      reads = all_left P (read_want c v.room) (map (λ node. want.Run c node) v.ready) a3;
+      runs = all_right P (read_want c v.room) (map (λ node. want.Run c node) v.ready) a3;
+      jobs = all_right P (read_want c v.room ++ map (λ node. want.Run c node) v.ready) (map (λ (job : Job). want.Job c job.node) v.jobs) a2;
+      writes = all_right P (read_want c v.room ++ map (λ node. want.Run c node) v.ready ++ map (λ (job : Job). want.Job c job.node) v.jobs) (cond (no_bytes v.pending) [] (want.Write c ∷ [])) a1;
+      closes = all_right P (read_want c v.room ++ map (λ node. want.Run c node) v.ready ++ map (λ (job : Job). want.Job c job.node) v.jobs ++ cond (no_bytes v.pending) [] (want.Write c ∷ [])) (cond v.shut (want.Close c ∷ []) []) all;
+    }
+
+-- where no want can be served there is nothing to do
+pub at_rest : (heard tells : Type 0) (due : Bool) (c : ℕ) (v : ConnView) (l : LinkView) → IsRested tells due c v l → (heard → l.due ≡ true → due ≡ true) → AtRest heard tells v l
+at_rest heard tells due c v l r h = record {
+  ready = no_runs v.ready p.runs;
+  jobs = no_jobs v.jobs p.jobs;
+  shut = no_close v.shut p.closes;
+  read = λ k some. no_read v.room some p.reads l.due refl (h k);
+  written = λ t some. r.told t (no_write v.pending some p.writes r.full refl);
+}
+  where
+    P : Want → Type 0
+    P w = doable due r.full w ≡ false
+
+    p : Parts P c v
+    p = parts P c v r.none
+
+    no_runs : (nodes : List ℕ) → All P (map (λ node. want.Run c node) nodes) → nodes ≡ []
+    no_runs [] all = refl
+    no_runs (n ∷ nodes) all = absurd (let e : true ≡ false = All-head P (want.Run c n) (map (λ node. want.Run c node) nodes) all in cc)
+
+    no_jobs : (jobs : List Job) → All P (map (λ (job : Job). want.Job c job.node) jobs) → jobs ≡ []
+    no_jobs [] all = refl
+    no_jobs (j ∷ jobs) all = absurd (let e : true ≡ false = All-head P (want.Job c j.node) (map (λ (job : Job). want.Job c job.node) jobs) all in cc)
+
+    no_close : (t : Bool) → All P (cond t (want.Close c ∷ []) []) → t ≡ false
+    no_close true all = absurd (let e : true ≡ false = All-head P (want.Close c) [] all in cc)
+    no_close false all = refl
+
+    no_read : (room : Option ℕ) → room ≢ None → All P (read_want c room) → (t : Bool) → l.due ≡ t → (l.due ≡ true → due ≡ true) → l.due ≡ false
+    no_read None some all t e k = absurd (some refl)
+    no_read (Some most) some all true e k = absurd (let f : due ≡ false = All-head P (want.Read c most) [] all in let g : due ≡ true = k e in let q : true ≡ false = sym g ∙ f in cc)
+    no_read (Some most) some all false e k = e
+
+    no_write : (pending : List ℕ) → pending ≢ [] → All P (cond (no_bytes pending) [] (want.Write c ∷ [])) → (t : Bool) → r.full ≡ t → r.full ≡ true
+    no_write [] some all t e = absurd (some refl)
+    no_write (b ∷ bytes) some all true e = e
+    no_write (b ∷ bytes) some all false e = absurd (let f : not r.full ≡ false = All-head P (want.Write c) [] all in let g : not false ≡ false = ap not (sym e) ∙ f in cc)
+
+-- one that wants nothing rests
+pub rest_none : (heard tells : Type 0) (c : ℕ) (v : ConnView) (l : LinkView) → wants_at c v ≡ [] → AtRest heard tells v l
+rest_none heard tells c v l e = at_rest heard tells true c v l (record { full = false; told = λ t f. absurd (let q : false ≡ true = f in cc); none = subst (All (λ w. doable true false w ≡ false)) (sym e) (All-nil (λ w. doable true false w ≡ false)) }) (λ k d. refl)
+
+-- it rests as long as neither it nor its link changes
+pub rest_same : (heard heard' tells tells' : Type 0) (v v' : ConnView) (l l' : LinkView) → (heard' → heard) → (tells' → tells) → v' ≡ v → (heard' → l'.due ≡ l.due) → (tells' → l'.full ≡ l.full) → AtRest heard tells v l → AtRest heard' tells' v' l'
+rest_same heard heard' tells tells' v v' l l' h t e d f r = record {
+  ready = ap (λ (x : ConnView). x.ready) e ∙ r.ready;
+  jobs = ap (λ (x : ConnView). x.jobs) e ∙ r.jobs;
+  shut = ap (λ (x : ConnView). x.shut) e ∙ r.shut;
+  read = λ k some. d k ∙ r.read (h k) (λ q. some (ap (λ (x : ConnView). x.room) e ∙ q));
+  written = λ k some. f k ∙ r.written (t k) (λ q. some (ap (λ (x : ConnView). x.pending) e ∙ q));
+}
+
+-- the wants of a connection that is held are among all
+wants_of_held : (P : Want → Type 0) (view : ℕ → ConnView) (conns : List ℕ) (c : ℕ) → Contains conns c → All P (wants_in conns view) → All P (wants_at c (view c))
+wants_of_held P view conns c has all = All-contains (λ d. All P (wants_at d (view d))) conns c (each conns all) has
+  where
+    each : (ds : List ℕ) → All P (wants_in ds view) → All (λ d. All P (wants_at d (view d))) ds
+    each [] all = All-nil (λ d. All P (wants_at d (view d)))
+    each (d ∷ ds) all = All-cons (λ k. All P (wants_at k (view k))) d ds (all_left P (wants_at d (view d)) (wants_in ds view) all) (each ds (all_right P (wants_at d (view d)) (wants_in ds view) all))
+
+of_conn : (c : ℕ) (v : ConnView) (w : Want) → IsWanted v c w → conn_of w ≡ c
+of_conn c v (want.Read conn room) h = h.0
+of_conn c v (want.Run conn node) h = h.0
+of_conn c v (want.Job conn node) h = h.0
+of_conn c v (want.Write conn) h = h.0
+of_conn c v (want.Close conn) h = h.0
+
+-- what holds of the connections of all wants holds of one that wants something
+pub of_wants : (Q : ℕ → Type 0) (view : ℕ → ConnView) (conns : List ℕ) (wants : List Want) (c : ℕ) → wants ≡ wants_in conns view → Contains conns c → All (λ w. Q (conn_of w)) wants → wants_at c (view c) ≢ [] → Q c
+of_wants Q view conns wants c e has all some =
+    go (wants_at c (view c)) some (wants_of_held (λ w. Q (conn_of w)) view conns c has (subst (All (λ w. Q (conn_of w))) e all)) (wanted_at c (view c))
+  where
+    go : (ws : List Want) → ws ≢ [] → All (λ w. Q (conn_of w)) ws → All (IsWanted (view c) c) ws → Q c
+    go [] some all wanted = absurd (some refl)
+    go (w ∷ ws) some all wanted = subst Q (of_conn c (view c) w (All-head (IsWanted (view c) c) w ws wanted)) (All-head (λ x. Q (conn_of x)) w ws all)
+
+-- one more connection was served
+pub listed_more : (c : ℕ) (conns : List ℕ) (i : ℕ) → i < length conns → list_any (nat_eq c) (take (i + 1) conns) ≡ true → (list_any (nat_eq c) (take i conns) ≡ true) ⊎ (c ≡ get_or conns i 0)
+listed_more c conns i h e = go (list_any (nat_eq c) (take i conns)) refl (sym (list_any_more (nat_eq c) conns i 0 h) ∙ e)
+  where
+    go : (t : Bool) → list_any (nat_eq c) (take i conns) ≡ t → (list_any (nat_eq c) (take i conns) || nat_eq c (get_or conns i 0)) ≡ true → (list_any (nat_eq c) (take i conns) ≡ true) ⊎ (c ≡ get_or conns i 0)
+    go true f k = inl f
+    go false f k = inr (let q : nat_eq c (get_or conns i 0) ≡ true = sym (ap (λ t. t || nat_eq c (get_or conns i 0)) f) ∙ k in grind (arith, nat_tests))
+
+-- wants of a list that is empty or not
+pub none_or_some : (ws : List Want) → (ws ≡ []) ⊎ (ws ≢ [])
+none_or_some [] = inl refl
+none_or_some (w ∷ ws) = inr (λ e. cc)
+
+-- a connection is served, and it is remembered whether its link is still to be read
+pub heard_on : (conn : ℕ) (due due' : Bool) (is_open is_open' : ℕ → Bool) (link link' : ℕ → LinkView) (unread unread' : Ids) → ((d : ℕ) → d ≢ conn → is_open' d ≡ is_open d) → ((d : ℕ) → d ≢ conn → link' d ≡ link d) →
+    (is_open' conn ≡ true → (link' conn).due ≡ true → due' ≡ true) → (due' ≡ true → has unread' conn ≡ true) → ((d : ℕ) → d ≢ conn → has unread' d ≡ has unread d) → IsHeardBut conn due is_open link unread → IsHeard is_open' link' unread'
+heard_on conn due due' is_open is_open' link link' unread unread' opens links known own others h c is_o is = go (cases_eq c conn)
+  where
+    go : (c ≡ conn) ⊎ (c ≡ conn → ⊥) → has unread' c ≡ true
+    go (inl e) = subst (λ x. has unread' x ≡ true) (sym e) (own (known (subst (λ x. is_open' x ≡ true) e is_o) (subst (λ x. (link' x).due ≡ true) e is)))
+    go (inr ne) = others c ne ∙ other (h c (sym (opens c ne) ∙ is_o) (ap (λ (x : LinkView). x.due) (sym (links c ne)) ∙ is))
+      where
+        other : (has unread c ≡ true) ⊎ ((c ≡ conn) × (due ≡ true)) → has unread c ≡ true
+        other (inl k) = k
+        other (inr k) = absurd (ne k.0)
+
+-- what is known of the connection itself
+pub heard_own : (conn : ℕ) (due : Bool) (is_open : ℕ → Bool) (link : ℕ → LinkView) (unread : Ids) → IsHeardBut conn due is_open link unread → is_open conn ≡ true → (link conn).due ≡ true → (due || has unread conn) ≡ true
+heard_own conn due is_open link unread h is_o is = go due (has unread conn) (h conn is_o is)
+  where
+    go : (a b : Bool) → (b ≡ true) ⊎ ((conn ≡ conn) × (a ≡ true)) → (a || b) ≡ true
+    go true b k = refl
+    go false b (inl e) = e
+    go false b (inr k) = absurd (let q : false ≡ true = k.1 in cc)
+
+pub heard_all : (conn : ℕ) (is_open : ℕ → Bool) (link : ℕ → LinkView) (unread : Ids) → IsHeard is_open link unread → IsHeardBut conn false is_open link unread
+heard_all conn is_open link unread h c is_o is = inl (h c is_o is)
+
+-- those that were served rest, and go on resting while another is served
+pub rest_served : (heard heard1 tells tells1 : Type 0) (conns : List ℕ) (i : ℕ) (view view' : ℕ → ConnView) (link link' : ℕ → LinkView) → i < length conns → (heard → heard1) → (heard → tells) → (tells → tells1) →
+    ((d : ℕ) → d ≢ get_or conns i 0 → view' d ≡ view d) → (tells1 → (d : ℕ) → d ≢ get_or conns i 0 → link' d ≡ link d) →
+    ((view' (get_or conns i 0)).held ≡ true → AtRest heard1 tells1 (view' (get_or conns i 0)) (link' (get_or conns i 0))) →
+    ((c : ℕ) → list_any (nat_eq c) (take i conns) ≡ true → (view c).held ≡ true → AtRest heard tells (view c) (link c)) →
+    (c : ℕ) → list_any (nat_eq c) (take (i + 1) conns) ≡ true → (view' c).held ≡ true → AtRest heard tells (view' c) (link' c)
+rest_served heard heard1 tells tells1 conns i view view' link link' h hh ht tt1 views links own before c listed held = go (cases_eq c (get_or conns i 0))
+  where
+    go : (c ≡ get_or conns i 0) ⊎ (c ≡ get_or conns i 0 → ⊥) → AtRest heard tells (view' c) (link' c)
+    go (inl e) =
+        subst (λ x. AtRest heard tells (view' x) (link' x)) (sym e)
+        (rest_same heard1 heard tells1 tells (view' (get_or conns i 0)) (view' (get_or conns i 0)) (link' (get_or conns i 0)) (link' (get_or conns i 0)) hh tt1 refl (λ k. refl) (λ k. refl) (own (subst (λ x. (view' x).held ≡ true) e held)))
+    go (inr ne) = other (listed_more c conns i h listed)
+      where
+        other : (list_any (nat_eq c) (take i conns) ≡ true) ⊎ (c ≡ get_or conns i 0) → AtRest heard tells (view' c) (link' c)
+        other (inl was) =
+            rest_same heard heard tells tells (view c) (view' c) (link c) (link' c) (λ k. k) (λ k. k) (views c ne) (λ k. ap (λ (x : LinkView). x.due) (links (tt1 (ht k)) c ne)) (λ k. ap (λ (x : LinkView). x.full) (links (tt1 k) c ne))
+            (before c was (ap (λ (x : ConnView). x.held) (sym (views c ne)) ∙ held))
+        other (inr e) = absurd (ne e)
+
+-- one that isn't among the others
+pub apart_at : (c : ℕ) (conns : List ℕ) (i : ℕ) → i < length conns → list_any (nat_eq c) conns ≡ false → c ≢ get_or conns i 0
+apart_at c conns i h none e = let k : list_any (nat_eq c) conns ≡ true = list_any_at (nat_eq c) conns i 0 h (let q = e in grind (arith, nat_tests)) in let q : true ≡ false = sym k ∙ none in cc
+
+-- all that are held rest: those that wanted something were served, the others want nothing
+pub rest_listed : (heard tells : Type 0) (conns : List ℕ) (wants : List Want) (held : List ℕ) (view view' : ℕ → ConnView) (link : ℕ → LinkView) (c : ℕ) → wants ≡ wants_in held view → ((view c).held ≡ true → Contains held c) → All (λ w. list_any (nat_eq (conn_of w)) conns ≡ true) wants →
+    (list_any (nat_eq c) conns ≡ true → AtRest heard tells (view' c) (link c)) → (list_any (nat_eq c) conns ≡ false → view' c ≡ view c) → (view' c).held ≡ true → AtRest heard tells (view' c) (link c)
+rest_listed heard tells conns wants held view view' link c e has all served same is = go (list_any (nat_eq c) conns) refl
+  where
+    none : list_any (nat_eq c) conns ≡ false → (wants_at c (view c) ≡ []) ⊎ (wants_at c (view c) ≢ []) → wants_at c (view c) ≡ []
+    none f (inl k) = k
+    none f (inr some) = absurd (let k : list_any (nat_eq c) conns ≡ true = of_wants (λ d. list_any (nat_eq d) conns ≡ true) view held wants c e (has (ap (λ (x : ConnView). x.held) (sym (same f)) ∙ is)) all some in let q : true ≡ false = sym k ∙ f in cc)
+
+    go : (t : Bool) → list_any (nat_eq c) conns ≡ t → AtRest heard tells (view' c) (link c)
+    go true f = served f
+    go false f = rest_none heard tells c (view' c) (link c) (ap (wants_at c) (same f) ∙ none f (none_or_some (wants_at c (view c))))
+
+-- one more id
+pub has_more : (conn : ℕ) (old new : Ids) → has new conn ≡ true → ((d : ℕ) → d ≢ conn → has new d ≡ has old d) → (c : ℕ) → has old c ≡ true → has new c ≡ true
+has_more conn old new own others c h = go (cases_eq c conn)
+  where
+    go : (c ≡ conn) ⊎ (c ≡ conn → ⊥) → has new c ≡ true
+    go (inl e) = subst (λ x. has new x ≡ true) (sym e) own
+    go (inr ne) = others c ne ∙ h
+
+-- it rests, or was given up, as long as neither it nor its link changes
+kept_resting : (heard tells may : Type 0) (v v' : ConnView) (l l' : LinkView) → v' ≡ v → (heard → tells) → (tells → l' ≡ l) → AtRest heard tells v l ⊎ (may × IsGivenUp v) → AtRest heard tells v' l' ⊎ (may × IsGivenUp v')
+kept_resting heard tells may v v' l l' e ht le (inl r) = inl (rest_same heard heard tells tells v v' l l' (λ k. k) (λ k. k) e (λ k. ap (λ (x : LinkView). x.due) (le (ht k))) (λ k. ap (λ (x : LinkView). x.full) (le k)) r)
+kept_resting heard tells may v v' l l' e ht le (inr u) = inr (u.0, (u.1.0, u.1.1, ap (λ (x : ConnView). x.cause) e ∙ u.1.2))
+
+-- a connection was served, and the others rest
+pub rests_one : (heard heard1 tells tells1 may : Type 0) (conn : ℕ) (view view' : ℕ → ConnView) (link link' : ℕ → LinkView) → (heard → heard1) → (heard → tells) → (tells → tells1) → Elsewhere conn view view' → (tells1 → Elsewhere conn link link') →
+    ((view' conn).held ≡ true → AtRest heard1 tells1 (view' conn) (link' conn)) → ((c : ℕ) → c ≢ conn → (view c).held ≡ true → AtRest heard tells (view c) (link c) ⊎ (may × IsGivenUp (view c))) → AllRest heard tells may view' link'
+rests_one heard heard1 tells tells1 may conn view view' link link' hh ht tt1 views links own others c held = go (cases_eq c conn)
+  where
+    go : (c ≡ conn) ⊎ (c ≡ conn → ⊥) → AtRest heard tells (view' c) (link' c) ⊎ (may × IsGivenUp (view' c))
+    go (inl e) =
+        inl (subst (λ x. AtRest heard tells (view' x) (link' x)) (sym e)
+        (rest_same heard1 heard tells1 tells (view' conn) (view' conn) (link' conn) (link' conn) hh tt1 refl (λ k. refl) (λ k. refl) (own (subst (λ x. (view' x).held ≡ true) e held))))
+    go (inr ne) = kept_resting heard tells may (view c) (view' c) (link c) (link' c) (views c ne) ht (λ k. links (tt1 k) c ne) (others c ne (ap (λ (x : ConnView). x.held) (sym (views c ne)) ∙ held))
+
+-- all were served
+pub rests_all : (heard heard1 tells tells1 may : Type 0) (view : ℕ → ConnView) (link : ℕ → LinkView) → (heard → heard1) → (tells → tells1) → ((c : ℕ) → (view c).held ≡ true → AtRest heard1 tells1 (view c) (link c)) → AllRest heard tells may view link
+rests_all heard heard1 tells tells1 may view link hh tt1 all c held = inl (rest_same heard1 heard tells1 tells (view c) (view c) (link c) (link c) hh tt1 refl (λ k. refl) (λ k. refl) (all c held))
+
+told_resting : (heard tells tells' may may' : Type 0) (v : ConnView) (l : LinkView) → (tells' → tells) → (may → may') → AtRest heard tells v l ⊎ (may × IsGivenUp v) → AtRest heard tells' v l ⊎ (may' × IsGivenUp v)
+told_resting heard tells tells' may may' v l t m (inl r) = inl (rest_same heard heard tells tells' v v l l (λ k. k) t refl (λ k. refl) (λ k. refl) r)
+told_resting heard tells tells' may may' v l t m (inr u) = inr (m u.0, u.1)
+
+pub rests_told : (heard tells tells' may may' : Type 0) (view : ℕ → ConnView) (link : ℕ → LinkView) → (tells' → tells) → (may → may') → AllRest heard tells may view link → AllRest heard tells' may' view link
+rests_told heard tells tells' may may' view link t m all c held = told_resting heard tells tells' may may' (view c) (link c) t m (all c held)
+
+-- something was heard
+pub rests_heard : (notice : Heard) (heard tells tells' may : Type 0) (view view' : ℕ → ConnView) (link link' : ℕ → LinkView) → (heard → tells) → (tells' → tells) → ChangedAs notice view view' → (tells → ChangedAs notice link link') → AllRest heard tells may view link → RestsBut notice heard tells' may view' link'
+rests_heard (heard.At conn due) h t t' may view view' link link' ht tl views links all =
+    λ c ne held. told_resting h t t' may may (view' c) (link' c) tl (λ k. k) (kept_resting h t may (view c) (view' c) (link c) (link' c) (views c ne) ht (λ k. links k c ne) (all c (ap (λ (x : ConnView). x.held) (sym (views c ne)) ∙ held)))
+rests_heard heard.Nothing h t t' may view view' link link' ht tl views links all =
+    λ c held. told_resting h t t' may may (view' c) (link' c) tl (λ k. k) (kept_resting h t may (view c) (view' c) (link c) (link' c) (views c) ht (λ k. links k c) (all c (ap (λ (x : ConnView). x.held) (sym (views c)) ∙ held)))
+rests_heard heard.Ended h t t' may view view' link link' ht tl views links all =
+    λ c held. told_resting h t t' may may (view' c) (link' c) tl (λ k. k) (kept_resting h t may (view c) (view' c) (link c) (link' c) (views c) ht (λ k. links k c) (all c (ap (λ (x : ConnView). x.held) (sym (views c)) ∙ held)))
+rests_heard heard.Failed h t t' may view view' link link' ht tl views links all =
+    λ c held. told_resting h t t' may may (view' c) (link' c) tl (λ k. k) (kept_resting h t may (view c) (view' c) (link c) (link' c) (views c) ht (λ k. links k c) (all c (ap (λ (x : ConnView). x.held) (sym (views c)) ∙ held)))
+
+-- a moment was told
+pub rests_ticked : (heard tells : Type 0) (moment : ℕ) (view view' : ℕ → ConnView) (link : ℕ → LinkView) → ((c : ℕ) → Ticked moment (view c) (view' c)) → AllRest heard tells (Unit {0}) view link → AllRest heard tells (Unit {0}) view' link
+rests_ticked h t moment view view' link ticked all c held = go (ticked c)
+  where
+    go : Ticked moment (view c) (view' c) → AtRest h t (view' c) (link c) ⊎ (Unit {0} × IsGivenUp (view' c))
+    go (GivesUp due is before s) = inr (tt, (due, moment, s.why))
+    go (Waits not same) = subst (λ v. AtRest h t v (link c) ⊎ (Unit {0} × IsGivenUp v)) (sym same) (all c (ap (λ (x : ConnView). x.held) (sym same) ∙ held))
+
+-- all that want something are remembered
+pub heard_at_start : (view : ℕ → ConnView) (is_open : ℕ → Bool) (link : ℕ → LinkView) (unread : Ids) (conns : List ℕ) (wants : List Want) → wants ≡ wants_in conns view → ((c : ℕ) → (view c).held ≡ true → Contains conns c) → IsMatched view is_open →
+    All (λ w. has unread (conn_of w) ≡ true) wants → DueHasWants is_open link view → IsHeard is_open link unread
+heard_at_start view is_open link unread conns wants e has_conn matched all due c is_o is = of_wants (λ d. has unread d ≡ true) view conns wants c e (has_conn c (matched c ∙ is_o)) all (due c is_o is)
+
+pub not_true : (b : Bool) → not b ≡ true → b ≡ false
+not_true true e = cc
+not_true false e = refl

@@ -1,0 +1,39 @@
+use Rattle.std.proofs.Common.{◌≡◌, ◌∙◌, false, ap, subst, arith}
+use Rattle.std.specs.List.{All}
+use Rattle.ngx_outside.specs.Views.{Start}
+use Rattle.ready_loop.specs.Turns.{doable}
+use Rattle.ready_loop.proofs.WantLemmas.{is_wanted}
+use Rattle.ready_loop.proofs.drain.drain.Goals as goal
+
+pub serve_want-requires-clause-wanted : goal.serve_want-requires-clause-wanted
+serve_want-requires-clause-wanted g c = is_wanted c.args.conn (g.E.EventCore.view c.loop-want.core c.args.conn) c.wants_of.result.now c.in-Some.want c.wants_of.ensures.wants c.in-Some.ensures.found.0
+
+pub loop-want-preserved : goal.loop-want-preserved
+loop-want-preserved g c =
+    let i = c.loop-want.invariant in
+    let s = c.in_ok-ready.ensures in
+    record {
+      kept = λ tl tf marks whole clock k. s.kept (i.tells ∙ tl) (i.files ∙ tf) marks whole clock (i.kept tl tf marks whole clock k);
+      views = λ d ne. s.views d ne ∙ i.views d ne;
+      links = λ tl d ne. s.links (i.tells ∙ tl) d ne ∙ i.links tl d ne;
+      opens = λ d ne. s.opens d ne ∙ i.opens d ne;
+      matched = s.matched;
+      due = λ tl due. s.due (i.tells ∙ tl) (i.due tl due);
+      full = λ tl. s.full (i.tells ∙ tl) (i.full tl);
+      fresh = s.steady.0 ∙ i.fresh;
+      price = s.steady.1 ∙ i.price;
+      now = s.steady.2 ∙ i.now;
+      tells = s.tells.0 ∙ i.tells;
+      listens = s.tells.1 ∙ i.listens;
+      files = s.tells.2 ∙ i.files;
+      later = (let a = i.later in let b = s.later in omega (arith, a, b));
+      grown = (let a = i.grown in let b = s.grown in omega (arith, a, b));
+      known = (let a = i.known in let b = s.grown in let e : (g.E.EventCore.now c.serve_want.new.core).tree ≡ (g.E.EventCore.now c.loop-want.core).tree = ap (λ (x : Start). x.tree) s.steady.2 in omega (arith, a, b, e));
+    }
+
+pub returns-clause-rests : goal.returns-clause-rests
+returns-clause-rests g c = record {
+  full = c.loop-want.ready.full;
+  told = c.loop-want.invariant.full;
+  none = subst (All (λ w. doable c.loop-want.ready.due c.loop-want.ready.full w ≡ false)) c.wants_of.ensures.wants c.in_default.ensures.none;
+}

@@ -1,0 +1,34 @@
+use Rattle.std.proofs.Common.{◌≡◌, ◌≤◌, ℕ, true, vec_len}
+use Rattle.http_types.specs.declared.words.Addr.{Addr as End}
+use Rattle.ngx_outside.specs.Views.{Course}
+use Rattle.ready_loop.specs.Seen.{Elsewhere, ClockSeen, core_seen, links_seen, files_seen}
+use Rattle.ready_loop.specs.Standing.{Marks, Kept}
+use Rattle.ready_loop.specs.Turns.{work}
+use Rattle.ready_loop.proofs.drain.drain.Given as goal
+
+abbrev pub invariant-loop-want : goal.invariant-loop-want
+invariant-loop-want g l =
+    let e = g.E.EventCore in
+    let f = g.F.Files in
+    let k = g.L.Links in
+    record {
+      kept : k.tells l.fn.links ≡ true → f.tells l.fn.files ≡ true → (marks : Marks) (whole : ℕ → End → End → Course) (clock : ClockSeen) → Kept marks whole (core_seen (e.view l.fn.core) (e.fresh l.fn.core) (e.now l.fn.core) (e.refused l.fn.core)) (links_seen (k.link l.fn.links) (k.used l.fn.links) (k.is_open l.fn.links) (k.link_faults l.fn.links)) (files_seen (f.trees l.fn.files) (f.newest l.fn.files) (f.faults l.fn.files)) clock → Kept marks whole (core_seen (e.view l.core) (e.fresh l.core) (e.now l.core) (e.refused l.core)) (links_seen (k.link l.links) (k.used l.links) (k.is_open l.links) (k.link_faults l.links)) (files_seen (f.trees l.files) (f.newest l.files) (f.faults l.files)) clock;
+      views : Elsewhere l.conn (e.view l.fn.core) (e.view l.core);
+      links : k.tells l.fn.links ≡ true → Elsewhere l.conn (k.link l.fn.links) (k.link l.links);
+      opens : Elsewhere l.conn (k.is_open l.fn.links) (k.is_open l.links);
+      matched : (e.view l.core l.conn).held ≡ k.is_open l.links l.conn;
+      due : k.tells l.fn.links ≡ true → (k.is_open l.fn.links l.conn ≡ true → (k.link l.fn.links l.conn).due ≡ true → l.due ≡ true) → k.is_open l.links l.conn ≡ true → (k.link l.links l.conn).due ≡ true → l.ready.due ≡ true;
+      full : k.tells l.fn.links ≡ true → l.ready.full ≡ true → (k.link l.links l.conn).full ≡ true;
+      fresh : e.fresh l.core ≡ e.fresh l.fn.core;
+      price : e.price l.core ≡ e.price l.fn.core;
+      now : e.now l.core ≡ e.now l.fn.core;
+      tells : k.tells l.links ≡ k.tells l.fn.links;
+      listens : k.listening l.links ≡ k.listening l.fn.links;
+      files : f.tells l.files ≡ f.tells l.fn.files;
+      later : k.faults l.fn.links ≤ k.faults l.links;
+      grown : f.newest l.fn.files ≤ f.newest l.files;
+      known : (e.now l.core).tree ≤ f.newest l.files;
+    }
+
+abbrev pub decreases-loop-want : goal.decreases-loop-want
+decreases-loop-want g l = work (g.E.EventCore.price l.core) (vec_len l.buffers.input) l.ready.due l.ready.full (g.E.EventCore.left l.core)

@@ -1,0 +1,15 @@
+use Rattle.std.proofs.Common.{◌≡◌, [], take, sym, subst, arith}
+use Rattle.ngx_outside.specs.Views.Ground.{Always}
+use Rattle.ready_loop.specs.Passing.{Passed}
+use Rattle.ready_loop.proofs.AccountLemmas.{passed_weaker}
+use Rattle.ready_loop.proofs.links.after_put.Goals as goal
+
+pub returns-then-count-gt0-clause-passed : goal.returns-then-count-gt0-clause-passed
+returns-then-count-gt0-clause-passed g c = passed_weaker (λ x. absurd x) (λ x. absurd x) (λ x. absurd x) c.wrote.ensures.passed
+
+pub returns-else-count-gt0-clause-passed : goal.returns-else-count-gt0-clause-passed
+returns-else-count-gt0-clause-passed g c =
+    let e = g.E.EventCore in
+    let none : c.args.count ≡ 0 = omega arith in
+    subst (λ n. Passed (e.now c.args.core.now) Always (c.args.count ≡ 0) ⊥ ⊥ (e.view c.args.core.now c.args.conn) (e.view c.link_failed.new.core c.args.conn) [] (take n (e.view c.args.core.now c.args.conn).pending)) (sym none)
+    (passed_weaker (λ x. none) (λ x. absurd x) (λ x. absurd x) c.link_failed.ensures.passed)

@@ -1,0 +1,32 @@
+use Rattle.std.proofs.Common.{◌∙◌, arith}
+use Rattle.ready_loop.proofs.service.take_turns.Goals as goal
+
+pub returns-in-Ended-clause-kept : goal.returns-in-Ended-clause-kept
+returns-in-Ended-clause-kept g c = λ tl tf marks whole kept.
+    let i = c.loop-turn.invariant in
+    c.in_ok-taken.ensures.kept (i.tells ∙ tl) (i.files ∙ tf) marks whole (i.kept tl tf marks whole kept)
+
+pub returns-in-Failed-clause-kept : goal.returns-in-Failed-clause-kept
+returns-in-Failed-clause-kept g c = λ tl tf marks whole kept.
+    let i = c.loop-turn.invariant in
+    c.in_ok-taken.ensures.kept (i.tells ∙ tl) (i.files ∙ tf) marks whole (i.kept tl tf marks whole kept)
+
+pub loop-turn-preserved : goal.loop-turn-preserved
+loop-turn-preserved g c =
+    let i = c.loop-turn.invariant in
+    let s = c.in_ok-taken.ensures in
+    record {
+      kept = λ tl tf marks whole kept. s.kept (i.tells ∙ tl) (i.files ∙ tf) marks whole (i.kept tl tf marks whole kept);
+      matched = s.matched;
+      heard = λ tl heard. s.heard (i.tells ∙ tl) (i.heard tl heard);
+      known = s.known.1;
+      last = s.known.0;
+      fresh = s.steady.0 ∙ i.fresh;
+      price = s.steady.1 ∙ i.price;
+      tells = s.tells.0.0 ∙ i.tells;
+      listens = s.tells.0.1 ∙ i.listens;
+      files = s.tells.0.2 ∙ i.files;
+      clock = s.tells.1 ∙ i.clock;
+      moments = λ tc. (let a = s.moments (i.clock ∙ tc) in let b = i.moments tc in omega (arith, a, b));
+      later = (let a = s.later in let b = i.later in omega (arith, a, b));
+    }

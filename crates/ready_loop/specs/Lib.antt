@@ -1,0 +1,6 @@
+pub mod Ids
+pub mod Seen
+pub mod Passing
+pub mod Standing
+pub mod Turns
+pub mod Laws

@@ -1,0 +1,127 @@
+-- What is left to do on a connection, and at the end of a turn.
+use Rattle.std.specs.Prelude.{◌≡◌, ◌≢◌, ◌⊎◌, ℕ, ◌+◌, ◌*◌, ◌<◌, ◌≤◌, Bool, true, false, not, List, [], if◌then◌else◌, Option, Some, None}
+use Rattle.std.specs.List.{All, Contains}
+use Rattle.file_tree.specs.Tree.{Trees, node_of, HoldsBytes}
+use Rattle.file_tree.specs.declared.job.Ask.{Ask}
+use Rattle.file_tree.specs.declared.job.Ask.TheVariants.{Stat as AskStat, Read as AskRead}
+use Rattle.ngx_outside.specs.Linked.{LinkView}
+use Rattle.ngx_outside.specs.Views.{ConnView, ask_in, no_bytes}
+use Rattle.ngx_outside.specs.Wants.{wants_at}
+use Rattle.ngx_outside.specs.declared.event.StopCause.TheVariants as stop
+use Rattle.ngx_outside.specs.declared.event.Want.{Want}
+use Rattle.ngx_outside.specs.declared.event.Want.TheVariants.{Read, Run, Job, Write, Close}
+use Rattle.std.specs.Prelude.{length}
+use Rattle.ready_loop.specs.Ids.{has}
+use Rattle.ready_loop.specs.Seen.{Elsewhere}
+use Rattle.ready_loop.specs.declared.hear.Heard.{Heard}
+use Rattle.ready_loop.specs.declared.hear.Heard.TheVariants as heard
+use Rattle.ready_loop.specs.declared.ticks.Told.{Told}
+use Rattle.ready_loop.specs.declared.service.Ending.{Ending}
+use Rattle.ready_loop.specs.declared.service.Ending.TheVariants as ending
+use Rattle.ready_loop.specs.declared.ids.Ids.{Ids}
+use Rattle.ready_loop.specs.declared.jobs.Found.{Found}
+use Rattle.ready_loop.specs.declared.jobs.Found.TheVariants as found
+
+-- whether a want can be served at once, where the link is due to be read, or is full
+abbrev pub doable : Bool → Bool → Want → Bool
+doable due full (Read conn room) = due
+doable due full (Run conn node) = true
+doable due full (Job conn node) = true
+doable due full (Write conn) = not full
+doable due full (Close conn) = true
+
+-- the measure of what is left: a read may raise what the core has left by so much at most
+abbrev pub work : ℕ → ℕ → Bool → Bool → ℕ → ℕ
+work price size due full left = left + (if due then price * size + 1 else 0) + (if full then 0 else 1)
+
+-- what a want says of its connection
+abbrev pub IsWanted : ConnView → ℕ → Want → Type 0
+IsWanted v c (Read conn room) = (conn ≡ c) × (v.room ≡ Some room)
+IsWanted v c (Run conn node) = (conn ≡ c) × Contains v.ready node
+IsWanted v c (Job conn node) = (conn ≡ c) × (ask_in v.jobs node ≢ None)
+IsWanted v c (Write conn) = (conn ≡ c) × (no_bytes v.pending ≡ false)
+IsWanted v c (Close conn) = (conn ≡ c) × (v.shut ≡ true)
+
+-- the connection of a want
+abbrev pub conn_of : Want → ℕ
+conn_of (Read conn room) = conn
+conn_of (Run conn node) = conn
+conn_of (Job conn node) = conn
+conn_of (Write conn) = conn
+conn_of (Close conn) = conn
+
+-- A connection has nothing left to do: no node can run, no job waits, and its link isn't to be closed; where it reads, its
+-- link isn't due; and where bytes are pending, its link is full. What is due and full is known where the links tell.
+pub record AtRest (heard tells : Type 0) (v : ConnView) (l : LinkView) : Type 0 where
+  pub ready : v.ready ≡ []
+  pub jobs : v.jobs ≡ []
+  pub shut : v.shut ≡ false
+  pub read : heard → v.room ≢ None → l.due ≡ false
+  pub written : tells → v.pending ≢ [] → l.full ≡ true
+
+-- a tick gave the connection up
+abbrev pub IsGivenUp : ConnView → Type 0
+IsGivenUp v = (due : ℕ) × (now : ℕ) × (v.cause ≡ Some (stop.Deadline due now))
+
+-- each connection that is held rests, or a tick gave it up, where that may be
+abbrev pub AllRest : (heard tells may : Type 0) → (ℕ → ConnView) → (ℕ → LinkView) → Type 0
+AllRest heard tells may view link = (c : ℕ) → (view c).held ≡ true → AtRest heard tells (view c) (link c) ⊎ (may × IsGivenUp (view c))
+
+-- each link that is due is remembered as unread
+abbrev pub IsHeard : (ℕ → Bool) → (ℕ → LinkView) → Ids → Type 0
+IsHeard is_open link unread = (c : ℕ) → is_open c ≡ true → (link c).due ≡ true → has unread c ≡ true
+
+-- or is this one, of which it is known
+abbrev pub IsHeardBut : ℕ → Bool → (ℕ → Bool) → (ℕ → LinkView) → Ids → Type 0
+IsHeardBut conn due is_open link unread = (c : ℕ) → is_open c ≡ true → (link c).due ≡ true → (has unread c ≡ true) ⊎ ((c ≡ conn) × (due ≡ true))
+
+-- so after a notice
+abbrev pub HeardAs : Heard → (ℕ → Bool) → (ℕ → LinkView) → Ids → Type 0
+HeardAs (heard.At conn due) is_open link unread = IsHeardBut conn due is_open link unread
+HeardAs heard.Nothing is_open link unread = IsHeard is_open link unread
+HeardAs heard.Ended is_open link unread = IsHeard is_open link unread
+HeardAs heard.Failed is_open link unread = IsHeard is_open link unread
+
+-- this moment was told last
+abbrev pub WasTold : Option Told → ℕ → Type 0
+WasTold None moment = ⊥
+WasTold (Some told) moment = told.moment ≡ moment
+
+-- all rest but the connection of which something was heard
+abbrev pub RestsBut : Heard → (heard tells may : Type 0) → (ℕ → ConnView) → (ℕ → LinkView) → Type 0
+RestsBut (heard.At conn due) known tells may view link = (c : ℕ) → c ≢ conn → (view c).held ≡ true → AtRest known tells (view c) (link c) ⊎ (may × IsGivenUp (view c))
+RestsBut heard.Nothing known tells may view link = AllRest known tells may view link
+RestsBut heard.Ended known tells may view link = AllRest known tells may view link
+RestsBut heard.Failed known tells may view link = AllRest known tells may view link
+
+-- nothing changed but at the connection of which something was heard
+abbrev pub ChangedAs : {V : Type 0} → Heard → (ℕ → V) → (ℕ → V) → Type 0
+ChangedAs (heard.At conn due) old new = Elsewhere conn old new
+ChangedAs heard.Nothing old new = (c : ℕ) → new c ≡ old c
+ChangedAs heard.Ended old new = (c : ℕ) → new c ≡ old c
+ChangedAs heard.Failed old new = (c : ℕ) → new c ≡ old c
+
+-- where a link is due its connection has something to do
+abbrev pub DueHasWants : (ℕ → Bool) → (ℕ → LinkView) → (ℕ → ConnView) → Type 0
+DueHasWants is_open link view = (c : ℕ) → is_open c ≡ true → (link c).due ≡ true → wants_at c (view c) ≢ []
+
+-- what files gave a job: what stands at its path, or these bytes of it
+abbrev pub Gives : Bool → Trees → Ask → Found → List ℕ → Type 0
+Gives tells trees (AskStat path of) (found.Node node) block = tells ≡ true → node ≡ node_of (trees of path)
+Gives tells trees (AskRead path start count of) found.Block block = (length block ≡ count) × (tells ≡ true → HoldsBytes (trees of path) start count block)
+Gives tells trees (AskStat path of) found.Block block = ⊥
+Gives tells trees (AskRead path start count of) (found.Node node) block = ⊥
+
+-- A connection rests: none of its wants can be served, by what is remembered of its link; it is remembered as full only
+-- where it is, as far as the links tell.
+pub record IsRested (tells : Type 0) (due : Bool) (c : ℕ) (v : ConnView) (l : LinkView) : Type 0 where
+  pub full : Bool
+  pub told : tells → full ≡ true → l.full ≡ true
+  pub none : All (λ w. doable due full w ≡ false) (wants_at c v)
+
+-- How many turns there were, by how long the list of the clock's moments was before and after: each reads the clock once.
+abbrev pub TurnsTaken : Ending → (turns before after : ℕ) → Type 0
+TurnsTaken ending.Ended turns before after = (before < after) × (after ≤ before + turns)
+TurnsTaken ending.TurnsUsed turns before after = after ≡ before + turns
+TurnsTaken ending.ListenFault turns before after = after ≡ before
+TurnsTaken ending.NextFault turns before after = (before < after) × (after ≤ before + turns)

@@ -1,0 +1,18 @@
+// What the account of a connection comes to.
+ghost use Rattle.ready_loop.specs.Laws.{ClosedUnstoppedSentAll, KeptBegins, MomentsWereTold};
+
+/// A loop's account begins where no link was reported yet and no connection is held: on each that is opened the core says
+/// what is to come.
+pub fn kept_begins()
+    ensures { KeptBegins }
+{}
+
+/// Once a connection is closed without having been stopped, what was sent is all that was to come, whatever starts later.
+pub fn closed_unstopped_sent_all()
+    ensures { ClosedUnstoppedSentAll }
+{}
+
+/// Each request of a connection started at a moment that the clock told.
+pub fn moments_were_told()
+    ensures { MomentsWereTold }
+{}

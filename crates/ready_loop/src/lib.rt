@@ -1,0 +1,20 @@
+//! Serves connections over links: a core, files, links and a clock are driven turn by turn.
+#![tactic(auto)]
+
+mod conns;
+mod drain;
+mod events;
+mod hear;
+mod ids;
+mod jobs;
+mod laws;
+mod links;
+mod service;
+mod ticks;
+mod turn;
+
+pub use laws::{closed_unstopped_sent_all, kept_begins, moments_were_told};
+pub use service::{Ending, serve};
+
+#[cfg(test)]
+mod tests;
