@@ -1,0 +1,160 @@
+// What the poll reports, as notices.
+ghost use Rattle.std.specs.Prelude.{◌<◌, length, IfSome};
+ghost use Rattle.socket_links.specs.Slots.{IsReport};
+
+use crate::slots::{Link, is_open, slot_of};
+use mio::Events;
+use mio::net::TcpListener;
+use ngx_outside::Notice;
+use std::collections::VecDeque;
+
+#[derive(Drop)]
+pub struct Listener {
+    pub socket: TcpListener,
+    pub ready: bool,
+}
+
+/// An event of a link.
+#[derive(Clone, Copy, Debug)]
+pub struct Ready {
+    pub id: u32,
+    pub reads: bool,
+    pub writes: bool,
+}
+
+/// What is remembered of the link of a slot: whether its last write found no room, and whether it is to be reported
+/// readable again.
+#[derive(Clone, Copy, Debug)]
+pub struct Mark {
+    pub full: bool,
+    pub again: bool,
+}
+
+pub const UNMARKED: Mark = Mark {
+    full: false,
+    again: false,
+};
+
+/// The first listener that may have a peer.
+pub fn ready_listener(listeners: &[Listener]) -> Option<usize>
+    ensures { IfSome result (λ at. at < length listeners.now) }
+{
+    for (at, listener) in listeners.iter().enumerate() {
+        if listener.ready {
+            return Some(at);
+        }
+    }
+    None
+}
+
+pub fn set_mark(marks: &mut [Mark], id: u32, mark: Mark) {
+    let slot = slot_of(id);
+    if slot < marks.len() {
+        marks[slot] = mark;
+    }
+}
+
+pub fn mark_of(marks: &[Mark], id: u32) -> Mark {
+    let slot = slot_of(id);
+    if slot < marks.len() {
+        marks[slot]
+    } else {
+        UNMARKED
+    }
+}
+
+/// What an event of a link is as a notice. Where it is of both kinds the reading comes next.
+pub fn notice_of(
+    links: &[Option<Link>],
+    marks: &mut [Mark],
+    batch: &mut Vec<Ready>,
+    ready: Ready,
+) -> Notice
+    ensures { IsReport result links.now }
+{
+    let id = ready.id;
+    if !is_open(links, id) {
+        return Notice::Nothing;
+    }
+    let mark = mark_of(marks, id);
+    if ready.writes && mark.full {
+        set_mark(
+            marks,
+            id,
+            Mark {
+                full: false,
+                again: mark.again,
+            },
+        );
+        if ready.reads {
+            // There is room, since this event stood there.
+            let _kept = batch.push(Ready {
+                id,
+                reads: true,
+                writes: false,
+            });
+        }
+        return Notice::Writable { id };
+    }
+    if ready.reads {
+        Notice::Readable { id }
+    } else {
+        Notice::Nothing
+    }
+}
+
+/// A link that is to be reported readable again.
+pub fn again_of(links: &[Option<Link>], marks: &mut [Mark], id: u32) -> Notice
+    ensures { IsReport result links.now }
+{
+    if !is_open(links, id) {
+        return Notice::Nothing;
+    }
+    let mark = mark_of(marks, id);
+    set_mark(
+        marks,
+        id,
+        Mark {
+            full: mark.full,
+            again: false,
+        },
+    );
+    Notice::Readable { id }
+}
+
+/// Keeps the events of links, and wakes the listeners of others.
+pub fn collect(events: &Events, batch: &mut Vec<Ready>, listeners: &mut [Listener]) {
+    for event in events.iter() {
+        let token = usize::from(event.token());
+        if token > 4294967295 {
+            let at = usize::MAX - token;
+            if at < listeners.len() {
+                listeners[at].ready = true;
+            }
+        } else {
+            // There is room for as many events as come at once.
+            let _kept = batch.push(Ready {
+                id: token as u32,
+                reads: event.is_readable() || event.is_read_closed() || event.is_error(),
+                writes: event.is_writable() || event.is_write_closed() || event.is_error(),
+            });
+        }
+    }
+}
+
+/// Has a link reported readable again, once.
+pub fn report_again(marks: &mut [Mark], again: &mut VecDeque<u32>, id: u32) {
+    let mark = mark_of(marks, id);
+    if !mark.again {
+        set_mark(
+            marks,
+            id,
+            Mark {
+                full: mark.full,
+                again: true,
+            },
+        );
+        // Room for it was made before the link was read.
+        let _kept = again.push_back(id);
+    }
+}
