@@ -7,3 +7,4 @@ pub mod ListingLaws
 pub mod FileLaws
 pub mod IncludeLaws
 pub mod MainLaws
+pub mod WholeLaws

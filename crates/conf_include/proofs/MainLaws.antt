@@ -1,13 +1,14 @@
 -- The main file.
-use Rattle.std.proofs.Common.{◌≡◌, ℕ, true, zero-add, List, [], ◌∷◌, length, get_or, Ok, Err, refl, ap, sym, ◌∙◌, arith}
+use Rattle.std.proofs.Common.{◌≡◌, ℕ, true, List, [], ◌∷◌, length, get_or, Ok, Err, refl, ap, sym, ◌∙◌, arith}
 use Rattle.file_tree.specs.Tree.{Tree}
 use Rattle.conf_text.specs.declared.directive.Directive.{Directive}
 use Rattle.conf_text.specs.declared.fault.ConfFault.{ConfFault}
 use Rattle.conf_include.specs.declared.stop.Stop.{Stop}
 use Rattle.conf_include.specs.Listings.{Names}
 use Rattle.conf_include.specs.Told.{Telling, Later, IsTold}
-use Rattle.conf_include.specs.Expansion.{spot, Tally, tally, Outcome, ◌>>=◌, deeper, text_in, directives_in, most_deep, put_lines, open_main, put_main, located, expansion}
+use Rattle.conf_include.specs.Expansion.{spot, Tally, tally, Outcome, ◌>>=◌, text_in, directives_in, most_deep, put_lines, open_main, put_main, located, expansion}
 use Rattle.conf_include.specs.Steps.{StopsAs, onto}
+use Rattle.conf_include.proofs.PutLaws.{deeper_none}
 use Rattle.conf_include.proofs.AnswerLaws.{stop_bind, stop_same, stop_onto}
 
 main_steps : (tree : Tree) (names : Names) (main : List ℕ) → put_main tree names main ≡ (open_main tree main >>= λ opened. put_lines tree names main 8 opened.0 opened.1)
@@ -55,10 +56,6 @@ main_opened tree names main lines inner ps size now bytes paths none is h k =
     ∙ ap (λ r. r >>= λ opened. put_lines tree names main 8 opened.0 opened.1)
     (after_text tree main ps size bytes paths none h ∙ ap (λ r. r >>= λ lines. Ok (lines, tally ps (length bytes))) k)
     ∙ ap (λ n. put_lines tree names main 8 inner (tally ps n)) (sym is))
-
-deeper_none : (xs : List Directive) → deeper 0 xs ≡ xs
-deeper_none [] = refl
-deeper_none (x ∷ xs) = rw (deeper_none xs, zero-add x.depth) refl
 
 -- directives behind none, in no block
 onto_none : (o : Outcome) → onto [] 0 o ≡ o

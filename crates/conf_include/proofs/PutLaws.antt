@@ -1,5 +1,5 @@
 -- Directives that are put one after another.
-use Rattle.std.proofs.Common.{◌≡◌, ℕ, ◌+◌, List, [], ◌∷◌, ◌++◌, Ok, Err, refl, ap, sym, ◌∙◌, append_assoc, append-nil, add_assoc}
+use Rattle.std.proofs.Common.{◌≡◌, ℕ, ◌+◌, zero-add, List, [], ◌∷◌, ◌++◌, Ok, Err, refl, ap, sym, ◌∙◌, append_assoc, append-nil, add_assoc}
 use Rattle.conf_text.specs.declared.directive.Directive.{Directive}
 use Rattle.conf_text.specs.declared.fault.ConfFault.{ConfFault}
 use Rattle.conf_include.specs.Expansion.{Tally, Outcome, ◌>>=◌, deepened, deeper, put_all}
@@ -9,19 +9,23 @@ deeper-append : (depth : ℕ) (xs ys : List Directive) → deeper depth (xs ++ y
 deeper-append depth [] ys = refl
 deeper-append depth (x ∷ xs) ys = ap (λ l. deepened depth x ∷ l) (deeper-append depth xs ys)
 
-deeper-deeper : (a b : ℕ) (xs : List Directive) → deeper a (deeper b xs) ≡ deeper (a + b) xs
+pub deeper-deeper : (a b : ℕ) (xs : List Directive) → deeper a (deeper b xs) ≡ deeper (a + b) xs
 deeper-deeper a b [] = refl
 deeper-deeper a b (x ∷ xs) = rw (deeper-deeper a b xs, add_assoc a b x.depth) refl
+
+pub deeper_none : (xs : List Directive) → deeper 0 xs ≡ xs
+deeper_none [] = refl
+deeper_none (x ∷ xs) = rw (deeper_none xs, zero-add x.depth) refl
 
 -- what follows the first, behind its directives
 abbrev rest_of : {A : Type 0} → (A → Tally → Outcome) → List A → List Directive × Tally → Outcome
 rest_of put xs first = put_all put xs first.1 >>= λ rest. Ok (first.0 ++ rest.0, rest.1)
 
-all_cons : {A : Type 0} (put : A → Tally → Outcome) (x : A) (xs : List A) (t : Tally) → put_all put (x ∷ xs) t ≡ (put x t >>= rest_of put xs)
+pub all_cons : {A : Type 0} (put : A → Tally → Outcome) (x : A) (xs : List A) (t : Tally) → put_all put (x ∷ xs) t ≡ (put x t >>= rest_of put xs)
 unfolding put_all
 all_cons put x xs t = refl
 
-all_nil : {A : Type 0} (put : A → Tally → Outcome) (t : Tally) → put_all put [] t ≡ Ok ([], t)
+pub all_nil : {A : Type 0} (put : A → Tally → Outcome) (t : Tally) → put_all put [] t ≡ Ok ([], t)
 unfolding put_all
 all_nil put t = refl
 

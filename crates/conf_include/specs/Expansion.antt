@@ -62,13 +62,14 @@ text_in AFolder at path t = Err (fault_about NotThere at path, t.paths)
 text_in ALocked at path t = Err (fault_about NotThere at path, t.paths)
 text_in Nothing at path t = Err (fault_about NotThere at path, t.paths)
 
+-- a fault of a text, with the paths of the files that were read
+abbrev pub with_paths : List (List ℕ) → Result (List Directive) ConfFault → Faulty (List Directive)
+with_paths paths (Ok lines) = Ok lines
+with_paths paths (Err fault) = Err (fault, paths)
+
 -- the directives of a file of this number
 abbrev pub directives_in : ℕ → List ℕ → List (List ℕ) → Faulty (List Directive)
-directives_in number bytes paths = with_paths (reading number bytes)
-  where
-    with_paths : Result (List Directive) ConfFault → Faulty (List Directive)
-    with_paths (Ok lines) = Ok lines
-    with_paths (Err fault) = Err (fault, paths)
+directives_in number bytes paths = with_paths paths (reading number bytes)
 
 -- the one parameter, if there is one alone
 abbrev pub one_word : List (List ℕ) → Option (List ℕ)

@@ -4,3 +4,4 @@ pub mod Listings
 pub mod Expansion
 pub mod Told
 pub mod Steps
+pub mod Laws

@@ -2,6 +2,7 @@
 #![tactic(auto)]
 
 mod include;
+mod laws;
 mod listing;
 mod main_file;
 mod mask;
@@ -9,6 +10,7 @@ mod open;
 mod paths;
 mod stop;
 
+pub use laws::files_stand_whole;
 pub use main_file::{ExpandError, Expanded, PlacedFault, expand};
 
 #[cfg(test)]
