@@ -1,0 +1,9 @@
+//! The filter of additions: marks the places before and behind a body (nginx's ngx_http_addition_module).
+#![tactic(auto)]
+
+mod filter;
+
+pub use filter::AdditionFilter;
+
+#[cfg(test)]
+mod tests;
