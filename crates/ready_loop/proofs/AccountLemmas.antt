@@ -84,9 +84,9 @@ account_stays whole files files' clock v came went l f r g a = record {
 }
 
 -- it goes on with an event
-pub account_passed : {L F R L1 F1 R1 : Type 0} (whole : Course) (files : FilesSeen) (clock : ClockSeen) (now : Start) (ground : Ground) (v v' : ConnView) (came went came' went' : List ℕ) → (L1 → L) → (F1 → F) → (R1 → R) →
+pub account_passed : {L F R L' F' R' : Type 0} (whole : Course) (files : FilesSeen) (clock : ClockSeen) (now : Start) (ground : Ground) (v v' : ConnView) (came went came' went' : List ℕ) → (L' → L) → (F' → F) → (R' → R) →
     (v.raceless ≡ true → (trees : Trees) → Agree files.trees files.newest trees → Holds ground trees) → (clock.tells ≡ true → now.moment ≡ last_moment clock.told) →
-    Passed now ground L1 F1 R1 v v' came' went' → Account L F R whole files clock v came went → Account L F R whole files clock v' (came ++ came') (went ++ went')
+    Passed now ground L' F' R' v v' came' went' → Account L F R whole files clock v came went → Account L F R whole files clock v' (came ++ came') (went ++ went')
 account_passed whole files clock now ground v v' came went came' went' l f r holds moment (Goes started is w) a = record {
   tracked = steps_keep_track whole files.trees files.newest ground v v' came went came' went' started holds a.tracked w;
   cause = λ cause e. caused v' cause w.after e;
@@ -127,10 +127,10 @@ unheld : {A : Type 0} (v : ConnView) → v.held ≡ false → is_live v ≡ true
 unheld v f live = let h = live_held v live in absurd (let e : true ≡ false = sym h ∙ f in cc)
 
 -- A connection whose link is is_open stands so after an event.
-pub stands_passed : {L F R L1 F1 R1 : Type 0} (whole : Addr → Addr → Course) (files : FilesSeen) (clock : ClockSeen) (now : Start) (ground : Ground) (v v' : ConnView) (l l' : LinkView) (used used' is_open is_open' : Bool) (came went : List ℕ) → (L1 → L) → (F1 → F) → (R1 → R) →
+pub stands_passed : {L F R L' F' R' : Type 0} (whole : Addr → Addr → Course) (files : FilesSeen) (clock : ClockSeen) (now : Start) (ground : Ground) (v v' : ConnView) (l l' : LinkView) (used used' is_open is_open' : Bool) (came went : List ℕ) → (L' → L) → (F' → F) → (R' → R) →
     (v.raceless ≡ true → (trees : Trees) → Agree files.trees files.newest trees → Holds ground trees) → (clock.tells ≡ true → now.moment ≡ last_moment clock.told) → is_open' ≡ is_open →
     l'.local ≡ l.local → l'.peer ≡ l.peer → l'.taken ≡ l.taken ++ came → l'.sent ≡ l.sent ++ went →
-    Passed now ground L1 F1 R1 v v' came went → Stands L F R whole files clock v l used is_open → Stands L F R whole files clock v' l' used' is_open'
+    Passed now ground L' F' R' v v' came went → Stands L F R whole files clock v l used is_open → Stands L F R whole files clock v' l' used' is_open'
 stands_passed {L = L} {F = F} {R = R} whole files clock now ground v v' l l' used used' is_open is_open' came went fl ff fr holds moment same local peer taken sent p (Open held o a) =
     Open (held_on p) (same ∙ o)
     (subst (λ x. Account L F R (whole x l'.peer) files clock v' l'.taken l'.sent) (sym local)

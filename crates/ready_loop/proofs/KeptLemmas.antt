@@ -87,13 +87,13 @@ lifted marks whole core core' links links' files files' clock c s k =
     refl refl refl refl refl refl refl (k.all c)
 
 -- an event of the core, with the bytes that came of the link and went to it
-pub kept_passed : {L1 F1 R1 : Type 0} (marks : Marks) (whole : ℕ → Addr → Addr → Course) (core core' : CoreSeen) (links links' : LinksSeen) (files files' : FilesSeen) (clock : ClockSeen) (c : ℕ) (ground : Ground) (came went : List ℕ) →
+pub kept_passed : {L' F' R' : Type 0} (marks : Marks) (whole : ℕ → Addr → Addr → Course) (core core' : CoreSeen) (links links' : LinksSeen) (files files' : FilesSeen) (clock : ClockSeen) (c : ℕ) (ground : Ground) (came went : List ℕ) →
     Steps c core core' links links' files files' →
     ((core.view c).raceless ≡ true → (trees : Trees) → Agree files'.trees files'.newest trees → Holds ground trees) →
-    (L1 → Rose (links.faults c) (links'.faults c)) → (F1 → Rose files.faults files'.faults) → (R1 → Rose core.refused core'.refused) →
+    (L' → Rose (links.faults c) (links'.faults c)) → (F' → Rose files.faults files'.faults) → (R' → Rose core.refused core'.refused) →
     links'.is_open c ≡ links.is_open c →
     (links'.link c).local ≡ (links.link c).local → (links'.link c).peer ≡ (links.link c).peer → (links'.link c).taken ≡ (links.link c).taken ++ came → (links'.link c).sent ≡ (links.link c).sent ++ went →
-    Passed core.now ground L1 F1 R1 (core.view c) (core'.view c) came went → Kept marks whole core links files clock → Kept marks whole core' links' files' clock
+    Passed core.now ground L' F' R' (core.view c) (core'.view c) came went → Kept marks whole core links files clock → Kept marks whole core' links' files' clock
 kept_passed marks whole core core' links links' files files' clock c ground came went s holds fl ff fr same local peer taken sent p =
     kept_step marks whole core core' links links' files files' clock c s
     (λ k. stands_passed (whole c) files' clock core.now ground (core.view c) (core'.view c) (links.link c) (links'.link c) (links.used c) (links'.used c) (links.is_open c) (links'.is_open c) came went
