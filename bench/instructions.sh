@@ -12,9 +12,10 @@ script() { # how many requests
 }
 count() { # how many requests
     script "$1" >"$work/$1.replay"
-    valgrind --tool=callgrind --callgrind-out-file="$work/out.$1" "$top/ngx" replay "$work/$1.replay" 2>&1 >/dev/null |
+    valgrind --tool=callgrind --callgrind-out-file="$work/out.$1" "$top/crates/ngx/out/ngx" replay "$work/$1.replay" 2>&1 >/dev/null |
         sed -n 's/.*Collected : \([0-9]*\).*/\1/p'
 }
+"$top/ngx" replay /dev/null >/dev/null 2>&1 || true
 few=$(count 100)
 many=$(count 900)
 echo "instructions a request: $(((many - few) / 800))"

@@ -1,15 +1,20 @@
 -- What is kept of the directives before, as one more is passed.
-use Rattle.std.proofs.Common.{◌≡◌, ℕ, Bool, true, false, ◌||◌, List, [], ◌∷◌, ◌++◌, bytes_eq, refl, sym, ap, ◌∙◌}
+use Rattle.std.proofs.Common.{◌≡◌, ℕ, Bool, true, false, ◌||◌, List, [], ◌∷◌, ◌++◌, Option, Some, None, codes, bytes_eq, refl, sym, ap, ◌∙◌}
 use Rattle.std.specs.List.{list_any}
 use Rattle.std.specs.BTreeSet.{BTreeSet}
 use Rattle.std.proofs.lemmas.List.Folds.{list_any-append}
 use Rattle.std.proofs.lemmas.Slice.Eq.{bytes_eq-Decides}
 use Rattle.conf_text.specs.declared.directive.Directive.{Directive}
 use Rattle.http_types.specs.declared.words.Addr.{Addr}
-use Rattle.conf_table.specs.Table.{entry_of}
+use Rattle.conf_table.specs.Table.{entry_of, rule_in, rows, same_text}
 use Rattle.conf_inherit.specs.Roles.{role_of}
-use Rattle.conf_inherit.specs.Listening.{address_by, in_front, listens_of, same_addr}
-use Rattle.conf_inherit.specs.Ends.{Key, has_end}
+use Rattle.conf_inherit.specs.Listening.{address_by, in_front, listens_of, same_addr, with_end}
+use Rattle.conf_inherit.specs.Ends.{has_end}
+use Rattle.conf_inherit.specs.Ends as ends
+use Rattle.conf_inherit.specs.declared.location.Kind.{Kind}
+use Rattle.conf_inherit.specs.declared.location.LocationSet.{LocationSet}
+use Rattle.conf_inherit.specs.Locations.{Key, key_by, in_front_key, same_key, keys_of}
+use Rattle.conf_inherit.specs.LocationSet.{has_location}
 use Rattle.conf_inherit.specs.Faults.{is_named}
 use Rattle.conf_inherit.specs.Before.{stands_once, with_name, Remembers}
 use Rattle.conf_inherit.proofs.LevelLaws.{listens-append}
@@ -46,16 +51,48 @@ or-swapped true false = refl
 or-swapped false true = refl
 or-swapped false false = refl
 
-pub remembers-add : (names names' : List (List ℕ)) (addrs addrs' : BTreeSet Key) (d : Directive) (earlier : List Directive)
+or-nothing : (b : Bool) → b ≡ (b || false)
+or-nothing true = refl
+or-nothing false = refl
+
+end-more : (o : Option Addr) (has : Addr → Bool) (q : Addr) (old : Bool) → has q ≡ old → with_end o has q ≡ (old || list_any (λ a. same_addr a q) (in_front o []))
+end-more None has q old e = e ∙ or-nothing old
+end-more (Some a) has q old e = ap (λ b. same_addr a q || b) e ∙ or-swapped (same_addr a q) old ∙ ap (λ b. old || b) (or-nothing (same_addr a q))
+
+in_front_key-append : (key : Option Key) (xs ys : List Key) → in_front_key key (xs ++ ys) ≡ in_front_key key xs ++ ys
+in_front_key-append None xs ys = refl
+in_front_key-append (Some key) xs ys = refl
+
+keys-append : (ds es : List Directive) → keys_of (ds ++ es) ≡ keys_of ds ++ keys_of es
+keys-append [] es = refl
+keys-append (d ∷ ds) es =
+    ap (in_front_key (key_by (role_of d.name) d)) (keys-append ds es) ∙ in_front_key-append (key_by (role_of d.name) d) (keys_of ds) (keys_of es)
+
+pub remembers-add : (names names' : List (List ℕ)) (addrs addrs' : BTreeSet ends.Key) (locations locations' : LocationSet) (d : Directive) (earlier : List Directive)
     → names' ≡ with_name (stands_once (entry_of d.name)) names d.name
-    → ((q : Addr) → has_end addrs' q ≡ (list_any (λ a. same_addr a q) (in_front (address_by (role_of d.name) d) []) || has_end addrs q))
-    → Remembers names addrs earlier → Remembers names' addrs' (earlier ++ d ∷ [])
-remembers-add names names' addrs addrs' d earlier n a r = record {
+    → ((q : Addr) → has_end addrs' q ≡ with_end (address_by (role_of d.name) d) (has_end addrs) q)
+    → ((kind : Kind) (text : List ℕ) → has_location locations' kind text ≡ (list_any (same_key kind text) (in_front_key (key_by (role_of d.name) d) []) || has_location locations kind text))
+    → Remembers names addrs locations earlier → Remembers names' addrs' locations' (earlier ++ d ∷ [])
+remembers-add names names' addrs addrs' locations locations' d earlier n a l r = record {
   once = λ name one. names-add names names' d earlier name one (r.once name one) (stands_once (entry_of d.name)) refl n;
   listens = λ q.
       let more : List Addr = in_front (address_by (role_of d.name) d) [] in
-      a q ∙ ap (λ b. list_any (λ a. same_addr a q) more || b) (r.listens q)
-      ∙ or-swapped (list_any (λ a. same_addr a q) more) (list_any (λ a. same_addr a q) (listens_of earlier))
+      a q ∙ end-more (address_by (role_of d.name) d) (has_end addrs) q (list_any (λ a. same_addr a q) (listens_of earlier)) (r.listens q)
       ∙ sym (list_any-append (λ a. same_addr a q) (listens_of earlier) more)
       ∙ ap (λ xs. list_any (λ a. same_addr a q) xs) (sym (listens-append earlier (d ∷ [])));
+  located = λ kind text.
+      let more : List Key = in_front_key (key_by (role_of d.name) d) [] in
+      l kind text ∙ ap (λ b. list_any (same_key kind text) more || b) (r.located kind text)
+      ∙ or-swapped (list_any (same_key kind text) more) (list_any (same_key kind text) (keys_of earlier))
+      ∙ sym (list_any-append (same_key kind text) (keys_of earlier) more)
+      ∙ ap (λ xs. list_any (same_key kind text) xs) (sym (keys-append earlier (d ∷ [])));
 }
+
+-- these two stand once
+pub root-once : stands_once (entry_of (codes "root")) ≡ true
+unfolding entry_of rule_in rows same_text
+root-once = refl
+
+pub alias-once : stands_once (entry_of (codes "alias")) ≡ true
+unfolding entry_of rule_in rows same_text
+alias-once = refl

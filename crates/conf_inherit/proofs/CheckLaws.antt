@@ -1,5 +1,5 @@
 -- The first fault of a level, step by step.
-use Rattle.std.proofs.Common.{◌≡◌, ℕ, List, [], ◌∷◌, ◌++◌, Option, Result, Ok, Err, refl, sym, ap, ◌∙◌, subst, bytes_eq, false}
+use Rattle.std.proofs.Common.{◌≡◌, ℕ, List, [], ◌∷◌, ◌++◌, Option, Result, Ok, Err, refl, sym, ap, ◌∙◌, subst, bytes_eq, Bool, false}
 use Rattle.std.specs.List.{list_any}
 use Rattle.conf_text.specs.declared.directive.Directive.{Directive}
 use Rattle.conf_text.specs.declared.fault.FaultKind.{FaultKind}
@@ -9,12 +9,16 @@ use Rattle.conf_text.specs.declared.fault.ConfError.TheVariants as error
 use Rattle.http_types.specs.declared.words.Addr.{Addr}
 use Rattle.conf_inherit.specs.declared.role.Content.{Content}
 use Rattle.conf_inherit.specs.Forest.{Forest, End, Branch, forest_of}
-use Rattle.conf_inherit.specs.Gives.{◌>>◌, sound, faulty, Fails}
+use Rattle.conf_inherit.specs.Gives.{◌>>=◌, ◌>>◌, sound, faulty, Fails}
 use Rattle.conf_inherit.specs.Roles.{content_inside}
 use Rattle.std.specs.BTreeSet.{BTreeSet}
 use Rattle.conf_inherit.specs.Ends.{Key, has_end}
+use Rattle.conf_inherit.specs.Listening.{with_end}
+use Rattle.conf_inherit.specs.declared.location.Kind.{Kind}
+use Rattle.conf_inherit.specs.declared.location.LocationSet.{LocationSet}
+use Rattle.conf_inherit.specs.LocationSet.{has_location}
 use Rattle.conf_inherit.specs.Before.{Remembers}
-use Rattle.conf_inherit.specs.Checked.{fault_in, checked}
+use Rattle.conf_inherit.specs.Checked.{fault_in, default_by, checked}
 
 pub then-ok : {A B : Type 0} (r : Result A ConfFault) (x : A) (next : Result B ConfFault) → r ≡ Ok x → (r >> next) ≡ next
 unfolding ◌>>◌
@@ -32,67 +36,114 @@ fails-then error.OutOfMemory r next h = tt
 pub fails-same : {A : Type 0} (e : ConfError) (r s : Result A ConfFault) → r ≡ s → Fails e r → Fails e s
 fails-same e r s same h = subst (Fails e) same h
 
+pub bind-ok : {A B : Type 0} (r : Result A ConfFault) (x : A) (f : A → Result B ConfFault) → r ≡ Ok x → (r >>= f) ≡ f x
+unfolding ◌>>=◌
+bind-ok r x f e = ap (λ r. r >>= f) e
+
+bind-err : {A B : Type 0} (r : Result A ConfFault) (fault : ConfFault) (f : A → Result B ConfFault) → r ≡ Err fault → (r >>= f) ≡ Err fault
+unfolding ◌>>=◌
+bind-err r fault f e = ap (λ r. r >>= f) e
+
+pub fails-bind : {A B : Type 0} (e : ConfError) (r : Result A ConfFault) (f : A → Result B ConfFault) → Fails e r → Fails e (r >>= f)
+fails-bind (error.Fault fault) r f h = bind-err r fault f h
+fails-bind error.OutOfMemory r f h = tt
+
+-- the same addresses
+pub same_ends : (ends others : Addr → Bool) → ((q : Addr) → ends q ≡ others q) → ends ≡ others
+same_ends ends others h = λ i q. h q i
+
 -- the directives of a level
 
-checked-step : (here : Content) (earlier : List Directive) (d : Directive) (block beside : Forest)
-    → checked here earlier (Branch d block beside) ≡ (faulty d (fault_in here earlier d) >> (checked (content_inside here d) [] block >> checked here (earlier ++ d ∷ []) beside))
-unfolding checked
-checked-step here earlier d block beside = refl
+abbrev Ends : Type 0
+Ends = Addr → Bool
 
-checked-none : (here : Content) (earlier : List Directive) → checked here earlier End ≡ sound
-unfolding checked
-checked-none here earlier = refl
+abbrev Names : Type 0
+Names = List ℕ → Bool
 
--- The directives that were passed have no fault, and these names and addresses are kept of them.
-pub record Standing (here : Content) (names : List (List ℕ)) (addrs : BTreeSet Key) (rest level : List Directive) : Type 0 where
+-- what is asked for behind a directive that has no fault of its own
+abbrev behind : (known : Names) (marked : Ends) (here : Content) (earlier : List Directive) (d : Directive) (block beside : Forest) → Result Ends ConfFault
+behind known marked here earlier d block beside =
+    checked known (with_end (default_by here d) marked) (content_inside here d) [] block >>= (λ inner. checked known inner here (earlier ++ d ∷ []) beside)
+
+checked-step : (known : Names) (marked : Ends) (here : Content) (earlier : List Directive) (d : Directive) (block beside : Forest)
+    → checked known marked here earlier (Branch d block beside) ≡ (faulty d (fault_in known marked here earlier d) >> behind known marked here earlier d block beside)
+unfolding checked
+checked-step known marked here earlier d block beside = refl
+
+checked-none : (known : Names) (marked : Ends) (here : Content) (earlier : List Directive) → checked known marked here earlier End ≡ Ok marked
+unfolding checked
+checked-none known marked here earlier = refl
+
+-- The directives that were passed have no fault, these names, addresses and locations are kept of them, and `marked` are the
+-- addresses that have a default server now.
+pub record Standing (known : Names) (first marked : Ends) (here : Content) (names : List (List ℕ)) (addrs : BTreeSet Key) (locations : LocationSet) (rest level : List Directive) : Type 0 where
   pub earlier : List Directive
-  pub kept : Remembers names addrs earlier
-  pub same : checked here earlier (forest_of rest) ≡ checked here [] (forest_of level)
+  pub kept : Remembers names addrs locations earlier
+  pub same : checked known marked here earlier (forest_of rest) ≡ checked known first here [] (forest_of level)
 
-pub standing-begin : (here : Content) (names : List (List ℕ)) (addrs : BTreeSet Key) (level : List Directive) → names ≡ [] → ((q : Addr) → has_end addrs q ≡ false) → Standing here names addrs level level
-standing-begin here names addrs level n a =
-    record { earlier = []; kept = record { once = λ name t. ap (λ ns. list_any (λ n. bytes_eq n name) ns) n; listens = a }; same = refl }
+pub standing-begin : (known : Names) (first : Ends) (here : Content) (names : List (List ℕ)) (addrs : BTreeSet Key) (locations : LocationSet) (level : List Directive)
+    → names ≡ [] → ((q : Addr) → has_end addrs q ≡ false) → ((kind : Kind) (text : List ℕ) → has_location locations kind text ≡ false)
+    → Standing known first first here names addrs locations level level
+standing-begin known first here names addrs locations level n a l =
+    record { earlier = []; kept = record { once = λ name t. ap (λ ns. list_any (λ n. bytes_eq n name) ns) n; listens = a; located = l }; same = refl }
 
-pub standing-end : (here : Content) (names : List (List ℕ)) (addrs : BTreeSet Key) (rest level : List Directive) → Standing here names addrs rest level → forest_of rest ≡ End → checked here [] (forest_of level) ≡ sound
-standing-end here names addrs rest level s e = sym s.same ∙ ap (checked here s.earlier) e ∙ checked-none here s.earlier
+pub standing-end : (known : Names) (first marked : Ends) (here : Content) (names : List (List ℕ)) (addrs : BTreeSet Key) (locations : LocationSet) (rest level : List Directive)
+    → Standing known first marked here names addrs locations rest level → forest_of rest ≡ End → checked known first here [] (forest_of level) ≡ Ok marked
+standing-end known first marked here names addrs locations rest level s e = sym s.same ∙ ap (checked known marked here s.earlier) e ∙ checked-none known marked here s.earlier
 
 -- what the directive's own fault is asked for
-abbrev pub IsOwn : (here : Content) (names : List (List ℕ)) (addrs : BTreeSet Key) (d : Directive) → Option FaultKind → Type 0
-IsOwn here names addrs d kind = (earlier : List Directive) → Remembers names addrs earlier → kind ≡ fault_in here earlier d
+abbrev pub IsOwn : (known : Names) (marked : Ends) (here : Content) (names : List (List ℕ)) (addrs : BTreeSet Key) (locations : LocationSet) (d : Directive) → Option FaultKind → Type 0
+IsOwn known marked here names addrs locations d kind = (earlier : List Directive) → Remembers names addrs locations earlier → kind ≡ fault_in known marked here earlier d
 
-pub standing-fail : (error : ConfError) (here : Content) (names : List (List ℕ)) (addrs : BTreeSet Key) (d : Directive) (kind : Option FaultKind) (block beside rest level : List Directive)
-    → Standing here names addrs rest level → forest_of rest ≡ Branch d (forest_of block) (forest_of beside) → IsOwn here names addrs d kind → Fails error (faulty d kind) → Fails error (checked here [] (forest_of level))
-standing-fail error here names addrs d kind block beside rest level s e own h =
-    let next : Result (Unit {0}) ConfFault = checked (content_inside here d) [] (forest_of block) >> checked here (s.earlier ++ d ∷ []) (forest_of beside) in
-    let same : (faulty d (fault_in here s.earlier d) >> next) ≡ checked here [] (forest_of level) = sym (checked-step here s.earlier d (forest_of block) (forest_of beside)) ∙ sym (ap (checked here s.earlier) e) ∙ s.same in
-    let failed : Fails error (faulty d (fault_in here s.earlier d)) = subst (λ k. Fails error (faulty d k)) (own s.earlier s.kept) h in
-    fails-same error (faulty d (fault_in here s.earlier d) >> next) (checked here [] (forest_of level)) same (fails-then error (faulty d (fault_in here s.earlier d)) next failed)
+-- a directive stands first of those that are left, with this fault of its own
+pub record At (known : Names) (first marked : Ends) (here : Content) (names : List (List ℕ)) (addrs : BTreeSet Key) (locations : LocationSet) (d : Directive) (kind : Option FaultKind) (block beside rest level : List Directive) : Type 0 where
+  pub standing : Standing known first marked here names addrs locations rest level
+  pub forest : forest_of rest ≡ Branch d (forest_of block) (forest_of beside)
+  pub own : IsOwn known marked here names addrs locations d kind
+
+whole : {known : Names} {first marked : Ends} {here : Content} {names : List (List ℕ)} {addrs : BTreeSet Key} {locations : LocationSet} {d : Directive} {kind : Option FaultKind} {block beside rest level : List Directive}
+    → (at : At known first marked here names addrs locations d kind block beside rest level)
+    → (faulty d kind >> behind known marked here at.standing.earlier d (forest_of block) (forest_of beside)) ≡ checked known first here [] (forest_of level)
+whole {known} {first} {marked} {here} {names} {addrs} {locations} {d} {kind} {block} {beside} {rest} {level} at =
+    let earlier = at.standing.earlier in
+    ap (λ k. faulty d k >> behind known marked here earlier d (forest_of block) (forest_of beside)) (at.own earlier at.standing.kept)
+    ∙ sym (checked-step known marked here earlier d (forest_of block) (forest_of beside)) ∙ sym (ap (checked known marked here earlier) at.forest) ∙ at.standing.same
+
+pub standing-fail : {known : Names} {first marked : Ends} {here : Content} {names : List (List ℕ)} {addrs : BTreeSet Key} {locations : LocationSet} {d : Directive} {kind : Option FaultKind} {block beside rest level : List Directive}
+    → (error : ConfError) → (at : At known first marked here names addrs locations d kind block beside rest level) → Fails error (faulty d kind) → Fails error (checked known first here [] (forest_of level))
+standing-fail {known} {first} {marked} {here} {names} {addrs} {locations} {d} {kind} {block} {beside} {rest} {level} error at h =
+    let next = behind known marked here at.standing.earlier d (forest_of block) (forest_of beside) in
+    fails-same error (faulty d kind >> next) (checked known first here [] (forest_of level)) (whole at) (fails-then error (faulty d kind) next h)
 
 -- where the directive has no fault of its own, its block decides, and then what follows
-own-passed : (here : Content) (names : List (List ℕ)) (addrs : BTreeSet Key) (d : Directive) (kind : Option FaultKind) (content : Content) (block beside rest level : List Directive)
-    → (s : Standing here names addrs rest level) → forest_of rest ≡ Branch d (forest_of block) (forest_of beside) → IsOwn here names addrs d kind → faulty d kind ≡ sound → content_inside here d ≡ content
-    → (checked content [] (forest_of block) >> checked here (s.earlier ++ d ∷ []) (forest_of beside)) ≡ checked here [] (forest_of level)
-own-passed here names addrs d kind content block beside rest level s e own h w =
-    let next : Content → Result (Unit {0}) ConfFault = λ w. checked w [] (forest_of block) >> checked here (s.earlier ++ d ∷ []) (forest_of beside) in
-    let alone : faulty d (fault_in here s.earlier d) ≡ sound = ap (faulty d) (sym (own s.earlier s.kept)) ∙ h in
-    let step : (faulty d (fault_in here s.earlier d) >> next (content_inside here d)) ≡ checked here [] (forest_of level) = sym (checked-step here s.earlier d (forest_of block) (forest_of beside)) ∙ sym (ap (checked here s.earlier) e) ∙ s.same in
-    ap next (sym w) ∙ sym (then-ok (faulty d (fault_in here s.earlier d)) tt (next (content_inside here d)) alone) ∙ step
+own-passed : {known : Names} {first marked : Ends} {here : Content} {names : List (List ℕ)} {addrs : BTreeSet Key} {locations : LocationSet} {d : Directive} {kind : Option FaultKind} {block beside rest level : List Directive}
+    → (at : At known first marked here names addrs locations d kind block beside rest level) → faulty d kind ≡ sound
+    → (then : Ends) → (addr : Option Addr) → addr ≡ default_by here d → ((q : Addr) → then q ≡ with_end addr marked q) → (content : Content) → content ≡ content_inside here d
+    → (checked known then content [] (forest_of block) >>= (λ inner. checked known inner here (at.standing.earlier ++ d ∷ []) (forest_of beside))) ≡ checked known first here [] (forest_of level)
+own-passed {known} {first} {marked} {here} {names} {addrs} {locations} {d} {kind} {block} {beside} {rest} {level} at h then addr a t content w =
+    let next : Ends → Content → Result Ends ConfFault = λ ends content. checked known ends content [] (forest_of block) >>= (λ inner. checked known inner here (at.standing.earlier ++ d ∷ []) (forest_of beside)) in
+    let ends : then ≡ with_end (default_by here d) marked = same_ends then (with_end addr marked) t ∙ ap (λ o. with_end o marked) a in
+    ap (λ ends. next ends content) ends ∙ ap (next (with_end (default_by here d) marked)) w
+    ∙ sym (then-ok (faulty d kind) tt (next (with_end (default_by here d) marked) (content_inside here d)) h) ∙ whole at
 
-pub standing-inner : (error : ConfError) (here : Content) (names : List (List ℕ)) (addrs : BTreeSet Key) (d : Directive) (kind : Option FaultKind) (content : Content) (block beside rest level : List Directive)
-    → Standing here names addrs rest level → forest_of rest ≡ Branch d (forest_of block) (forest_of beside) → IsOwn here names addrs d kind → faulty d kind ≡ sound → content_inside here d ≡ content
-    → Fails error (checked content [] (forest_of block)) → Fails error (checked here [] (forest_of level))
-standing-inner error here names addrs d kind content block beside rest level s e own h w f =
-    let next : Result (Unit {0}) ConfFault = checked here (s.earlier ++ d ∷ []) (forest_of beside) in
-    fails-same error (checked content [] (forest_of block) >> next) (checked here [] (forest_of level)) (own-passed here names addrs d kind content block beside rest level s e own h w)
-    (fails-then error (checked content [] (forest_of block)) next f)
+pub standing-inner : {known : Names} {first marked : Ends} {here : Content} {names : List (List ℕ)} {addrs : BTreeSet Key} {locations : LocationSet} {d : Directive} {kind : Option FaultKind} {block beside rest level : List Directive}
+    → (error : ConfError) → (at : At known first marked here names addrs locations d kind block beside rest level) → faulty d kind ≡ sound
+    → (then : Ends) → (addr : Option Addr) → addr ≡ default_by here d → ((q : Addr) → then q ≡ with_end addr marked q) → (content : Content) → content ≡ content_inside here d
+    → Fails error (checked known then content [] (forest_of block)) → Fails error (checked known first here [] (forest_of level))
+standing-inner {known} {first} {marked} {here} {names} {addrs} {locations} {d} {kind} {block} {beside} {rest} {level} error at h then addr a t content w f =
+    let next : Ends → Result Ends ConfFault = λ inner. checked known inner here (at.standing.earlier ++ d ∷ []) (forest_of beside) in
+    fails-same error (checked known then content [] (forest_of block) >>= next) (checked known first here [] (forest_of level)) (own-passed at h then addr a t content w)
+    (fails-bind error (checked known then content [] (forest_of block)) next f)
 
-pub standing-more : (here : Content) (names names' : List (List ℕ)) (addrs addrs' : BTreeSet Key) (d : Directive) (kind : Option FaultKind) (content : Content) (block beside rest level : List Directive)
-    → Standing here names addrs rest level → forest_of rest ≡ Branch d (forest_of block) (forest_of beside) → IsOwn here names addrs d kind → faulty d kind ≡ sound → content_inside here d ≡ content
-    → checked content [] (forest_of block) ≡ sound
-    → ((earlier : List Directive) → Remembers names addrs earlier → Remembers names' addrs' (earlier ++ d ∷ []))
-    → Standing here names' addrs' beside level
-standing-more here names names' addrs addrs' d kind content block beside rest level s e own h w b add = record {
-  earlier = s.earlier ++ d ∷ [];
-  kept = add s.earlier s.kept;
-  same = sym (then-ok (checked content [] (forest_of block)) tt (checked here (s.earlier ++ d ∷ []) (forest_of beside)) b) ∙ own-passed here names addrs d kind content block beside rest level s e own h w;
+pub standing-more : {known : Names} {first marked : Ends} {here : Content} {names : List (List ℕ)} {addrs : BTreeSet Key} {locations : LocationSet} {d : Directive} {kind : Option FaultKind} {block beside rest level : List Directive}
+    → (at : At known first marked here names addrs locations d kind block beside rest level) → faulty d kind ≡ sound
+    → (then : Ends) → (addr : Option Addr) → addr ≡ default_by here d → ((q : Addr) → then q ≡ with_end addr marked q) → (content : Content) → content ≡ content_inside here d
+    → (inner : Ends) → checked known then content [] (forest_of block) ≡ Ok inner
+    → (names' : List (List ℕ)) (addrs' : BTreeSet Key) (locations' : LocationSet)
+    → ((earlier : List Directive) → Remembers names addrs locations earlier → Remembers names' addrs' locations' (earlier ++ d ∷ []))
+    → Standing known first inner here names' addrs' locations' beside level
+standing-more {known} {first} {marked} {here} {names} {addrs} {locations} {d} {kind} {block} {beside} {rest} {level} at h then addr a t content w inner b names' addrs' locations' add = record {
+  earlier = at.standing.earlier ++ d ∷ [];
+  kept = add at.standing.earlier at.standing.kept;
+  same = sym (bind-ok (checked known then content [] (forest_of block)) inner (λ inner. checked known inner here (at.standing.earlier ++ d ∷ []) (forest_of beside)) b) ∙ own-passed at h then addr a t content w;
 }

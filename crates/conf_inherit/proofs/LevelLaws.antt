@@ -1,30 +1,29 @@
 -- What is looked for in a level, directive by directive.
-use Rattle.std.proofs.Common.{◌≡◌, ℕ, Bool, true, false, List, [], ◌∷◌, ◌++◌, Option, None, Some, bytes_eq, refl, sym, ap, ◌∙◌, append_assoc, append-nil}
+use Rattle.std.proofs.Common.{◌≡◌, ℕ, Bool, true, false, List, [], ◌∷◌, ◌++◌, Option, None, Some, is_some, MatchOption, cond, bytes_eq, refl, sym, ap, ◌∙◌, append_assoc, append-nil}
 use Rattle.conf_text.specs.declared.directive.Directive.{Directive}
 use Rattle.http_types.specs.declared.words.Addr.{Addr}
-use Rattle.site_model.specs.declared.site.Return.{Return}
 use Rattle.conf_inherit.specs.Forest.{Forest, End, Branch, roots}
 use Rattle.conf_inherit.specs.Roles.{role_of}
 use Rattle.conf_inherit.specs.Listening.{in_front, address_by, listens_of}
-use Rattle.conf_inherit.specs.Built.{block_in, answer_by, or_else, first_answer}
+use Rattle.conf_inherit.specs.Values.{Block, block_with, blocks_of, first_of}
 
--- the first block of a name
+-- the blocks of a name
 
-pub block-none : (name : List ℕ) (f : Forest) → f ≡ End → block_in name f ≡ None
-unfolding block_in
-block-none name f e = ap (block_in name) e
+pub blocks-none : (name : List ℕ) (f : Forest) → f ≡ End → blocks_of name f ≡ []
+unfolding blocks_of
+blocks-none name f e = ap (blocks_of name) e
 
-block-branch : (name : List ℕ) (d : Directive) (block beside : Forest) → block_in name (Branch d block beside) ≡ elim (bytes_eq d.name name) [ true ↦ Some block | false ↦ block_in name beside ]
-unfolding block_in
-block-branch name d block beside = refl
+blocks-branch : (name : List ℕ) (d : Directive) (block beside : Forest) → blocks_of name (Branch d block beside) ≡ cond (bytes_eq d.name name) (block_with d block ∷ blocks_of name beside) (blocks_of name beside)
+unfolding blocks_of
+blocks-branch name d block beside = refl
 
-pub block-here : (name : List ℕ) (d : Directive) (f block beside : Forest) → f ≡ Branch d block beside → bytes_eq d.name name ≡ true → block_in name f ≡ Some block
-block-here name d f block beside e t =
-    ap (block_in name) e ∙ block-branch name d block beside ∙ ap (λ (t : Bool). elim t [ true ↦ Some block | false ↦ block_in name beside ]) t
+pub blocks-here : (name : List ℕ) (d : Directive) (f block beside : Forest) → f ≡ Branch d block beside → bytes_eq d.name name ≡ true → blocks_of name f ≡ block_with d block ∷ blocks_of name beside
+blocks-here name d f block beside e t =
+    ap (blocks_of name) e ∙ blocks-branch name d block beside ∙ ap (λ t. cond t (block_with d block ∷ blocks_of name beside) (blocks_of name beside)) t
 
-pub block-beside : (name : List ℕ) (d : Directive) (f block beside : Forest) → f ≡ Branch d block beside → bytes_eq d.name name ≡ false → block_in name f ≡ block_in name beside
-block-beside name d f block beside e t =
-    ap (block_in name) e ∙ block-branch name d block beside ∙ ap (λ (t : Bool). elim t [ true ↦ Some block | false ↦ block_in name beside ]) t
+pub blocks-beside : (name : List ℕ) (d : Directive) (f block beside : Forest) → f ≡ Branch d block beside → bytes_eq d.name name ≡ false → blocks_of name f ≡ blocks_of name beside
+blocks-beside name d f block beside e t =
+    ap (blocks_of name) e ∙ blocks-branch name d block beside ∙ ap (λ t. cond t (block_with d block ∷ blocks_of name beside) (blocks_of name beside)) t
 
 -- the directives of a level
 
@@ -56,11 +55,8 @@ listens-branch d now then addr f block beside e a n =
 pub listens-none : (now : List Addr) (f : Forest) → f ≡ End → now ++ listens_of (roots f) ≡ now
 listens-none now f e = ap (λ ds. now ++ listens_of ds) (roots-none f e) ∙ append-nil now
 
--- the first `return` of a level
+-- the first of some
 
-pub answer-here : (d : Directive) (r : Option Return) (f block beside : Forest) → f ≡ Branch d block beside → answer_by (role_of d.name) d ≡ r
-    → first_answer (roots f) ≡ or_else r (first_answer (roots beside))
-answer-here d r f block beside e a = ap first_answer (roots-branch d f block beside e) ∙ ap (λ o. or_else o (first_answer (roots beside))) a
-
-pub answer-none : (f : Forest) → f ≡ End → first_answer (roots f) ≡ None
-answer-none f e = ap first_answer (roots-none f e)
+pub some-by : {A B : Type 0} (r : Option A) (bs : List B) (first : A → B) (more : A → List B) → MatchOption r (bs ≡ []) (λ a. bs ≡ first a ∷ more a) → is_some r ≡ is_some (first_of bs)
+some-by None bs first more h = ap (λ bs. is_some (first_of bs)) (sym h)
+some-by (Some a) bs first more h = ap (λ bs. is_some (first_of bs)) (sym h)

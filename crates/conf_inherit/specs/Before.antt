@@ -8,6 +8,10 @@ use Rattle.conf_table.specs.declared.rule.DirectiveRule.{DirectiveRule}
 use Rattle.conf_table.specs.Table.{entry_of}
 use Rattle.conf_inherit.specs.Listening.{same_addr, listens_of}
 use Rattle.conf_inherit.specs.Ends.{Key, has_end}
+use Rattle.conf_inherit.specs.declared.location.Kind.{Kind}
+use Rattle.conf_inherit.specs.declared.location.LocationSet.{LocationSet}
+use Rattle.conf_inherit.specs.Locations.{same_key, keys_of}
+use Rattle.conf_inherit.specs.LocationSet.{has_location}
 use Rattle.conf_inherit.specs.Faults.{is_named}
 
 -- one alone of such a directive may stand in a level
@@ -20,7 +24,9 @@ abbrev pub with_name : Bool → List (List ℕ) → List ℕ → List (List ℕ)
 with_name true names name = names ++ name ∷ []
 with_name false names name = names
 
--- These names tell which directives that stand once are there, and these are the addresses that are listened on.
-pub record Remembers (names : List (List ℕ)) (addrs : BTreeSet Key) (earlier : List Directive) : Type 0 where
+-- These names tell which directives that stand once are there, these are the addresses that are listened on, and these are
+-- what the locations are found by.
+pub record Remembers (names : List (List ℕ)) (addrs : BTreeSet Key) (locations : LocationSet) (earlier : List Directive) : Type 0 where
   pub once : (name : List ℕ) → stands_once (entry_of name) ≡ true → list_any (λ n. bytes_eq n name) names ≡ is_named name earlier
   pub listens : (addr : Addr) → has_end addrs addr ≡ list_any (λ a. same_addr a addr) (listens_of earlier)
+  pub located : (kind : Kind) (text : List ℕ) → has_location locations kind text ≡ list_any (same_key kind text) (keys_of earlier)

@@ -1,73 +1,69 @@
 -- The site that directives describe.
-use Rattle.std.specs.Prelude.{ℕ, List, [], ◌∷◌, true, false, Option, None, Some, Result, Ok, Err, bytes_eq, codes}
+use Rattle.std.specs.Prelude.{ℕ, List, [], ◌∷◌, ◌++◌, map, Bool, true, false, Option, None, Some, is_some, Result, Ok, Err, codes, if◌then◌else◌}
 use Rattle.conf_text.specs.declared.directive.Directive.{Directive}
 use Rattle.conf_text.specs.declared.fault.FaultKind.TheVariants.{NoServer}
 use Rattle.conf_text.specs.declared.fault.ConfFault.{ConfFault}
-use Rattle.http_types.specs.declared.words.Addr.{Addr}
 use Rattle.conf_table.specs.declared.rule.Place.TheVariants as places
-use Rattle.site_model.specs.declared.site.Return.{Return}
-use Rattle.conf_inherit.specs.declared.role.Role.{Role}
-use Rattle.conf_inherit.specs.declared.role.Role.TheVariants as roles
+use Rattle.site_model.specs.Levels.{LocationView, ServerView, SiteView}
 use Rattle.conf_inherit.specs.declared.role.Content.TheVariants.{Directives}
-use Rattle.conf_inherit.specs.Forest.{Forest, End, Branch, roots, forest_of}
-use Rattle.conf_inherit.specs.Gives.{◌>>=◌, ◌>>◌}
-use Rattle.conf_inherit.specs.Roles.{role_of}
+use Rattle.conf_inherit.specs.Forest.{Forest, End, roots, forest_of}
+use Rattle.conf_inherit.specs.Gives.{◌>>=◌, ◌>>◌, sound}
 use Rattle.conf_inherit.specs.Listening.{listens_of, or_default}
-use Rattle.conf_inherit.specs.Returning.{form_of, return_by}
+use Rattle.conf_inherit.specs.Locations.{text_in}
+use Rattle.conf_inherit.specs.Names.{is_set_in}
+use Rattle.conf_inherit.specs.Values.{Block, Stated, block_of, blocks_of, stated, level_of}
 use Rattle.conf_inherit.specs.Checked.{checked}
 use Rattle.conf_inherit.specs.Served.{served}
 
--- what a site is made of: the addresses of its server, and what the location `/` returns
-pub record Parts : Type 0 where
-  pub listens : List Addr
-  pub returned : Option Return
+-- a location, within blocks that state these values
+abbrev pub location_of : (enclosing : List Stated) → Block → LocationView
+location_of enclosing b =
+    let prefix = text_in b.head.args in
+    record { text = prefix; level = level_of (enclosing ++ stated prefix b.body ∷ []) b.body }
 
--- the block of the first directive of this name in a level, and none where there is no such directive
-unfoldable pub block_in : List ℕ → Forest → Option Forest
-block_in name End = None
-block_in name (Branch d block beside) = elim (bytes_eq d.name name) [ true ↦ Some block | false ↦ block_in name beside ]
+-- a server
+abbrev pub server_of : (enclosing : List Stated) → Block → ServerView
+server_of enclosing b =
+    let inner = enclosing ++ stated [] b.body ∷ [] in
+    record { listens = or_default (listens_of (roots b.body)); level = level_of inner b.body; locations = map (location_of inner) (blocks_of (codes "location") b.body) }
 
-abbrev pub block_within : List ℕ → Option Forest → Option Forest
-block_within name None = None
-block_within name (Some forest) = block_in name forest
+-- the directives in `http`, if there is one
+abbrev pub body_in : Option Block → Forest
+body_in None = End
+body_in (Some b) = b.body
+
+abbrev pub http_in : Forest → Forest
+http_in top = body_in (block_of (codes "http") top)
+
+-- the site, whose relative paths start at this folder
+unfoldable pub site_of : (folder : List ℕ) → (http : Forest) → SiteView
+site_of folder http = record { folder = folder; servers = map (server_of (stated [] http ∷ [])) (blocks_of (codes "server") http) }
 
 -- a configuration without a server: at the beginning of the main file
 abbrev pub no_server : ConfFault
 no_server = record { kind = NoServer; file = 0; line = 1; word = None }
 
--- the block of the first server
-abbrev pub found : Option Forest → Result Forest ConfFault
-found None = Err no_server
-found (Some forest) = Ok forest
+abbrev pub some_server : Forest → Result (Unit {0}) ConfFault
+some_server http = if is_some (block_of (codes "server") http) then sound else Err no_server
 
-abbrev pub server_in : Forest → Result Forest ConfFault
-server_in top = found (block_within (codes "server") (block_in (codes "http") top))
+-- the value of what follows is not asked for
+abbrev pub only : {A : Type 0} → Result A ConfFault → Result (Unit {0}) ConfFault
+only (Ok a) = sound
+only (Err fault) = Err fault
 
-abbrev pub answer_by : Role → Directive → Option Return
-answer_by roles.Return d = return_by (form_of d.args) d.args
-answer_by _ d = None
+-- the first fault of the directives alone, where no address has a default server before
+unfoldable pub no_fault : Forest → Result (Unit {0}) ConfFault
+no_fault top = only (checked (is_set_in (Directives places.Top) top) (λ addr. false) (Directives places.Top) [] top)
 
-abbrev pub or_else : Option Return → Option Return → Option Return
-or_else None other = other
-or_else (Some r) other = Some r
+-- the first directive that isn't served, where no server listens before
+unfoldable pub all_served : Forest → Result (Unit {0}) ConfFault
+all_served top = only (served (λ addr. false) (Directives places.Top) top)
 
--- the first `return` among these decides
-abbrev pub first_answer : List Directive → Option Return
-first_answer [] = None
-first_answer (d ∷ ds) = or_else (answer_by (role_of d.name) d) (first_answer ds)
-
-abbrev pub answer_in : Option Forest → Option Return
-answer_in None = None
-answer_in (Some location) = first_answer (roots location)
-
-abbrev pub parts_of : Forest → Parts
-parts_of server = record { listens = or_default (listens_of (roots server)); returned = answer_in (block_in (codes "location") server) }
-
--- What directives are read as: the first fault of the configuration; or that there is no server; or the first directive that
--- isn't served; or the site.
-unfoldable pub built : List Directive → Result Parts ConfFault
-built ds = do
-  checked (Directives places.Top) [] (forest_of ds)
-  server ← server_in (forest_of ds)
-  served (Directives places.Top) false (forest_of ds)
-  Ok (parts_of server)
+-- What directives are read as, where relative paths start at this folder: the first fault of the configuration; or that
+-- there is no server; or the first directive that isn't served; or the site.
+unfoldable pub built : (folder : List ℕ) → List Directive → Result SiteView ConfFault
+built folder ds = do
+  no_fault (forest_of ds)
+  some_server (http_in (forest_of ds))
+  all_served (forest_of ds)
+  Ok (site_of folder (http_in (forest_of ds)))

@@ -1,28 +1,34 @@
 // The directives that stand before one in its level, as far as its faults ask for them.
-ghost use Rattle.std.specs.Prelude.{◌≡◌, ℕ, List, [], ◌++◌, ◌∷◌, ◌||◌, false, OnOk, bytes_eq, map};
+ghost use Rattle.std.specs.Prelude.{◌≡◌, ℕ, List, [], ◌++◌, ◌∷◌, ◌||◌, false, OnOk, bytes_eq, map, option_map};
 ghost use Rattle.std.specs.List.{list_any};
 ghost use Rattle.conf_text.specs.declared.directive.Directive.{Directive as Line};
 ghost use Rattle.http_types.specs.declared.words.Addr.{Addr as End};
 ghost use Rattle.conf_table.specs.Table.{entry_of};
-ghost use Rattle.conf_inherit.specs.Listening.{same_addr, address_by, in_front};
+ghost use Rattle.conf_inherit.specs.Listening.{address_by};
+ghost use Rattle.conf_inherit.specs.declared.location.Kind.{Kind as Like};
+ghost use Rattle.conf_inherit.specs.Locations.{key_by, in_front_key, same_key};
+ghost use Rattle.conf_inherit.specs.LocationSet.{has_location};
 ghost use Rattle.conf_inherit.specs.Roles.{role_of};
 ghost use Rattle.conf_inherit.specs.Ends.{has_end};
 ghost use Rattle.conf_inherit.specs.Before.{stands_once, with_name, Remembers};
 
-use crate::address::listened_by;
 use crate::ends::Ends;
+use crate::location::{Key, LocationSet, key_of};
 use crate::role::{Role, role_of};
 use byte_text::OutOfMemory;
 use conf_table::entry;
 use conf_text::Directive;
+use conf_values::listened_by;
 use http_types::Addr;
 use std::alloc::Global;
 
-/// The names of the directives of which one alone may stand in a level, and the addresses that are listened on.
+/// The names of the directives of which one alone may stand in a level, the addresses that are listened on, and what the
+/// locations are found by.
 #[derive(Drop)]
 pub struct Before<'a> {
     pub names: Vec<&'a [u8]>,
     pub addrs: Ends,
+    pub locations: LocationSet,
 }
 
 /// Whether one alone of the directives of this name may stand in a level.
@@ -56,16 +62,23 @@ fn add_name<'a>(names: &mut Vec<&'a [u8]>, name: &'a [u8]) -> Result<(), OutOfMe
     Ok(())
 }
 
-/// Keeps the address, if there is one.
-fn add_addr(addrs: &mut Ends, addr: Option<Addr>) -> Result<(), OutOfMemory>
-    ensures { OnOk result ((q : End) → has_end addrs.new.keys q ≡ (list_any (λ a. same_addr a q) (in_front addr []) || has_end addrs.old.keys q)) }
+/// What a directive is found by, where it is a location.
+fn key_by(role: Role, directive: &Directive) -> Option<Key<'_>>
+    ensures { option_map (λ k. (k.kind, k.text.now)) result ≡ key_by role directive.now }
 {
-    match addr {
+    match role {
+        Role::Location => key_of(directive.args.as_slice()),
+        _ => None,
+    }
+}
+
+/// Keeps what a location is found by, if it is found so.
+fn add_location(locations: &mut LocationSet, key: Option<Key<'_>>) -> Result<(), OutOfMemory>
+    ensures { OnOk result ((kind : Like) (text : List ℕ) → has_location locations.new kind text ≡ (list_any (same_key kind text) (in_front_key (option_map (λ k. (k.kind, k.text.now)) key.entry) []) || has_location locations.old kind text)) }
+{
+    match key {
         None => Ok(()),
-        Some(addr) => {
-            addrs.add(addr)?;
-            Ok(())
-        }
+        Some(key) => locations.add(key.kind, key.text),
     }
 }
 
@@ -74,10 +87,12 @@ impl<'a> Before<'a> {
     pub fn new(alloc: Global) -> Self
         ensures names { result.names.items ≡ [] }
         ensures addrs { (q : End) → has_end result.addrs.keys q ≡ false }
+        ensures locations { (kind : Like) (text : List ℕ) → has_location result.locations kind text ≡ false }
     {
         Before {
             names: Vec::new(alloc),
             addrs: Ends::new(alloc),
+            locations: LocationSet::new(alloc),
         }
     }
 
@@ -98,13 +113,22 @@ impl<'a> Before<'a> {
         self.addrs.has(addr)
     }
 
+    pub fn has_location(&self, key: Key<'_>) -> bool
+        ensures { result ≡ has_location self.now.locations key.entry.kind key.entry.text.now }
+    {
+        self.locations.has(key.kind, key.text)
+    }
+
     /// The directive stands before the next.
     pub fn add(&mut self, directive: &'a Directive) -> Result<(), OutOfMemory>
-        ensures { OnOk result ((earlier : List Line) → Remembers (map (λ n. n.now) self.old.names.items) self.old.addrs.keys earlier → Remembers (map (λ n. n.now) self.new.names.items) self.new.addrs.keys (earlier ++ directive.now ∷ [])) }
+        ensures { OnOk result ((earlier : List Line) → Remembers (map (λ n. n.now) self.old.names.items) self.old.addrs.keys self.old.locations earlier
+            → Remembers (map (λ n. n.now) self.new.names.items) self.new.addrs.keys self.new.locations (earlier ++ directive.now ∷ [])) }
     {
         let name = directive.name.as_slice();
+        let role = role_of(name);
         add_name(&mut self.names, name)?;
-        add_addr(&mut self.addrs, address_by(role_of(name), directive))?;
+        self.addrs.add_any(address_by(role, directive))?;
+        add_location(&mut self.locations, key_by(role, directive))?;
         Ok(())
     }
 }

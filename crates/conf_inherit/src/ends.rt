@@ -1,7 +1,7 @@
 // The addresses that the directives before one listen on, found in logarithmic time.
 ghost use Rattle.std.specs.Prelude.{◌≡◌, ◌||◌, false, OnOk};
 ghost use Rattle.http_types.specs.declared.words.Addr.{Addr as End};
-ghost use Rattle.conf_inherit.specs.Listening.{same_addr};
+ghost use Rattle.conf_inherit.specs.Listening.{same_addr, with_end};
 ghost use Rattle.conf_inherit.specs.Ends.{key_of, has_end};
 
 use byte_text::OutOfMemory;
@@ -50,5 +50,15 @@ impl Ends {
     {
         let _new = self.keys.insert(key_of(addr))?;
         Ok(())
+    }
+
+    /// One address more, if there is one.
+    pub fn add_any(&mut self, addr: Option<Addr>) -> Result<(), OutOfMemory>
+        ensures { OnOk result ((q : End) → has_end self.new.keys q ≡ with_end addr (has_end self.old.keys) q) }
+    {
+        match addr {
+            None => Ok(()),
+            Some(addr) => self.add(addr),
+        }
     }
 }

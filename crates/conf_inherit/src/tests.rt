@@ -1,15 +1,23 @@
 use super::*;
 use byte_text::{ByteText, OutOfMemory};
 use conf_text::{ConfError, ConfFault, FaultKind, parse};
-use site_model::Site;
+use ngx_variables::{Piece, Place, Value};
+use site_model::{Level, Site};
 use std::alloc::Global;
 use std::net::IpAddr;
 use std::process::Abort;
 use std::test::Fail;
 
+/// A number below 10000000 in decimals.
 fn number_onto(out: &mut ByteText, number: u64) -> Result<(), OutOfMemory> {
-    if number >= 10000 {
-        out.push(b'0' + (number / 10000 % 10) as u8)?;
+    if number >= 1_000_000 {
+        out.push(b'0' + (number / 1_000_000 % 10) as u8)?;
+    }
+    if number >= 100_000 {
+        out.push(b'0' + (number / 100_000 % 10) as u8)?;
+    }
+    if number >= 10_000 {
+        out.push(b'0' + (number / 10_000 % 10) as u8)?;
     }
     if number >= 1000 {
         out.push(b'0' + (number / 1000 % 10) as u8)?;
@@ -24,35 +32,80 @@ fn number_onto(out: &mut ByteText, number: u64) -> Result<(), OutOfMemory> {
     Ok(())
 }
 
-/// A site as `IP:PORT..` and what is returned: `- ` or `CODE TEXT`.
-fn site_text(alloc: Global, site: &Site) -> Result<ByteText, OutOfMemory> {
-    let mut out = ByteText::new(alloc);
-    for addr in site.listens.as_slice() {
-        match addr.ip {
-            IpAddr::V4(ip) => {
-                for octet in ip.octets() {
-                    number_onto(&mut out, u64::from(octet))?;
-                    out.push(b'.')?;
-                }
-            }
-            IpAddr::V6(ip) => {
-                for segment in ip.segments() {
-                    number_onto(&mut out, u64::from(segment))?;
-                    out.push(b'/')?;
-                }
-            }
+/// A text with variables, each as `$`.
+fn value_onto(out: &mut ByteText, value: &Value) -> Result<(), OutOfMemory> {
+    for piece in value.pieces() {
+        match piece {
+            Piece::Literal(bytes) => out.extend(bytes.as_slice())?,
+            _ => out.push(b'$')?,
         }
-        number_onto(&mut out, u64::from(addr.port))?;
-        out.push(b' ')?;
     }
-    match &site.returned {
+    Ok(())
+}
+
+/// A level as `PLACE TYPES REQUESTS IDLE RETURN`: the types of an html file, of one named `x.y` and of one of no extension.
+fn level_onto(out: &mut ByteText, site: &Site, level: &Level) -> Result<(), OutOfMemory> {
+    match &level.place {
+        Place::Root(text) => value_onto(out, text)?,
+        Place::Rest { text, prefix } => {
+            value_onto(out, text)?;
+            out.push(b'<')?;
+            out.extend(prefix.as_slice())?;
+        }
+        Place::Whole(_) => {}
+    }
+    let types = match site.types.get(level.types as usize) {
+        Some(types) => types,
+        None => &site.plain,
+    };
+    for path in [b"/a.html".as_slice(), b"/x.y", b"/a"] {
+        out.push(b' ')?;
+        out.extend(types.type_of(path))?;
+    }
+    out.push(b' ')?;
+    number_onto(out, u64::from(level.requests))?;
+    out.push(b' ')?;
+    number_onto(out, level.idle)?;
+    out.push(b' ')?;
+    match &level.returned {
         None => out.push(b'-')?,
         Some(directive) => {
-            number_onto(&mut out, u64::from(directive.code))?;
+            number_onto(out, u64::from(directive.code))?;
             if let Some(text) = &directive.text {
-                out.push(b' ')?;
-                out.extend(text.as_slice())?;
+                out.push(b':')?;
+                value_onto(out, text)?;
             }
+        }
+    }
+    Ok(())
+}
+
+/// The level with a number, in a line of its own.
+fn line_onto(out: &mut ByteText, site: &Site, number: u32) -> Result<(), OutOfMemory> {
+    match site.levels.get(number as usize) {
+        Some(level) => level_onto(out, site, level)?,
+        None => out.push(b'!')?,
+    }
+    out.push(b'\n')
+}
+
+/// A site: a line for each server, and one for each of its locations.
+fn site_text(alloc: Global, site: &Site) -> Result<ByteText, OutOfMemory> {
+    let mut out = ByteText::new(alloc);
+    for server in &site.servers {
+        for addr in server.listens.as_slice() {
+            match addr.ip {
+                IpAddr::V4(_) => out.extend(b"4:")?,
+                IpAddr::V6(_) => out.extend(b"6:")?,
+            }
+            number_onto(&mut out, u64::from(addr.port))?;
+            out.push(b' ')?;
+        }
+        line_onto(&mut out, site, server.level)?;
+        for location in &server.locations {
+            out.extend(location.text.as_slice())?;
+            out.push(b' ')?;
+            line_onto(&mut out, site, location.level)?;
         }
     }
     Ok(out)
@@ -77,7 +130,7 @@ fn fault_text(alloc: Global, fault: &ConfFault) -> Result<ByteText, OutOfMemory>
 /// What a configuration is read as.
 fn read(alloc: Global, text: &[u8]) -> Result<ByteText, OutOfMemory> {
     match parse(alloc, 0, text) {
-        Ok(directives) => match build(alloc, directives.as_slice()) {
+        Ok(directives) => match build(alloc, b"/etc", directives.as_slice()) {
             Ok(site) => site_text(alloc, &site),
             Err(ConfError::Fault(fault)) => fault_text(alloc, &fault),
             Err(ConfError::OutOfMemory) => Err(OutOfMemory),
@@ -98,51 +151,35 @@ fn are_read(rt: &impl Abort, alloc: Global, cases: &[(&[u8], &[u8])]) -> Result<
 }
 
 #[test]
-fn a_server_is_read(rt: HostRuntime) -> Result<(), Fail> {
-    let cases: [(&[u8], &[u8]); 15] = [
+fn a_site_is_read(rt: HostRuntime) -> Result<(), Fail> {
+    let cases: [(&[u8], &[u8]); 5] = [
         (
-            b"http { server { listen 80; location / { return 200 hi; } } }",
-            b"0.0.0.0.80 200 hi",
-        ),
-        (b"http { server { } }", b"0.0.0.0.80 -"),
-        (b"http { server { location / { } } }", b"0.0.0.0.80 -"),
-        (
-            b"user a b; pid c; events { worker_connections 768; use epoll; } http { sendfile on; server { gzip_x 1; } }",
-            b"0.0.0.0.80 -",
+            b"user a; events { use epoll; } http { server { location /a { gzip_x 1; } listen [::]:81 default_server; listen 82; } }",
+            b"6:81 4:82 html text/html text/plain text/plain 1000 75000 -\n/a html text/html text/plain text/plain 1000 75000 -\n",
         ),
         (
-            b"http { server { listen 10.0.0.1:8080; listen *:81 default_server; listen [2001:db8::1]:82; } }",
-            b"10.0.0.1.8080 0.0.0.0.81 8193/3512/0/0/0/0/0/1/82 -",
+            b"http { keepalive_timeout 0 5m; default_type d/t; server { location /a { } location /b { keepalive_requests 7; } } }",
+            b"4:80 html text/html d/t d/t 1000 0 -\n/a html text/html d/t d/t 1000 0 -\n/b html text/html d/t d/t 7 0 -\n",
         ),
         (
-            b"http { server { listen [::]:80 default_server; listen 80; listen 65535; listen 1; } }",
-            b"0/0/0/0/0/0/0/0/80 0.0.0.0.80 0.0.0.0.65535 0.0.0.0.1 -",
+            b"http { types { m/n y Z; } server { types { o/p y; } types { q/r html; } location / { default_type u/v; } } server { listen 81; } }",
+            b"4:80 html q/r o/p text/plain 1000 75000 -\n/ html q/r o/p u/v 1000 75000 -\n4:81 html text/plain m/n text/plain 1000 75000 -\n",
         ),
         (
-            b"http { server { location / { return 404; } } }",
-            b"0.0.0.0.80 404",
+            b"http { server { return 404; location / { return 200 'a $uri'; return 201; types { } keepalive_timeout 1500ms; } } }",
+            b"4:80 html text/html text/plain text/plain 1000 75000 404\n/ html text/plain text/plain text/plain 1000 1500 200:a $\n",
         ),
         (
-            b"http { server { location / { return 599 'a b'; return 200 c; } } }",
-            b"0.0.0.0.80 599 a b",
+            b"http { server { listen 80; location /b { } } keepalive_timeout 1h; server { listen 81; location /b { } location /a { } } }",
+            b"4:80 html text/html text/plain text/plain 1000 3600000 -\n/b html text/html text/plain text/plain 1000 3600000 -\n4:81 html text/html text/plain text/plain 1000 3600000 -\n/b html text/html text/plain text/plain 1000 3600000 -\n/a html text/html text/plain text/plain 1000 3600000 -\n",
         ),
-        (
-            b"http { server { location / { etag on; return 200 \"\"; } listen 81; } }",
-            b"0.0.0.0.81 200 ",
-        ),
-        (b"", b"!17 0:1 -"),
-        (b"#x", b"!17 0:1 -"),
-        (b"\nuser a;\nhttp { }", b"!17 0:1 -"),
-        (b"http { root a; }", b"!17 0:1 -"),
-        (b"events { }", b"!17 0:1 -"),
-        (b"http { server { } ", b"!1 0:1 -"),
     ];
     are_read(&rt, rt.alloc(), cases.as_slice())
 }
 
 #[test]
 fn the_first_fault_is_told(rt: HostRuntime) -> Result<(), Fail> {
-    let cases: [(&[u8], &[u8]); 35] = [
+    let cases: [(&[u8], &[u8]); 66] = [
         (b"http { serve { } }", b"!11 0:1 serve"),
         (b"http { server { } }\nfoo;\nserver { }", b"!11 0:2 foo"),
         (b"http { server { foo { bar; } } }", b"!11 0:1 foo"),
@@ -196,57 +233,91 @@ fn the_first_fault_is_told(rt: HostRuntime) -> Result<(), Fail> {
             b"http { server { root a; location / { return 2000; } } }",
             b"!15 0:1 return",
         ),
-    ];
-    are_read(&rt, rt.alloc(), cases.as_slice())
-}
-
-#[test]
-fn what_is_not_served_is_refused_last(rt: HostRuntime) -> Result<(), Fail> {
-    let cases: [(&[u8], &[u8]); 17] = [
-        (b"http { root a; server { }\nfoo; }", b"!11 0:2 foo"),
-        (b"http {\nroot a; server { } }", b"!11 0:2 root"),
-        (b"http { server { }\nserver { } }", b"!11 0:2 server"),
         (
-            b"http { server { listen 80; } server { listen 81 x; } }",
-            b"!15 0:1 listen",
+            b"http { server { location / { alias a; root b; } } }",
+            b"!14 0:1 root",
         ),
         (
-            b"http { server { location / { }\nlocation /a { } } }",
-            b"!11 0:2 location",
+            b"http { server { location /a { }\nlocation ^~ /a { } } }",
+            b"!14 0:2 location",
+        ),
+        (
+            b"http { server { location = /a { } location /a { } location = /a { } } }",
+            b"!14 0:1 location",
+        ),
+        (
+            b"http { server { listen 80 default_server; }\nserver { listen 80 default_server; } }",
+            b"!14 0:2 listen",
+        ),
+        (
+            b"http { server { location ! /a { } } }",
+            b"!15 0:1 location",
+        ),
+        (
+            b"http { server { location /a {\nlocation @b { } } } }",
+            b"!12 0:2 location",
+        ),
+        (
+            b"http { server { location = /a {\nlocation /b { } } } }",
+            b"!12 0:2 location",
+        ),
+        (
+            b"http { server { location @a {\nlocation /b { } } } }",
+            b"!12 0:2 location",
+        ),
+        (b"http { root $document_root/a; }", b"!15 0:1 root"),
+        (
+            b"http { server { location / { alias ${request_filename}; } } }",
+            b"!15 0:1 alias",
+        ),
+        (b"http { root $a;\nserver { set $b 1; } }", b"!15 0:1 root"),
+        (
+            b"http { root $A$b; server { set $a 1; auth_request_set $B 1; } }",
+            b"!11 0:1 root",
+        ),
+        (b"http { types { set $a; } root $a; }", b"!15 0:1 root"),
+        (b"http { server { return 200 $; } }", b"!15 0:1 return"),
+        (b"http { server { return http://$a; } }", b"!15 0:1 return"),
+        (
+            b"http { keepalive_requests 0; }",
+            b"!15 0:1 keepalive_requests",
+        ),
+        (
+            b"http { keepalive_requests 1000000001; }",
+            b"!15 0:1 keepalive_requests",
+        ),
+        (
+            b"http { keepalive_timeout 12725830d; }",
+            b"!15 0:1 keepalive_timeout",
+        ),
+        (
+            b"http { keepalive_timeout 1 ms; }",
+            b"!15 0:1 keepalive_timeout",
+        ),
+        (b"http { server { }\nserver { } }", b"!11 0:2 server"),
+        (
+            b"http { server { }\nserver {\nlisten 80; } }",
+            b"!11 0:3 listen",
         ),
         (b"http { server { location = / { } } }", b"!11 0:1 location"),
         (
             b"http { server { location / {\nlocation /a { } } } }",
             b"!11 0:2 location",
         ),
-        (b"http { server { return 200 a; } }", b"!11 0:1 return"),
+        (b"http { server { location @a { } } }", b"!11 0:1 location"),
         (
-            b"http { server { location / { return 301 /a; } } }",
-            b"!11 0:1 return",
-        ),
-        (
-            b"http { server { location / { return 444; } } }",
-            b"!11 0:1 return",
-        ),
-        (
-            b"http { server { location / { return https://a; } } }",
-            b"!11 0:1 return",
-        ),
-        (
-            b"http { server { location / { return 200 $uri; } } }",
-            b"!11 0:1 return",
-        ),
-        (
-            b"http { server { location / { return 200 a;\nreturn 302; } } }",
+            b"http { server { return 200 a;\nreturn 302; } }",
             b"!11 0:2 return",
         ),
+        (b"http { server { return https://a; } }", b"!11 0:1 return"),
         (b"http { server { if (a) { return 200; } } }", b"!11 0:1 if"),
-        (b"http { types { a b; } server { } }", b"!11 0:1 types"),
-        (b"include a; http { server { } }", b"!11 0:1 include"),
         (
             b"http { server { server_name a; } }",
             b"!11 0:1 server_name",
         ),
+        (b"include a; http { server { } }", b"!11 0:1 include"),
+        (b"", b"!17 0:1 -"),
+        (b"\nhttp { root a; }", b"!17 0:1 -"),
     ];
     are_read(&rt, rt.alloc(), cases.as_slice())
 }

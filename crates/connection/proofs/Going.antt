@@ -10,7 +10,7 @@ use Rattle.req_head.specs.declared.head.HeadStep.{HeadStep}
 use Rattle.req_head.specs.declared.head.HeadStep.TheVariants.{More, Head, Bad}
 use Rattle.req_head.specs.Step.{head_step}
 use Rattle.req_head.specs.Laws.{FullDecides}
-use Rattle.site_model.specs.declared.site.Site.{Site}
+use Rattle.connection.specs.Answers.{Service}
 use Rattle.connection.specs.Conn.{view_at, room_at, starts_at, GoesOn}
 
 -- where no bytes are taken though nothing is closed, as many are held as are looked at
@@ -33,13 +33,13 @@ open_goes_on full [] held None More e d p h = absurd (decided full held More e h
 open_goes_on full [] held (Some state) next e d p h = absurd (let n = ap length (d refl) in omega (arith, n, h))
 open_goes_on full (b ∷ pending) held body next e d p h = cc
 
-pub goes_on : FullDecides → (site : Site) (cause : Option StopCause) (pending : List ℕ) (journal : List Entry) (closing ended : Bool) (body : Option BodyState) (held : List ℕ) (next : HeadStep) →
-    (is_some cause ≡ false → next ≡ head_step held) → (is_some body ≡ true → held ≡ []) → GoesOn (view_at site cause pending journal closing ended body held next)
-goes_on full site (Some why) pending journal closing ended body held next looked drained = λ live shut room none. cc
-goes_on full site None [] journal true ended body held next looked drained = λ live shut room none. cc
-goes_on full site None (b ∷ pending) journal closing ended body held next looked drained = λ live shut room none. cc
-goes_on full site None [] journal false false body held next looked drained = λ live shut room none. open_goes_on full [] held body next (looked refl) drained refl (held_full (length held) room)
-goes_on full site None [] journal false true (Some state) held next looked drained = λ live shut room none. cc
-goes_on full site None [] journal false true None held More looked drained = λ live shut room none. cc
-goes_on full site None [] journal false true None held (Head head size) looked drained = λ live shut room none. refl
-goes_on full site None [] journal false true None held (Bad code no_body) looked drained = λ live shut room none. refl
+pub goes_on : FullDecides → (service : Service) (cause : Option StopCause) (pending : List ℕ) (journal : List Entry) (closing ended : Bool) (body : Option BodyState) (held : List ℕ) (next : HeadStep) →
+    (is_some cause ≡ false → next ≡ head_step held) → (is_some body ≡ true → held ≡ []) → GoesOn (view_at service cause pending journal closing ended body held next)
+goes_on full service (Some why) pending journal closing ended body held next looked drained = λ live shut room none. cc
+goes_on full service None [] journal true ended body held next looked drained = λ live shut room none. cc
+goes_on full service None (b ∷ pending) journal closing ended body held next looked drained = λ live shut room none. cc
+goes_on full service None [] journal false false body held next looked drained = λ live shut room none. open_goes_on full [] held body next (looked refl) drained refl (held_full (length held) room)
+goes_on full service None [] journal false true (Some state) held next looked drained = λ live shut room none. cc
+goes_on full service None [] journal false true None held More looked drained = λ live shut room none. cc
+goes_on full service None [] journal false true None held (Head head size) looked drained = λ live shut room none. refl
+goes_on full service None [] journal false true None held (Bad code no_body) looked drained = λ live shut room none. refl

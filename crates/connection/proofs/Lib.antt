@@ -1,3 +1,4 @@
+pub mod Replies
 pub mod Responses
 pub mod Bodies
 pub mod Moves

@@ -1,5 +1,5 @@
 -- The answers of a connection: the responses to its requests, one after another.
-use Rattle.std.specs.Prelude.{◌≡◌, ℕ, ◌+◌, nat_lt, Bool, true, false, not, ◌&&◌, List, [], ◌∷◌, ◌++◌, length, drop, None, Some, if◌then◌else◌}
+use Rattle.std.specs.Prelude.{◌≡◌, ℕ, ◌+◌, nat_lt, ◌==◌, Bool, true, false, not, ◌&&◌, List, [], ◌∷◌, ◌++◌, length, drop, Option, None, Some, if◌then◌else◌}
 use Rattle.file_tree.specs.Tree.{Trees}
 use Rattle.http_types.specs.declared.words.Method.{Method}
 use Rattle.http_types.specs.declared.words.Method.TheVariants as methods
@@ -13,8 +13,25 @@ use Rattle.req_head.specs.declared.head.Head.{Head as RequestHead}
 use Rattle.req_head.specs.declared.head.HeadStep.{HeadStep}
 use Rattle.req_head.specs.declared.head.HeadStep.TheVariants.{More, Head, Bad}
 use Rattle.req_head.specs.Step.{head_step}
+use Rattle.http_types.specs.declared.words.Addr.{Addr}
+use Rattle.file_tree.specs.Tree.{Tree, Nothing}
 use Rattle.site_model.specs.declared.site.Site.{Site}
-use Rattle.site_model.specs.Serving.{Reply, reply_of, page_reply}
+use Rattle.site_model.specs.Levels.{SiteView, ServerView, LevelView, seen}
+use Rattle.site_model.specs.Search.{server_for}
+use Rattle.phase_engine.specs.declared.asked.Meeting.{Meeting}
+use Rattle.phase_engine.specs.declared.meaning.WholeReply.{WholeReply as Reply}
+use Rattle.phase_engine.specs.Asking.{level_asked, main_of, request_of}
+use Rattle.phase_engine.specs.Serving.{reply_of}
+use Rattle.phase_engine.specs.Outcomes.{page_reply}
+
+-- what a connection is served: a site, at its two ends
+pub record Service : Type 0 where
+  pub site : SiteView
+  pub local : Addr
+  pub peer : Addr
+
+abbrev pub service_of : Site → Addr → Addr → Service
+service_of site local peer = record { site = seen site; local = local; peer = peer }
 
 -- the response's head: its length is that of the body, whether the body is sent or not
 unfoldable pub reply_head : Reply → Start → Bool → ReplyHead
@@ -24,7 +41,7 @@ reply_head r start keep =
       moment = start.moment;
       kind = Some r.kind;
       length = Some (length r.body);
-      modified = None;
+      modified = r.modified;
       location = None;
       chunked = false;
       keep = keep;
@@ -43,19 +60,50 @@ is_head methods.Head = true
 is_head methods.Post = false
 is_head (methods.Other name) = false
 
--- the reply to any request
-abbrev pub reply_at : Site → Trees → Start → Reply
-reply_at site trees start = reply_of site.returned (trees start.tree)
+-- files aren't served yet: each request is answered as from a tree that holds nothing
+abbrev pub no_files : Tree
+no_files path = Nothing
 
--- whether the connection stays open behind the response to a request that k others came before: the thousandth closes it
--- (nginx's keepalive_requests)
-abbrev pub keeps : ℕ → RequestHead → Reply → Bool
-keeps k head r = head.keep && not r.closes && nat_lt (k + 1) 1000
+abbrev pub meeting_at : Service → Start → Meeting
+meeting_at service start = record { local = service.local; peer = service.peer; moment = start.moment; tree = start.tree }
+
+-- the server that answers the connection
+abbrev pub server_of : Service → Option ServerView
+server_of service = server_for service.site.servers service.local
+
+-- the reply of a server to a head
+unfoldable pub reply_in : Service → Start → RequestHead → Option ServerView → Reply
+reply_in service start head None = page_reply 404
+reply_in service start head (Some server) =
+    reply_of (level_asked server head) (main_of service.site.folder (meeting_at service start) head) (request_of (level_asked server head) head) no_files
+
+-- the reply to a head
+unfoldable pub reply_at : Service → Trees → Start → RequestHead → Reply
+reply_at service trees start head = reply_in service start head (server_of service)
+
+abbrev pub stays_by : ℕ → LevelView → Bool
+stays_by k level = nat_lt (k + 1) level.requests && not (level.idle == 0)
+
+-- the level lets the connection stay open behind a request that k others came before: not the last of
+-- `keepalive_requests`, and not where `keepalive_timeout` is 0
+unfoldable pub stays_in : ℕ → RequestHead → Option ServerView → Bool
+stays_in k head None = false
+stays_in k head (Some server) = stays_by k (level_asked server head)
+
+-- whether the connection stays open behind the response to a request that k others came before
+unfoldable pub keeps : Service → ℕ → RequestHead → Reply → Bool
+keeps service k head r = (head.keep && stays_in k head (server_of service)) && not r.closes
+
+-- a reply is put behind what is kept for a peer, and the connection stays open behind it where it may and the reply doesn't
+-- close it
+pub record Puts (r : Reply) (start : Start) (no_body stays keep : Bool) (old new : List ℕ) : Type 0 where
+  pub kept : keep ≡ (stays && not r.closes)
+  pub put : new ≡ old ++ response r start no_body (stays && not r.closes)
 
 -- this response is put behind what is kept for a peer, and the connection stays open behind it or not
-pub record Responds (r : Reply) (start : Start) (k : ℕ) (head : RequestHead) (keep : Bool) (old new : List ℕ) : Type 0 where
-  pub stays : keep ≡ keeps k head r
-  pub put : new ≡ old ++ response r start (is_head head.method) (keeps k head r)
+pub record Responds (service : Service) (r : Reply) (start : Start) (k : ℕ) (head : RequestHead) (keep : Bool) (old new : List ℕ) : Type 0 where
+  pub stays : keep ≡ keeps service k head r
+  pub put : new ≡ old ++ response r start (is_head head.method) (keeps service k head r)
 
 -- what is answered to the bytes behind a request's body (RFC 9112, section 6): nothing, where no whole body stands there
 abbrev pub behind_body : BodyOutcome → (ℕ → List ℕ) → List ℕ
@@ -64,17 +112,17 @@ behind_body Short behind = []
 behind_body Broken behind = []
 
 -- the response to the first head, and what is answered to the bytes behind it and its body
-abbrev pub first_answer : Site → Trees → ℕ → Start → HeadStep → (ℕ → BodyKind → List ℕ) → List ℕ
-first_answer site trees k start (Head head size) behind =
-    let r = reply_at site trees start in
-    response r start (is_head head.method) (keeps k head r) ++ (if keeps k head r then behind size head.body else [])
-first_answer site trees k start (Bad code no_body) behind = response (page_reply code) start no_body false
-first_answer site trees k start More behind = []
+abbrev pub first_answer : Service → Trees → ℕ → Start → HeadStep → (ℕ → BodyKind → List ℕ) → List ℕ
+first_answer service trees k start (Head head size) behind =
+    let r = reply_at service trees start head in
+    response r start (is_head head.method) (keeps service k head r) ++ (if keeps service k head r then behind size head.body else [])
+first_answer service trees k start (Bad code no_body) behind = response (page_reply code) start no_body false
+first_answer service trees k start More behind = []
 
 -- The answers to the input, of which k requests came before, each from the tree of its start. A request starts for each of
 -- these entries, as far as the input has heads and whole bodies behind them.
-unfoldable pub answers : Site → ℕ → Trees → List ℕ → List Start → List ℕ
-answers site k trees input [] = []
-answers site k trees input (start ∷ later) =
-    first_answer site trees k start (head_step input)
-    (λ size kind. behind_body (body_of kind (drop size input)) (λ count. answers site (k + 1) trees (drop count (drop size input)) later))
+unfoldable pub answers : Service → ℕ → Trees → List ℕ → List Start → List ℕ
+answers service k trees input [] = []
+answers service k trees input (start ∷ later) =
+    first_answer service trees k start (head_step input)
+    (λ size kind. behind_body (body_of kind (drop size input)) (λ count. answers service (k + 1) trees (drop count (drop size input)) later))

@@ -9,18 +9,19 @@ use Rattle.ngx_outside.specs.declared.event.StopCause.{StopCause}
 use Rattle.site_model.specs.declared.site.Site.{Site}
 use Rattle.req_head.specs.declared.head.HeadStep.{HeadStep}
 use Rattle.connection.specs.declared.conn.Conn.{Conn}
-use Rattle.connection.specs.Answers.{answers}
+use Rattle.http_types.specs.declared.words.Addr.{Addr}
+use Rattle.connection.specs.Answers.{Service, service_of, answers}
 use Rattle.body_frame.specs.declared.state.BodyState.{BodyState}
 use Rattle.connection.specs.Steps.{starts, past_body}
 
--- what is to come on a connection that is opened now
-abbrev pub fresh_course : Site → Course
-fresh_course site = record { bytes = λ trees more later. answers site 0 trees more later; heavy = λ trees more later. false }
+-- what is to come on a connection that is opened now, with these ends
+abbrev pub fresh_course : Site → Addr → Addr → Course
+fresh_course site local peer = record { bytes = λ trees more later. answers (service_of site local peer) 0 trees more later; heavy = λ trees more later. false; raceless = true }
 
 -- the bytes that are still to come: behind those that are pending the answers to what stands behind the body that is dropped
-abbrev pub bytes_at : Site → List ℕ → List Entry → Bool → Option BodyState → List ℕ → Trees → List ℕ → List Start → List ℕ
-bytes_at site pending journal closing body held trees more later =
-    pending ++ (if closing then [] else past_body body (held ++ more) (λ input. answers site (length journal) trees input later))
+abbrev pub bytes_at : Service → List ℕ → List Entry → Bool → Option BodyState → List ℕ → Trees → List ℕ → List Start → List ℕ
+bytes_at service pending journal closing body held trees more later =
+    pending ++ (if closing then [] else past_body body (held ++ more) (λ input. answers service (length journal) trees input later))
 
 -- how many more bytes are taken, as far as 8192 are held: none after a stop, behind a response that closes or behind the
 -- input's end
@@ -41,14 +42,14 @@ abbrev pub shut_at : Bool → Bool → Bool → List ℕ → Option BodyState �
 shut_at stopped closing ended pending body next = stopped || ((closing || ended) && idle_at false closing pending body next)
 
 -- a connection by its parts
-abbrev pub view_at : Site → Option StopCause → List ℕ → List Entry → Bool → Bool → Option BodyState → List ℕ → HeadStep → ConnView
-view_at site cause pending journal closing ended body held next =
+abbrev pub view_at : Service → Option StopCause → List ℕ → List Entry → Bool → Bool → Option BodyState → List ℕ → HeadStep → ConnView
+view_at service cause pending journal closing ended body held next =
     record {
       held = true;
       cause = cause;
       pending = pending;
       starts = map start_of journal;
-      course = record { bytes = bytes_at site pending journal closing body held; heavy = λ trees more later. false };
+      course = record { bytes = bytes_at service pending journal closing body held; heavy = λ trees more later. false; raceless = true };
       room = room_at (is_some cause) closing ended held;
       ready = if starts_at (is_some cause) closing pending body next then 0 ∷ [] else [];
       jobs = [];
@@ -58,7 +59,7 @@ view_at site cause pending journal closing ended body held next =
     }
 
 abbrev pub view_of : Site → Conn → ConnView
-view_of site conn = view_at site conn.cause conn.pending conn.journal.items conn.closing conn.ended conn.body conn.held conn.next
+view_of site conn = view_at (service_of site conn.local conn.peer) conn.cause conn.pending conn.journal.items conn.closing conn.ended conn.body conn.held conn.next
 
 -- A response has at most 65536 bytes, since no more are kept for a peer, and each byte that is held may begin a head.
 unfoldable pub weight : ℕ

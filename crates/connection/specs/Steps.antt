@@ -2,12 +2,11 @@
 use Rattle.std.specs.Prelude.{◌≡◌, ◌≤◌, ℕ, Bool, true, false, is_some, Option, None, Some, List, [], ◌++◌, length, drop, if◌then◌else◌}
 use Rattle.file_tree.specs.Tree.{Trees}
 use Rattle.ngx_outside.specs.Views.{Start}
-use Rattle.site_model.specs.declared.site.Site.{Site}
-use Rattle.site_model.specs.Serving.{page_reply}
+use Rattle.phase_engine.specs.Outcomes.{page_reply}
 use Rattle.body_frame.specs.Outcome.{BodyOutcome, Whole, Short}
 use Rattle.body_frame.specs.State.{body_of, rest_body}
 use Rattle.body_frame.specs.declared.state.BodyState.{BodyState}
-use Rattle.connection.specs.Answers.{Responds, reply_at, response, behind_body}
+use Rattle.connection.specs.Answers.{Service, Responds, reply_at, response, behind_body}
 use Rattle.req_head.specs.declared.head.Head.{Head as RequestHead}
 use Rattle.req_head.specs.declared.head.HeadStep.{HeadStep}
 use Rattle.req_head.specs.declared.head.HeadStep.TheVariants.{More, Head, Bad}
@@ -44,15 +43,15 @@ pub record Drops (from : List ℕ → BodyOutcome) (input : List ℕ) (body : Op
 -- A request is answered: its response is behind what was pending, its head is dropped and its body as far as it is there,
 -- and the connection closes where the response says so or the body is broken. One that is refused closes it, and its bytes
 -- stay.
-pub record RanHead (site : Site) (trees : Trees) (start : Start) (k : ℕ) (head : RequestHead) (size : ℕ) (held held' : List ℕ) (body' : Option BodyState) (pending pending' : List ℕ) (closing : Bool) : Type 0 where
+pub record RanHead (service : Service) (trees : Trees) (start : Start) (k : ℕ) (head : RequestHead) (size : ℕ) (held held' : List ℕ) (body' : Option BodyState) (pending pending' : List ℕ) (closing : Bool) : Type 0 where
   pub keep : Bool
   pub broken : Bool
-  pub responds : Responds (reply_at site trees start) start k head keep pending pending'
+  pub responds : Responds service (reply_at service trees start head) start k head keep pending pending'
   pub drops : Drops (body_of head.body) (drop size held) body' held' broken
   pub closes : closing ≡ (if keep then broken else true)
 
-abbrev pub RanOne : Site → Trees → Start → ℕ → HeadStep → List ℕ → List ℕ → Option BodyState → List ℕ → List ℕ → Bool → Type 0
-RanOne site trees start k (Head head size) held held' body' pending pending' closing = RanHead site trees start k head size held held' body' pending pending' closing
-RanOne site trees start k (Bad code no_body) held held' body' pending pending' closing =
+abbrev pub RanOne : Service → Trees → Start → ℕ → HeadStep → List ℕ → List ℕ → Option BodyState → List ℕ → List ℕ → Bool → Type 0
+RanOne service trees start k (Head head size) held held' body' pending pending' closing = RanHead service trees start k head size held held' body' pending pending' closing
+RanOne service trees start k (Bad code no_body) held held' body' pending pending' closing =
     (pending' ≡ pending ++ response (page_reply code) start no_body false) × (held' ≡ held) × (body' ≡ None) × (closing ≡ true)
-RanOne site trees start k More held held' body' pending pending' closing = ⊥
+RanOne service trees start k More held held' body' pending pending' closing = ⊥

@@ -2,17 +2,19 @@
 ghost use Rattle.std.specs.Prelude.{◌≡◌, ◌≤◌, ◌<◌, ◌+◌, ◌++◌, ◌∷◌, ◌^◌, ◌⊎◌, true, false, [], ℕ, length, take, drop, is_some, OnOk, OnErr, IfOk, vec_len, Some};
 ghost use Rattle.ngx_outside.specs.Views.{Start, start_of};
 ghost use Rattle.req_head.specs.Step.{head_step};
-ghost use Rattle.site_model.specs.declared.site.Site.{Site as SiteParts};
 ghost use Rattle.file_tree.specs.Tree.{Trees};
 ghost use Rattle.ngx_outside.specs.declared.event.Entry.{Entry as Logged};
 ghost use Rattle.connection.specs.Steps.{begins as head_begins, starts, rest_of, RanOne};
+ghost use Rattle.connection.specs.Answers.{service_of};
 ghost use Rattle.body_frame.specs.Outcome.{Short};
 
 use crate::body::{drop_body, drop_rest};
 use crate::respond::{put_answer, put_page};
 use body_frame::BodyState;
 use byte_text::{ByteQueue, OutOfMemory};
+use http_types::Addr;
 use ngx_outside::{Entry, StepAnswer, StopCause};
+use phase_engine::Meeting;
 use req_head::{HeadStep, head_stays, may_decide, read_head, refusal_stays, size_fits};
 use site_model::Site;
 use std::alloc::Global;
@@ -97,8 +99,7 @@ fn log(
 fn run_one(
     alloc: Global,
     site: &Site,
-    moment: u64,
-    tree: u64,
+    meeting: Meeting,
     held: &mut ByteQueue,
     next: &mut HeadStep,
     body: &mut Option<BodyState>,
@@ -107,9 +108,9 @@ fn run_one(
 ) -> Result<bool, OutOfMemory>
     requires looked { next.old ≡ head_step held.old }
     requires begins { head_begins next.old ≡ true }
-    ensures ran { (trees : Trees) → IfOk result (λ closing. RanOne site.now trees (record { moment = moment; tree = tree }) (vec_len journal.old) next.old held.old held.new body.new pending.old pending.new closing) }
+    ensures ran { (trees : Trees) → IfOk result (λ closing. RanOne (service_of site.now meeting.local meeting.peer) trees (record { moment = meeting.moment; tree = meeting.tree }) (vec_len journal.old) next.old held.old held.new body.new pending.old pending.new closing) }
     ensures looked { OnOk result (next.new ≡ head_step held.new) }
-    ensures journal { OnOk result ((entry : Logged) × (start_of entry ≡ record { moment = moment; tree = tree }) × (journal.new.items ≡ journal.old.items ++ entry ∷ [])) }
+    ensures journal { OnOk result ((entry : Logged) × (start_of entry ≡ record { moment = meeting.moment; tree = meeting.tree }) × (journal.new.items ≡ journal.old.items ++ entry ∷ [])) }
     ensures kept { OnErr result (journal.new.items ≡ journal.old.items) }
     ensures fits { OnOk result (length pending.new ≤ length pending.old + 65536) }
 {
@@ -119,16 +120,22 @@ fn run_one(
             let dropped = drop_body(BodyState::new(head.body), behind(held, *size));
             let size = *size + dropped.used;
             let following = read_head(alloc, behind(held, size))?;
-            let sent = put_answer(alloc, site, pending, head, journal.len(), moment)?;
-            log(journal, moment, tree, sent.status, sent.length)?;
+            let sent = put_answer(alloc, site, pending, head, journal.len(), meeting)?;
+            log(
+                journal,
+                meeting.moment,
+                meeting.tree,
+                sent.status,
+                sent.length,
+            )?;
             held.used(size);
             *next = following;
             *body = dropped.body;
             Ok(!sent.keep || dropped.broken)
         }
         HeadStep::Bad { code, no_body } => {
-            let length = put_page(alloc, pending, *code, moment, *no_body)?;
-            log(journal, moment, tree, *code, length as u64)?;
+            let length = put_page(alloc, pending, *code, meeting.moment, *no_body)?;
+            log(journal, meeting.moment, meeting.tree, *code, length as u64)?;
             *body = None;
             Ok(true)
         }
@@ -140,6 +147,8 @@ fn run_one(
 /// requests.
 #[derive(Drop)]
 pub struct Conn {
+    local: Addr,
+    peer: Addr,
     held: ByteQueue,
     pending: ByteQueue,
     journal: Vec<Entry>,
@@ -160,14 +169,16 @@ impl Conn {
     ghost use Rattle.ngx_outside.specs.declared.event.Event.TheVariants.{Arrived, Ended, Wrote, LinkFailed, JobFailed, Run};
     ghost use Rattle.connection.specs.Conn.{view_of, left_of, fresh_course, room_at, starts_at, idle_at, shut_at, weight, StepsConn};
 
-    /// A connection on which nothing has come and gone.
-    pub fn new(alloc: Global) -> Result<Self, OutOfMemory>
-        ensures fresh { IfOk result (λ c. (site : _) → Fresh (fresh_course site) (view_of site c)) }
+    /// A connection with these two ends, on which nothing has come and gone.
+    pub fn new(alloc: Global, local: Addr, peer: Addr) -> Result<Self, OutOfMemory>
+        ensures fresh { IfOk result (λ c. (site : _) → Fresh (fresh_course site local peer) (view_of site c)) }
         ensures left { IfOk result (λ c. left_of c ≡ 1 + weight) }
     {
         let held = ByteQueue::new(alloc);
         let next = read_head(alloc, held.front())?;
         Ok(Conn {
+            local,
+            peer,
             held,
             pending: ByteQueue::new(alloc),
             journal: Vec::new(alloc),
@@ -349,8 +360,12 @@ impl Conn {
         match run_one(
             alloc,
             site,
-            moment,
-            tree,
+            Meeting {
+                local: self.local,
+                peer: self.peer,
+                moment,
+                tree,
+            },
             &mut self.held,
             &mut self.next,
             &mut self.body,

@@ -9,6 +9,3 @@ mod respond;
 pub use conn::Conn;
 pub use law::{connections_are_sound, connections_go_on};
 pub use respond::{Sent, put_answer, put_page};
-
-#[cfg(test)]
-mod tests;

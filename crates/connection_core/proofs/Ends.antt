@@ -11,11 +11,10 @@ use Rattle.http_types.specs.declared.words.Addr.{Addr}
 use Rattle.ngx_outside.specs.declared.event.Want.{Want}
 use Rattle.ngx_outside.specs.declared.event.Event.TheVariants as ev
 use Rattle.ngx_outside.specs.declared.event.StepAnswer.TheVariants.{Done, Skipped}
-use Rattle.site_model.specs.Listen.{listens_at}
 use Rattle.site_model.specs.declared.site.Site.{Site}
 use Rattle.connection.specs.declared.conn.Conn.{Conn}
 use Rattle.connection.specs.Conn.{view_of, left_of, price, weight, fresh_course}
-use Rattle.connection_core.specs.Table.{view_in, wants_held, left_in, price_each, most_held, opens_in, is_among, tally, StandsAt, BelongsAt, Splits}
+use Rattle.connection_core.specs.Table.{view_in, wants_held, left_in, price_each, most_held, opens_in, listens_there, is_among, tally, StandsAt, BelongsAt, Splits}
 use Rattle.connection_core.proofs.Tables.{there, elsewhere, nowhere, none_of_two, wants_split, wants_joined}
 use Rattle.connection_core.proofs.Spliced.{wants_count}
 use Rattle.connection_core.proofs.Rows.{parted_between, inserted, removed, put_rises, cut_rises, among_here, among_none}
@@ -93,10 +92,10 @@ put_beside site c at ids ids' conns conns' x g e f q ne =
     ap (λ l. view_in site l conns' q) (e ∙ ids_put c at ids conns g) ∙ ap (λ l. view_in site (b.front ++ c ∷ b.back) l q) (f ∙ conns_put c at ids conns x g) ∙ elsewhere site b.front g.front c x b.back g.back q g.even ne
     ∙ sym (ap (λ l. view_in site l conns q) b.whole ∙ ap (λ l. view_in site (b.front ++ b.back) l q) g.whole)
 
-pub put_steps : (site : Site) (c at : ℕ) (ids ids' : List ℕ) (conns conns' : List Conn) (x : Conn) (g : Gap c at ids conns) → ids' ≡ insert ids at c → conns' ≡ insert conns at x → Fresh (fresh_course site) (view_of site x) →
-    (now : Start) (local peer : Addr) (taken : ℕ) → OneSteps c (StepsOwn (fresh_course site) now (ev.Opened c local peer) (Done taken)) (view_in site ids conns) (view_in site ids' conns')
-put_steps site c at ids ids' conns conns' x g e f fresh now local peer taken = record {
-  own = (ap (λ (v : ConnView). v.held) (put_before site c at ids conns g.belongs), subst (λ v. Fresh (fresh_course site) v) (sym (put_after site c at ids ids' conns conns' x g e f)) fresh);
+pub put_steps : (site : Site) (c at : ℕ) (ids ids' : List ℕ) (conns conns' : List Conn) (x : Conn) (g : Gap c at ids conns) → ids' ≡ insert ids at c → conns' ≡ insert conns at x → (local peer : Addr) → Fresh (fresh_course site local peer) (view_of site x) →
+    (now : Start) (taken : ℕ) → OneSteps c (StepsOwn (fresh_course site local peer) now (ev.Opened c local peer) (Done taken)) (view_in site ids conns) (view_in site ids' conns')
+put_steps site c at ids ids' conns conns' x g e f local peer fresh now taken = record {
+  own = (ap (λ (v : ConnView). v.held) (put_before site c at ids conns g.belongs), subst (λ v. Fresh (fresh_course site local peer) v) (sym (put_after site c at ids ids' conns conns' x g e f)) fresh);
   others = put_beside site c at ids ids' conns conns' x g e f;
 }
 
@@ -115,13 +114,13 @@ pub opens_full : (site : Site) (ids : List ℕ) (c : ℕ) (local : Addr) → 512
 unfolding most_held
 opens_full site ids c local h =
     let e : nat_lt (length ids) 512 ≡ false = grind (arith, nat_tests) in
-    ap (λ t. not (is_among c ids) && (t && listens_at site.listens local)) e ∙ never (not (is_among c ids))
+    ap (λ t. not (is_among c ids) && (t && listens_there site local)) e ∙ never (not (is_among c ids))
   where
     never : (t : Bool) → (t && false) ≡ false
     never true = refl
     never false = refl
 
-pub opens_deaf : (site : Site) (ids : List ℕ) (c : ℕ) (local : Addr) → listens_at site.listens local ≡ false → opens_in site ids c local ≡ false
+pub opens_deaf : (site : Site) (ids : List ℕ) (c : ℕ) (local : Addr) → listens_there site local ≡ false → opens_in site ids c local ≡ false
 opens_deaf site ids c local h =
     ap (λ t. not (is_among c ids) && (nat_lt (length ids) most_held && t)) h ∙ never (not (is_among c ids)) (nat_lt (length ids) most_held)
   where
@@ -132,14 +131,14 @@ opens_deaf site ids c local h =
 
 pub opens_held : (site : Site) (ids : List ℕ) (c at : ℕ) (local : Addr) → StandsAt c ids at → opens_in site ids c local ≡ false
 opens_held site ids c at local s =
-    ap (λ t. not t && (nat_lt (length ids) most_held && listens_at site.listens local)) (ap (is_among c) s.whole ∙ among_here s.front s.back c)
+    ap (λ t. not t && (nat_lt (length ids) most_held && listens_there site local)) (ap (is_among c) s.whole ∙ among_here s.front s.back c)
 
-pub opens_free : (site : Site) (ids : List ℕ) (c at : ℕ) (local : Addr) → BelongsAt c ids at → length ids < 512 → listens_at site.listens local ≡ true → opens_in site ids c local ≡ true
+pub opens_free : (site : Site) (ids : List ℕ) (c at : ℕ) (local : Addr) → BelongsAt c ids at → length ids < 512 → listens_there site local ≡ true → opens_in site ids c local ≡ true
 unfolding most_held
 opens_free site ids c at local b h l =
     let e : nat_lt (length ids) 512 ≡ true = grind (arith, nat_tests) in
-    ap (λ t. not t && (nat_lt (length ids) 512 && listens_at site.listens local)) (among_none ids c (subst (λ l. AllByRecursion (λ id. id ≢ c) l) (sym b.whole) (none_of_two b.front b.back c b.below b.above)))
-    ∙ ap (λ t. t && listens_at site.listens local) e ∙ l
+    ap (λ t. not t && (nat_lt (length ids) 512 && listens_there site local)) (among_none ids c (subst (λ l. AllByRecursion (λ id. id ≢ c) l) (sym b.whole) (none_of_two b.front b.back c b.below b.above)))
+    ∙ ap (λ t. t && listens_there site local) e ∙ l
 
 -- a connection is let go
 pub cut_rising : (c at : ℕ) (ids ids' : List ℕ) → StandsAt c ids at → ids' ≡ remove ids at → IsStrictlyIncreasing ids → IsStrictlyIncreasing ids'

@@ -13,6 +13,7 @@ nobody_sound = record {
   unready = λ h. refl;
   unasked = λ h. refl;
   unread = λ h. refl;
+  untimed = λ h. refl;
   stopped = λ cause h e. cc;
   absent = λ h. refl;
   roomy = λ room h. cc;

@@ -191,3 +191,28 @@ whole_behind c wants mid more count s e =
 pub no_bytes_is : (xs : List ℕ) → eqb (length xs) 0 ≡ no_bytes xs
 no_bytes_is [] = refl
 no_bytes_is (x ∷ xs) = let h : length (x ∷ xs) ≢ 0 = (λ e. omega arith) in grind (arith, nat_tests)
+
+-- where nothing stands behind the wants of a connection
+pub written_last : (c : ℕ) (wants : List Want) (gone start : ℕ) (more : List Want) (s : Splits c wants gone) → start ≡ length s.lower → start + gone ≡ length wants →
+    take start wants ++ more ≡ s.lower ++ (more ++ s.higher)
+written_last c wants gone start more s at whole =
+    ap (λ w. take start w ++ more) s.whole ∙ ap (λ k. take k (s.lower ++ (s.own ++ s.higher)) ++ more) at ∙ ap (λ w. w ++ more) (front s.lower (s.own ++ s.higher))
+    ∙ ap (λ w. s.lower ++ w) (sym (last more) ∙ ap (λ h. more ++ h) (sym (nothing s.higher behind)))
+  where
+    front : (xs ys : List Want) → take (length xs) (xs ++ ys) ≡ xs
+    front [] ys = refl
+    front (x ∷ xs) ys = ap (λ r. x ∷ r) (front xs ys)
+
+    last : (xs : List Want) → xs ++ [] ≡ xs
+    last [] = refl
+    last (x ∷ xs) = ap (λ r. x ∷ r) (last xs)
+
+    nothing : (xs : List Want) → length xs ≡ 0 → xs ≡ []
+    nothing [] e = refl
+    nothing (x ∷ xs) e = absurd (omega (arith, e))
+
+    behind : length s.higher ≡ 0
+    behind =
+        let a = ap length s.whole ∙ length-append s.lower (s.own ++ s.higher) in
+        let b = length-append s.own s.higher in
+        omega (arith, a, b, at, whole, s.size)

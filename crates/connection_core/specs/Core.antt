@@ -22,9 +22,9 @@ journal_at h = journal_in h.table.ids.items h.table.conns.items
 abbrev pub conns_held : Hub → List ℕ
 conns_held h = h.table.ids.items
 
--- what is to come on one that is opened now, whatever its ends
+-- what is to come on one that is opened now, with these ends
 abbrev pub fresh_at : Hub → Addr → Addr → Course
-fresh_at h local peer = fresh_course h.table.site
+fresh_at h local peer = fresh_course h.table.site local peer
 
 abbrev pub opens_at : Hub → ℕ → Addr → Bool
 opens_at h = opens_in h.table.site h.table.ids.items

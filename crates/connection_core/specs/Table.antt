@@ -1,5 +1,5 @@
 -- The connections that are held, each under its number.
-use Rattle.std.specs.Prelude.{◌≡◌, Bool, true, false, ℕ, ◌+◌, ◌==◌, ◌<◌, List, [], ◌∷◌, ◌++◌, length, sum_by, not, ◌&&◌, ◌||◌, nat_lt, if◌then◌else◌}
+use Rattle.std.specs.Prelude.{◌≡◌, Bool, true, false, ℕ, ◌+◌, ◌==◌, ◌<◌, List, [], ◌∷◌, ◌++◌, length, sum_by, not, ◌&&◌, ◌||◌, nat_lt, is_some, if◌then◌else◌}
 use Rattle.std.specs.List.{AllByRecursion}
 use Rattle.ngx_outside.specs.Views.{ConnView, nobody}
 use Rattle.ngx_outside.specs.Wants.{wants_at}
@@ -9,7 +9,8 @@ use Rattle.ngx_outside.specs.declared.event.Entry.{Entry}
 use Rattle.ngx_outside.specs.declared.event.Event.{Event}
 use Rattle.ngx_outside.specs.declared.event.Event.TheVariants as ev
 use Rattle.http_types.specs.declared.words.Addr.{Addr}
-use Rattle.site_model.specs.Listen.{listens_at}
+use Rattle.site_model.specs.Levels.{seen}
+use Rattle.site_model.specs.Search.{server_for}
 use Rattle.site_model.specs.declared.site.Site.{Site}
 use Rattle.connection.specs.declared.conn.Conn.{Conn}
 use Rattle.connection.specs.Conn.{view_of, left_of, price}
@@ -80,9 +81,13 @@ abbrev pub is_among : ℕ → List ℕ → Bool
 is_among c [] = false
 is_among c (id ∷ ids) = id == c || is_among c ids
 
+-- a server of the site listens at a local end
+abbrev pub listens_there : Site → Addr → Bool
+listens_there site local = is_some (server_for (seen site).servers local)
+
 -- there is room for one more, and the site listens at this local end
 abbrev pub has_place : Site → List ℕ → Addr → Bool
-has_place site ids local = nat_lt (length ids) most_held && listens_at site.listens local
+has_place site ids local = nat_lt (length ids) most_held && listens_there site local
 
 -- whether a connection of this number can be opened at a local end: it isn't held, there is room, and the site listens there
 abbrev pub opens_in : Site → List ℕ → ℕ → Addr → Bool

@@ -48,7 +48,7 @@ impl Hub {
     /// A core that holds no connection, at moment 0 and tree 0.
     pub fn new(alloc: Global, site: Site) -> Result<Self, OutOfMemory>
         ensures empty { IfOk result (λ hub. (c : ℕ) → view_at hub c ≡ nobody) }
-        ensures fresh { IfOk result (λ hub. fresh_at hub ≡ (λ local peer. fresh_course site)) }
+        ensures fresh { IfOk result (λ hub. fresh_at hub ≡ fresh_course site) }
         ensures now { IfOk result (λ hub. now_at hub ≡ record { moment = 0; tree = 0 }) }
     {
         let table = Table::new(alloc, site)?;
@@ -150,11 +150,7 @@ impl EventCore for Hub {
 
     fn step(&mut self, event: Event) -> StepAnswer {
         match event {
-            Event::Opened {
-                conn,
-                local,
-                peer: _,
-            } => self.table.open(self.alloc, conn, local),
+            Event::Opened { conn, local, peer } => self.table.open(self.alloc, conn, local, peer),
             Event::Arrived { conn, bytes: _ } => self.own(conn, event),
             Event::Ended { conn } => self.own(conn, event),
             Event::Wrote { conn, count: _ } => self.own(conn, event),

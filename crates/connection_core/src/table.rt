@@ -85,7 +85,7 @@ impl Table {
     }
 
     // Room for one connection more, and the connection.
-    fn make(&mut self, alloc: Global) -> Result<Conn, OutOfMemory>
+    fn make(&mut self, alloc: Global, local: Addr, peer: Addr) -> Result<Conn, OutOfMemory>
         requires { vec_len self.old.ids < 512 }
         ensures site { self.new.site ≡ self.old.site }
         ensures ids { self.new.ids.items ≡ self.old.ids.items }
@@ -93,14 +93,14 @@ impl Table {
         ensures ids_room { OnOk result (vec_len self.new.ids < vec_capacity self.new.ids) }
         ensures conns_room { OnOk result (vec_len self.new.conns < vec_capacity self.new.conns) }
         ensures wants_room { OnOk result (4 * vec_len self.new.ids + 8 ≤ vec_capacity self.new.wants) }
-        ensures fresh { IfOk result (λ c. (site : _) → Fresh (fresh_course site) (view_of site c)) }
+        ensures fresh { IfOk result (λ c. (site : _) → Fresh (fresh_course site local peer) (view_of site c)) }
         ensures left { IfOk result (λ c. left_of c ≡ 1 + weight) }
     {
         self.ids.reserve(1)?;
         self.conns.reserve(1)?;
         let room = 4 * self.ids.len() + 8;
         self.wants.reserve(room.saturating_sub(self.wants.len()))?;
-        let conn = Conn::new(alloc)?;
+        let conn = Conn::new(alloc, local, peer)?;
         Ok(conn)
     }
 
@@ -120,18 +120,18 @@ impl Table {
     }
 
     /// Opens a connection under a number.
-    pub(crate) fn open(&mut self, alloc: Global, conn: u32, local: Addr) -> StepAnswer
-        ensures steps { (peer : End) (now : Start) → OneSteps conn (StepsOwn (fresh_course self.old.site) now (Opened conn local peer) result) (view_in self.old.site self.old.ids.items self.old.conns.items) (view_in self.new.site self.new.ids.items self.new.conns.items) }
-        ensures opens { (peer : End) → OpensIf (opens_in self.old.site self.old.ids.items) (Opened conn local peer) result }
-        ensures left { (peer : End) → LeftBy price_each (Opened conn local peer) result (left_in self.old.conns.items) (left_in self.new.conns.items) }
+    pub(crate) fn open(&mut self, alloc: Global, conn: u32, local: Addr, peer: Addr) -> StepAnswer
+        ensures steps { (now : Start) → OneSteps conn (StepsOwn (fresh_course self.old.site local peer) now (Opened conn local peer) result) (view_in self.old.site self.old.ids.items self.old.conns.items) (view_in self.new.site self.new.ids.items self.new.conns.items) }
+        ensures opens { OpensIf (opens_in self.old.site self.old.ids.items) (Opened conn local peer) result }
+        ensures left { LeftBy price_each (Opened conn local peer) result (left_in self.old.conns.items) (left_in self.new.conns.items) }
         ensures site { self.new.site ≡ self.old.site }
     {
-        if self.ids.len() >= MOST || !self.site.listens.at(local) {
+        if self.ids.len() >= MOST || !self.site.is_listening(local) {
             return StepAnswer::Skipped;
         }
         match place(self.ids.as_slice(), conn) {
             Ok(_) => StepAnswer::Skipped,
-            Err(at) => match self.make(alloc) {
+            Err(at) => match self.make(alloc, local, peer) {
                 Ok(fresh) => {
                     self.put(at, conn, fresh);
                     StepAnswer::Done { taken: 0 }

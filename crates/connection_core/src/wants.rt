@@ -102,7 +102,19 @@ fn settle(wants: &mut Vec<Want>, start: usize, gone: usize, added: usize)
     take_out(wants, start + added, gone);
 }
 
-/// Writes the wants of a connection anew, in place of the `gone` that it had. Nothing is allocated.
+// Writes the wants of a connection in place of all from `start` on.
+fn rewrite_last(wants: &mut Vec<Want>, number: u32, start: usize, conn: &Conn)
+    requires start { start ≤ vec_len wants.old }
+    requires room { vec_len wants.old + 4 ≤ vec_capacity wants.old }
+    ensures items { (site : SiteParts) → wants.new.items ≡ take start wants.old.items ++ wants_at number (view_of site conn.now) }
+    ensures capacity { vec_capacity wants.new ≡ vec_capacity wants.old }
+{
+    wants.truncate(start);
+    add(wants, number, conn);
+}
+
+/// Writes the wants of a connection anew, in place of the `gone` that it had. Nothing is
+/// allocated, and nothing is moved where no other wants stand behind them.
 pub(crate) fn rewrite(wants: &mut Vec<Want>, number: u32, gone: usize, conn: &Conn)
     requires room { vec_len wants.old + 4 ≤ vec_capacity wants.old }
     requires splits { Splits number wants.old.items gone }
@@ -111,6 +123,9 @@ pub(crate) fn rewrite(wants: &mut Vec<Want>, number: u32, gone: usize, conn: &Co
 {
     let start = start_of(wants.as_slice(), number);
     let len = wants.len();
+    if start + gone == len {
+        return rewrite_last(wants, number, start, conn);
+    }
     add(wants, number, conn);
     settle(wants, start, gone, wants.len() - len);
 }

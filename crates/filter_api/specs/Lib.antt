@@ -1,4 +1,3 @@
 pub mod Members
 pub mod Chains
 pub mod Laws
-pub mod Samples

@@ -137,7 +137,7 @@ impl Chain {
         append_parts(out, parts)
     }
 
-    /// Takes the end of the document.
+    /// Takes the end of the document, behind which its state may only be dropped.
     pub fn end(
         &self,
         alloc: Global,

@@ -36,7 +36,7 @@ pub trait BodyFilter: Drop {
         ensures state { OnOk result (state.new ≡ (feeds ((member self.now).machine facts.now) state.old (part_marks part)).0) }
         ensures out { OnOk result (marks out.new.items ≡ marks out.old.items ++ (feeds ((member self.now).machine facts.now) state.old (part_marks part)).1) };
 
-    /// Takes the end of a body.
+    /// Takes the end of a body, behind which its state may only be dropped.
     fn end(
         &self,
         facts: &Facts,

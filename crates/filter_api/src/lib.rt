@@ -10,8 +10,5 @@ mod stage;
 pub use chain::{Chain, ChainFault, ChainState, RefusedChain};
 pub use facts::{Facts, FilterState};
 pub use filter::{BodyFilter, push_part};
-pub use laws::chains_go_on;
+pub use laws::{chains_go_on, chains_turn};
 pub use stage::Stage;
-
-#[cfg(test)]
-mod tests;

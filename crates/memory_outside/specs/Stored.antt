@@ -5,6 +5,7 @@ use Rattle.file_tree.specs.Tree.{Item, AFile, AFolder, ALocked, Nothing, Trees}
 use Rattle.memory_outside.specs.declared.files.StoredItem.{StoredItem}
 use Rattle.memory_outside.specs.declared.files.Stored.{Stored}
 use Rattle.memory_outside.specs.declared.files.MemoryFiles.{MemoryFiles}
+use Rattle.memory_outside.specs.declared.files.FileCall.{FileCall}
 use Rattle.memory_outside.specs.declared.files.StoredItem.TheVariants as stored
 
 abbrev pub item_of : StoredItem → Item
@@ -39,3 +40,7 @@ newest_of f = f.version
 
 abbrev pub file_faults_of : MemoryFiles → ℕ
 file_faults_of f = f.faults
+
+-- the calls that are to fail
+abbrev pub failing_of : MemoryFiles → List FileCall
+failing_of f = f.failing.items

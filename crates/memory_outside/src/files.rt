@@ -1,9 +1,10 @@
 // Files in memory.
-ghost use Rattle.std.specs.Prelude.{◌≡◌, ◌≢◌, ◌≤◌, ◌<◌, ◌+◌, ◌-◌, ◌^◌, ◌∷◌, ◌↔◌, ℕ, List, true, false, IsTrue, MatchOption, OnOk, OnErr, IfOk, length, take, drop};
-ghost use Rattle.ngx_outside.specs.Causes.{Rose};
-ghost use Rattle.ngx_outside.specs.Outside.{Grow, Lists};
-ghost use Rattle.file_tree.specs.Tree.{Nothing, AFile, AFolder, node_of};
-ghost use Rattle.memory_outside.specs.Stored.{item_in, item_of, is_at as is_stored_at, Replaces, trees_of, newest_of, file_faults_of};
+ghost use Rattle.std.specs.Prelude.{◌≡◌, ◌≢◌, ◌≤◌, ◌<◌, ◌+◌, ◌-◌, ◌^◌, ◌∷◌, ◌↔◌, ℕ, List, [], true, false, IsTrue, MatchOption, Err, IsOk, OnOk, OnErr, IfOk, length, take, drop};
+ghost use Rattle.ngx_outside.specs.Causes.{Rose, HasCause};
+ghost use Rattle.ngx_outside.specs.Outside.{Grow, Stats, Reads, Lists};
+ghost use Rattle.ngx_outside.specs.declared.files.FileFault.TheVariants.{Failed as ReadFailed};
+ghost use Rattle.file_tree.specs.Tree.{Nothing, AFile, AFolder, HoldsBytes, node_of};
+ghost use Rattle.memory_outside.specs.Stored.{item_in, item_of, is_at as is_stored_at, Replaces, trees_of, newest_of, file_faults_of, failing_of};
 
 use crate::names::add_names;
 use byte_text::{ByteText, ByteTexts, OutOfMemory};
@@ -164,6 +165,7 @@ impl MemoryFiles {
         ensures nothing { (of : ℕ) (path : List ℕ) → trees_of result of path ≡ Nothing }
         ensures version { newest_of result ≡ 0 }
         ensures faults { file_faults_of result ≡ 0 }
+        ensures failing { failing_of result ≡ failing.items }
     {
         MemoryFiles {
             alloc,
@@ -183,6 +185,7 @@ impl MemoryFiles {
         ensures same { OnErr result (trees_of self.new ≡ trees_of self.old) }
         ensures version { newest_of self.new ≡ newest_of self.old }
         ensures faults { file_faults_of self.new ≡ file_faults_of self.old }
+        ensures failing { failing_of self.new ≡ failing_of self.old }
     {
         let stored = Stored { path, item, from };
         self.items.push(stored)?;
@@ -195,6 +198,7 @@ impl MemoryFiles {
         ensures same { OnErr result (trees_of self.new ≡ trees_of self.old) }
         ensures version { newest_of self.new ≡ newest_of self.old }
         ensures faults { file_faults_of self.new ≡ file_faults_of self.old }
+        ensures failing { failing_of self.new ≡ failing_of self.old }
     {
         let from = self.version;
         self.store(path, item, from)
@@ -209,6 +213,7 @@ impl MemoryFiles {
         ensures same_version { OnErr result (newest_of self.new ≡ newest_of self.old) }
         ensures grow { Grow (newest_of self.old) (newest_of self.new) (trees_of self.old) (trees_of self.new) }
         ensures faults { file_faults_of self.new ≡ file_faults_of self.old }
+        ensures failing { failing_of self.new ≡ failing_of self.old }
     {
         let from = self.version + 1;
         self.store(path, item, from)?;
@@ -227,6 +232,8 @@ impl MemoryFiles {
     fn fails(&mut self, call: FileCall) -> bool
         ensures items { trees_of self.new ≡ trees_of self.old }
         ensures version { newest_of self.new ≡ newest_of self.old }
+        ensures failing { failing_of self.new ≡ failing_of self.old }
+        ensures sure { failing_of self.old ≡ [] → result ≡ false }
         ensures quiet { result ≡ false → file_faults_of self.new ≡ file_faults_of self.old }
         ensures rose { result ≡ true → Rose (file_faults_of self.old) (file_faults_of self.new) }
         ensures later { file_faults_of self.old ≤ file_faults_of self.new }
@@ -242,6 +249,7 @@ impl MemoryFiles {
     fn count_fault(&mut self)
         ensures items { trees_of self.new ≡ trees_of self.old }
         ensures version { newest_of self.new ≡ newest_of self.old }
+        ensures failing { failing_of self.new ≡ failing_of self.old }
         ensures rose { Rose (file_faults_of self.old) (file_faults_of self.new) }
         ensures later { file_faults_of self.old ≤ file_faults_of self.new }
     {
@@ -262,7 +270,15 @@ impl Files for MemoryFiles {
         self.version
     }
 
-    fn stat(&mut self, path: &[u8], of: u64) -> Result<Node, Failed> {
+    fn stat(&mut self, path: &[u8], of: u64) -> Result<Node, Failed>
+        ensures node { Stats true (trees_of self.old of) path.now result }
+        ensures same { trees_of self.new ≡ trees_of self.old }
+        ensures version { newest_of self.new ≡ newest_of self.old }
+        ensures failing { failing_of self.new ≡ failing_of self.old }
+        ensures sure { failing_of self.old ≡ [] → IsOk result }
+        ensures grow { Grow (newest_of self.old) (newest_of self.new) (trees_of self.old) (trees_of self.new) }
+        ensures cause { HasCause (file_faults_of self.old) (file_faults_of self.new) result (record {}) }
+    {
         let call = FileCall::Stat(self.stats);
         self.stats = self.stats.saturating_add(1);
         if self.fails(call) {
@@ -278,7 +294,15 @@ impl Files for MemoryFiles {
         count: u64,
         of: u64,
         out: &mut ByteText,
-    ) -> Result<(), FileFault> {
+    ) -> Result<(), FileFault>
+        ensures bytes { Reads true (trees_of self.old of) path.now start count out.old out.new result }
+        ensures same { trees_of self.new ≡ trees_of self.old }
+        ensures version { newest_of self.new ≡ newest_of self.old }
+        ensures failing { failing_of self.new ≡ failing_of self.old }
+        ensures sure { failing_of self.old ≡ [] → result ≡ Err ReadFailed → (bytes : List ℕ) → ¬ HoldsBytes (trees_of self.old of path.now) start count bytes }
+        ensures grow { Grow (newest_of self.old) (newest_of self.new) (trees_of self.old) (trees_of self.new) }
+        ensures cause { HasCause (file_faults_of self.old) (file_faults_of self.new) result ReadFailed }
+    {
         let call = FileCall::Read(self.reads);
         self.reads = self.reads.saturating_add(1);
         if self.fails(call) {

@@ -1,2 +1,4 @@
 pub mod Running
+pub mod Sites
+pub mod Words
 pub mod Commands

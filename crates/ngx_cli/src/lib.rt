@@ -1,14 +1,19 @@
-//! The program: its commands, over any files and any output.
+//! The program: its commands, over any files, links, clock and output.
 #![tactic(auto)]
 
 mod command;
 mod script;
+mod site;
 mod status;
 mod text;
+mod turns;
+mod words;
 
 pub use command::ngx;
 pub use script::{Outcome, replay};
+pub use site::{site_at, site_of};
 pub use status::Status;
+pub use words::Command;
 
 #[cfg(test)]
 mod tests;

@@ -1,19 +1,18 @@
 // Runs a script.
-ghost use Rattle.std.specs.Prelude.{◌≡◌, ◌++◌, ℕ, List, Ok, Err, IfOk, IfErr, OnOk, map, is_some, if◌then◌else◌};
+ghost use Rattle.std.specs.Prelude.{◌≡◌, ◌++◌, ℕ, List, Ok, Err, IfOk, OnOk, map, is_some, if◌then◌else◌};
 ghost use Rattle.report_text.specs.declared.report.ConnState.TheVariants.{Stopped, Idle, Busy};
-ghost use Rattle.conf_text.specs.Reading.{OnFault};
 ghost use Rattle.replay_run.specs.Scene.{stage, AreHeld};
 ghost use Rattle.connection_core.specs.Core.{view_at, now_at, journal_at, conns_held};
 ghost use Rattle.report_text.specs.Report.{run_text, report_of};
-ghost use Rattle.ngx_cli.specs.Running.{main_path as path_of_main, main_text as text_of_main, site_of as site_described, parts_of, report_in, Ran, Replays};
+ghost use Rattle.ngx_cli.specs.Running.{main_path as path_of_main, main_text as text_of_main, report_in, Ran, Replays};
 
+use crate::site::site_of;
 use byte_text::{ByteText, OutOfMemory};
-use conf_inherit::build;
-use conf_text::{ConfError, parse};
+use conf_text::ConfError;
 use connection_core::{Hub, cores_are_sound};
 use ngx_outside::{StopCause, all_is_sent_when_idle, tracks_begin};
-use replay_run::{Counts, Player, run_lines};
-use replay_text::{Conf, EventLine, ScriptError, ScriptFault, read};
+use replay_run::{Counts, Player, files_of, run_lines};
+use replay_text::{Conf, EventLine, ScriptError, ScriptFault, TreeLine, read};
 use report_text::{ConnReport, ConnState, conf_fault_text, conn_text, end_text, script_fault_text};
 use site_model::Site;
 use std::alloc::Global;
@@ -46,16 +45,6 @@ fn main_text(confs: &[Conf]) -> &[u8]
         [] => b"",
         [main, ..] => main.bytes.as_slice(),
     }
-}
-
-// The site that a configuration's text describes.
-#[tactic(auto, unfolding(crate::specs::Running::site_of))]
-fn site_of(alloc: Global, text: &[u8]) -> Result<Site, ConfError>
-    ensures ok { IfOk result (λ site. site_described text.now ≡ Ok (parts_of site)) }
-    ensures fault { IfErr result (λ e. OnFault e (λ fault. site_described text.now ≡ Err fault)) }
-{
-    let directives = parse(alloc, 0, text)?;
-    build(alloc, directives.as_slice())
 }
 
 fn state_of(cause: Option<StopCause>, idle: bool) -> ConnState
@@ -103,22 +92,23 @@ fn put_run(
     Ok(())
 }
 
-// Runs a script's lines on a new core, and prints the run.
+// Runs a script's lines, over its tree, on a new core, and prints the run.
 fn run(
     alloc: Global,
     site: Site,
+    tree: &[TreeLine],
     events: &[EventLine],
     out: &mut ByteText,
 ) -> Result<(), OutOfMemory>
-    ensures { OnOk result ((text : List ℕ) × (out.new ≡ out.old ++ text) × Ran site events.now text) }
+    ensures { OnOk result ((text : List ℕ) × (out.new ≡ out.old ++ text) × Ran site tree.now events.now text) }
 {
     tracks_begin();
     all_is_sent_when_idle();
     cores_are_sound();
     let mut hub = Hub::new(alloc, site)?;
     let mut player = Player::new(alloc);
-    let mut tree = 0;
-    let counts = run_lines(&mut player, &mut hub, &mut tree, events)?;
+    let mut files = files_of(alloc, tree)?;
+    let counts = run_lines(&mut player, &mut hub, &mut files, events)?;
     put_run(&hub, &player, counts, out)?;
     Ok(())
 }
@@ -137,9 +127,15 @@ pub fn replay(alloc: Global, bytes: &[u8], out: &mut ByteText) -> Result<Outcome
         Err(ScriptError::OutOfMemory) => return Err(OutOfMemory),
     };
     let confs = script.confs.as_slice();
-    match site_of(alloc, main_text(confs)) {
+    match site_of(alloc, main_path(confs), main_text(confs)) {
         Ok(site) => {
-            run(alloc, site, script.events.as_slice(), out)?;
+            run(
+                alloc,
+                site,
+                script.tree.as_slice(),
+                script.events.as_slice(),
+                out,
+            )?;
             Ok(Outcome::Done)
         }
         Err(ConfError::Fault(fault)) => {

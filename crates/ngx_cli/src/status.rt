@@ -1,8 +1,9 @@
 // What the program ends with.
 ghost use Rattle.std.specs.Prelude.{◌≡◌};
-ghost use Rattle.ngx_cli.specs.Commands.{status_of as status_for};
+ghost use Rattle.ngx_cli.specs.Commands.{status_of as status_for, served_status as served_as};
 
 use crate::script::Outcome;
+use ready_loop::Ending;
 
 /// What the program ends with.
 #[derive(Clone, Copy, Debug, PartialEq, Eq)]
@@ -16,7 +17,11 @@ pub enum Status {
     FilesFault,
     /// What was to be printed was not taken.
     SinkFault,
+    /// A call on the links failed.
+    LinksFault,
     OutOfMemory,
+    /// All turns were used.
+    TurnsUsed,
     /// The script is outside its grammar, and its first fault was printed.
     ScriptFault,
 }
@@ -35,8 +40,10 @@ impl Status {
             Status::Usage => 2,
             Status::FilesFault => 4,
             Status::SinkFault => 5,
+            Status::LinksFault => 6,
             Status::OutOfMemory => 7,
             Status::ScriptFault => 8,
+            Status::TurnsUsed => 9,
         }
     }
 }
@@ -49,5 +56,17 @@ pub fn status_of(outcome: Outcome) -> Status
         Outcome::Done => Status::Done,
         Outcome::ConfFault => Status::ConfFault,
         Outcome::ScriptFault(_) => Status::ScriptFault,
+    }
+}
+
+/// The status of how serving ended.
+pub fn served_status(ending: Ending) -> Status
+    ensures { result ≡ served_as ending }
+{
+    match ending {
+        Ending::Ended => Status::Done,
+        Ending::TurnsUsed => Status::TurnsUsed,
+        Ending::ListenFault => Status::LinksFault,
+        Ending::NextFault => Status::LinksFault,
     }
 }

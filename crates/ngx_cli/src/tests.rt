@@ -1,48 +1,227 @@
 use super::*;
 use byte_text::ByteText;
-use memory_outside::{FileCall, MemoryFiles, MemorySink, StoredItem};
+use http_types::Addr;
+use memory_outside::{
+    FileCall, FixedClock, LinkCall, MemoryFiles, MemoryLinks, MemorySink, ScriptedNotice,
+    StoredItem,
+};
 use std::alloc::Global;
+use std::net::{IpAddr, Ipv4Addr};
 use std::test::Fail;
 
 const SCRIPT: &[u8] =
     b"conf /c\nhttp { server { location / { return 200 hi; } } }\n.\ntree\n.\nevents\n";
 
-// Runs the words over files that hold a script, of which this call fails, and an output of which the first put fails or not.
-fn status(
-    alloc: Global,
-    words: &[String],
-    failing: Option<FileCall>,
-    full: bool,
-) -> Result<u8, Fail> {
+const CONF: &[u8] = b"http { include part; }";
+
+const PART: &[u8] = b"server { listen 80; location / { return 200 hi; } }";
+
+const BAD: &[u8] = b"http {\nserves; }";
+
+const REQUEST: &[u8] = b"GET / HTTP/1.1\r\nHost: a\r\n\r\n";
+
+const RESPONSE: &[u8] =
+    b"HTTP/1.1 200 OK\r\nServer: nginx\r\nDate: Thu, 01 Jan 1970 00:00:00 GMT\r\nContent-Type: text/plain\r\nContent-Length: 2\r\nConnection: keep-alive\r\n\r\nhi";
+
+const LOCAL: IpAddr = IpAddr::V4(Ipv4Addr::LOCALHOST);
+
+// What one call of the program comes to: its status, what was sent on the first link, and what was printed.
+#[derive(Drop)]
+struct Shown {
+    status: u8,
+    sent: ByteText,
+    printed: ByteText,
+}
+
+fn files_of(alloc: Global, failing: Option<FileCall>) -> Result<MemoryFiles, Fail> {
     let mut calls = Vec::new(alloc);
     if let Some(call) = failing {
         calls.push(call)?;
     }
+    let mut files = MemoryFiles::new(alloc, calls);
+    let stored = [
+        (b"/s".as_slice(), SCRIPT),
+        (b"/c".as_slice(), CONF),
+        (b"/part".as_slice(), PART),
+        (b"/bad".as_slice(), BAD),
+    ];
+    for (path, text) in stored {
+        let bytes = ByteText::from_slice(alloc, text)?;
+        files.put(
+            ByteText::from_slice(alloc, path)?,
+            StoredItem::File { bytes, date: 0 },
+        )?;
+    }
+    Ok(files)
+}
+
+// A peer connects and asks, and its link is readable.
+fn one_peer(alloc: Global) -> Result<Vec<ScriptedNotice>, Fail> {
+    let mut notices = Vec::new(alloc);
+    notices.push(ScriptedNotice::Opened {
+        local: Addr {
+            ip: LOCAL,
+            port: 80,
+        },
+        peer: Addr {
+            ip: LOCAL,
+            port: 5000,
+        },
+        input: ByteText::from_slice(alloc, REQUEST)?,
+        ends: false,
+        window: 1000,
+    })?;
+    notices.push(ScriptedNotice::Readable { id: 1 })?;
+    Ok(notices)
+}
+
+// Runs the words, where this call of the files or the first listen fails, over one peer, or over none, to an output of which
+// the first put fails or not.
+fn run(
+    alloc: Global,
+    words: &[&str],
+    file: Option<FileCall>,
+    link: Option<LinkCall>,
+    peer: bool,
+    full: bool,
+) -> Result<Shown, Fail> {
+    let mut called = Vec::new(alloc);
+    for word in words {
+        called.push(String::from_str(alloc, word)?)?;
+    }
+    let mut files = files_of(alloc, file)?;
+    let mut calls = Vec::new(alloc);
+    if let Some(call) = link {
+        calls.push(call)?;
+    }
+    let notices = if peer {
+        one_peer(alloc)?
+    } else {
+        Vec::new(alloc)
+    };
+    let mut links = MemoryLinks::new(alloc, notices, calls);
+    let mut clock = FixedClock { moment: 0 };
     let mut puts = Vec::new(alloc);
     if full {
         puts.push(0)?;
     }
-    let mut files = MemoryFiles::new(alloc, calls);
-    let bytes = ByteText::from_slice(alloc, SCRIPT)?;
-    files.put(
-        ByteText::from_slice(alloc, b"/s")?,
-        StoredItem::File { bytes, date: 0 },
-    )?;
     let mut out = MemorySink::new(alloc, puts);
-    Ok(ngx(alloc, words, &mut files, &mut out))
+    let status = ngx(alloc, &called, &mut files, &mut links, &mut clock, &mut out);
+    Ok(Shown {
+        status,
+        sent: ByteText::from_slice(alloc, links.sent(1))?,
+        printed: ByteText::from_slice(alloc, out.taken())?,
+    })
 }
 
 #[test]
 fn each_status_has_its_cause(rt: HostRuntime) -> Result<(), Fail> {
     let alloc = rt.alloc();
-    let mut words = Vec::new(alloc);
-    words.push(String::from_str(alloc, "ngx")?)?;
-    words.push(String::from_str(alloc, "replay")?)?;
-    assert_eq!(rt; status(alloc, &words, None, false)?, 2);
-    words.push(String::from_str(alloc, "/s")?)?;
-    assert_eq!(rt; status(alloc, &words, None, false)?, 0);
-    assert_eq!(rt; status(alloc, &words, Some(FileCall::Stat(0)), false)?, 4);
-    assert_eq!(rt; status(alloc, &words, Some(FileCall::Read(0)), false)?, 4);
-    assert_eq!(rt; status(alloc, &words, None, true)?, 5);
+    let cases: [(&[&str], Option<FileCall>, Option<LinkCall>, bool, u8); 14] = [
+        (&["ngx", "replay"], None, None, false, 2),
+        (&["ngx", "replay", "/s"], None, None, false, 0),
+        (
+            &["ngx", "replay", "/s"],
+            Some(FileCall::Stat(0)),
+            None,
+            false,
+            4,
+        ),
+        (
+            &["ngx", "replay", "/s"],
+            Some(FileCall::Read(0)),
+            None,
+            false,
+            4,
+        ),
+        (&["ngx", "replay", "/s"], None, None, true, 5),
+        (
+            &["ngx", "serve", "/c", "--turns", "1"],
+            None,
+            None,
+            false,
+            9,
+        ),
+        (
+            &["ngx", "serve", "/c", "--turns", "3"],
+            None,
+            None,
+            false,
+            0,
+        ),
+        (&["ngx", "serve", "/c"], None, None, false, 0),
+        (
+            &["ngx", "serve", "/c"],
+            None,
+            Some(LinkCall::Listen(0)),
+            false,
+            6,
+        ),
+        (
+            &["ngx", "serve", "/c"],
+            None,
+            Some(LinkCall::Next(1)),
+            false,
+            6,
+        ),
+        (
+            &["ngx", "serve", "/c", "--turns", "0"],
+            None,
+            None,
+            false,
+            2,
+        ),
+        (
+            &["ngx", "serve", "/c", "--turns", "1000000001"],
+            None,
+            None,
+            false,
+            2,
+        ),
+        (
+            &["ngx", "serve", "/c", "--turns", "1x"],
+            None,
+            None,
+            false,
+            2,
+        ),
+        (&["ngx", "serve", "/bad"], None, None, true, 5),
+    ];
+    for (words, file, link, full, status) in cases {
+        assert_eq!(rt; run(alloc, words, file, link, true, full)?.status, status);
+    }
+    Ok(())
+}
+
+#[test]
+fn a_site_is_served(rt: HostRuntime) -> Result<(), Fail> {
+    let alloc = rt.alloc();
+    let words = ["ngx", "serve", "/c", "--turns", "2"].as_slice();
+    let shown = run(alloc, words, None, None, true, false)?;
+    assert_eq!(rt; shown.status, 9);
+    assert_eq!(rt; shown.sent.as_slice(), RESPONSE);
+    assert_eq!(rt; shown.printed.as_slice(), b"".as_slice());
+    let shown = run(alloc, words, None, None, false, false)?;
+    assert_eq!(rt; shown.status, 0);
+    Ok(())
+}
+
+#[test]
+fn faults_are_printed_with_their_file(rt: HostRuntime) -> Result<(), Fail> {
+    let alloc = rt.alloc();
+    let words = ["ngx", "serve", "/bad"].as_slice();
+    let shown = run(alloc, words, None, None, false, false)?;
+    assert_eq!(rt; shown.status, 1);
+    assert_eq!(rt;
+        shown.printed.as_slice(),
+        b"fault 11 Unknown /bad:2 serves\n".as_slice()
+    );
+    let words = ["ngx", "serve", "/c"].as_slice();
+    let shown = run(alloc, words, Some(FileCall::Stat(1)), None, false, false)?;
+    assert_eq!(rt; shown.status, 4);
+    assert_eq!(rt;
+        shown.printed.as_slice(),
+        b"fault 10 ReadFault /c:1 /part\n".as_slice()
+    );
     Ok(())
 }

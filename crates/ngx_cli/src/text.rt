@@ -12,6 +12,7 @@ use std::alloc::Global;
 /// The text of a file of the newest tree; no bytes where nothing that can be read stands at the path.
 pub fn read_text<F: Files>(alloc: Global, files: &mut F, path: &[u8]) -> Result<ByteText, FileFault>
     ensures text { F.tells files.old ≡ true → IfOk result (λ t. t ≡ text_of (F.trees files.old (F.newest files.old) path.now)) }
+    ensures tells { F.tells files.new ≡ F.tells files.old }
     ensures cause { HasCause (F.faults files.old) (F.faults files.new) result Failed }
 {
     let newest = files.version();

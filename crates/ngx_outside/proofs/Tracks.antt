@@ -9,6 +9,7 @@ use Rattle.ngx_outside.specs.Runs.{IsPrefixOf, Agree, TracksBegin, StepsKeepTrac
 
 pub tracks_begin : TracksBegin
 tracks_begin whole told newest v f = record {
+  raceless = f.raceless;
   front = λ raceless trees agree. (whole.bytes trees [] v.starts, refl);
   on = λ live raceless trees agree more later.
       ap (λ s. whole.bytes trees more (s ++ later)) f.starts ∙ ap (λ (c : Course). c.bytes trees more later) (sym f.comes);
@@ -25,29 +26,30 @@ front_of whole trees v came went on =
 
 pub steps_keep_track : StepsKeepTrack
 steps_keep_track whole told newest ground old new came went came' went' started holds t w = record {
-  front = λ raceless trees agree. front_of whole trees new (came ++ came') (went ++ went') (go (sym m.raceless ∙ raceless) trees agree);
-  on = λ live raceless trees agree. go (sym m.raceless ∙ raceless) trees agree;
-  heavy = λ live raceless trees agree. foreseen (sym m.raceless ∙ raceless) trees agree;
+  raceless = m.raceless ∙ t.raceless;
+  front = λ raceless trees agree. front_of whole trees new (came ++ came') (went ++ went') (go raceless trees agree);
+  on = λ live raceless trees agree. go raceless trees agree;
+  heavy = λ live raceless trees agree. foreseen raceless trees agree;
 }
   where
     m : Moved ground old new came' went' started
     m = w.moved
 
-    go : old.raceless ≡ true → (trees : Trees) → Agree told newest trees → (more : List ℕ) (later : List Start) →
+    go : whole.raceless ≡ true → (trees : Trees) → Agree told newest trees → (more : List ℕ) (later : List Start) →
         whole.bytes trees ((came ++ came') ++ more) (new.starts ++ later) ≡ (went ++ went') ++ new.course.bytes trees more later
     go raceless trees agree more later =
         ap (λ c. whole.bytes trees c (new.starts ++ later)) (append_assoc came came' more)
         ∙ ap (λ s. whole.bytes trees (came ++ (came' ++ more)) s) (ap (λ s. s ++ later) m.starts ∙ append_assoc old.starts started later)
         ∙ t.on w.before raceless trees agree (came' ++ more) (started ++ later)
-        ∙ ap (λ r. went ++ r) (m.bytes trees (holds raceless trees agree) more later)
+        ∙ ap (λ r. went ++ r) (m.bytes trees (holds (t.raceless ∙ raceless) trees agree) more later)
         ∙ sym (append_assoc went went' (new.course.bytes trees more later))
 
-    foreseen : old.raceless ≡ true → (trees : Trees) → Agree told newest trees → (more : List ℕ) (later : List Start) →
+    foreseen : whole.raceless ≡ true → (trees : Trees) → Agree told newest trees → (more : List ℕ) (later : List Start) →
         new.course.heavy trees more later ≡ true → whole.heavy trees ((came ++ came') ++ more) (new.starts ++ later) ≡ true
     foreseen raceless trees agree more later h =
         ap (λ c. whole.heavy trees c (new.starts ++ later)) (append_assoc came came' more)
         ∙ ap (λ s. whole.heavy trees (came ++ (came' ++ more)) s) (ap (λ s. s ++ later) m.starts ∙ append_assoc old.starts started later)
-        ∙ t.heavy w.before raceless trees agree (came' ++ more) (started ++ later) (m.heavy trees (holds raceless trees agree) more later h)
+        ∙ t.heavy w.before raceless trees agree (came' ++ more) (started ++ later) (m.heavy trees (holds (t.raceless ∙ raceless) trees agree) more later h)
 
 -- a connection with a cause isn't live
 dead : (v : ConnView) {A : Type 0} (cause : A) (is : Bool) → is ≡ is_live v → is_none (Some cause) ≡ is_none v.cause → is ≡ true → ⊥
@@ -60,8 +62,9 @@ dead v cause is e f h = let k : is_live v ≡ true = sym e ∙ h in clash v.held
 
 pub stops_keep_track : StopsKeepTrack
 stops_keep_track whole told newest cause old new came went more started t s = record {
+  raceless = s.raceless ∙ t.raceless;
   front = λ raceless trees agree.
-      (old.course.bytes trees more started, ap (λ x. whole.bytes trees (came ++ more) x) s.starts ∙ t.on s.before (sym s.raceless ∙ raceless) trees agree more started);
+      (old.course.bytes trees more started, ap (λ x. whole.bytes trees (came ++ more) x) s.starts ∙ t.on s.before raceless trees agree more started);
   on = λ live. absurd (stopped live);
   heavy = λ live. absurd (stopped live);
 }
@@ -76,6 +79,7 @@ narrow told told' newest newest' g trees a = record {
 
 pub tracks_narrow : TracksNarrow
 tracks_narrow whole told told' newest newest' v came went g t = record {
+  raceless = t.raceless;
   front = λ raceless trees agree. t.front raceless trees (narrow told told' newest newest' g trees agree);
   on = λ live raceless trees agree. t.on live raceless trees (narrow told told' newest newest' g trees agree);
   heavy = λ live raceless trees agree. t.heavy live raceless trees (narrow told told' newest newest' g trees agree);

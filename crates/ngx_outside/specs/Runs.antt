@@ -12,15 +12,16 @@ IsPrefixOf xs ys = (rest : List ℕ) × (ys ≡ xs ++ rest)
 pub record Agree (told : Trees) (newest : ℕ) (trees : Trees) : Type 0 where
   pub same : (of : ℕ) → of ≤ newest → (path : List ℕ) → trees of path ≡ told of path
 
--- On a connection on which `whole` was to come at its opening these bytes came and those went. For all trees that agree
--- with what was told, and where the order of steps can't change the bytes: what went is the beginning of what was to come;
--- while the connection is live, what went and what is still to come is all that was to come, however it goes on; and what
--- is foreseen of subrequests now was foreseen at its opening.
+-- On a connection on which `whole` was to come at its opening these bytes came and those went. Whether the order of steps
+-- can't change the bytes is known from its opening. Where it can't, for all trees that agree with what was told: what went is
+-- the beginning of what was to come; while the connection is live, what went and what is still to come is all that was to
+-- come, however it goes on; and what is foreseen of subrequests now was foreseen at its opening.
 pub record Tracked (whole : Course) (told : Trees) (newest : ℕ) (v : ConnView) (came went : List ℕ) : Type 0 where
-  pub front : v.raceless ≡ true → (trees : Trees) → Agree told newest trees → IsPrefixOf went (whole.bytes trees came v.starts)
-  pub on : is_live v ≡ true → v.raceless ≡ true → (trees : Trees) → Agree told newest trees → (more : List ℕ) (later : List Start) →
+  pub raceless : v.raceless ≡ whole.raceless
+  pub front : whole.raceless ≡ true → (trees : Trees) → Agree told newest trees → IsPrefixOf went (whole.bytes trees came v.starts)
+  pub on : is_live v ≡ true → whole.raceless ≡ true → (trees : Trees) → Agree told newest trees → (more : List ℕ) (later : List Start) →
       whole.bytes trees (came ++ more) (v.starts ++ later) ≡ went ++ v.course.bytes trees more later
-  pub heavy : is_live v ≡ true → v.raceless ≡ true → (trees : Trees) → Agree told newest trees → (more : List ℕ) (later : List Start) →
+  pub heavy : is_live v ≡ true → whole.raceless ≡ true → (trees : Trees) → Agree told newest trees → (more : List ℕ) (later : List Start) →
       v.course.heavy trees more later ≡ true → whole.heavy trees (came ++ more) (v.starts ++ later) ≡ true
 
 -- a connection that is opened is tracked, with nothing come and gone
@@ -50,5 +51,5 @@ TracksNarrow =
 abbrev pub AllIsSentWhenIdle : Type 0
 AllIsSentWhenIdle =
     (whole : Course) (told : Trees) (newest : ℕ) (v : ConnView) (came went : List ℕ) →
-    Tracked whole told newest v came went → IsSound v → is_idle v ≡ true → v.raceless ≡ true →
+    Tracked whole told newest v came went → IsSound v → is_idle v ≡ true → whole.raceless ≡ true →
     (trees : Trees) → Agree told newest trees → (later : List Start) → whole.bytes trees came (v.starts ++ later) ≡ went

@@ -22,10 +22,12 @@ abbrev pub start_of : Entry → Start
 start_of e = record { moment = e.moment; tree = e.tree }
 
 -- What is still to come on a connection if its jobs are answered from these trees, these bytes arrive and further requests
--- start so: the bytes; and whether a request then asks for more subrequests than are made for one.
+-- start so: the bytes; and whether a request then asks for more subrequests than are made for one. And whether the order of
+-- the connection's steps can't change its bytes.
 pub record Course : Type 0 where
   pub bytes : Trees → List ℕ → List Start → List ℕ
   pub heavy : Trees → List ℕ → List Start → Bool
+  pub raceless : Bool
 
 -- a job that waits for its answer
 pub record Job : Type 0 where
@@ -77,7 +79,7 @@ nobody =
       cause = None;
       pending = [];
       starts = [];
-      course = record { bytes = λ trees more later. []; heavy = λ trees more later. false };
+      course = record { bytes = λ trees more later. []; heavy = λ trees more later. false; raceless = true };
       room = None;
       ready = [];
       jobs = [];
@@ -139,6 +141,7 @@ pub record Fresh (course : Course) (new : ConnView) : Type 0 where
   pub pending : new.pending ≡ []
   pub starts : new.starts ≡ []
   pub comes : new.course ≡ course
+  pub raceless : new.raceless ≡ course.raceless
 
 -- an event that is skipped changes nothing, and has this cause
 pub record Unmoved (old new : ConnView) (why : Type 0) : Type 0 where
@@ -270,6 +273,7 @@ pub record IsSound (v : ConnView) : Type 0 where
   pub unready : is_live v ≡ false → v.ready ≡ []
   pub unasked : is_live v ≡ false → v.jobs ≡ []
   pub unread : is_live v ≡ false → v.room ≡ None
+  pub untimed : is_live v ≡ false → v.deadline ≡ None
   -- one that was stopped is to be closed, one that isn't held is nothing
   pub stopped : (cause : StopCause) → v.held ≡ true → v.cause ≡ Some cause → v.shut ≡ true
   pub absent : v.held ≡ false → v ≡ nobody

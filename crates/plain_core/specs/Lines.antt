@@ -19,4 +19,4 @@ answers reply input (now ∷ later) = if has_line input then reply ++ answers re
 
 -- what is to come on a connection: what is pending, and the answers to what is held and to what arrives
 abbrev pub course_of : List ℕ → List ℕ → List ℕ → Course
-course_of reply held pending = record { bytes = λ trees more later. pending ++ answers reply (held ++ more) later; heavy = λ trees more later. false }
+course_of reply held pending = record { bytes = λ trees more later. pending ++ answers reply (held ++ more) later; heavy = λ trees more later. false; raceless = true }

@@ -52,26 +52,6 @@ fn parts_of_a_page_leave_in_its_written_order(rt: HostRuntime) -> Result<(), Fai
 }
 
 #[test]
-fn a_buffer_takes_what_fits(rt: HostRuntime) -> Result<(), Fail> {
-    let mut order = Order::new(rt.alloc())?;
-    let block = vec![in rt.alloc(); 7; 40000]?;
-    assert_eq!(rt; order.append(0, &block), 32768);
-    assert_eq!(rt; order.room(0), 0);
-    assert_eq!(rt; order.append(0, &block), 0);
-    assert_eq!(rt; order.front().len(), 32768);
-    if order.front().len() >= 100 {
-        order.used(100);
-    }
-    assert_eq!(rt; order.append(0, &block), 100);
-    let part = child(&rt, rt.alloc(), &mut order, 0)?;
-    assert_eq!(rt; order.append(0, b"behind"), 0);
-    assert_eq!(rt; order.append(part, &block), 32768);
-    assert_eq!(rt; order.append(9, b"no node"), 0);
-    assert_eq!(rt; order.room(9), 0);
-    Ok(())
-}
-
-#[test]
 fn a_thousand_parts_end_in_reverse_order(rt: HostRuntime) -> Result<(), Fail> {
     let mut order = Order::new(rt.alloc())?;
     let mut out = Vec::new(rt.alloc());
@@ -91,29 +71,5 @@ fn a_thousand_parts_end_in_reverse_order(rt: HostRuntime) -> Result<(), Fail> {
     drain(&mut order, &mut out)?;
     assert_eq!(rt; out.len(), 4000);
     assert!(rt; out.as_slice() == expected.as_slice());
-    Ok(())
-}
-
-#[test]
-fn a_part_in_a_part_stands_where_it_was_added(rt: HostRuntime) -> Result<(), Fail> {
-    let mut order = Order::new(rt.alloc())?;
-    let mut out = Vec::new(rt.alloc());
-    let outer = child(&rt, rt.alloc(), &mut order, 0)?;
-    let inner = child(&rt, rt.alloc(), &mut order, outer)?;
-    // An inner part that is deeper comes before what its parents place later.
-    assert_eq!(rt; order.append(0, b"5"), 1);
-    assert_eq!(rt; order.append(outer, b"34"), 2);
-    assert!(rt; order.is_active(inner));
-    assert_eq!(rt; order.append(inner, b"12"), 2);
-    drain(&mut order, &mut out)?;
-    assert!(rt; order.is_active(inner));
-    order.end(inner);
-    assert!(rt; order.is_active(outer));
-    drain(&mut order, &mut out)?;
-    order.end(outer);
-    drain(&mut order, &mut out)?;
-    assert_eq!(rt; out.as_slice(), b"12345".as_slice());
-    assert!(rt; order.is_active(0));
-    assert!(rt; order.has_buffer(0));
     Ok(())
 }

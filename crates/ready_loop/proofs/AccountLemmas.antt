@@ -103,9 +103,8 @@ account_passed {L = L} {F = F} {R = R} whole files clock now ground v v' came we
 
     heavy : Foreseen v started → WasHeavy whole files v' (came ++ came')
     heavy h raceless trees agree =
-        let calm : v.raceless ≡ true = sym s.raceless ∙ raceless in
         ap (λ x. whole.heavy trees (came ++ came') x) s.starts
-        ∙ a.tracked.heavy s.before calm trees agree came' started (ap (λ x. v.course.heavy trees came' x) (sym (append-nil started)) ∙ h calm trees came' [])
+        ∙ a.tracked.heavy s.before raceless trees agree came' started (ap (λ x. v.course.heavy trees came' x) (sym (append-nil started)) ∙ h (a.tracked.raceless ∙ raceless) trees came' [])
 
 -- and begins with an opening
 pub account_begins : {L F R : Type 0} (whole : Course) (files : FilesSeen) (clock : ClockSeen) (v : ConnView) → Fresh whole v → (clock.tells ≡ true → IsDated clock.told v.starts) → Account L F R whole files clock v [] []

@@ -13,11 +13,11 @@ KeptBegins =
     ((c : ℕ) → (core.view c).held ≡ false) → ((c : ℕ) → links.is_open c ≡ false) → ((c : ℕ) → links.used c ≡ false) → (clock.tells ≡ true → core.now.moment ≡ last_moment clock.told) →
     Kept (record { link = links.faults; files = files.faults; refused = core.refused }) (λ c. core.fresh) core links files clock
 
--- where the order of steps can't change the bytes, and the trees agree with what the files tell
+-- where it was known at the opening that the order of steps can't change the bytes, and the trees agree with what the files tell
 abbrev pub ClosedUnstoppedSentAll : Type 0
 ClosedUnstoppedSentAll =
     (whole : Course) (files : FilesSeen) (clock : ClockSeen) (last : ConnView) (came went : List ℕ) →
-    Account (Unit {0}) (Unit {0}) (Unit {0}) whole files clock last came went → IsSound last → last.shut ≡ true → last.cause ≡ None → last.raceless ≡ true →
+    Account (Unit {0}) (Unit {0}) (Unit {0}) whole files clock last came went → IsSound last → last.shut ≡ true → last.cause ≡ None → whole.raceless ≡ true →
     (trees : Trees) → Agree files.trees files.newest trees → (later : List Start) → whole.bytes trees came (last.starts ++ later) ≡ went
 
 abbrev pub MomentsWereTold : Type 0

@@ -18,7 +18,7 @@ pub record Marks : Type 0 where
 
 -- too many subrequests were foreseen when the connection was opened, of what was taken and started
 abbrev pub WasHeavy : Course → FilesSeen → ConnView → List ℕ → Type 0
-WasHeavy whole files v came = v.raceless ≡ true → (trees : Trees) → Agree files.trees files.newest trees → whole.heavy trees came v.starts ≡ true
+WasHeavy whole files v came = whole.raceless ≡ true → (trees : Trees) → Agree files.trees files.newest trees → whole.heavy trees came v.starts ≡ true
 
 -- A connection, on which `whole` was to come at its opening, and its link, of which these bytes came and to which those
 -- went. They are tracked; where it was stopped, something stands behind the cause; and its requests started at moments that

@@ -74,6 +74,7 @@ fn take_turns<E: EventCore, F: Files, L: Links, C: Clock>(
     ensures ended { result ≡ Ok Ending.Ended → (mid : L) × (L.over mid ≡ true) }
     ensures failed { result ≡ Ok Ending.NextFault → Rose (L.faults links.old) (L.faults links.new) }
     ensures steady { OnOk result ((E.fresh core.new ≡ E.fresh core.old) × (E.price core.new ≡ E.price core.old)) }
+    ensures grown { OnOk result (F.newest files.old ≤ F.newest files.new) }
     ensures later { OnOk result (L.faults links.old ≤ L.faults links.new) }
     ensures tells { OnOk result (((L.tells links.new ≡ L.tells links.old) × (L.listening links.new ≡ L.listening links.old) × (F.tells files.new ≡ F.tells files.old)) × (C.tells clock.new ≡ C.tells clock.old)) }
 {
@@ -111,6 +112,7 @@ fn serve_turns<E: EventCore, F: Files, L: Links, C: Clock>(
     ensures ended { result ≡ Ok Ending.Ended → (mid : L) × (L.over mid ≡ true) }
     ensures failed { result ≡ Ok Ending.NextFault → Rose (L.faults links.old) (L.faults links.new) }
     ensures steady { OnOk result ((E.fresh core.new ≡ E.fresh core.old) × (E.price core.new ≡ E.price core.old)) }
+    ensures grown { OnOk result (F.newest files.old ≤ F.newest files.new) }
     ensures later { OnOk result (L.faults links.old ≤ L.faults links.new) }
     ensures tells { OnOk result (((L.tells links.new ≡ L.tells links.old) × (L.listening links.new ≡ L.listening links.old) × (F.tells files.new ≡ F.tells files.old)) × (C.tells clock.new ≡ C.tells clock.old)) }
 {
@@ -171,6 +173,7 @@ pub fn serve<E: EventCore, F: Files, L: Links, C: Clock>(
 
     // What stays, so that it can be served on.
     ensures known { OnOk result ((E.now core.new).tree ≤ F.newest files.new) }
+    ensures grown { OnOk result (F.newest files.old ≤ F.newest files.new) }
     ensures fresh { OnOk result (E.fresh core.new ≡ E.fresh core.old) }
     ensures links_tell { OnOk result (L.tells links.new ≡ L.tells links.old) }
     ensures files_tell { OnOk result (F.tells files.new ≡ F.tells files.old) }

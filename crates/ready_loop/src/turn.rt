@@ -96,6 +96,7 @@ pub fn take_turn<E: EventCore, F: Files, L: Links, C: Clock>(
     ensures failed { IfOk result (λ t. t.heard ≡ Heard.Failed → Rose (L.faults links.old) (L.faults links.new)) }
     ensures moments { OnOk result (C.tells clock.old ≡ true → length (C.told clock.new) ≡ length (C.told clock.old) + 1) }
     ensures steady { OnOk result ((E.fresh core.new ≡ E.fresh core.old) × (E.price core.new ≡ E.price core.old)) }
+    ensures grown { OnOk result (F.newest files.old ≤ F.newest files.new) }
     ensures later { OnOk result (L.faults links.old ≤ L.faults links.new) }
     ensures tells { OnOk result (((L.tells links.new ≡ L.tells links.old) × (L.listening links.new ≡ L.listening links.old) × (F.tells files.new ≡ F.tells files.old)) × (C.tells clock.new ≡ C.tells clock.old)) }
 {

@@ -1,5 +1,8 @@
 pub mod Lanes
 pub mod Wanted
+pub mod Growing
+pub mod FirstTree
+pub mod Found
 pub mod Stands
 pub mod LineStands
 pub mod Numbers

@@ -3,7 +3,7 @@ use Rattle.std.proofs.Common.{◌≡◌, ◌≢◌, ℕ, ◌+◌, Bool, true, fa
 use Rattle.std.proofs.lemmas.List.{append-nil, take-append-drop}
 use Rattle.std.proofs.lemmas.Bool.{cases_eq}
 use Rattle.std.proofs.lemmas.Bool.Decides.{nat_tests}
-use Rattle.file_tree.specs.Tree.{Trees}
+use Rattle.file_tree.specs.Tree.{Nothing}
 use Rattle.http_types.specs.declared.words.Addr.{Addr}
 use Rattle.ngx_outside.specs.Views.{ConnView, Course, Start, Steps, OneSteps, StepsOwn, nobody, no_bytes}
 use Rattle.ngx_outside.specs.declared.event.Event.{Event}
@@ -15,34 +15,38 @@ use Rattle.ngx_outside.specs.declared.event.Want.TheVariants as want
 use Rattle.ngx_outside.specs.Runs.{Tracked}
 use Rattle.replay_text.specs.declared.parts.EventLine.{EventLine}
 use Rattle.replay_text.specs.declared.parts.EventLine.TheVariants as line
-use Rattle.replay_run.specs.Scene.{Lane, Stage, Gives, IsArrival, Offers, EndsIfDue, Ends, Waits, OneLane, OnLane, SameLanes, Plain, Sends, SendsLine, EndsLine, Writes, WritesLine, Reads, Offered, Told, Serves, Drained, Begun, Then, Drains, longer_lane, due_lane, taken_of, offered_lane, ended_lane, written_lane, written_of, either}
+use Rattle.replay_run.specs.Told.{Told, path_of, item_of, told_after, told_in}
+use Rattle.replay_run.specs.Scene.{Lane, Stage, Gives, IsArrival, Offers, EndsIfDue, Ends, Waits, OneLane, OnLane, SameLanes, Plain, Sends, SendsLine, EndsLine, Writes, WritesLine, JobLine, AnswersJob, Answers, Fails, Unasked, Reads, Offered, Ending, Serves, Drained, Begun, Then, Drains, longer_lane, due_lane, taken_of, offered_lane, ended_lane, written_lane, written_of, either}
 use Rattle.replay_run.specs.Standing.{Standing, Unopened, Opened, AllStanding}
-use Rattle.replay_run.specs.Plays.{LineDoes, Unchanged, Plays, Over, Line, sent_by, sent_in}
-use Rattle.replay_run.proofs.Stands.{Passed, Moves, Stops, Stays, standing, standing_opened, arrived_passed, ended_passed, wrote_passed, run_passed, job_failed_passed, ticked_passed}
+use Rattle.replay_run.specs.Plays.{LineDoes, Plays, Over, Line, sent_by, sent_in}
+use Rattle.ngx_outside.specs.Outside.{Grow}
+use Rattle.ngx_outside.proofs.Tracks.{tracks_narrow}
+use Rattle.replay_run.proofs.Growing.{grows}
+use Rattle.replay_run.proofs.Stands.{Passed, Moves, Stops, Stays, standing, standing_opened, arrived_passed, ended_passed, wrote_passed, run_passed, job_done_passed, job_failed_passed, ticked_passed}
 
 -- where nothing changed
-kept : (fresh : Addr → Addr → Course) (told : Trees) (newest : ℕ) (v v' : ConnView) (l l' : Lane) (sent : List ℕ) → v' ≡ v → l' ≡ l → Standing fresh told newest v l sent → Standing fresh told newest v' l' sent
-kept fresh told newest v v' l l' sent e f s = subst (λ x. Standing fresh told newest x l' sent) (sym e) (subst (λ x. Standing fresh told newest v x sent) (sym f) s)
+kept : (fresh : Addr → Addr → Course) (told : Told) (v v' : ConnView) (l l' : Lane) (sent : List ℕ) → v' ≡ v → l' ≡ l → Standing fresh told v l sent → Standing fresh told v' l' sent
+kept fresh told v v' l l' sent e f s = subst (λ x. Standing fresh told x l' sent) (sym e) (subst (λ x. Standing fresh told v x sent) (sym f) s)
 
 -- more bytes wait
-longer : (fresh : Addr → Addr → Course) (told : Trees) (newest : ℕ) (v : ConnView) (l : Lane) (sent bytes : List ℕ) → Standing fresh told newest v l sent → Standing fresh told newest v (longer_lane l bytes) (sent ++ bytes)
-longer fresh told newest v l sent bytes (Unopened h w q) = Unopened h w (ap (λ x. x ++ bytes) q)
-longer fresh told newest v l sent bytes (Opened local peer came h q t) = Opened local peer came h (ap (λ x. x ++ bytes) q ∙ append_assoc came l.queue bytes) t
+longer : (fresh : Addr → Addr → Course) (told : Told) (v : ConnView) (l : Lane) (sent bytes : List ℕ) → Standing fresh told v l sent → Standing fresh told v (longer_lane l bytes) (sent ++ bytes)
+longer fresh told v l sent bytes (Unopened h w q) = Unopened h w (ap (λ x. x ++ bytes) q)
+longer fresh told v l sent bytes (Opened local peer came h q t) = Opened local peer came h (ap (λ x. x ++ bytes) q ∙ append_assoc came l.queue bytes) t
 
 -- how the input ends doesn't matter
-ending : (fresh : Addr → Addr → Course) (told : Trees) (newest : ℕ) (v : ConnView) (l l' : Lane) (sent : List ℕ) → l'.queue ≡ l.queue → l'.went ≡ l.went → Standing fresh told newest v l sent → Standing fresh told newest v l' sent
-ending fresh told newest v l l' sent q w (Unopened h e s) = Unopened h (w ∙ e) (s ∙ sym q)
-ending fresh told newest v l l' sent q w (Opened local peer came h s t) = Opened local peer came h (s ∙ ap (λ x. came ++ x) (sym q)) (subst (λ x. Tracked (fresh local peer) told newest v came x) (sym w) t)
+ending : (fresh : Addr → Addr → Course) (told : Told) (v : ConnView) (l l' : Lane) (sent : List ℕ) → l'.queue ≡ l.queue → l'.went ≡ l.went → Standing fresh told v l sent → Standing fresh told v l' sent
+ending fresh told v l l' sent q w (Unopened h e s) = Unopened h (w ∙ e) (s ∙ sym q)
+ending fresh told v l l' sent q w (Opened local peer came h s t) = Opened local peer came h (s ∙ ap (λ x. came ++ x) (sym q)) (subst (λ x. Tracked (fresh local peer) told.trees told.newest v came x) (sym w) t)
 
 -- what an event of one connection gives
 one_own : {c : ℕ} {Does : ConnView → ConnView → Type 0} {view view' : ℕ → ConnView} → OneSteps c Does view view' → Does (view c) (view' c)
 one_own s = s.own
 
 -- an offer, at the connection itself
-offers_own : (fresh : Addr → Addr → Course) (c : ℕ) (queue : List ℕ) (a : StepAnswer) (view : ℕ → ConnView) (now : Start) (view' : ℕ → ConnView) (now' : Start) → Offers fresh c queue a view now view' now' → Passed (view c) (view' c) (take (taken_of a) queue) [] × ((d : ℕ) → d ≢ c → view' d ≡ view d)
-offers_own fresh c queue a view now view' now' o = go o.event o.arrival o.gives.steps
+offers_own : (told : Told) (fresh : Addr → Addr → Course) (c : ℕ) (queue : List ℕ) (a : StepAnswer) (view : ℕ → ConnView) (now : Start) (view' : ℕ → ConnView) (now' : Start) → Offers fresh c queue a view now view' now' → Passed told (view c) (view' c) (take (taken_of a) queue) [] × ((d : ℕ) → d ≢ c → view' d ≡ view d)
+offers_own told fresh c queue a view now view' now' o = go o.event o.arrival o.gives.steps
   where
-    go : (e : Event) → IsArrival e c queue → Steps fresh now e a view view' → Passed (view c) (view' c) (take (taken_of a) queue) [] × ((d : ℕ) → d ≢ c → view' d ≡ view d)
+    go : (e : Event) → IsArrival e c queue → Steps fresh now e a view view' → Passed told (view c) (view' c) (take (taken_of a) queue) [] × ((d : ℕ) → d ≢ c → view' d ≡ view d)
     go (ev.Arrived conn bytes) is s =
         let own : StepsOwn nobody.course now (ev.Arrived conn bytes) a (view c) (view' c) = subst (λ k. StepsOwn nobody.course now (ev.Arrived conn bytes) a (view k) (view' k)) is.0 s.own in
         (arrived_passed nobody.course now (ev.Arrived conn bytes) c queue a (view c) (view' c) is own, λ d ne. s.others d (λ e. ne (e ∙ is.0)))
@@ -57,82 +61,92 @@ offers_own fresh c queue a view now view' now' o = go o.event o.arrival o.gives.
     go (ev.Tree to) is s = absurd is
     go (ev.Gone conn) is s = absurd is
 
-offered_standing : (fresh : Addr → Addr → Course) (told : Trees) (newest : ℕ) (c : ℕ) (l : Lane) (a : StepAnswer) (v v' : ConnView) (sent : List ℕ) → Passed v v' (take (taken_of a) l.queue) [] → Standing fresh told newest v l sent → Standing fresh told newest v' (offered_lane l a) sent
-offered_standing fresh told newest c l a v v' sent p s = standing fresh told newest v v' l (offered_lane l a) sent (take (taken_of a) l.queue) [] p (sym (take-append-drop (taken_of a) l.queue)) (sym (append-nil l.went)) s
+offered_standing : (fresh : Addr → Addr → Course) (told : Told) (c : ℕ) (l : Lane) (a : StepAnswer) (v v' : ConnView) (sent : List ℕ) → Passed told v v' (take (taken_of a) l.queue) [] → Standing fresh told v l sent → Standing fresh told v' (offered_lane l a) sent
+offered_standing fresh told c l a v v' sent p s = standing fresh told v v' l (offered_lane l a) sent (take (taken_of a) l.queue) [] p (sym (take-append-drop (taken_of a) l.queue)) (sym (append-nil l.went)) s
 
 -- the end of the input, at the connection itself and elsewhere
-ends_own : (fresh : Addr → Addr → Course) (told : Trees) (newest : ℕ) (c : ℕ) (l l' : Lane) (a : StepAnswer) (view : ℕ → ConnView) (now : Start) (view' : ℕ → ConnView) (now' : Start) (sent : List ℕ) → EndsIfDue fresh c l l' a view now view' now' → Standing fresh told newest (view c) l sent → Standing fresh told newest (view' c) l' sent
-ends_own fresh told newest c l l' a view now view' now' sent (Ends is g e) s =
-    subst (λ x. Standing fresh told newest (view' c) x sent) (sym e)
-    (standing fresh told newest (view c) (view' c) l (ended_lane l a) sent [] [] (ended_passed nobody.course now c a (view c) (view' c) g.steps.own) refl (sym (append-nil l.went)) s)
-ends_own fresh told newest c l l' a view now view' now' sent (Waits is none v n e) s = kept fresh told newest (view c) (view' c) l l' sent (ap (λ (f : ℕ → ConnView). f c) v) e s
+ends_own : (fresh : Addr → Addr → Course) (told : Told) (c : ℕ) (l l' : Lane) (a : StepAnswer) (view : ℕ → ConnView) (now : Start) (view' : ℕ → ConnView) (now' : Start) (sent : List ℕ) → EndsIfDue fresh c l l' a view now view' now' → Standing fresh told (view c) l sent → Standing fresh told (view' c) l' sent
+ends_own fresh told c l l' a view now view' now' sent (Ends is g e) s =
+    subst (λ x. Standing fresh told (view' c) x sent) (sym e)
+    (standing fresh told (view c) (view' c) l (ended_lane l a) sent [] [] (ended_passed nobody.course now c a (view c) (view' c) g.steps.own) refl (sym (append-nil l.went)) s)
+ends_own fresh told c l l' a view now view' now' sent (Waits is none v n e) s = kept fresh told (view c) (view' c) l l' sent (ap (λ (f : ℕ → ConnView). f c) v) e s
 
 ends_others : (fresh : Addr → Addr → Course) (c : ℕ) (l l' : Lane) (a : StepAnswer) (view : ℕ → ConnView) (now : Start) (view' : ℕ → ConnView) (now' : Start) → EndsIfDue fresh c l l' a view now view' now' → (d : ℕ) → d ≢ c → view' d ≡ view d
 ends_others fresh c l l' a view now view' now' (Ends is g e) d ne = g.steps.others d ne
 ends_others fresh c l l' a view now view' now' (Waits is none v n e) d ne = ap (λ (f : ℕ → ConnView). f d) v
 
 -- one connection by its own account, the others as they were
-by_conn : (fresh : Addr → Addr → Course) (told : Trees) (newest : ℕ) (c : ℕ) (old new : Stage) (sent sent' : ℕ → List ℕ) → Standing fresh told newest (new.view c) (new.lanes c) (sent' c) → ((d : ℕ) → d ≢ c → new.view d ≡ old.view d) → ((d : ℕ) → d ≢ c → new.lanes d ≡ old.lanes d) → ((d : ℕ) → d ≢ c → sent' d ≡ sent d) →
-    AllStanding fresh told newest old sent → AllStanding fresh told newest new sent'
-by_conn fresh told newest c old new sent sent' own views lanes sents all d = go (cases_eq d c)
+by_conn : (fresh : Addr → Addr → Course) (told : Told) (c : ℕ) (old new : Stage) (sent sent' : ℕ → List ℕ) → Standing fresh told (new.view c) (new.lanes c) (sent' c) → ((d : ℕ) → d ≢ c → new.view d ≡ old.view d) → ((d : ℕ) → d ≢ c → new.lanes d ≡ old.lanes d) → ((d : ℕ) → d ≢ c → sent' d ≡ sent d) →
+    AllStanding fresh told old sent → AllStanding fresh told new sent'
+by_conn fresh told c old new sent sent' own views lanes sents all d = go (cases_eq d c)
   where
-    go : (d ≡ c) ⊎ (d ≡ c → ⊥) → Standing fresh told newest (new.view d) (new.lanes d) (sent' d)
-    go (inl e) = subst (λ k. Standing fresh told newest (new.view k) (new.lanes k) (sent' k)) (sym e) own
-    go (inr ne) = subst (λ x. Standing fresh told newest (new.view d) (new.lanes d) x) (sym (sents d ne)) (kept fresh told newest (old.view d) (new.view d) (old.lanes d) (new.lanes d) (sent d) (views d ne) (lanes d ne) (all d))
+    go : (d ≡ c) ⊎ (d ≡ c → ⊥) → Standing fresh told (new.view d) (new.lanes d) (sent' d)
+    go (inl e) = subst (λ k. Standing fresh told (new.view k) (new.lanes k) (sent' k)) (sym e) own
+    go (inr ne) = subst (λ x. Standing fresh told (new.view d) (new.lanes d) x) (sym (sents d ne)) (kept fresh told (old.view d) (new.view d) (old.lanes d) (new.lanes d) (sent d) (views d ne) (lanes d ne) (all d))
 
 same_sents : (sent : ℕ → List ℕ) (c : ℕ) (d : ℕ) → d ≢ c → sent d ≡ sent d
 same_sents sent c d ne = refl
 
 -- an event of one connection that touches no lane
-plain_one : (fresh : Addr → Addr → Course) (told : Trees) (newest : ℕ) (c : ℕ) (old new : Stage) (sent : ℕ → List ℕ) → (Standing fresh told newest (old.view c) (old.lanes c) (sent c) → Standing fresh told newest (new.view c) (old.lanes c) (sent c)) → ((d : ℕ) → d ≢ c → new.view d ≡ old.view d) → SameLanes old.lanes new.lanes →
-    AllStanding fresh told newest old sent → AllStanding fresh told newest new sent
-plain_one fresh told newest c old new sent own views lanes all =
-    by_conn fresh told newest c old new sent sent (subst (λ x. Standing fresh told newest (new.view c) x (sent c)) (sym (lanes c)) (own (all c))) views (λ d ne. lanes d) (same_sents sent c) all
+plain_one : (fresh : Addr → Addr → Course) (told : Told) (c : ℕ) (old new : Stage) (sent : ℕ → List ℕ) → (Standing fresh told (old.view c) (old.lanes c) (sent c) → Standing fresh told (new.view c) (old.lanes c) (sent c)) → ((d : ℕ) → d ≢ c → new.view d ≡ old.view d) → SameLanes old.lanes new.lanes →
+    AllStanding fresh told old sent → AllStanding fresh told new sent
+plain_one fresh told c old new sent own views lanes all =
+    by_conn fresh told c old new sent sent (subst (λ x. Standing fresh told (new.view c) x (sent c)) (sym (lanes c)) (own (all c))) views (λ d ne. lanes d) (same_sents sent c) all
 
-passed_one : (fresh : Addr → Addr → Course) (told : Trees) (newest : ℕ) (v v' : ConnView) (l : Lane) (sent : List ℕ) → Passed v v' [] [] → Standing fresh told newest v l sent → Standing fresh told newest v' l sent
-passed_one fresh told newest v v' l sent p s = standing fresh told newest v v' l l sent [] [] p refl (sym (append-nil l.went)) s
+passed_one : (fresh : Addr → Addr → Course) (told : Told) (v v' : ConnView) (l : Lane) (sent : List ℕ) → Passed told v v' [] [] → Standing fresh told v l sent → Standing fresh told v' l sent
+passed_one fresh told v v' l sent p s = standing fresh told v v' l l sent [] [] p refl (sym (append-nil l.went)) s
 
-pub writes_stand_at : (fresh : Addr → Addr → Course) (told : Trees) (newest : ℕ) (c most : ℕ) (a : StepAnswer) (old new : Stage) (sent : ℕ → List ℕ) → WritesLine fresh c most a old new → AllStanding fresh told newest old sent → AllStanding fresh told newest new sent
-writes_stand_at fresh told newest c most a old new sent s all =
+pub writes_stand_at : (fresh : Addr → Addr → Course) (told : Told) (c most : ℕ) (a : StepAnswer) (old new : Stage) (sent : ℕ → List ℕ) → WritesLine fresh c most a old new → AllStanding fresh told old sent → AllStanding fresh told new sent
+writes_stand_at fresh told c most a old new sent s all =
     let w = s.does in
-    let own : Standing fresh told newest (new.view c) (written_lane (old.lanes c) a w.count (old.view c).pending) (sent c) =
-    standing fresh told newest (old.view c) (new.view c) (old.lanes c) (written_lane (old.lanes c) a w.count (old.view c).pending) (sent c) [] (written_of a w.count (old.view c).pending)
+    let own : Standing fresh told (new.view c) (written_lane (old.lanes c) a w.count (old.view c).pending) (sent c) =
+    standing fresh told (old.view c) (new.view c) (old.lanes c) (written_lane (old.lanes c) a w.count (old.view c).pending) (sent c) [] (written_of a w.count (old.view c).pending)
     (wrote_passed nobody.course old.now c w.count a (old.view c) (new.view c) w.gives.steps.own) refl refl (all c) in
-    by_conn fresh told newest c old new sent sent
-    (subst (λ x. Standing fresh told newest (new.view c) x (sent c)) (sym (s.lanes.own ∙ w.emits)) own)
+    by_conn fresh told c old new sent sent
+    (subst (λ x. Standing fresh told (new.view c) x (sent c)) (sym (s.lanes.own ∙ w.emits)) own)
     w.gives.steps.others s.lanes.others (same_sents sent c) all
 
-pub serves_stand : (fresh : Addr → Addr → Course) (told : Trees) (newest : ℕ) (w : Want) (old new : Stage) (sent : ℕ → List ℕ) → Serves fresh w old new → AllStanding fresh told newest old sent → AllStanding fresh told newest new sent
-serves_stand fresh told newest (want.Read conn room) old new sent s all = go s.1.last s.1.does s.1.lanes
+job_stands : (fresh : Addr → Addr → Course) (told : Told) (c node : ℕ) (a : StepAnswer) (old new : Stage) (sent : ℕ → List ℕ) → JobLine fresh told c node a old new → AllStanding fresh told old sent → AllStanding fresh told new sent
+job_stands fresh told c node a old new sent s all = go s.0
+  where
+    go : AnswersJob fresh told c node a old.view old.now new.view new.now → AllStanding fresh told new sent
+    go (Answers ask answer waits known from g) =
+        plain_one fresh told c old new sent (passed_one fresh told (old.view c) (new.view c) (old.lanes c) (sent c) (job_done_passed nobody.course old.now c node ask answer a (old.view c) (new.view c) g.steps.own waits known from)) g.steps.others s.1 all
+    go (Fails ask waits none g) =
+        plain_one fresh told c old new sent (passed_one fresh told (old.view c) (new.view c) (old.lanes c) (sent c) (job_failed_passed nobody.course old.now c node a (old.view c) (new.view c) g.steps.own)) g.steps.others s.1 all
+    go (Unasked none skipped v n) = λ d. kept fresh told (old.view d) (new.view d) (old.lanes d) (new.lanes d) (sent d) (ap (λ (f : ℕ → ConnView). f d) v) (s.1 d) (all d)
+
+pub serves_stand : (fresh : Addr → Addr → Course) (told : Told) (w : Want) (old new : Stage) (sent : ℕ → List ℕ) → Serves fresh told w old new → AllStanding fresh told old sent → AllStanding fresh told new sent
+serves_stand fresh told (want.Read conn room) old new sent s all = go s.1.last s.1.does s.1.lanes
   where
     views : (last : Lane) → Reads fresh conn s.0 old.view old.now new.view new.now (old.lanes conn) last → (d : ℕ) → d ≢ conn → new.view d ≡ old.view d
-    views last (Offered some o e) = (offers_own fresh conn (old.lanes conn).queue s.0 old.view old.now new.view new.now o).1
-    views last (Told none e) = ends_others fresh conn (old.lanes conn) last s.0 old.view old.now new.view new.now e
+    views last (Offered some o e) = (offers_own told fresh conn (old.lanes conn).queue s.0 old.view old.now new.view new.now o).1
+    views last (Ending none e) = ends_others fresh conn (old.lanes conn) last s.0 old.view old.now new.view new.now e
 
-    own : (last : Lane) → Reads fresh conn s.0 old.view old.now new.view new.now (old.lanes conn) last → Standing fresh told newest (new.view conn) last (sent conn)
+    own : (last : Lane) → Reads fresh conn s.0 old.view old.now new.view new.now (old.lanes conn) last → Standing fresh told (new.view conn) last (sent conn)
     own last (Offered some o e) =
-        subst (λ x. Standing fresh told newest (new.view conn) x (sent conn)) (sym e)
-        (offered_standing fresh told newest conn (old.lanes conn) s.0 (old.view conn) (new.view conn) (sent conn) (offers_own fresh conn (old.lanes conn).queue s.0 old.view old.now new.view new.now o).0 (all conn))
-    own last (Told none e) = ends_own fresh told newest conn (old.lanes conn) last s.0 old.view old.now new.view new.now (sent conn) e (all conn)
+        subst (λ x. Standing fresh told (new.view conn) x (sent conn)) (sym e)
+        (offered_standing fresh told conn (old.lanes conn) s.0 (old.view conn) (new.view conn) (sent conn) (offers_own told fresh conn (old.lanes conn).queue s.0 old.view old.now new.view new.now o).0 (all conn))
+    own last (Ending none e) = ends_own fresh told conn (old.lanes conn) last s.0 old.view old.now new.view new.now (sent conn) e (all conn)
 
-    go : (last : Lane) → Reads fresh conn s.0 old.view old.now new.view new.now (old.lanes conn) last → OneLane conn last old.lanes new.lanes → AllStanding fresh told newest new sent
-    go last r o = by_conn fresh told newest conn old new sent sent (subst (λ x. Standing fresh told newest (new.view conn) x (sent conn)) (sym o.own) (own last r)) (views last r) o.others (same_sents sent conn) all
-serves_stand fresh told newest (want.Run conn node) old new sent s all =
-    plain_one fresh told newest conn old new sent (passed_one fresh told newest (old.view conn) (new.view conn) (old.lanes conn) (sent conn) (run_passed nobody.course old.now conn node s.0 (old.view conn) (new.view conn) (s.1).gives.steps.own)) (s.1).gives.steps.others (s.1).lanes all
-serves_stand fresh told newest (want.Job conn node) old new sent s all = absurd s
-serves_stand fresh told newest (want.Write conn) old new sent s all = writes_stand_at fresh told newest conn (length (old.view conn).pending) s.0 old new sent s.1 all
-serves_stand fresh told newest (want.Close conn) old new sent s all = absurd s
+    go : (last : Lane) → Reads fresh conn s.0 old.view old.now new.view new.now (old.lanes conn) last → OneLane conn last old.lanes new.lanes → AllStanding fresh told new sent
+    go last r o = by_conn fresh told conn old new sent sent (subst (λ x. Standing fresh told (new.view conn) x (sent conn)) (sym o.own) (own last r)) (views last r) o.others (same_sents sent conn) all
+serves_stand fresh told (want.Run conn node) old new sent s all =
+    plain_one fresh told conn old new sent (passed_one fresh told (old.view conn) (new.view conn) (old.lanes conn) (sent conn) (run_passed nobody.course old.now conn node s.0 (old.view conn) (new.view conn) (s.1).gives.steps.own)) (s.1).gives.steps.others (s.1).lanes all
+serves_stand fresh told (want.Job conn node) old new sent s all = job_stands fresh told conn node s.0 old new sent s.1 all
+serves_stand fresh told (want.Write conn) old new sent s all = writes_stand_at fresh told conn (length (old.view conn).pending) s.0 old new sent s.1 all
+serves_stand fresh told (want.Close conn) old new sent s all = absurd s
 
-pub drained_stand : (fresh : Addr → Addr → Course) (told : Trees) (newest : ℕ) (old new : Stage) (sent : ℕ → List ℕ) → Drained fresh old new → AllStanding fresh told newest old sent → AllStanding fresh told newest new sent
-drained_stand fresh told newest old new sent Begun all = all
-drained_stand fresh told newest old new sent (Then mid last conns w path held first s) all = serves_stand fresh told newest w mid last sent s (drained_stand fresh told newest old mid sent path all)
+pub drained_stand : (fresh : Addr → Addr → Course) (told : Told) (old new : Stage) (sent : ℕ → List ℕ) → Drained fresh told old new → AllStanding fresh told old sent → AllStanding fresh told new sent
+drained_stand fresh told old new sent Begun all = all
+drained_stand fresh told old new sent (Then mid last conns w path held first s) all = serves_stand fresh told w mid last sent s (drained_stand fresh told old mid sent path all)
 
 -- bytes are sent, all are offered, and the input may end
-sends_stand : (fresh : Addr → Addr → Course) (told : Trees) (newest : ℕ) (c : ℕ) (bytes : List ℕ) (a : StepAnswer) (old new : Stage) (sent sent' : ℕ → List ℕ) → sent' c ≡ sent c ++ bytes → ((d : ℕ) → d ≢ c → sent' d ≡ sent d) → SendsLine fresh c bytes a old new → AllStanding fresh told newest old sent → AllStanding fresh told newest new sent'
-sends_stand fresh told newest c bytes a old new sent sent' e others s all =
-    by_conn fresh told newest c old new sent sent'
-    (subst (λ x. Standing fresh told newest (new.view c) x (sent' c)) (sym s.lanes.own)
-    (subst (λ x. Standing fresh told newest (new.view c) s.last x) (sym e) ended))
+sends_stand : (fresh : Addr → Addr → Course) (told : Told) (c : ℕ) (bytes : List ℕ) (a : StepAnswer) (old new : Stage) (sent sent' : ℕ → List ℕ) → sent' c ≡ sent c ++ bytes → ((d : ℕ) → d ≢ c → sent' d ≡ sent d) → SendsLine fresh c bytes a old new → AllStanding fresh told old sent → AllStanding fresh told new sent'
+sends_stand fresh told c bytes a old new sent sent' e others s all =
+    by_conn fresh told c old new sent sent'
+    (subst (λ x. Standing fresh told (new.view c) x (sent' c)) (sym s.lanes.own)
+    (subst (λ x. Standing fresh told (new.view c) s.last x) (sym e) ended))
     (λ d ne. ends_others fresh c (offered_lane lane d1.first) s.last d1.second d1.mid_view d1.mid_now new.view new.now d1.ends d ne ∙ o.1 d ne)
     s.lanes.others others all
   where
@@ -142,27 +156,27 @@ sends_stand fresh told newest c bytes a old new sent sent' e others s all =
     lane : Lane
     lane = longer_lane (old.lanes c) bytes
 
-    o : Passed (old.view c) (d1.mid_view c) (take (taken_of d1.first) ((old.lanes c).queue ++ bytes)) [] × ((d : ℕ) → d ≢ c → d1.mid_view d ≡ old.view d)
-    o = offers_own fresh c ((old.lanes c).queue ++ bytes) d1.first old.view old.now d1.mid_view d1.mid_now d1.offers
+    o : Passed told (old.view c) (d1.mid_view c) (take (taken_of d1.first) ((old.lanes c).queue ++ bytes)) [] × ((d : ℕ) → d ≢ c → d1.mid_view d ≡ old.view d)
+    o = offers_own told fresh c ((old.lanes c).queue ++ bytes) d1.first old.view old.now d1.mid_view d1.mid_now d1.offers
 
-    offered : Standing fresh told newest (d1.mid_view c) (offered_lane lane d1.first) (sent c ++ bytes)
-    offered = offered_standing fresh told newest c lane d1.first (old.view c) (d1.mid_view c) (sent c ++ bytes) o.0 (longer fresh told newest (old.view c) (old.lanes c) (sent c) bytes (all c))
+    offered : Standing fresh told (d1.mid_view c) (offered_lane lane d1.first) (sent c ++ bytes)
+    offered = offered_standing fresh told c lane d1.first (old.view c) (d1.mid_view c) (sent c ++ bytes) o.0 (longer fresh told (old.view c) (old.lanes c) (sent c) bytes (all c))
 
-    ended : Standing fresh told newest (new.view c) s.last (sent c ++ bytes)
-    ended = ends_own fresh told newest c (offered_lane lane d1.first) s.last d1.second d1.mid_view d1.mid_now new.view new.now (sent c ++ bytes) d1.ends offered
+    ended : Standing fresh told (new.view c) s.last (sent c ++ bytes)
+    ended = ends_own fresh told c (offered_lane lane d1.first) s.last d1.second d1.mid_view d1.mid_now new.view new.now (sent c ++ bytes) d1.ends offered
 
-ends_stand : (fresh : Addr → Addr → Course) (told : Trees) (newest : ℕ) (c : ℕ) (a : StepAnswer) (old new : Stage) (sent : ℕ → List ℕ) → EndsLine fresh c a old new → AllStanding fresh told newest old sent → AllStanding fresh told newest new sent
-ends_stand fresh told newest c a old new sent s all =
-    by_conn fresh told newest c old new sent sent
-    (subst (λ x. Standing fresh told newest (new.view c) x (sent c)) (sym s.lanes.own)
-    (ends_own fresh told newest c (due_lane (old.lanes c)) s.last a old.view old.now new.view new.now (sent c) s.does (ending fresh told newest (old.view c) (old.lanes c) (due_lane (old.lanes c)) (sent c) refl refl (all c))))
+ends_stand : (fresh : Addr → Addr → Course) (told : Told) (c : ℕ) (a : StepAnswer) (old new : Stage) (sent : ℕ → List ℕ) → EndsLine fresh c a old new → AllStanding fresh told old sent → AllStanding fresh told new sent
+ends_stand fresh told c a old new sent s all =
+    by_conn fresh told c old new sent sent
+    (subst (λ x. Standing fresh told (new.view c) x (sent c)) (sym s.lanes.own)
+    (ends_own fresh told c (due_lane (old.lanes c)) s.last a old.view old.now new.view new.now (sent c) s.does (ending fresh told (old.view c) (old.lanes c) (due_lane (old.lanes c)) (sent c) refl refl (all c))))
     (ends_others fresh c (due_lane (old.lanes c)) s.last a old.view old.now new.view new.now s.does) s.lanes.others (same_sents sent c) all
 
 abbrev behind : (ℕ → List ℕ) → EventLine → ℕ → List ℕ
 behind sent l c = sent c ++ sent_by l c
 
-nothing_sent : (fresh : Addr → Addr → Course) (told : Trees) (newest : ℕ) (s : Stage) (sent sent' : ℕ → List ℕ) → ((c : ℕ) → sent' c ≡ sent c ++ []) → AllStanding fresh told newest s sent → AllStanding fresh told newest s sent'
-nothing_sent fresh told newest s sent sent' e all c = subst (λ x. Standing fresh told newest (s.view c) (s.lanes c) x) (sym (e c ∙ append-nil (sent c))) (all c)
+nothing_sent : (fresh : Addr → Addr → Course) (told : Told) (s : Stage) (sent sent' : ℕ → List ℕ) → ((c : ℕ) → sent' c ≡ sent c ++ []) → AllStanding fresh told s sent → AllStanding fresh told s sent'
+nothing_sent fresh told s sent sent' e all c = subst (λ x. Standing fresh told (s.view c) (s.lanes c) x) (sym (e c ∙ append-nil (sent c))) (all c)
 
 bytes_here : (conn : ℕ) (bytes : List ℕ) → cond (eqb conn conn) bytes [] ≡ bytes
 bytes_here conn bytes = let t : eqb conn conn ≡ true = grind (arith, nat_tests) in ap (λ b. cond b bytes []) t
@@ -171,45 +185,54 @@ bytes_elsewhere : (conn d : ℕ) (bytes : List ℕ) → d ≢ conn → cond (eqb
 bytes_elsewhere conn d bytes ne = let t : eqb conn d ≡ false = grind (arith, nat_tests) in ap (λ b. cond b bytes []) t
 
 -- the tree's number alone changes
-tree_stands : (fresh : Addr → Addr → Course) (told : Trees) (newest : ℕ) (to : ℕ) (a : StepAnswer) (old new : Stage) (sent : ℕ → List ℕ) → Plain fresh (ev.Tree to) a old new → AllStanding fresh told newest old sent → AllStanding fresh told newest new sent
-tree_stands fresh told newest to (Done taken) old new sent p all c = kept fresh told newest (old.view c) (new.view c) (old.lanes c) (new.lanes c) (sent c) (p.gives.steps.1 c) (p.lanes c) (all c)
-tree_stands fresh told newest to Skipped old new sent p all c = kept fresh told newest (old.view c) (new.view c) (old.lanes c) (new.lanes c) (sent c) (p.gives.steps.1 c) (p.lanes c) (all c)
-tree_stands fresh told newest to OutOfMemory old new sent p all c = absurd p.gives.steps
+tree_stands : (fresh : Addr → Addr → Course) (told : Told) (to : ℕ) (a : StepAnswer) (old new : Stage) (sent : ℕ → List ℕ) → Plain fresh (ev.Tree to) a old new → AllStanding fresh told old sent → AllStanding fresh told new sent
+tree_stands fresh told to (Done taken) old new sent p all c = kept fresh told (old.view c) (new.view c) (old.lanes c) (new.lanes c) (sent c) (p.gives.steps.1 c) (p.lanes c) (all c)
+tree_stands fresh told to Skipped old new sent p all c = kept fresh told (old.view c) (new.view c) (old.lanes c) (new.lanes c) (sent c) (p.gives.steps.1 c) (p.lanes c) (all c)
+tree_stands fresh told to OutOfMemory old new sent p all c = absurd p.gives.steps
 
-pub line_stands : (fresh : Addr → Addr → Course) (told : Trees) (newest : ℕ) (l : EventLine) (a : StepAnswer) (old new : Stage) (sent : ℕ → List ℕ) → LineDoes fresh l a old new → AllStanding fresh told newest old sent → AllStanding fresh told newest new (behind sent l)
-line_stands fresh told newest (line.Open conn local peer) a old new sent s all =
-    nothing_sent fresh told newest new sent (behind sent (line.Open conn local peer)) (λ c. refl)
-    (plain_one fresh told newest conn old new sent (standing_opened fresh told newest old.now conn local peer a (old.view conn) (new.view conn) (old.lanes conn) (sent conn) s.gives.steps.own) s.gives.steps.others s.lanes all)
-line_stands fresh told newest (line.Bytes conn bytes) a old new sent s all =
-    sends_stand fresh told newest conn bytes a old new sent (behind sent (line.Bytes conn bytes)) (ap (λ x. sent conn ++ x) (bytes_here conn bytes)) (λ d ne. ap (λ x. sent d ++ x) (bytes_elsewhere conn d bytes ne) ∙ append-nil (sent d)) s all
-line_stands fresh told newest (line.End conn) a old new sent s all =
-    nothing_sent fresh told newest new sent (behind sent (line.End conn)) (λ c. refl) (ends_stand fresh told newest conn a old new sent s all)
-line_stands fresh told newest (line.Room conn count) a old new sent s all =
-    nothing_sent fresh told newest new sent (behind sent (line.Room conn count)) (λ c. refl) (writes_stand_at fresh told newest conn count a old new sent s all)
-line_stands fresh told newest (line.File conn node) a old new sent s all =
-    nothing_sent fresh told newest new sent (behind sent (line.File conn node)) (λ c. refl) (λ c. kept fresh told newest (old.view c) (new.view c) (old.lanes c) (new.lanes c) (sent c) ((s.1).view c) ((s.1).lanes c) (all c))
-line_stands fresh told newest (line.FileFails conn node) a old new sent s all =
-    nothing_sent fresh told newest new sent (behind sent (line.FileFails conn node)) (λ c. refl)
-    (plain_one fresh told newest conn old new sent (passed_one fresh told newest (old.view conn) (new.view conn) (old.lanes conn) (sent conn) (job_failed_passed nobody.course old.now conn node a (old.view conn) (new.view conn) s.gives.steps.own)) s.gives.steps.others s.lanes all)
-line_stands fresh told newest (line.Run conn node) a old new sent s all =
-    nothing_sent fresh told newest new sent (behind sent (line.Run conn node)) (λ c. refl)
-    (plain_one fresh told newest conn old new sent (passed_one fresh told newest (old.view conn) (new.view conn) (old.lanes conn) (sent conn) (run_passed nobody.course old.now conn node a (old.view conn) (new.view conn) s.gives.steps.own)) s.gives.steps.others s.lanes all)
-line_stands fresh told newest (line.Tick now) a old new sent s all =
-    nothing_sent fresh told newest new sent (behind sent (line.Tick now)) (λ c. refl) (go a s)
+-- and the files tell more
+narrowed : (fresh : Addr → Addr → Course) (told told' : Told) (v : ConnView) (l : Lane) (sent : List ℕ) → Grow told.newest told'.newest told.trees told'.trees → Standing fresh told v l sent → Standing fresh told' v l sent
+narrowed fresh told told' v l sent g (Unopened h w q) = Unopened h w q
+narrowed fresh told told' v l sent g (Opened local peer came h q t) = Opened local peer came h q (tracks_narrow (fresh local peer) told.trees told'.trees told.newest told'.newest v came l.went g t)
+
+pub line_stands : (fresh : Addr → Addr → Course) (told : Told) (l : EventLine) (a : StepAnswer) (old new : Stage) (sent : ℕ → List ℕ) → LineDoes fresh told l a old new → AllStanding fresh told old sent → AllStanding fresh (told_after l told) new (behind sent l)
+line_stands fresh told (line.Open conn local peer) a old new sent s all =
+    nothing_sent fresh told new sent (behind sent (line.Open conn local peer)) (λ c. refl)
+    (plain_one fresh told conn old new sent (standing_opened fresh told old.now conn local peer a (old.view conn) (new.view conn) (old.lanes conn) (sent conn) s.gives.steps.own) s.gives.steps.others s.lanes all)
+line_stands fresh told (line.Bytes conn bytes) a old new sent s all =
+    sends_stand fresh told conn bytes a old new sent (behind sent (line.Bytes conn bytes)) (ap (λ x. sent conn ++ x) (bytes_here conn bytes)) (λ d ne. ap (λ x. sent d ++ x) (bytes_elsewhere conn d bytes ne) ∙ append-nil (sent d)) s all
+line_stands fresh told (line.End conn) a old new sent s all =
+    nothing_sent fresh told new sent (behind sent (line.End conn)) (λ c. refl) (ends_stand fresh told conn a old new sent s all)
+line_stands fresh told (line.Room conn count) a old new sent s all =
+    nothing_sent fresh told new sent (behind sent (line.Room conn count)) (λ c. refl) (writes_stand_at fresh told conn count a old new sent s all)
+line_stands fresh told (line.File conn node) a old new sent s all =
+    nothing_sent fresh told new sent (behind sent (line.File conn node)) (λ c. refl) (job_stands fresh told conn node a old new sent s all)
+line_stands fresh told (line.FileFails conn node) a old new sent s all =
+    nothing_sent fresh told new sent (behind sent (line.FileFails conn node)) (λ c. refl)
+    (plain_one fresh told conn old new sent (passed_one fresh told (old.view conn) (new.view conn) (old.lanes conn) (sent conn) (job_failed_passed nobody.course old.now conn node a (old.view conn) (new.view conn) s.gives.steps.own)) s.gives.steps.others s.lanes all)
+line_stands fresh told (line.Run conn node) a old new sent s all =
+    nothing_sent fresh told new sent (behind sent (line.Run conn node)) (λ c. refl)
+    (plain_one fresh told conn old new sent (passed_one fresh told (old.view conn) (new.view conn) (old.lanes conn) (sent conn) (run_passed nobody.course old.now conn node a (old.view conn) (new.view conn) s.gives.steps.own)) s.gives.steps.others s.lanes all)
+line_stands fresh told (line.Tick now) a old new sent s all =
+    nothing_sent fresh told new sent (behind sent (line.Tick now)) (λ c. refl) (go a s)
   where
-    go : (a : StepAnswer) → Plain fresh (ev.Tick now) a old new → AllStanding fresh told newest new sent
-    go (Done taken) p c = subst (λ x. Standing fresh told newest (new.view c) x (sent c)) (sym (p.lanes c)) (passed_one fresh told newest (old.view c) (new.view c) (old.lanes c) (sent c) (ticked_passed _ (old.view c) (new.view c) (p.gives.steps c)) (all c))
+    go : (a : StepAnswer) → Plain fresh (ev.Tick now) a old new → AllStanding fresh told new sent
+    go (Done taken) p c = subst (λ x. Standing fresh told (new.view c) x (sent c)) (sym (p.lanes c)) (passed_one fresh told (old.view c) (new.view c) (old.lanes c) (sent c) (ticked_passed _ (old.view c) (new.view c) (p.gives.steps c)) (all c))
     go Skipped p c = absurd p.gives.steps
     go OutOfMemory p c = absurd p.gives.steps
-line_stands fresh told newest (line.Tree change) a old new sent s all =
-    nothing_sent fresh told newest new sent (behind sent (line.Tree change)) (λ c. refl) (tree_stands fresh told newest _ a old new sent s all)
-line_stands fresh told newest (line.TreeGone path) a old new sent s all =
-    nothing_sent fresh told newest new sent (behind sent (line.TreeGone path)) (λ c. refl) (tree_stands fresh told newest _ a old new sent s all)
-line_stands fresh told newest line.Drain a old new sent s all =
-    nothing_sent fresh told newest new sent (behind sent line.Drain) (λ c. refl) (drained_stand fresh told newest old new sent (s.1).path all)
+line_stands fresh told (line.Tree change) a old new sent s all =
+    let told' = told_after (line.Tree change) told in
+    nothing_sent fresh told' new sent (behind sent (line.Tree change)) (λ c. refl)
+    (λ c. narrowed fresh told told' (new.view c) (new.lanes c) (sent c) (grows (path_of change) (item_of change) told) (tree_stands fresh told _ a old new sent s all c))
+line_stands fresh told (line.TreeGone path) a old new sent s all =
+    let told' = told_after (line.TreeGone path) told in
+    nothing_sent fresh told' new sent (behind sent (line.TreeGone path)) (λ c. refl)
+    (λ c. narrowed fresh told told' (new.view c) (new.lanes c) (sent c) (grows path Nothing told) (tree_stands fresh told _ a old new sent s all c))
+line_stands fresh told line.Drain a old new sent s all =
+    nothing_sent fresh told new sent (behind sent line.Drain) (λ c. refl) (drained_stand fresh told old new sent (s.1).path all)
 
-pub plays_stand : (fresh : Addr → Addr → Course) (told : Trees) (newest : ℕ) (lines : List EventLine) (old new : Stage) (k r k' r' : ℕ) (sent : ℕ → List ℕ) → Plays fresh lines old k r new k' r' → AllStanding fresh told newest old sent → AllStanding fresh told newest new (λ c. sent c ++ sent_in lines c)
-plays_stand fresh told newest [] old new k r k' r' sent (Over s skipped refused) all c = nothing_sent fresh told newest old sent (λ d. sent d ++ []) (λ d. refl) all c
-plays_stand fresh told newest (l ∷ lines) old new k r k' r' sent (Line m ms a o mid last skipped refused skipped' refused' d p) all c =
-    subst (λ x. Standing fresh told newest (new.view c) (new.lanes c) x) (append_assoc (sent c) (sent_by l c) (sent_in lines c))
-    (plays_stand fresh told newest lines mid new _ _ k' r' (behind sent l) p (line_stands fresh told newest l a old mid sent d all) c)
+pub plays_stand : (fresh : Addr → Addr → Course) (told : Told) (lines : List EventLine) (old new : Stage) (k r k' r' : ℕ) (sent : ℕ → List ℕ) → Plays fresh lines told old k r new k' r' → AllStanding fresh told old sent → AllStanding fresh (told_in lines told) new (λ c. sent c ++ sent_in lines c)
+plays_stand fresh told [] old new k r k' r' sent (Over t s skipped refused) all c = nothing_sent fresh told old sent (λ d. sent d ++ []) (λ d. refl) all c
+plays_stand fresh told (l ∷ lines) old new k r k' r' sent (Line m ms a t o mid last skipped refused skipped' refused' d p) all c =
+    subst (λ x. Standing fresh (told_in lines (told_after l told)) (new.view c) (new.lanes c) x) (append_assoc (sent c) (sent_by l c) (sent_in lines c))
+    (plays_stand fresh (told_after l told) lines mid new _ _ k' r' (behind sent l) p (line_stands fresh told l a old mid sent d all) c)

@@ -8,7 +8,8 @@ use Rattle.ngx_outside.specs.declared.event.StepAnswer.{StepAnswer}
 use Rattle.ngx_outside.specs.declared.event.StepAnswer.TheVariants.{Done, Skipped, OutOfMemory}
 use Rattle.ngx_outside.specs.declared.event.Want.{Want}
 use Rattle.ngx_outside.specs.declared.event.Want.TheVariants as want
-use Rattle.replay_run.specs.Scene.{Lane, Stage, Gives, IsArrival, Offers, EndsIfDue, Ends, Waits, Plain, SendsLine, EndsLine, WritesLine, Reads, Offered, Told, Serves, Drained, Begun, Then}
+use Rattle.replay_run.specs.Told.{Told}
+use Rattle.replay_run.specs.Scene.{Lane, Stage, Gives, IsArrival, Offers, EndsIfDue, Ends, Waits, Plain, SendsLine, EndsLine, WritesLine, Reads, Offered, Ending, Serves, AnswersJob, Answers, Fails, Unasked}
 
 pub offers_now : (fresh : Addr → Addr → Course) (c : ℕ) (queue : List ℕ) (a : StepAnswer) (view : ℕ → ConnView) (now : Start) (view' : ℕ → ConnView) (now' : Start) → Offers fresh c queue a view now view' now' → now' ≡ now
 offers_now fresh c queue a view now view' now' o = go o.event o.arrival o.gives
@@ -35,17 +36,18 @@ sends_now fresh c bytes a old new s =
     ends_now fresh c _ s.last s.does.second s.does.mid_view s.does.mid_now new.view new.now s.does.ends
     ∙ offers_now fresh c _ s.does.first old.view old.now s.does.mid_view s.does.mid_now s.does.offers
 
-pub serves_now : (fresh : Addr → Addr → Course) (w : Want) (old new : Stage) → Serves fresh w old new → new.now ≡ old.now
-serves_now fresh (want.Read conn room) old new s = go s.1.last s.1.does
+job_now : (fresh : Addr → Addr → Course) (told : Told) (c node : ℕ) (a : StepAnswer) (view : ℕ → ConnView) (now : Start) (view' : ℕ → ConnView) (now' : Start) → AnswersJob fresh told c node a view now view' now' → now' ≡ now
+job_now fresh told c node a view now view' now' (Answers ask answer waits known from g) = g.moment
+job_now fresh told c node a view now view' now' (Fails ask waits none g) = g.moment
+job_now fresh told c node a view now view' now' (Unasked none skipped v n) = n
+
+pub serves_now : (fresh : Addr → Addr → Course) (told : Told) (w : Want) (old new : Stage) → Serves fresh told w old new → new.now ≡ old.now
+serves_now fresh told (want.Read conn room) old new s = go s.1.last s.1.does
   where
     go : (last : Lane) → Reads fresh conn s.0 old.view old.now new.view new.now (old.lanes conn) last → new.now ≡ old.now
     go last (Offered some o e) = offers_now fresh conn (old.lanes conn).queue s.0 old.view old.now new.view new.now o
-    go last (Told none e) = ends_now fresh conn (old.lanes conn) last s.0 old.view old.now new.view new.now e
-serves_now fresh (want.Run conn node) old new s = (s.1).gives.moment
-serves_now fresh (want.Job conn node) old new s = absurd s
-serves_now fresh (want.Write conn) old new s = (s.1).does.gives.moment
-serves_now fresh (want.Close conn) old new s = absurd s
-
-pub drained_now : (fresh : Addr → Addr → Course) (old new : Stage) → Drained fresh old new → new.now ≡ old.now
-drained_now fresh old new Begun = refl
-drained_now fresh old new (Then mid last conns w path held first s) = serves_now fresh w mid last s ∙ drained_now fresh old mid path
+    go last (Ending none e) = ends_now fresh conn (old.lanes conn) last s.0 old.view old.now new.view new.now e
+serves_now fresh told (want.Run conn node) old new s = (s.1).gives.moment
+serves_now fresh told (want.Job conn node) old new s = job_now fresh told conn node s.0 old.view old.now new.view new.now (s.1).0
+serves_now fresh told (want.Write conn) old new s = (s.1).does.gives.moment
+serves_now fresh told (want.Close conn) old new s = absurd s

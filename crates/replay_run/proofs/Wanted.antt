@@ -1,16 +1,32 @@
 -- The wants that a core lists are what it shows of its connections.
-use Rattle.std.proofs.Common.{◌≡◌, ℕ, Bool, true, false, cond, List, [], ◌∷◌, map, Option, None, Some, refl, sym, ap, ◌∙◌, subst}
+use Rattle.std.proofs.Common.{◌≡◌, ◌≢◌, ℕ, eqb, arith, Bool, true, false, cond, List, [], ◌∷◌, map, Option, None, Some, refl, sym, ap, ◌∙◌, subst}
 use Rattle.std.proofs.lemmas.List.Elements.{All-nil, All-cons, All-head, All-tail, All-append, All-map, All-contains_itself}
+use Rattle.std.proofs.lemmas.Bool.Decides.{nat_tests}
 use Rattle.std.specs.List.{All}
-use Rattle.ngx_outside.specs.Views.{ConnView, Job, no_bytes}
+use Rattle.ngx_outside.specs.Views.{ConnView, Job, no_bytes, ask_in}
 use Rattle.ngx_outside.specs.Wants.{wants_at, wants_in, read_want}
 use Rattle.ngx_outside.specs.declared.event.Want.{Want}
 use Rattle.ngx_outside.specs.declared.event.Want.TheVariants as want
 use Rattle.replay_run.specs.Scene.{Lane, is_served, first_served, IsWanted}
 
-all_jobs : (P : Want → Type 0) (c : ℕ) (jobs : List Job) → ((n : ℕ) → P (want.Job c n)) → All P (map (λ (j : Job). want.Job c j.node) jobs)
-all_jobs P c [] h = All-nil P
-all_jobs P c (j ∷ jobs) h = All-cons P (want.Job c j.node) (map (λ (j : Job). want.Job c j.node) jobs) (h j.node) (all_jobs P c jobs h)
+-- each node of the jobs has a job
+asked_more : (x : Job) (jobs : List Job) (n : ℕ) → ask_in jobs n ≢ None → ask_in (x ∷ jobs) n ≢ None
+asked_more x jobs n some = case (eqb x.node n)
+  where
+    case : (t : Bool) → cond t (Some x.ask) (ask_in jobs n) ≢ None
+    case true = λ e. cc
+    case false = some
+
+asked_first : (x : Job) (jobs : List Job) → ask_in (x ∷ jobs) x.node ≢ None
+asked_first x jobs = λ e. let t : eqb x.node x.node ≡ true = grind (arith, nat_tests) in let f : Some x.ask ≡ None = sym (ap (λ b. cond b (Some x.ask) (ask_in jobs x.node)) t) ∙ e in cc
+
+all_asked : (jobs : List Job) → All (λ (j : Job). ask_in jobs j.node ≢ None) jobs
+all_asked [] = All-nil (λ (j : Job). ask_in [] j.node ≢ None)
+all_asked (x ∷ jobs) = All-cons (λ (j : Job). ask_in (x ∷ jobs) j.node ≢ None) x jobs (asked_first x jobs) (All-weaken jobs (all_asked jobs))
+  where
+    All-weaken : (js : List Job) → All (λ (j : Job). ask_in jobs j.node ≢ None) js → All (λ (j : Job). ask_in (x ∷ jobs) j.node ≢ None) js
+    All-weaken [] h = All-nil (λ (j : Job). ask_in (x ∷ jobs) j.node ≢ None)
+    All-weaken (y ∷ js) h = All-cons (λ (j : Job). ask_in (x ∷ jobs) j.node ≢ None) y js (asked_more x jobs y.node (All-head (λ (j : Job). ask_in jobs j.node ≢ None) y js h)) (All-weaken js (All-tail (λ (j : Job). ask_in jobs j.node ≢ None) y js h))
 
 wanted_at : (view : ℕ → ConnView) (c : ℕ) → All (IsWanted view) (wants_at c (view c))
 unfolding wants_at
@@ -20,7 +36,7 @@ wanted_at view c =
     (All-append (IsWanted view) _ _
     (All-append (IsWanted view) _ _ (reads (view c).room refl)
     (All-map (IsWanted view) (λ node. want.Run c node) (view c).ready (All-contains_itself (view c).ready)))
-    (all_jobs (IsWanted view) c (view c).jobs (λ n. tt)))
+    (All-map (IsWanted view) (λ (j : Job). want.Job c j.node) (view c).jobs (all_asked (view c).jobs)))
     (writes (no_bytes (view c).pending) refl))
     (closes (view c).shut)
   where

@@ -1,3 +1,4 @@
+pub mod Told
 pub mod Scene
 pub mod Standing
 pub mod Plays

@@ -1,17 +1,24 @@
 -- A run of a script, between two of its lines.
-use Rattle.std.specs.Prelude.{◌≡◌, ◌≢◌, ℕ, ◌+◌, ◌*◌, ◌==◌, ◌||◌, min, Bool, true, false, List, [], ◌∷◌, ◌++◌, length, take, drop, sum_by, Option, None, Some, if◌then◌else◌}
+use Rattle.std.specs.Prelude.{◌≡◌, ◌≢◌, ℕ, ◌+◌, ◌*◌, ◌≤◌, ◌==◌, ◌||◌, min, Bool, true, false, List, [], ◌∷◌, ◌++◌, length, take, drop, sum_by, Option, None, Some, if◌then◌else◌}
 use Rattle.std.specs.List.{Contains}
 use Rattle.std.specs.Prelude.{◌↔◌}
 use Rattle.std.specs.List.Sorted.{IsStrictlyIncreasing}
 use Rattle.http_types.specs.declared.words.Addr.{Addr}
-use Rattle.ngx_outside.specs.Views.{ConnView, Course, Start, Steps, now_after, no_bytes}
+use Rattle.file_tree.specs.Tree.{Trees, HoldsBytes, IsFrom, node_of, tree_of}
+use Rattle.file_tree.specs.declared.job.Ask.{Ask}
+use Rattle.file_tree.specs.declared.job.Ask.TheVariants as ask
+use Rattle.file_tree.specs.declared.job.JobAnswer.{JobAnswer}
+use Rattle.ngx_outside.specs.Views.{ConnView, Course, Start, Steps, now_after, no_bytes, ask_in}
 use Rattle.ngx_outside.specs.Wants.{wants_in}
 use Rattle.ngx_outside.specs.declared.event.Event.{Event}
-use Rattle.ngx_outside.specs.declared.event.Event.TheVariants.{Arrived, Ended, Wrote, Run}
+use Rattle.ngx_outside.specs.declared.event.Event.TheVariants.{Arrived, Ended, Wrote, FileDone, JobFailed, Run}
 use Rattle.ngx_outside.specs.declared.event.StepAnswer.{StepAnswer}
 use Rattle.ngx_outside.specs.declared.event.StepAnswer.TheVariants.{Done, Skipped, OutOfMemory}
 use Rattle.ngx_outside.specs.declared.event.Want.{Want}
 use Rattle.ngx_outside.specs.declared.event.Want.TheVariants as want
+use Rattle.replay_run.specs.Told.{Told}
+use Rattle.replay_run.specs.declared.jobs.Found.{Found}
+use Rattle.replay_run.specs.declared.jobs.Found.TheVariants as found
 use Rattle.replay_run.specs.declared.lane.InputEnd.{InputEnd}
 use Rattle.replay_run.specs.declared.lane.InputEnd.TheVariants as input
 use Rattle.replay_run.specs.declared.lane.Lane.{Lane as LaneOf}
@@ -153,7 +160,7 @@ pub record Writes (fresh : Addr → Addr → Course) (c most : ℕ) (a : StepAns
 -- what waits is offered, or where nothing waits its end is told
 pub data Reads (fresh : Addr → Addr → Course) (c : ℕ) (a : StepAnswer) (view : ℕ → ConnView) (now : Start) (view' : ℕ → ConnView) (now' : Start) (lane lane' : Lane) : Type 0 where
   Offered : no_bytes lane.queue ≡ false → Offers fresh c lane.queue a view now view' now' → lane' ≡ offered_lane lane a → Reads fresh c a view now view' now' lane lane'
-  Told : no_bytes lane.queue ≡ true → EndsIfDue fresh c lane lane' a view now view' now' → Reads fresh c a view now view' now' lane lane'
+  Ending : no_bytes lane.queue ≡ true → EndsIfDue fresh c lane lane' a view now view' now' → Reads fresh c a view now view' now' lane lane'
 
 -- What a line does, from stage to stage: bytes are sent, the input ends as soon as nothing waits, bytes are written.
 abbrev pub SendsLine : (Addr → Addr → Course) → ℕ → List ℕ → StepAnswer → Stage → Stage → Type 0
@@ -165,6 +172,27 @@ EndsLine fresh c a old new = OnLane c (λ l l'. EndsIfDue fresh c (due_lane l) l
 abbrev pub WritesLine : (Addr → Addr → Course) → ℕ → ℕ → StepAnswer → Stage → Stage → Type 0
 WritesLine fresh c most a old new = OnLane c (Writes fresh c most a old.view old.now new.view new.now) old.lanes new.lanes
 
+-- What the files found for a job, with the bytes of a block that was read; nothing where the trees have no answer to it.
+abbrev pub IsFound : Trees → Ask → Found → List ℕ → Type 0
+IsFound trees (ask.Stat path of) (found.Stands node) block = node ≡ node_of (trees of path)
+IsFound trees (ask.Stat path of) found.Block block = ⊥
+IsFound trees (ask.Stat path of) found.Nothing block = ⊥
+IsFound trees (ask.Read path start count of) (found.Stands node) block = ⊥
+IsFound trees (ask.Read path start count of) found.Block block = HoldsBytes (trees of path) start count block × (length block ≡ count)
+IsFound trees (ask.Read path start count of) found.Nothing block = (bytes : List ℕ) → ¬ HoldsBytes (trees of path) start count bytes
+
+-- A node's job is answered by what the trees say to it, or fails where they have no answer; where the node has no job nothing
+-- happens.
+pub data AnswersJob (fresh : Addr → Addr → Course) (told : Told) (c node : ℕ) (a : StepAnswer) (view : ℕ → ConnView) (now : Start) (view' : ℕ → ConnView) (now' : Start) : Type 0 where
+  Answers : (ask : Ask) (answer : JobAnswer) → ask_in (view c).jobs node ≡ Some ask → tree_of ask ≤ told.newest → IsFrom told.trees ask answer →
+      Gives fresh (FileDone c node answer) a view now view' now' → AnswersJob fresh told c node a view now view' now'
+  Fails : (ask : Ask) → ask_in (view c).jobs node ≡ Some ask → ((answer : JobAnswer) → ¬ IsFrom told.trees ask answer) →
+      Gives fresh (JobFailed c node) a view now view' now' → AnswersJob fresh told c node a view now view' now'
+  Unasked : ask_in (view c).jobs node ≡ None → a ≡ Skipped → view' ≡ view → now' ≡ now → AnswersJob fresh told c node a view now view' now'
+
+abbrev pub JobLine : (Addr → Addr → Course) → Told → ℕ → ℕ → StepAnswer → Stage → Stage → Type 0
+JobLine fresh told c node a old new = AnswersJob fresh told c node a old.view old.now new.view new.now × SameLanes old.lanes new.lanes
+
 -- whether bytes wait, or their end is due
 abbrev pub is_read : Lane → Bool
 is_read l = reads l.queue l.tail
@@ -175,11 +203,11 @@ is_read l = reads l.queue l.tail
     reads [] input.Due = true
     reads [] input.Given = false
 
--- whether a want can be served: a read where bytes wait or their end is due, a run, a write
+-- whether a want can be served: a read where bytes wait or their end is due, a run, a job, a write
 abbrev pub is_served : (ℕ → Lane) → Want → Bool
 is_served lanes (want.Read conn room) = is_read (lanes conn)
 is_served lanes (want.Run conn node) = true
-is_served lanes (want.Job conn node) = false
+is_served lanes (want.Job conn node) = true
 is_served lanes (want.Write conn) = true
 is_served lanes (want.Close conn) = false
 
@@ -188,13 +216,13 @@ abbrev pub first_served : (ℕ → Lane) → List Want → Option Want
 first_served lanes [] = None
 first_served lanes (w ∷ wants) = if is_served lanes w then Some w else first_served lanes wants
 
--- serving a want: what waits is offered, or its end told; a node runs; all that is pending is written
-abbrev pub Serves : (Addr → Addr → Course) → Want → Stage → Stage → Type 0
-Serves fresh (want.Read conn room) old new = (a : StepAnswer) × OnLane conn (Reads fresh conn a old.view old.now new.view new.now) old.lanes new.lanes
-Serves fresh (want.Run conn node) old new = (a : StepAnswer) × Plain fresh (Run conn node) a old new
-Serves fresh (want.Job conn node) old new = ⊥
-Serves fresh (want.Write conn) old new = (a : StepAnswer) × WritesLine fresh conn (length (old.view conn).pending) a old new
-Serves fresh (want.Close conn) old new = ⊥
+-- serving a want: what waits is offered, or its end told; a node runs; its job is answered; all that is pending is written
+abbrev pub Serves : (Addr → Addr → Course) → Told → Want → Stage → Stage → Type 0
+Serves fresh told (want.Read conn room) old new = (a : StepAnswer) × OnLane conn (Reads fresh conn a old.view old.now new.view new.now) old.lanes new.lanes
+Serves fresh told (want.Run conn node) old new = (a : StepAnswer) × Plain fresh (Run conn node) a old new
+Serves fresh told (want.Job conn node) old new = (a : StepAnswer) × JobLine fresh told conn node a old new
+Serves fresh told (want.Write conn) old new = (a : StepAnswer) × WritesLine fresh conn (length (old.view conn).pending) a old new
+Serves fresh told (want.Close conn) old new = ⊥
 
 -- the connections that are held, by number
 pub record AreHeld (conns : List ℕ) (view : ℕ → ConnView) : Type 0 where
@@ -202,13 +230,14 @@ pub record AreHeld (conns : List ℕ) (view : ℕ → ConnView) : Type 0 where
   pub held : (c : ℕ) → Contains conns c ↔ ((view c).held ≡ true)
 
 -- Wants are served, each the first that can be.
-pub data Drained (fresh : Addr → Addr → Course) (old : Stage) : Stage → Type 0 where
-  Begun : Drained fresh old old
-  Then : (mid new : Stage) (conns : List ℕ) (w : Want) → Drained fresh old mid → AreHeld conns mid.view → first_served mid.lanes (wants_in conns mid.view) ≡ Some w → Serves fresh w mid new → Drained fresh old new
+pub data Drained (fresh : Addr → Addr → Course) (told : Told) (old : Stage) : Stage → Type 0 where
+  Begun : Drained fresh told old old
+  Then : (mid new : Stage) (conns : List ℕ) (w : Want) → Drained fresh told old mid → AreHeld conns mid.view → first_served mid.lanes (wants_in conns mid.view) ≡ Some w →
+      Serves fresh told w mid new → Drained fresh told old new
 
 -- as long as one can be
-pub record Drains (fresh : Addr → Addr → Course) (old new : Stage) : Type 0 where
-  pub path : Drained fresh old new
+pub record Drains (fresh : Addr → Addr → Course) (told : Told) (old new : Stage) : Type 0 where
+  pub path : Drained fresh told old new
   pub conns : List ℕ
   pub held : AreHeld conns new.view
   pub none : first_served new.lanes (wants_in conns new.view) ≡ None
@@ -229,7 +258,7 @@ work price left lanes = left + sum_by (work_of price) lanes
 abbrev pub IsWanted : (ℕ → ConnView) → Want → Type 0
 IsWanted view (want.Read conn room) = (view conn).room ≡ Some room
 IsWanted view (want.Run conn node) = Contains (view conn).ready node
-IsWanted view (want.Job conn node) = Unit {0}
+IsWanted view (want.Job conn node) = ask_in (view conn).jobs node ≢ None
 IsWanted view (want.Write conn) = no_bytes (view conn).pending ≡ false
 IsWanted view (want.Close conn) = Unit {0}
 

@@ -1,11 +1,18 @@
-//! Runs a script's lines on a core, one after another, and keeps what waits to arrive and what was emitted.
+//! Runs a script's lines on a core, one after another, over the files of the script, and keeps what waits to arrive and what
+//! was emitted.
 #![tactic(auto)]
 
+mod jobs;
 mod lane;
 mod lines;
 mod player;
 mod serve;
+mod tree;
 
 pub use lane::{InputEnd, Lane};
 pub use lines::{Counts, run_lines};
 pub use player::Player;
+pub use tree::files_of;
+
+#[cfg(test)]
+mod tests;

@@ -1,50 +1,66 @@
 // Runs the lines of a script on a core.
 ghost use Rattle.std.specs.Prelude.{◌≡◌, ◌++◌, ℕ, List, [], OnOk, IfOk};
-ghost use Rattle.file_tree.specs.Tree.{Trees};
+ghost use Rattle.memory_outside.specs.Stored.{newest_of, failing_of, item_of as stored_item};
+ghost use Rattle.replay_run.specs.Told.{told_of, told_after, told_in, told_next, next_number};
 ghost use Rattle.replay_run.specs.Scene.{stage};
 ghost use Rattle.replay_run.specs.Standing.{AllStanding};
-ghost use Rattle.replay_run.specs.Plays.{LineDoes, ChangesTree, Plays, next_number, skipped_after, refused_after, sent_in};
+ghost use Rattle.replay_run.specs.Plays.{LineDoes, ChangesTree, Plays, skipped_after, refused_after, sent_in};
 
 use crate::Player;
+use crate::tree::{change, item_in, path_in};
 use byte_text::OutOfMemory;
-use ngx_outside::{Event, EventCore, StepAnswer};
+use memory_outside::{MemoryFiles, StoredItem};
+use ngx_outside::{Event, EventCore, Files, StepAnswer};
 use replay_text::EventLine;
 
 // The number behind this one.
-#[tactic(auto, unfolding(crate::specs::Plays::next_number))]
+#[tactic(auto, unfolding(crate::specs::Told::next_number))]
 fn next_of(number: u64) -> u64
     ensures { result ≡ next_number number }
 {
     number.saturating_add(1)
 }
 
-// The tree of the files has changed: it has the next number.
-fn change_tree<E: EventCore>(player: &Player, core: &mut E, tree: &mut u64) -> StepAnswer
-    requires { tree.old ≡ (E.now core.old).tree }
-    ensures plain { ChangesTree (E.fresh core.old) result (stage (E.view core.old) (E.now core.old) player.now.lanes.items) (stage (E.view core.new) (E.now core.new) player.now.lanes.items) }
-    ensures tree { tree.new ≡ (E.now core.new).tree }
+// The newest tree of the files is the next one, with this item at this path, where the core takes its number.
+fn change_tree<E: EventCore>(
+    player: &Player,
+    core: &mut E,
+    files: &mut MemoryFiles,
+    path: &[u8],
+    item: StoredItem,
+) -> Result<StepAnswer, OutOfMemory>
+    requires { newest_of files.old ≡ (E.now core.old).tree }
+    ensures plain { IfOk result (λ a. ChangesTree (E.fresh core.old) (told_of files.old) a (stage (E.view core.old) (E.now core.old) player.now.lanes.items) (stage (E.view core.new) (E.now core.new) player.now.lanes.items)) }
+    ensures told { OnOk result (told_of files.new ≡ told_next path.now (stored_item item) (told_of files.old)) }
+    ensures sure { failing_of files.new ≡ failing_of files.old }
+    ensures newest { OnOk result (newest_of files.new ≡ (E.now core.new).tree) }
     ensures steady { E.fresh core.new ≡ E.fresh core.old }
 {
-    let to = next_of(*tree);
+    let to = next_of(files.version());
     let answer = player.give(core, Event::Tree { to });
     match answer {
-        StepAnswer::Done { taken: _ } => *tree = to,
-        StepAnswer::Skipped => {}
-        StepAnswer::OutOfMemory => {}
+        StepAnswer::Done { taken: _ } => {
+            change(player.alloc, files, path, item)?;
+            Ok(answer)
+        }
+        StepAnswer::Skipped => Ok(answer),
+        StepAnswer::OutOfMemory => Ok(answer),
     }
-    answer
 }
 
 // Runs one line.
 fn run_line<E: EventCore>(
     player: &mut Player,
     core: &mut E,
-    tree: &mut u64,
+    files: &mut MemoryFiles,
     line: &EventLine,
 ) -> Result<StepAnswer, OutOfMemory>
-    requires { tree.old ≡ (E.now core.old).tree }
-    ensures does { IfOk result (λ a. LineDoes (E.fresh core.old) line.now a (stage (E.view core.old) (E.now core.old) player.old.lanes.items) (stage (E.view core.new) (E.now core.new) player.new.lanes.items)) }
-    ensures tree { OnOk result (tree.new ≡ (E.now core.new).tree) }
+    requires newest { newest_of files.old ≡ (E.now core.old).tree }
+    requires sure { failing_of files.old ≡ [] }
+    ensures does { IfOk result (λ a. LineDoes (E.fresh core.old) (told_of files.old) line.now a (stage (E.view core.old) (E.now core.old) player.old.lanes.items) (stage (E.view core.new) (E.now core.new) player.new.lanes.items)) }
+    ensures told { OnOk result (told_of files.new ≡ told_after line.now (told_of files.old)) }
+    ensures sure { OnOk result (failing_of files.new ≡ []) }
+    ensures newest { OnOk result (newest_of files.new ≡ (E.now core.new).tree) }
     ensures steady { OnOk result (E.fresh core.new ≡ E.fresh core.old) }
 {
     match line {
@@ -59,7 +75,7 @@ fn run_line<E: EventCore>(
         EventLine::Bytes { conn, bytes } => player.send(core, *conn, bytes.as_slice()),
         EventLine::End { conn } => player.close(core, *conn),
         EventLine::Room { conn, count } => player.write(core, *conn, *count),
-        EventLine::File { conn: _, node: _ } => Ok(StepAnswer::Skipped),
+        EventLine::File { conn, node } => player.answer(core, files, *conn, *node),
         EventLine::FileFails { conn, node } => Ok(player.give(
             core,
             Event::JobFailed {
@@ -75,10 +91,15 @@ fn run_line<E: EventCore>(
             },
         )),
         EventLine::Tick { now } => Ok(player.give(core, Event::Tick { now: *now })),
-        EventLine::Tree { line: _ } => Ok(change_tree(player, core, tree)),
-        EventLine::TreeGone { path: _ } => Ok(change_tree(player, core, tree)),
+        EventLine::Tree { line } => {
+            let item = item_in(player.alloc, line)?;
+            change_tree(player, core, files, path_in(line).as_slice(), item)
+        }
+        EventLine::TreeGone { path } => {
+            change_tree(player, core, files, path.as_slice(), StoredItem::Missing)
+        }
         EventLine::Drain => {
-            player.drain(core)?;
+            player.drain(core, files)?;
             Ok(StepAnswer::Done { taken: 0 })
         }
     }
@@ -108,26 +129,30 @@ fn count(counts: Counts, answer: StepAnswer) -> Counts
     }
 }
 
-/// Runs the lines of a script on a core, one after another. `tree` is the number of the core's tree.
+/// Runs the lines of a script on a core, one after another. The files are those of the script, at the version that is the
+/// number of the core's tree: jobs are answered from them, and the lines that change the tree change them.
 ///
 /// What came and went on each connection stays accounted for: of the bytes that the lines send on it some have come and the
-/// others wait, and what was emitted since its opening is the beginning of what was to come.
+/// others wait, and for all trees that agree with what the files tell what was emitted since its opening is the beginning of
+/// what was to come.
 pub fn run_lines<E: EventCore>(
     player: &mut Player,
     core: &mut E,
-    tree: &mut u64,
+    files: &mut MemoryFiles,
     lines: &[EventLine],
 ) -> Result<Counts, OutOfMemory>
-    requires { tree.old ≡ (E.now core.old).tree }
-    ensures plays { IfOk result (λ counts. Plays (E.fresh core.old) lines.now (stage (E.view core.old) (E.now core.old) player.old.lanes.items) 0 0 (stage (E.view core.new) (E.now core.new) player.new.lanes.items) counts.skipped counts.refused) }
-    ensures stands { OnOk result ((told : Trees) (newest : ℕ) (sent : ℕ → List ℕ) → AllStanding (E.fresh core.old) told newest (stage (E.view core.old) (E.now core.old) player.old.lanes.items) sent → AllStanding (E.fresh core.old) told newest (stage (E.view core.new) (E.now core.new) player.new.lanes.items) (λ c. sent c ++ sent_in lines.now c)) }
+    requires newest { newest_of files.old ≡ (E.now core.old).tree }
+    requires sure { failing_of files.old ≡ [] }
+    ensures plays { IfOk result (λ counts. Plays (E.fresh core.old) lines.now (told_of files.old) (stage (E.view core.old) (E.now core.old) player.old.lanes.items) 0 0 (stage (E.view core.new) (E.now core.new) player.new.lanes.items) counts.skipped counts.refused) }
+    ensures told { OnOk result (told_of files.new ≡ told_in lines.now (told_of files.old)) }
+    ensures stands { OnOk result ((sent : ℕ → List ℕ) → AllStanding (E.fresh core.old) (told_of files.old) (stage (E.view core.old) (E.now core.old) player.old.lanes.items) sent → AllStanding (E.fresh core.old) (told_in lines.now (told_of files.old)) (stage (E.view core.new) (E.now core.new) player.new.lanes.items) (λ c. sent c ++ sent_in lines.now c)) }
 {
     let mut counts = Counts {
         skipped: 0,
         refused: 0,
     };
     for line in lines {
-        let answer = run_line(player, core, tree, line)?;
+        let answer = run_line(player, core, files, line)?;
         counts = count(counts, answer);
     }
     Ok(counts)

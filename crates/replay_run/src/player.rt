@@ -1,13 +1,17 @@
 // Runs lines on a core.
-ghost use Rattle.std.specs.Prelude.{◌≡◌, ◌<◌, ◌≤◌, ◌+◌, ◌*◌, ◌∷◌, ◌++◌, ℕ, [], Some, None, true, false, min, length, take, MatchOption, OnOk, IfOk, IfSome, IfNone, sum_by, Contains};
-ghost use Rattle.ngx_outside.specs.Views.{no_bytes};
+ghost use Rattle.std.specs.Prelude.{◌≡◌, ◌<◌, ◌≤◌, ◌+◌, ◌*◌, ◌∷◌, ◌++◌, ◌≢◌, ℕ, [], Some, None, true, false, min, length, take, MatchOption, OnOk, IfOk, IfSome, IfNone, sum_by, Contains};
+ghost use Rattle.ngx_outside.specs.Views.{no_bytes, ask_in};
+ghost use Rattle.memory_outside.specs.Stored.{newest_of, failing_of};
+ghost use Rattle.replay_run.specs.Told.{told_of};
 ghost use Rattle.ngx_outside.specs.declared.event.Event.TheVariants.{Opened, JobFailed, Run, Tick, Tree};
-ghost use Rattle.replay_run.specs.Scene.{Stage, stage, lane_in, has_lane, LaneAt, SameLanes, OnLane, Plain, Gives, Sends, EndsIfDue, Writes, Reads, shown_lane, due_lane, empty_lane, either as either_of, is_read, is_served, first_served, Serves, Drains, Drained, SendsLine, EndsLine, WritesLine, IsWanted, work, work_of};
+ghost use Rattle.replay_run.specs.Scene.{Stage, stage, lane_in, has_lane, LaneAt, SameLanes, OnLane, Plain, Gives, Sends, EndsIfDue, Writes, Reads, shown_lane, due_lane, empty_lane, either as either_of, is_read, is_served, first_served, Serves, Drains, Drained, SendsLine, EndsLine, WritesLine, JobLine, IsWanted, work, work_of};
 
+use crate::jobs::answer_job;
 use crate::serve::{end_if_due, offer, write as write_on};
 use crate::{InputEnd, Lane};
-use byte_text::OutOfMemory;
+use byte_text::{ByteText, OutOfMemory};
 use http_types::Addr;
+use memory_outside::MemoryFiles;
 use ngx_outside::{Event, EventCore, StepAnswer, Want};
 use std::alloc::Global;
 
@@ -121,7 +125,7 @@ fn serves(want: Want, lanes: &[Lane]) -> bool
     match want {
         Want::Read { conn, room: _ } => waits(lanes, conn),
         Want::Run { conn: _, node: _ } => true,
-        Want::Job { conn: _, node: _ } => false,
+        Want::Job { conn: _, node: _ } => true,
         Want::Write { conn: _ } => true,
         Want::Close { conn: _ } => false,
     }
@@ -157,8 +161,9 @@ fn run<E: EventCore>(core: &mut E, conn: u32, node: u32) -> StepAnswer
 /// counts nothing: each call answers what became of its line's step.
 #[derive(Drop)]
 pub struct Player {
-    alloc: Global,
+    pub(crate) alloc: Global,
     pub lanes: Vec<Lane>,
+    block: ByteText,
 }
 
 impl Player {
@@ -169,6 +174,7 @@ impl Player {
         Player {
             alloc,
             lanes: Vec::new(alloc),
+            block: ByteText::new(alloc),
         }
     }
 
@@ -253,10 +259,39 @@ impl Player {
         Ok(answer)
     }
 
-    fn serve<E: EventCore>(&mut self, core: &mut E, want: Want) -> Result<(), OutOfMemory>
+    /// Answers a node's job from the tree that it asks of; it fails where that tree has no answer to it.
+    pub fn answer<E: EventCore>(
+        &mut self,
+        core: &mut E,
+        files: &mut MemoryFiles,
+        conn: u32,
+        node: u32,
+    ) -> Result<StepAnswer, OutOfMemory>
+        requires newest { newest_of files.old ≡ (E.now core.old).tree }
+        requires sure { failing_of files.old ≡ [] }
+        ensures answers { IfOk result (λ a. JobLine (E.fresh core.old) (told_of files.old) conn node a (stage (E.view core.old) (E.now core.old) self.old.lanes.items) (stage (E.view core.new) (E.now core.new) self.new.lanes.items)) }
+        ensures told { told_of files.new ≡ told_of files.old }
+        ensures sure { failing_of files.new ≡ [] }
+        ensures steady { OnOk result ((E.fresh core.new ≡ E.fresh core.old) × (E.price core.new ≡ E.price core.old)) }
+        ensures falls { OnOk result (ask_in (E.view core.old conn).jobs node ≢ None → work (E.price core.old) (E.left core.new) self.new.lanes.items < work (E.price core.old) (E.left core.old) self.old.lanes.items) }
+    {
+        let answer = answer_job(core, files, &mut self.block, conn, node)?;
+        Ok(answer)
+    }
+
+    fn serve<E: EventCore>(
+        &mut self,
+        core: &mut E,
+        files: &mut MemoryFiles,
+        want: Want,
+    ) -> Result<(), OutOfMemory>
+        requires newest { newest_of files.old ≡ (E.now core.old).tree }
+        requires sure { failing_of files.old ≡ [] }
         requires wanted { IsWanted (E.view core.old) want }
         requires served { is_served (lane_in self.old.lanes.items) want ≡ true }
-        ensures serves { OnOk result (Serves (E.fresh core.old) want (stage (E.view core.old) (E.now core.old) self.old.lanes.items) (stage (E.view core.new) (E.now core.new) self.new.lanes.items)) }
+        ensures serves { OnOk result (Serves (E.fresh core.old) (told_of files.old) want (stage (E.view core.old) (E.now core.old) self.old.lanes.items) (stage (E.view core.new) (E.now core.new) self.new.lanes.items)) }
+        ensures told { told_of files.new ≡ told_of files.old }
+        ensures sure { failing_of files.new ≡ [] }
         ensures steady { OnOk result ((E.fresh core.new ≡ E.fresh core.old) × (E.price core.new ≡ E.price core.old)) }
         ensures falls { OnOk result (work (E.price core.old) (E.left core.new) self.new.lanes.items < work (E.price core.old) (E.left core.old) self.old.lanes.items) }
     {
@@ -269,23 +304,35 @@ impl Player {
                 run(core, conn, node);
                 Ok(())
             }
+            Want::Job { conn, node } => {
+                self.answer(core, files, conn, node)?;
+                Ok(())
+            }
             Want::Write { conn } => {
                 let most = core.pending(conn).len() as u64;
                 self.write(core, conn, most)?;
                 Ok(())
             }
-            Want::Job { conn: _, node: _ } => Ok(()),
             Want::Close { conn: _ } => Ok(()),
         }
     }
 
     /// Serves wants as long as one can be, each the first.
-    pub fn drain<E: EventCore>(&mut self, core: &mut E) -> Result<(), OutOfMemory>
-        ensures drains { OnOk result (Drains (E.fresh core.old) (stage (E.view core.old) (E.now core.old) self.old.lanes.items) (stage (E.view core.new) (E.now core.new) self.new.lanes.items)) }
+    pub fn drain<E: EventCore>(
+        &mut self,
+        core: &mut E,
+        files: &mut MemoryFiles,
+    ) -> Result<(), OutOfMemory>
+        requires newest { newest_of files.old ≡ (E.now core.old).tree }
+        requires sure { failing_of files.old ≡ [] }
+        ensures drains { OnOk result (Drains (E.fresh core.old) (told_of files.old) (stage (E.view core.old) (E.now core.old) self.old.lanes.items) (stage (E.view core.new) (E.now core.new) self.new.lanes.items)) }
+        ensures told { OnOk result (told_of files.new ≡ told_of files.old) }
+        ensures sure { OnOk result (failing_of files.new ≡ []) }
+        ensures newest { OnOk result (newest_of files.new ≡ (E.now core.new).tree) }
         ensures steady { OnOk result ((E.fresh core.new ≡ E.fresh core.old) × (E.price core.new ≡ E.price core.old)) }
     {
         while let Some(want) = pick(core.wants(), &self.lanes) {
-            self.serve(core, want)?;
+            self.serve(core, files, want)?;
         }
         Ok(())
     }

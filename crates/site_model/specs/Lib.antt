@@ -1,3 +1,2 @@
-pub mod Listen
-pub mod Serving
-pub mod Shown
+pub mod Levels
+pub mod Search

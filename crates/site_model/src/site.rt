@@ -1,147 +1,87 @@
-// A server with one location.
-ghost use Rattle.std.specs.Prelude.{◌≡◌, ◌++◌, Bool, true, false, [], Option, Some, None, IfOk, OnOk, codes, if◌then◌else◌};
-ghost use Rattle.resp_head.specs.Head.{is_bodiless as has_no_body};
-ghost use Rattle.error_page.specs.Page.{page_of};
-ghost use Rattle.site_model.specs.Serving.{is_closing as closes_behind, page_shown, text_reply as text_reply_of, page_reply as page_reply_of};
-ghost use Rattle.site_model.specs.Shown.{IsReply};
-
+// The site that a configuration describes.
 use crate::Listens;
-use byte_text::{ByteText, OutOfMemory};
-use error_page::page_text;
-use std::alloc::Global;
+use byte_text::ByteText;
+use file_type::Types;
+use ngx_variables::{Place, Value};
 
 /// The directive `return` (nginx's rewrite module): a code, and the text that is answered with it.
-#[derive(Clone, Debug, Drop)]
+#[derive(Drop)]
 pub struct Return {
     pub code: u16,
-    pub text: Option<ByteText>,
+    pub text: Option<Value>,
 }
 
-/// What is replied to a request: the status, the media type, the whole body, and whether the connection is closed behind
-/// the response.
-#[derive(Clone, Copy)]
-pub struct Reply<'a> {
-    pub status: u16,
-    pub kind: &'a [u8],
-    pub body: &'a [u8],
-    pub closes: bool,
+/// The values that hold in a level: in a server, or in one of its locations.
+#[derive(Drop)]
+pub struct Level {
+    /// Where its files stand: `root` or `alias`.
+    pub place: Place,
+    /// The number of its media types among the site's lists (`types` and `default_type`).
+    pub types: u32,
+    /// So many requests are answered on one connection (`keepalive_requests`).
+    pub requests: u32,
+    /// How long a connection is kept open behind a response, in milliseconds (`keepalive_timeout`); 0 closes it.
+    pub idle: u64,
+    /// What is returned in this level alone: it isn't inherited.
+    pub returned: Option<Return>,
 }
 
-#[tactic(auto, unfolding(crate::specs::Serving::is_closing))]
-fn is_closing(code: u16) -> bool
-    ensures { result ≡ closes_behind code }
-{
-    code == 400 || code == 413 || code == 414 || code == 500 || code == 501
+/// A location of a server (nginx's `location`): the paths that begin with its text, and the number of its level.
+#[derive(Drop)]
+pub struct Location {
+    pub text: ByteText,
+    pub level: u32,
 }
 
-#[tactic(auto, unfolding(resp_head::specs::Head::is_bodiless))]
-fn is_bodiless(code: u16) -> bool
-    ensures { result ≡ has_no_body code }
-{
-    code == 204 || code == 304
+/// A server: the addresses that it listens on, the number of its own level, and its locations in the order of the text.
+#[derive(Drop)]
+pub struct Server {
+    pub listens: Listens,
+    pub level: u32,
+    pub locations: Vec<Location>,
 }
 
-// The built-in page that the reply shows, where it shows one.
-fn page_for(alloc: Global, returned: &Option<Return>) -> Result<ByteText, OutOfMemory>
-    ensures { IfOk result (λ page. page ≡ page_shown returned.now) }
-{
-    let mut page = ByteText::new(alloc);
-    match returned {
-        None => page_text(404, &mut page)?,
-        Some(directive) => match &directive.text {
-            Some(_) => {}
-            None => {
-                if directive.code >= 400 {
-                    page_text(directive.code, &mut page)?;
-                }
-            }
-        },
-    }
-    Ok(page)
-}
-
-// A status without content has no text.
-fn content_of(code: u16, text: &[u8]) -> &[u8]
-    ensures { result.now ≡ (if has_no_body code then [] else text.now) }
-{
-    if is_bodiless(code) {
-        return b"";
-    }
-    text
-}
-
-#[tactic(auto, unfolding(crate::specs::Serving::text_reply))]
-fn text_reply(code: u16, text: &[u8]) -> Reply<'_>
-    ensures { IsReply result (text_reply_of code text.now) }
-{
-    Reply {
-        status: code,
-        kind: b"text/plain",
-        body: content_of(code, text),
-        closes: false,
-    }
-}
-
-/// The reply that shows the built-in page of an error. The page is its text.
-#[tactic(auto, unfolding(crate::specs::Serving::page_reply))]
-pub fn page_reply(code: u16, page: &[u8]) -> Reply<'_>
-    requires { page.now ≡ page_of code }
-    ensures { IsReply result (page_reply_of code) }
-{
-    Reply {
-        status: code,
-        kind: b"text/html",
-        body: page,
-        closes: is_closing(code),
-    }
-}
-
-/// A server with one location: the addresses that it listens on, and what the location returns, if it returns.
+/// A site: its servers in the order of the text, and the levels and the lists of media types that they name by number, so
+/// that levels which inherit a list share it. Contracts see what the numbers stand for (`seen`); a number that is none of
+/// the lists' stands for `outside` or `plain`.
 #[derive(Drop)]
 pub struct Site {
-    pub listens: Listens,
-    pub returned: Option<Return>,
-    page: ByteText,
-    ghost paged: { page ≡ page_shown returned },
+    /// The folder at which relative paths start: that of the main file.
+    pub folder: ByteText,
+    pub servers: Vec<Server>,
+    pub levels: Vec<Level>,
+    pub types: Vec<Types>,
+    /// The values that hold where nothing is stated.
+    pub outside: Level,
+    /// The media types that hold where nothing is stated.
+    pub plain: Types,
 }
 
 impl Site {
-    ghost use Rattle.std.specs.Prelude.{◌≡◌, IfOk};
-    ghost use Rattle.file_tree.specs.Tree.{Tree};
-    ghost use Rattle.site_model.specs.Serving.{reply_of};
-    ghost use Rattle.site_model.specs.Shown.{IsReply};
+    ghost use Rattle.std.specs.Prelude.{◌≡◌, option_map};
+    ghost use Rattle.site_model.specs.Levels.{types_at, raw_level, level_at};
+    ghost use Rattle.site_model.specs.Search.{server_for, level_for};
+    ghost use Rattle.site_model.specs.Levels.{seen, server_seen};
 
-    pub fn new(
-        alloc: Global,
-        listens: Listens,
-        returned: Option<Return>,
-    ) -> Result<Self, OutOfMemory>
-        ensures { IfOk result (λ site. (site.listens ≡ listens) × (site.returned ≡ returned)) }
+    /// The media types with a number.
+    #[tactic(auto, unfolding(crate::specs::Levels::types_at))]
+    pub fn types(&self, number: u32) -> &Types
+        ensures { result.now ≡ types_at self.now number }
     {
-        let page = page_for(alloc, &returned)?;
-        Ok(Site {
-            listens,
-            returned,
-            page,
-        })
+        match self.types.get(number as usize) {
+            Some(types) => types,
+            None => &self.plain,
+        }
     }
 
-    /// What is replied to any request. It takes no memory.
-    pub fn reply(&self) -> Reply<'_>
-        ensures { (tree : Tree) → IsReply result (reply_of self.now.returned tree) }
+    /// The level with a number.
+    #[tactic(auto, unfolding(crate::specs::Levels::raw_level))]
+    pub fn level(&self, number: u32) -> &Level
+        ensures { result.now ≡ raw_level self.now number }
     {
-        match &self.returned {
-            None => page_reply(404, self.page.as_slice()),
-            Some(directive) => match &directive.text {
-                Some(text) => text_reply(directive.code, text.as_slice()),
-                None => {
-                    if directive.code >= 400 {
-                        page_reply(directive.code, self.page.as_slice())
-                    } else {
-                        text_reply(directive.code, b"")
-                    }
-                }
-            },
+        match self.levels.get(number as usize) {
+            Some(level) => level,
+            None => &self.outside,
         }
     }
 }

@@ -8,10 +8,13 @@ use mio::net::TcpListener;
 use ngx_outside::Notice;
 use std::collections::VecDeque;
 
+/// A listener: whether it may have a peer, and whether its last peer couldn't be accepted, as where no descriptor is left;
+/// then it is tried again once the poll was asked, so that it takes no time till then.
 #[derive(Drop)]
 pub struct Listener {
     pub socket: TcpListener,
     pub ready: bool,
+    pub stuck: bool,
 }
 
 /// An event of a link.
@@ -45,6 +48,16 @@ pub fn ready_listener(listeners: &[Listener]) -> Option<usize>
         }
     }
     None
+}
+
+/// Has the listeners that are stuck tried again.
+pub fn retry(listeners: &mut [Listener]) {
+    for at in 0..listeners.len() {
+        if listeners[at].stuck {
+            listeners[at].stuck = false;
+            listeners[at].ready = true;
+        }
+    }
 }
 
 pub fn set_mark(marks: &mut [Mark], id: u32, mark: Mark) {

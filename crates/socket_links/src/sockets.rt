@@ -7,7 +7,7 @@ ghost use Rattle.socket_links.specs.Slots.{GoesOn, OpensIn, open_in, untold, use
 
 use crate::notices::{
     Listener, Mark, Ready, UNMARKED, again_of, collect, mark_of, notice_of, ready_listener,
-    report_again, set_mark,
+    report_again, retry, set_mark,
 };
 use crate::slots::{
     Link, SLOTS, close_at, has_ids, is_wait, next_id, open_at, read_at, slot_of, write_at,
@@ -56,6 +56,17 @@ fn addr_of(addr: SocketAddr) -> Addr {
         ip: addr.ip(),
         port: addr.port(),
     }
+}
+
+// No slot has had a link.
+fn no_counts(alloc: Global) -> Result<Vec<u32>, AllocError>
+    ensures { IfOk result (λ counts. (id : ℕ) → used_in counts.items id ≡ false) }
+{
+    let mut counts = Vec::with_capacity(alloc, SLOTS as usize)?;
+    for _ in 0..SLOTS {
+        counts.push(0u32)?;
+    }
+    Ok(counts)
 }
 
 // Empty slots.
@@ -125,20 +136,22 @@ impl<'a, R: Net> SocketLinks<'a, R> {
     ghost use Rattle.std.specs.Prelude.{◌≡◌, ◌≢◌, ◌≤◌, ◌++◌, ◌∷◌, ℕ, [], false, IfNone, IfOk, IfSome, OnErr, OnOk};
     ghost use Rattle.ngx_outside.specs.Causes.{Rose};
     ghost use Rattle.socket_links.specs.Slots.{GoesOn, OpensIn};
-    ghost use Rattle.socket_links.specs.Sockets.{is_open_in};
+    ghost use Rattle.socket_links.specs.Sockets.{is_open_in, is_used_in};
 
     /// No link and no listener yet.
     pub fn new(alloc: Global, rt: &'a R) -> io::Result<Self>
-        ensures { IfOk result (λ s. (id : ℕ) → is_open_in s id ≡ false) }
+        ensures none_used { IfOk result (λ s. (id : ℕ) → is_used_in s id ≡ false) }
+        ensures none_open { IfOk result (λ s. (id : ℕ) → is_open_in s id ≡ false) }
     {
         let links = empty_slots(alloc)?;
+        let counts = no_counts(alloc)?;
         Ok(SocketLinks {
             rt,
             poll: Poll::new(rt)?,
             events: Events::with_capacity(alloc, EVENTS)?,
             listeners: Vec::new(alloc),
             listening: Vec::new(alloc),
-            counts: Vec::from_elem(alloc, 0u32, SLOTS as usize)?,
+            counts,
             links,
             marks: Vec::from_elem(alloc, UNMARKED, SLOTS as usize)?,
             free: all_slots(alloc)?,
@@ -165,6 +178,7 @@ impl<'a, R: Net> SocketLinks<'a, R> {
         self.listeners.push(Listener {
             socket,
             ready: true,
+            stuck: false,
         })?;
         self.listening.push(addr)?;
         Ok(())
@@ -194,9 +208,8 @@ impl<'a, R: Net> SocketLinks<'a, R> {
                 Some(notice)
             }
             Err(error) => {
-                if is_wait(&error) {
-                    self.listeners[at].ready = false;
-                }
+                self.listeners[at].ready = false;
+                self.listeners[at].stuck = !is_wait(&error);
                 Some(Notice::Nothing)
             }
         }
@@ -249,6 +262,7 @@ impl<'a, R: Net> SocketLinks<'a, R> {
         match self.poll.poll(&mut self.events, Some(timeout)) {
             Ok(()) => {
                 collect(&self.events, &mut self.batch, self.listeners.as_mut_slice());
+                retry(self.listeners.as_mut_slice());
                 match self.batch.pop() {
                     Some(ready) => notice_of(
                         self.links.as_slice(),

@@ -6,6 +6,7 @@ use Rattle.ssi_text.specs.declared.part.Front.TheVariants.{Open, Plain, Whole}
 use Rattle.ssi_text.specs.Marks.{Mark, Byte}
 use Rattle.ssi_text.specs.Moves.{Moved}
 use Rattle.ssi_text.specs.Split.{split, front, parts}
+use Rattle.ssi_text.specs.Laws.{PiecesMakeNoDifference}
 use Rattle.ssi_text.proofs.Decided.{split-append}
 use Rattle.ssi_text.proofs.Steps.{at_front, split-open, moved-end}
 
@@ -56,3 +57,10 @@ parts-pieces piece rest =
 
 pub moved-none : (a : List Mark) (whole : List ℕ) → Moved a a whole whole
 moved-none a whole = record { out = refl; held = refl }
+
+pub pieces-make-no-difference : PiecesMakeNoDifference
+pieces-make-no-difference = record {
+  goes_on = λ piece more. split-append 0 piece more (omega arith);
+  pieces = parts-pieces;
+  held = split-again 0;
+}

@@ -13,5 +13,6 @@ pub record HeldIsOpen : Type 0 where
 
 -- pieces make no difference: what is decided stays decided, and the split goes on with what is held
 pub record PiecesMakeNoDifference : Type 0 where
+  pub goes_on : (piece more : List ℕ) → split 0 (piece ++ more) ≡ ((split 0 piece).0 ++ (split 0 ((split 0 piece).1 ++ more)).0, (split 0 ((split 0 piece).1 ++ more)).1)
   pub pieces : (piece rest : List ℕ) → parts (piece ++ rest) ≡ (split 0 piece).0 ++ parts ((split 0 piece).1 ++ rest)
   pub held : (piece : List ℕ) → split 0 (split 0 piece).1 ≡ ([], (split 0 piece).1)

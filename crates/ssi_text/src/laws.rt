@@ -1,8 +1,8 @@
 // What the split of a document means.
 ghost use Rattle.ssi_text.specs.Laws.{PiecesMakeNoDifference, HeldIsOpen};
 
-/// A document that comes in two pieces, and so in any: what the first piece decides, and then the parts of what is held
-/// and the rest, are its parts. What is held decides nothing by itself.
+/// A document that comes in two pieces, and so in any: what the first piece decides, and then what is held and the rest,
+/// split on, give its parts and what they leave open. What is held decides nothing by itself.
 pub fn pieces_make_no_difference()
     ensures { PiecesMakeNoDifference }
 {}

@@ -1,6 +1,7 @@
 //! Runs `ngx replay` on each of the scripts that its words name, one after another, and prints the exit status behind each.
 #![tactic(auto)]
 
+use memory_outside::{FixedClock, MemoryLinks};
 use ngx_cli::ngx;
 use std::alloc::Global;
 use std::process::ExitCode;
@@ -28,7 +29,9 @@ fn main(rt: HostRuntime) -> io::Result<ExitCode> {
     for script in env::args(&rt)?.skip(1) {
         println!(rt; "-- {script}")?;
         let words = words_for(alloc, script)?;
-        let status = ngx(alloc, &words, &mut files, &mut out);
+        let mut links = MemoryLinks::new(alloc, Vec::new(alloc), Vec::new(alloc));
+        let mut clock = FixedClock { moment: 0 };
+        let status = ngx(alloc, &words, &mut files, &mut links, &mut clock, &mut out);
         println!(rt; "-- status {status}")?;
     }
     Ok(ExitCode::SUCCESS)

@@ -1,4 +1,6 @@
 use Rattle.std.proofs.Common.{◌≤◌, length, map}
+use Rattle.conf_values.specs.TextSet.{holds}
+use Rattle.conf_inherit.specs.Ends.{has_end}
 use Rattle.conf_inherit.proofs.CheckLaws.{Standing}
 use Rattle.conf_inherit.proofs.check.+check_level.Given as goal
 
@@ -7,7 +9,9 @@ decreases-check_level l = length l.level.now
 
 -- what was passed has no fault
 abbrev pub invariant-loop-branch : goal.invariant-loop-branch
-invariant-loop-branch l = Standing l.here (map (λ n. n.now) l.before.names.items) l.before.addrs.keys l.rest l.level × (length l.rest ≤ length l.level)
+invariant-loop-branch l =
+    Standing (holds l.known.keys) (has_end l.fn.marked.keys) (has_end l.marked.keys) l.here (map (λ n. n.now) l.before.names.items) l.before.addrs.keys l.before.locations l.rest l.level
+    × (length l.rest ≤ length l.level)
 
 abbrev pub decreases-loop-branch : goal.decreases-loop-branch
 decreases-loop-branch l = length l.rest

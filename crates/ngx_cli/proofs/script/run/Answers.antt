@@ -1,15 +1,15 @@
 use Rattle.std.proofs.Common.{◌≡◌, ℕ, List, [], refl, sym, ap, ◌∙◌, subst}
 use Rattle.std.specs.Prelude.{map}
-use Rattle.file_tree.specs.Tree.{Trees}
-use Rattle.ngx_outside.specs.Views.{Course}
+use Rattle.ngx_outside.specs.Views.{Course, Start}
 use Rattle.http_types.specs.declared.words.Addr.{Addr}
 use Rattle.connection.specs.Conn.{fresh_course}
+use Rattle.replay_run.specs.Told.{Told, told_of, told_first, told_in}
 use Rattle.replay_run.specs.Scene.{Stage, stage}
 use Rattle.replay_run.specs.Plays.{Plays, sent_in}
 use Rattle.replay_run.specs.Standing.{AllStanding}
 use Rattle.connection_core.specs.Core.{view_at, now_at, fresh_at, journal_at, conns_held}
 use Rattle.report_text.specs.Report.{run_text}
-use Rattle.ngx_cli.specs.Running.{IsNew, report_in, Ran}
+use Rattle.ngx_cli.specs.Running.{IsNew, report_in}
 use Rattle.ngx_cli.proofs.Answering.{answered, begins_standing}
 use Rattle.ngx_cli.proofs.script.run.Goals as goal
 
@@ -18,6 +18,8 @@ returns c =
     let site = c.args.site in
     let events = c.args.events.now in
     let hub = c.in_ok-hub.hub in
+    let files = c.in_ok-files.files in
+    let told : told_of files ≡ told_first c.args.tree.now = c.in_ok-files.ensures.told in
     let end = c.run_lines.new.core in
     let counts = c.in_ok-counts.counts in
     let first : Stage = stage (view_at hub) (now_at hub) c.new-player.result.lanes.items in
@@ -31,13 +33,18 @@ returns c =
         skipped = counts.skipped;
         refused = counts.refused;
         begins = new;
-        plays = subst (λ f. Plays f events first 0 0 last counts.skipped counts.refused) c.in_ok-hub.ensures.fresh c.in_ok-counts.ensures.plays;
+        plays = subst (λ t. Plays (fresh_course site) events t first 0 0 last counts.skipped counts.refused) told
+            (subst (λ f. Plays f events (told_of files) first 0 0 last counts.skipped counts.refused) c.in_ok-hub.ensures.fresh c.in_ok-counts.ensures.plays);
         conns = conns_held end;
         held = c.put_run.ensures.held;
         journals = journal_at end;
         started = λ q. (c.cores_are_sound.ensures end q).started;
         printed = refl;
-        answered = λ q among. answered c.all_is_sent_when_idle.ensures site (last.view q) (last.lanes q) (sent_in events q) ((c.put_run.ensures.held.held q).0 among) (c.cores_are_sound.ensures end q).raceless (c.cores_are_sound.ensures end q).sound
-            (λ told. subst (λ f. AllStanding f told 0 last (λ k. sent_in events k)) c.in_ok-hub.ensures.fresh (c.in_ok-counts.ensures.stands told 0 (λ k. []) (begins_standing (fresh_at hub) told first new)) q);
+        answered = λ q among. answered c.all_is_sent_when_idle.ensures site (told_in events (told_first c.args.tree.now)) (last.view q) (last.lanes q) (sent_in events q) ((c.put_run.ensures.held.held q).0 among) (c.cores_are_sound.ensures end q).sound
+            (subst (λ t. AllStanding (fresh_course site) (told_in events t) last (λ k. sent_in events k)) told
+            (subst (λ f. AllStanding f (told_in events (told_of files)) last (λ k. sent_in events k)) c.in_ok-hub.ensures.fresh (c.in_ok-counts.ensures.stands (λ k. []) (begins_standing (fresh_at hub) (told_of files) first new))) q);
       },
     )
+
+pub run_lines-requires-clause-newest : goal.run_lines-requires-clause-newest
+run_lines-requires-clause-newest c = ap (λ (t : Told). t.newest) c.in_ok-files.ensures.told ∙ sym (ap (λ (s : Start). s.tree) c.in_ok-hub.ensures.now)

@@ -28,5 +28,6 @@ loop-turn-preserved g c =
       files = s.tells.0.2 ∙ i.files;
       clock = s.tells.1 ∙ i.clock;
       moments = λ tc. (let a = s.moments (i.clock ∙ tc) in let b = i.moments tc in omega (arith, a, b));
+      grown = (let a = s.grown in let b = i.grown in omega (arith, a, b));
       later = (let a = s.later in let b = i.later in omega (arith, a, b));
     }

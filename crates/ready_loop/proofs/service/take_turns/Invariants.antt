@@ -26,5 +26,6 @@ invariant-loop-turn g l =
       files : f.tells l.files ≡ f.tells l.fn.files;
       clock : t.tells l.clock ≡ t.tells l.fn.clock;
       moments : t.tells l.fn.clock ≡ true → length (t.told l.clock) ≡ length (t.told l.fn.clock) + l._turn;
+      grown : f.newest l.fn.files ≤ f.newest l.files;
       later : k.faults l.fn.links ≤ k.faults l.links;
     }

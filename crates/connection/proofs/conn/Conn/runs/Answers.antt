@@ -4,6 +4,7 @@ use Rattle.file_tree.specs.Tree.{Trees, Nothing}
 use Rattle.ngx_outside.specs.Views.{Start}
 use Rattle.connection.specs.Steps.{RanOne}
 use Rattle.connection.specs.Conn.{starts_at}
+use Rattle.connection.specs.Answers.{service_of}
 use Rattle.connection.proofs.Bodies.{ran_drained, ran_unended}
 use Rattle.connection.proofs.Moves.{starts_if, ready_at, ran_went, ran_left}
 use Rattle.connection.proofs.conn.Conn.runs.Goals as goal
@@ -15,7 +16,7 @@ never false e f = cc
 pub returns-in-Ok : goal.returns-in-Ok
 returns-in-Ok c = λ conn.
     let s = c.args.self.now in
-    let site = c.args.site.now in
+    let site = service_of c.args.site.now s.local s.peer in
     let start : Start = record { moment = c.args.moment; tree = c.args.tree } in
     let t : starts_at (is_some s.cause) s.closing s.pending s.body s.next ≡ true = cc in
     let st = starts_if (is_some s.cause) s.closing s.pending s.body s.next t in
@@ -34,7 +35,7 @@ returns-in-Ok c = λ conn.
 pub invariant_of-self : goal.invariant_of-self
 invariant_of-self c =
     let s = c.args.self.now in
-    let site = c.args.site.now in
+    let site = service_of c.args.site.now s.local s.peer in
     let start : Start = record { moment = c.args.moment; tree = c.args.tree } in
     let t : starts_at (is_some s.cause) s.closing s.pending s.body s.next ≡ true = cc in
     let st = starts_if (is_some s.cause) s.closing s.pending s.body s.next t in

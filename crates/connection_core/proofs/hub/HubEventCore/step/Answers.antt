@@ -10,12 +10,12 @@ pub returns-in-Opened-clause-steps : goal.returns-in-Opened-clause-steps
 returns-in-Opened-clause-steps c =
     let h = c.args.self.now in
     let n = c.open.new.self in
-    subst (λ e. Steps (fresh_at h) (now_at h) e c.open.result (view_at h) (view_in n.site n.ids.items n.conns.items)) (sym c.in-Opened.is) (c.open.ensures.steps c.in-Opened.peer (now_at h))
+    subst (λ e. Steps (fresh_at h) (now_at h) e c.open.result (view_at h) (view_in n.site n.ids.items n.conns.items)) (sym c.in-Opened.is) (c.open.ensures.steps (now_at h))
 
 pub returns-in-Opened-clause-opens : goal.returns-in-Opened-clause-opens
 returns-in-Opened-clause-opens c =
     let h = c.args.self.now in
-    subst (λ e. OpensIf (opens_at h) e c.open.result) (sym c.in-Opened.is) (c.open.ensures.opens c.in-Opened.peer)
+    subst (λ e. OpensIf (opens_at h) e c.open.result) (sym c.in-Opened.is) c.open.ensures.opens
 
 pub returns-in-Tick-clause-steps : goal.returns-in-Tick-clause-steps
 returns-in-Tick-clause-steps c =

@@ -1,11 +1,14 @@
 use Rattle.std.proofs.Common.{◌≡◌, ◌∙◌, refl, sym, ap, subst, Some}
 use Rattle.ngx_outside.specs.Wants.{wants_in}
+use Rattle.ngx_outside.specs.Views.{Start}
+use Rattle.replay_run.specs.Told.{Told, told_of}
 use Rattle.replay_run.specs.Scene.{stage, lane_in, first_served, Serves, Begun, Then}
+use Rattle.replay_run.proofs.Numbers.{serves_now}
 use Rattle.replay_run.proofs.Wanted.{served_wanted, served_is}
 use Rattle.replay_run.proofs.player.Player.drain.Goals as goal
 
 pub loop-want-init : goal.loop-want-init
-loop-want-init g c = record { fresh = refl; price = refl; path = Begun }
+loop-want-init g c = record { fresh = refl; price = refl; newest = c.requires.newest; sure = c.requires.sure; told = refl; path = Begun }
 
 pub serve-requires-clause-wanted : goal.serve-requires-clause-wanted
 serve-requires-clause-wanted g c =
@@ -30,7 +33,11 @@ loop-want-preserved g c =
     record {
       fresh = c.in_ok-serve.ensures.steady.0 ∙ c.loop-want.invariant.fresh;
       price = c.in_ok-serve.ensures.steady.1 ∙ c.loop-want.invariant.price;
+      newest = ap (λ (t : Told). t.newest) c.in_ok-serve.ensures.told ∙ c.loop-want.invariant.newest ∙ sym (ap (λ (s : Start). s.tree) (serves_now (e.fresh c.loop-want.core) (told_of c.loop-want.files) c.in-Some.want mid new c.in_ok-serve.ensures.serves));
+      sure = c.in_ok-serve.ensures.sure;
+      told = c.in_ok-serve.ensures.told ∙ c.loop-want.invariant.told;
       path = Then mid new (e.conns c.loop-want.core) c.in-Some.want c.loop-want.invariant.path
           (record { order = c.wants.ensures.order; held = c.wants.ensures.held }) served
-          (subst (λ f. Serves f c.in-Some.want mid new) c.loop-want.invariant.fresh c.in_ok-serve.ensures.serves);
+          (subst (λ t. Serves (e.fresh c.args.core.now) t c.in-Some.want mid new) c.loop-want.invariant.told
+          (subst (λ f. Serves f (told_of c.loop-want.files) c.in-Some.want mid new) c.loop-want.invariant.fresh c.in_ok-serve.ensures.serves));
     }

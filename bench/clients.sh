@@ -1,0 +1,73 @@
+#!/bin/bash
+# Asks a running `ngx serve` as real clients do, and as bad ones, and says of each whether the answer is right.
+# usage: bench/clients.sh
+set -u
+top=$(cd "$(dirname "$0")/.." && pwd)
+work=$(mktemp -d)
+port=18090
+url=http://127.0.0.1:$port/
+printf 'http { server { listen 127.0.0.1:%s; location / { return 200 hi; } } }\n' $port >"$work/conf"
+"$top/ngx" serve "$work/conf" &
+server=$!
+trap 'kill $server 2>/dev/null; rm -rf "$work"' EXIT
+for _ in $(seq 50); do curl -s -o /dev/null $url && break; sleep 0.1; done
+failed=0
+expect() { # what, the answer that is due, the answer
+    if [ "$2" = "$3" ]; then echo "good: $1"; else echo "bad:  $1: $3 and not $2"; failed=1; fi
+}
+expect "curl, HTTP/1.1" "hi 200 1.1" "$(curl -s -w ' %{http_code} %{http_version}' $url)"
+expect "curl, HTTP/1.0" "hi 200" "$(curl -s --http1.0 -w ' %{http_code}' $url)"
+expect "curl, two requests on one connection" "hihi 1" "$(curl -s $url $url -w '' ; echo " $(curl -s -v $url $url 2>&1 | grep -c 'Re-using existing connection')")"
+expect "curl, HEAD" "200 2" "$(curl -s -I $url | tr -d '\r' | awk 'NR == 1 { s = $2 } tolower($1) == "content-length:" { l = $2 } END { print s, l }')"
+expect "three pipelined requests by nc" 3 "$(printf 'GET / HTTP/1.1\r\nHost: a\r\n\r\nGET / HTTP/1.1\r\nHost: a\r\n\r\nGET / HTTP/1.1\r\nHost: a\r\nConnection: close\r\n\r\n' | nc -w 3 127.0.0.1 $port | grep -o 'HTTP/1.1 200' | wc -l)"
+python3 - $port <<'PY' || failed=1
+import socket, sys, time
+port = int(sys.argv[1])
+ask = b'GET / HTTP/1.1\r\nHost: a\r\n\r\n'
+bad = 0
+def told(what, good):
+    global bad
+    print(('good: ' if good else 'bad:  ') + what)
+    bad |= not good
+def link():
+    s = socket.create_connection(('127.0.0.1', port), timeout=5)
+    return s
+def answer(s):
+    text = b''
+    try:
+        while not text.endswith(b'hi'):
+            more = s.recv(4096)
+            if not more: break
+            text += more
+    except OSError: pass
+    return text
+s = link(); s.sendall(ask[:10]); s.close()
+s = link(); s.sendall(ask); told('half a head and a close touch no other link', answer(s).startswith(b'HTTP/1.1 200')); s.close()
+s = link()
+for i in range(len(ask)): s.sendall(ask[i:i + 1]); time.sleep(0.002)
+told('a head one byte at a time', answer(s).startswith(b'HTTP/1.1 200')); s.close()
+import struct
+s = link(); s.sendall(ask); s.setsockopt(socket.SOL_SOCKET, socket.SO_LINGER, struct.pack('ii', 1, 0)); s.close()
+s = link(); s.sendall(ask); told('a reset touches no other link', answer(s).startswith(b'HTTP/1.1 200')); s.close()
+time.sleep(0.5)
+links = [link() for i in range(600)]
+time.sleep(1)
+for s in links:
+    try: s.sendall(ask)
+    except OSError: pass
+served = sum(answer(s).startswith(b'HTTP/1.1 200') for s in links)
+told('600 links at once: 512 are served and the others closed (%d)' % served, served == 512)
+for s in links: s.close()
+time.sleep(0.5)
+s = link(); s.sendall(ask); told('and then one more is served', answer(s).startswith(b'HTTP/1.1 200')); s.close()
+sys.exit(bad)
+PY
+"$top/ngx" serve "$work/conf" </dev/null
+expect "a port in use" 6 $?
+kill $server
+wait $server 2>/dev/null
+"$top/ngx" serve "$work/conf" &
+server=$!
+for _ in $(seq 50); do curl -s -o /dev/null $url && break; sleep 0.1; done
+expect "again on the same port" "hi" "$(curl -s $url)"
+exit $failed

@@ -1,8 +1,0 @@
-use Rattle.std.proofs.Common.{◌≡◌, drop}
-use Rattle.std.specs.List.{list_all}
-use Rattle.conf_inherit.specs.Listening.{is_default}
-use Rattle.conf_inherit.proofs.address.are_default.Given as goal
-
--- the words that are left decide
-abbrev pub invariant-loop-word : goal.invariant-loop-word
-invariant-loop-word l = list_all is_default (drop l.word-index l.words) ≡ list_all is_default l.words

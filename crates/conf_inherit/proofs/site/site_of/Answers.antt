@@ -1,0 +1,26 @@
+use Rattle.std.proofs.Common.{[], Some, sym, ap, ◌∙◌}
+use Rattle.std.specs.List.{slice_get}
+use Rattle.site_model.specs.declared.site.Site.{Site}
+use Rattle.conf_inherit.specs.Forest.{forest_of}
+use Rattle.conf_inherit.specs.Values.{Values, stated, over}
+use Rattle.conf_inherit.specs.Pools.{values_by}
+use Rattle.conf_inherit.proofs.BuiltLaws.{site-shown}
+use Rattle.conf_inherit.proofs.site.site_of.Goals as goal
+
+pub inner-requires : goal.inner-requires
+inner-requires c =
+    ap (slice_get c.in_ok-pool.pool.types.items) c.defaults.ensures.types ∙ c.in_ok-pool.ensures ∙ ap (λ (v : Values). Some v.types) (sym c.defaults.ensures.values)
+
+pub returns : goal.returns
+returns c =
+    let site : Site = record {
+      folder = c.in_ok-from_slice.field-0;
+      servers = c.in_ok-servers.servers;
+      levels = c.servers_of.new.pool.levels;
+      types = c.servers_of.new.pool.types;
+      outside = c.in_ok-level_of.field-0;
+      plain = c.in_ok-types_of.field-0;
+    } in
+    site-shown site c.args.folder.now (forest_of c.args.http.now) (values_by c.in_ok-values.values) c.in_ok-from_slice.ensures
+    (c.in_ok-values.ensures.values ∙ ap (over (stated [] (forest_of c.args.http.now))) c.defaults.ensures.values)
+    (c.in_ok-servers.ensures site ((λ n x h. h), (λ n x h. h)))

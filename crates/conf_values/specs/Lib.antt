@@ -1,0 +1,5 @@
+pub mod Numbers
+pub mod Listening
+pub mod TextSet
+pub mod Texts
+pub mod Returning

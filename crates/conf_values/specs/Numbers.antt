@@ -1,0 +1,51 @@
+-- Numbers and times as the values of directives.
+use Rattle.std.specs.Prelude.{ℕ, ◌+◌, ◌*◌, ◌-◌, List, [], ◌∷◌, take, drop, ◌==◌, Bool, false, not, ◌&&◌, nat_le, Option, None, Some, codes, bytes_eq, if◌then◌else◌}
+use Rattle.std.specs.List.{list_all, prefix_len}
+
+-- `0` to `9`
+abbrev pub is_decimal : ℕ → Bool
+is_decimal b = nat_le 48 b && nat_le b 57
+
+-- the number that these digits write behind those of n
+abbrev pub value_behind : ℕ → List ℕ → ℕ
+value_behind n [] = n
+value_behind n (b ∷ bs) = value_behind (n * 10 + (b - 48)) bs
+
+-- decimal digits, the first not `0`
+abbrev pub is_numeral : List ℕ → Bool
+is_numeral [] = false
+is_numeral (b ∷ bs) = list_all is_decimal (b ∷ bs) && not (b == 48)
+
+-- a port from 1 to 65535 in decimals, with no leading zero
+unfoldable pub port_of : List ℕ → Option ℕ
+port_of text = if is_numeral text && nat_le (value_behind 0 text) 65535 then Some (value_behind 0 text) else None
+
+-- a count from 1 to 1000000000 in decimals, with no leading zero
+unfoldable pub count_of : List ℕ → Option ℕ
+count_of text = if is_numeral text && nat_le (value_behind 0 text) 1000000000 then Some (value_behind 0 text) else None
+
+-- how many milliseconds a unit has; a second is the unit of a number alone
+unfoldable pub unit_of : List ℕ → Option ℕ
+unit_of word =
+    if bytes_eq word [] then Some 1000
+    else (if bytes_eq word (codes "ms") then Some 1
+    else (if bytes_eq word (codes "s") then Some 1000
+    else (if bytes_eq word (codes "m") then Some 60000
+    else (if bytes_eq word (codes "h") then Some 3600000
+    else (if bytes_eq word (codes "d") then Some 86400000
+    else None)))))
+
+-- how many digits the text begins with
+unfoldable pub digits_before : List ℕ → ℕ
+digits_before text = prefix_len is_decimal text
+
+-- so many units in milliseconds, where these are at most 2^40 seconds
+abbrev pub milliseconds : (count : ℕ) → (unit : Option ℕ) → Option ℕ
+milliseconds count None = None
+milliseconds count (Some unit) = if nat_le (count * unit) 1099511627776000 then Some (count * unit) else None
+
+-- A time in milliseconds: digits, and behind them its unit (nginx's documentation, "Configuration file measurement units").
+unfoldable pub time_of : List ℕ → Option ℕ
+time_of text =
+    if digits_before text == 0 then None
+    else milliseconds (value_behind 0 (take (digits_before text) text)) (unit_of (drop (digits_before text) text))

@@ -1,0 +1,197 @@
+// The addresses of `listen`.
+ghost use Rattle.std.specs.Prelude.{◌≡◌, ℕ, ◌+◌, ◌≤◌, ◌==◌, List, length, take, drop, option_map};
+ghost use Rattle.std.specs.List.{list_all, list_any, position_or_len};
+ghost use Rattle.conf_values.specs.Listening.{before_byte, behind_byte, ipv4_of, ipv6_of, wildcard, behind_colon, port_in, end_of, plain_end, listened, listened_by, is_default, has_known_parameters, is_marked};
+
+use crate::number::port_of;
+use byte_text::ByteText;
+use http_types::Addr;
+use std::net::{IpAddr, Ipv4Addr, Ipv6Addr};
+
+/// How many bytes stand before the first of this value.
+fn length_before(bytes: &[u8], byte: u8) -> usize
+    ensures place { result ≡ position_or_len (λ b. b == byte) bytes.now }
+    ensures within { result ≤ length bytes.now }
+{
+    for (i, b) in bytes.iter().enumerate() {
+        if *b == byte {
+            return i;
+        }
+    }
+    bytes.len()
+}
+
+/// The text before the first byte of this value, or all of it.
+fn before_byte(text: &[u8], byte: u8) -> &[u8]
+    ensures { result.now ≡ before_byte byte text.now }
+{
+    let at = length_before(text, byte);
+    &text[..at]
+}
+
+/// The bytes from this place on.
+fn bytes_from(bytes: &[u8], at: usize) -> &[u8]
+    requires { at ≤ length bytes.now }
+    ensures { result.now ≡ drop at bytes.now }
+{
+    &bytes[at..]
+}
+
+/// The text behind the first byte of this value, if there is one.
+fn behind_byte(text: &[u8], byte: u8) -> Option<&[u8]>
+    ensures { option_map (λ t. t.now) result ≡ behind_byte byte text.now }
+{
+    let at = length_before(text, byte);
+    if at == text.len() {
+        return None;
+    }
+    Some(bytes_from(text, at + 1))
+}
+
+fn ipv4_of(text: &[u8]) -> Option<IpAddr>
+    ensures { result ≡ ipv4_of text.now }
+{
+    match Ipv4Addr::parse_ascii(text) {
+        Ok(ip) => Some(IpAddr::V4(ip)),
+        Err(_error) => None,
+    }
+}
+
+fn ipv6_of(text: &[u8]) -> Option<IpAddr>
+    ensures { result ≡ ipv6_of text.now }
+{
+    match Ipv6Addr::parse_ascii(text) {
+        Ok(ip) => Some(IpAddr::V6(ip)),
+        Err(_error) => None,
+    }
+}
+
+/// Every IPv4 address.
+#[tactic(auto, unfolding(crate::specs::Listening::wildcard))]
+pub fn wildcard() -> IpAddr
+    ensures { result ≡ wildcard }
+{
+    IpAddr::V4(Ipv4Addr::new(0, 0, 0, 0))
+}
+
+/// What stands behind a colon that stands first.
+fn behind_colon(text: Option<&[u8]>) -> Option<&[u8]>
+    ensures { option_map (λ t. t.now) result ≡ behind_colon (option_map (λ t. t.now) text.entry) }
+{
+    match text {
+        None => None,
+        Some(text) => match text {
+            [] => None,
+            [first, rest @ ..] => { if *first == b':' { Some(rest) } else { None } }
+        },
+    }
+}
+
+fn port_in(text: Option<&[u8]>) -> Option<u16>
+    ensures { result ≡ port_in (option_map (λ t. t.now) text.entry) }
+{
+    match text {
+        None => None,
+        Some(text) => port_of(text),
+    }
+}
+
+fn end_of(ip: Option<IpAddr>, port: Option<u16>) -> Option<Addr>
+    ensures { result ≡ end_of ip port }
+{
+    match (ip, port) {
+        (Some(ip), Some(port)) => Some(Addr { ip, port }),
+        (Some(_), None) => None,
+        (None, _) => None,
+    }
+}
+
+/// `ADDRESS:PORT`, or a port of every IPv4 address.
+fn plain_end(text: &[u8]) -> Option<Addr>
+    ensures { result ≡ plain_end (behind_byte 58 text.now) text.now }
+{
+    match behind_byte(text, b':') {
+        None => end_of(Some(wildcard()), port_of(text)),
+        Some(port) => end_of(ipv4_of(before_byte(text, b':')), port_of(port)),
+    }
+}
+
+/// The end of `listen` that a word names: `PORT`, `*:PORT`, `1.2.3.4:PORT` or `[::1]:PORT`.
+#[tactic(auto, unfolding(crate::specs::Listening::listened))]
+fn listened(word: &[u8]) -> Option<Addr>
+    ensures { result ≡ listened word.now }
+{
+    match word {
+        [] => None,
+        [first, rest @ ..] => {
+            if *first == b'[' {
+                let ip = ipv6_of(before_byte(rest, b']'));
+                let port = port_in(behind_colon(behind_byte(rest, b']')));
+                end_of(ip, port)
+            } else if *first == b'*' {
+                end_of(Some(wildcard()), port_in(behind_colon(Some(rest))))
+            } else {
+                plain_end(word)
+            }
+        }
+    }
+}
+
+/// The address of a `listen`, by its words.
+pub fn listened_by(words: &[ByteText]) -> Option<Addr>
+    ensures { result ≡ listened_by words.now }
+{
+    match words {
+        [] => None,
+        [word, ..] => listened(word.as_slice()),
+    }
+}
+
+#[tactic(auto, unfolding(crate::specs::Listening::is_default))]
+fn is_default(word: &[u8]) -> bool
+    ensures { result ≡ is_default word.now }
+{
+    word == b"default_server".as_slice()
+}
+
+fn are_default(words: &[ByteText]) -> bool
+    ensures { result ≡ list_all is_default words.now }
+{
+    for word in words {
+        if !is_default(word.as_slice()) {
+            return false;
+        }
+    }
+    true
+}
+
+/// Whether each word behind the address is a parameter that is known.
+pub fn has_known_parameters(words: &[ByteText]) -> bool
+    ensures { result ≡ has_known_parameters words.now }
+{
+    match words {
+        [] => false,
+        [_, parameters @ ..] => are_default(parameters),
+    }
+}
+
+fn has_default(words: &[ByteText]) -> bool
+    ensures { result ≡ list_any is_default words.now }
+{
+    for word in words {
+        if is_default(word.as_slice()) {
+            return true;
+        }
+    }
+    false
+}
+
+/// Whether the address is marked as the one whose connections its server takes by default.
+pub fn is_marked(words: &[ByteText]) -> bool
+    ensures { result ≡ is_marked words.now }
+{
+    match words {
+        [] => false,
+        [_, parameters @ ..] => has_default(parameters),
+    }
+}

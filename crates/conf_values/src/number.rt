@@ -1,0 +1,152 @@
+// Numbers and times.
+ghost use Rattle.std.specs.Prelude.{◌≡◌, ℕ, ◌^◌, ◌<◌, ◌≤◌, length, IfSome, MatchOption};
+ghost use Rattle.std.specs.Option.{ForSome};
+ghost use Rattle.std.specs.List.{list_all};
+ghost use Rattle.conf_values.specs.Numbers.{is_decimal as decimal, is_numeral, value_behind, port_of, count_of, unit_of, digits_before, milliseconds, time_of};
+
+/// `0` to `9`.
+pub fn is_decimal(byte: u8) -> bool
+    ensures { result ≡ decimal byte }
+{
+    48 <= byte && byte <= 57
+}
+
+fn are_decimal(text: &[u8]) -> bool
+    ensures { result ≡ list_all decimal text.now }
+{
+    text.iter().all(|b| 48 <= *b && *b <= 57)
+}
+
+fn is_numeral(text: &[u8]) -> bool
+    ensures { result ≡ is_numeral text.now }
+{
+    match text {
+        [] => false,
+        [first, ..] => are_decimal(text) && *first != b'0',
+    }
+}
+
+/// The number that digits write, or nothing where it is past the type's end.
+fn value_of(digits: &[u8]) -> Option<u64>
+    ensures { MatchOption result (2 ^ 64 ≤ value_behind 0 digits.now) (λ n. n ≡ value_behind 0 digits.now) }
+{
+    let mut value: u64 = 0;
+    for b in digits {
+        let Some(tens) = value.checked_mul(10) else {
+            return None;
+        };
+        let Some(more) = tens.checked_add(u64::from(b.saturating_sub(48))) else {
+            return None;
+        };
+        value = more;
+    }
+    Some(value)
+}
+
+/// A port from 1 to 65535, with no leading zero.
+#[tactic(auto, unfolding(crate::specs::Numbers::port_of))]
+pub fn port_of(text: &[u8]) -> Option<u16>
+    ensures { result ≡ port_of text.now }
+{
+    if !is_numeral(text) {
+        return None;
+    }
+    let Some(value) = value_of(text) else {
+        return None;
+    };
+    if value > 65535 {
+        return None;
+    }
+    Some(value as u16)
+}
+
+/// A count from 1 to 1000000000, with no leading zero.
+#[tactic(auto, unfolding(crate::specs::Numbers::count_of))]
+pub fn count_of(text: &[u8]) -> Option<u32>
+    ensures { result ≡ count_of text.now }
+{
+    if !is_numeral(text) {
+        return None;
+    }
+    let Some(value) = value_of(text) else {
+        return None;
+    };
+    if value > 1_000_000_000 {
+        return None;
+    }
+    Some(value as u32)
+}
+
+/// How many milliseconds a unit has.
+#[tactic(auto, unfolding(crate::specs::Numbers::unit_of))]
+fn unit_of(word: &[u8]) -> Option<u64>
+    ensures value { result ≡ unit_of word.now }
+    ensures some { IfSome result (λ unit. 0 < unit) }
+{
+    if word.is_empty() {
+        Some(1000)
+    } else if word == b"ms".as_slice() {
+        Some(1)
+    } else if word == b"s".as_slice() {
+        Some(1000)
+    } else if word == b"m".as_slice() {
+        Some(60_000)
+    } else if word == b"h".as_slice() {
+        Some(3_600_000)
+    } else if word == b"d".as_slice() {
+        Some(86_400_000)
+    } else {
+        None
+    }
+}
+
+/// How many digits the text begins with.
+#[tactic(auto, unfolding(crate::specs::Numbers::digits_before))]
+fn digits_before(text: &[u8]) -> usize
+    ensures value { result ≡ digits_before text.now }
+    ensures within { result ≤ length text.now }
+{
+    let mut size = 0;
+    let mut rest = text;
+    while let [first, behind @ ..] = rest {
+        if !is_decimal(*first) {
+            return size;
+        }
+        size += 1;
+        rest = behind;
+    }
+    size
+}
+
+/// The time that digits and a unit give, in milliseconds.
+fn milliseconds(digits: &[u8], unit: Option<u64>) -> Option<u64>
+    requires { ForSome unit (λ unit. 0 < unit) }
+    ensures { result ≡ milliseconds (value_behind 0 digits.now) unit }
+{
+    let Some(unit) = unit else {
+        return None;
+    };
+    let Some(count) = value_of(digits) else {
+        return None;
+    };
+    let Some(time) = count.checked_mul(unit) else {
+        return None;
+    };
+    if time > 1_099_511_627_776_000 {
+        return None;
+    }
+    Some(time)
+}
+
+/// A time in milliseconds, at most 2^40 seconds: digits and a unit, of which seconds are the one that may be left out
+/// (nginx's documentation, "Configuration file measurement units").
+#[tactic(auto, unfolding(crate::specs::Numbers::time_of))]
+pub fn time_of(text: &[u8]) -> Option<u64>
+    ensures { result ≡ time_of text.now }
+{
+    let size = digits_before(text);
+    if size == 0 {
+        return None;
+    }
+    milliseconds(&text[..size], unit_of(&text[size..]))
+}

@@ -1,0 +1,3 @@
+mod Settles
+mod Roots
+mod Found

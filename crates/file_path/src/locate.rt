@@ -1,0 +1,124 @@
+// The path of a file.
+ghost use Rattle.std.specs.Prelude.{◌≡◌, ℕ, ◌≤◌, ◌<◌, ◌+◌, ◌==◌, true, false, List, ◌++◌, length, Ok, Err};
+ghost use Rattle.std.specs.Str.{is_utf8};
+ghost use Rattle.file_path.specs.Located.{is_dots, has_dots, has_nul, can_stand, located, located_at};
+ghost use Rattle.file_path.specs.Located.Located.{At, NotThere, TooLong};
+ghost use Rattle.ngx_variables.specs.Texts.{is_too_long};
+
+use byte_text::ByteText;
+use memchr::memchr;
+use ngx_variables::{EvalFault, Main, Place, Request, VarTable, joined};
+use std::alloc::Global;
+
+/// The text of `root` or `alias` has at most so many bytes.
+const TEXT_LIMIT: usize = 16384;
+
+fn is_dots(segment: &[u8]) -> bool
+    ensures { result ≡ is_dots segment.now }
+{
+    segment == b".".as_slice() || segment == b"..".as_slice()
+}
+
+/// Whether some segment of a path is `.` or `..`.
+fn has_dots(path: &[u8]) -> bool
+    ensures { result ≡ has_dots path.now }
+{
+    let mut rest = path;
+    while let Some(at) = memchr(b'/', rest) {
+        if is_dots(&rest[..at]) {
+            return true;
+        }
+        rest = &rest[at + 1..];
+    }
+    is_dots(rest)
+}
+
+fn has_nul(path: &[u8]) -> bool
+    ensures { result ≡ has_nul path.now }
+{
+    path.contains(&0)
+}
+
+fn is_text(path: &[u8]) -> bool
+    ensures { result ≡ is_utf8 path.now }
+{
+    match std::str::from_utf8(path) {
+        Ok(_) => true,
+        Err(_) => false,
+    }
+}
+
+#[tactic(auto, unfolding(ngx_variables::specs::Texts::is_too_long))]
+fn is_too_long(text: &[u8]) -> bool
+    ensures { result ≡ is_too_long text.now }
+{
+    text.len() > TEXT_LIMIT
+}
+
+/// Whether a file can stand at a path: no segment leads to a folder itself or out of it, and the path is UTF-8 text
+/// without NUL.
+#[tactic(auto, unfolding(crate::specs::Located::can_stand))]
+fn can_stand(path: &[u8]) -> bool
+    ensures { result ≡ can_stand path.now }
+{
+    !has_dots(path) && !has_nul(path) && is_text(path)
+}
+
+/// Writes the path behind `out`, where `text` is what the text of `root` or `alias` evaluates to.
+pub fn path_under(
+    alloc: Global,
+    place: &Place,
+    text: &[u8],
+    uri: &[u8],
+    folder: &[u8],
+    out: &mut ByteText,
+) -> Result<bool, EvalFault>
+    ensures there { result ≡ Ok true
+        → (path : List ℕ) × (located place.now text.now uri.now folder.now ≡ At path) × (out.new ≡ out.old ++ path) }
+    ensures not_there { result ≡ Ok false
+        → (located place.now text.now uri.now folder.now ≡ NotThere) × (out.new ≡ out.old) }
+    ensures too_long { result ≡ Err EvalFault.TooLong
+        → (located place.now text.now uri.now folder.now ≡ TooLong) × (out.new ≡ out.old) }
+{
+    if is_too_long(text) {
+        return Err(EvalFault::TooLong);
+    }
+    let start = out.len();
+    joined(alloc, place, text, uri, folder, out)?;
+    if can_stand(&out.as_slice()[start..]) {
+        return Ok(true);
+    }
+    out.truncate(start);
+    Ok(false)
+}
+
+/// Writes the path of the file of a path of the site behind `out`, and answers whether a file can stand there. `out` is
+/// as it was where none can.
+///
+/// # Errors
+/// `TooLong` where the text of `root` or `alias` has more than 16384 bytes; `out` is then as it was. After
+/// `OutOfMemory` `out` is fit to be dropped alone.
+pub fn path_of(
+    alloc: Global,
+    place: &Place,
+    uri: &[u8],
+    main: &Main,
+    request: &Request,
+    vars: &VarTable,
+    out: &mut ByteText,
+) -> Result<bool, EvalFault>
+    ensures there { result ≡ Ok true
+        → (path : List ℕ) × (located_at main.now request.now vars.now place.now uri.now ≡ At path) × (out.new ≡ out.old ++ path) }
+    ensures not_there { result ≡ Ok false
+        → (located_at main.now request.now vars.now place.now uri.now ≡ NotThere) × (out.new ≡ out.old) }
+    ensures too_long { result ≡ Err EvalFault.TooLong
+        → (located_at main.now request.now vars.now place.now uri.now ≡ TooLong) × (out.new ≡ out.old) }
+{
+    let folder = main.folder.as_slice();
+    if let Some(text) = place.text().literal() {
+        return path_under(alloc, place, text, uri, folder, out);
+    }
+    let mut text = ByteText::new(alloc);
+    place.text().eval(alloc, main, request, vars, &mut text)?;
+    path_under(alloc, place, text.as_slice(), uri, folder, out)
+}

@@ -1,0 +1,43 @@
+-- The site that a configuration describes.
+use Rattle.std.specs.Prelude.{◌≡◌, ℕ, List, [], slice_index_or, Result, Ok, Err}
+use Rattle.file_tree.specs.Tree.{Tree}
+use Rattle.ngx_outside.specs.Causes.{Rose}
+use Rattle.conf_text.specs.declared.directive.Directive.{Directive}
+use Rattle.conf_text.specs.declared.fault.ConfFault.{ConfFault}
+use Rattle.conf_text.specs.declared.fault.FaultKind.TheVariants.{ReadFault}
+use Rattle.conf_include.specs.Listings.{Names}
+use Rattle.conf_include.specs.Expansion.{expansion}
+use Rattle.conf_include.specs.declared.main_file.ExpandError.{ExpandError}
+use Rattle.conf_include.specs.declared.main_file.ExpandError.TheVariants as error
+use Rattle.conf_include.specs.Paths.{folder_of}
+use Rattle.conf_inherit.specs.Built.{built}
+use Rattle.site_model.specs.Levels.{SiteView, seen}
+use Rattle.site_model.specs.declared.site.Site.{Site}
+
+-- a fault with the path of its file, which is one of these by its number
+abbrev pub placed_in : {A : Type 0} → List (List ℕ) → Result A ConfFault → Result A (ConfFault × List ℕ)
+placed_in paths (Ok value) = Ok value
+placed_in paths (Err fault) = Err (fault, slice_index_or paths fault.file [])
+
+-- the site of a configuration's directives, whose relative paths start at this folder, or the first fault
+abbrev pub site_in : (folder : List ℕ) → Result (List Directive × List (List ℕ)) (ConfFault × List ℕ) → Result SiteView (ConfFault × List ℕ)
+site_in folder (Ok read) = placed_in read.1 (built folder read.0)
+site_in folder (Err fault) = Err fault
+
+-- the site of a main file and what it includes, or the first fault, with the path of its file
+unfoldable pub site_at : Tree → Names → List ℕ → Result SiteView (ConfFault × List ℕ)
+site_at tree names main = site_in (folder_of main) (expansion tree names main)
+
+-- A site is the one that is described, and a fault is the first one, unless the files failed or memory ran out.
+abbrev pub Describes : Result Site ExpandError → Result SiteView (ConfFault × List ℕ) → Type 0
+Describes (Ok site) outcome = outcome ≡ Ok (seen site)
+Describes (Err (error.Fault placed)) outcome = outcome ≡ Err (placed.fault, placed.path)
+Describes (Err (error.Failed placed)) outcome = Unit {0}
+Describes (Err error.OutOfMemory) outcome = Unit {0}
+
+-- the files are said to have failed only where their count of faults rose
+abbrev pub FailsIf : {A : Type 0} → Result A ExpandError → ℕ → ℕ → Type 0
+FailsIf (Ok site) before now = Unit {0}
+FailsIf (Err (error.Fault placed)) before now = Unit {0}
+FailsIf (Err (error.Failed placed)) before now = (placed.fault.kind ≡ ReadFault) × Rose before now
+FailsIf (Err error.OutOfMemory) before now = Unit {0}

@@ -1,0 +1,4 @@
+pub mod Serving
+pub mod Asking
+pub mod Outcomes
+pub mod Shown

@@ -1,0 +1,33 @@
+use Rattle.std.proofs.Common.{◌≡◌, subst}
+use Rattle.file_tree.specs.declared.job.JobAnswer.TheVariants as answer
+use Rattle.ngx_outside.specs.Views.{nobody}
+use Rattle.replay_run.specs.Scene.{IsFound, Answers, Fails}
+use Rattle.replay_run.proofs.Found.{stands_from, stands_fits, block_from, block_fits, nothing_from, done_falls}
+use Rattle.replay_run.proofs.jobs.give_found.Goals as goal
+
+pub returns-in-Stands-clause-answers : goal.returns-in-Stands-clause-answers
+returns-in-Stands-clause-answers g c = λ told a waits known f.
+    Answers a (answer.Stat c.in-Stands.stands) waits known (stands_from told.trees a c.in-Stands.stands c.args.block.now (subst (λ x. IsFound told.trees a x c.args.block.now) c.in-Stands.is f))
+    (record { steps = c.step.ensures.steps; moment = c.step.ensures.now })
+
+pub returns-in-Stands-clause-falls : goal.returns-in-Stands-clause-falls
+returns-in-Stands-clause-falls g c = λ told a waits f.
+    let e = g.E.EventCore in
+    done_falls nobody.course (e.now c.args.core.now) (e.price c.args.core.now) c.args.conn c.args.node a (answer.Stat c.in-Stands.stands) c.step.result (e.view c.args.core.now c.args.conn) (e.view c.step.new.self c.args.conn) (e.left c.args.core.now) (e.left c.step.new.self)
+    c.step.ensures.steps.own c.step.ensures.left waits (stands_fits told.trees a c.in-Stands.stands c.args.block.now (subst (λ x. IsFound told.trees a x c.args.block.now) c.in-Stands.is f))
+
+pub returns-in-Block-clause-answers : goal.returns-in-Block-clause-answers
+returns-in-Block-clause-answers g c = λ told a waits known f.
+    Answers a (answer.Read c.as_slice.result) waits known (block_from told.trees a c.as_slice.result c.args.block.now c.as_slice.ensures (subst (λ x. IsFound told.trees a x c.args.block.now) c.in-Block.is f))
+    (record { steps = c.step-in-Block.ensures.steps; moment = c.step-in-Block.ensures.now })
+
+pub returns-in-Block-clause-falls : goal.returns-in-Block-clause-falls
+returns-in-Block-clause-falls g c = λ told a waits f.
+    let e = g.E.EventCore in
+    done_falls nobody.course (e.now c.args.core.now) (e.price c.args.core.now) c.args.conn c.args.node a (answer.Read c.as_slice.result) c.step-in-Block.result (e.view c.args.core.now c.args.conn) (e.view c.step-in-Block.new.self c.args.conn) (e.left c.args.core.now) (e.left c.step-in-Block.new.self)
+    c.step-in-Block.ensures.steps.own c.step-in-Block.ensures.left waits (block_fits told.trees a c.as_slice.result c.args.block.now c.as_slice.ensures (subst (λ x. IsFound told.trees a x c.args.block.now) c.in-Block.is f))
+
+pub returns-in-Nothing-clause-answers : goal.returns-in-Nothing-clause-answers
+returns-in-Nothing-clause-answers g c = λ told a waits known f.
+    Fails a waits (nothing_from told.trees a c.args.block.now (subst (λ x. IsFound told.trees a x c.args.block.now) c.in-Nothing.is f))
+    (record { steps = c.step-in-Nothing.ensures.steps; moment = c.step-in-Nothing.ensures.now })

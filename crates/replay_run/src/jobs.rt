@@ -1,0 +1,104 @@
+// The jobs of nodes, which the files answer.
+ghost use Rattle.std.specs.Prelude.{◌≡◌, ◌≢◌, ◌≤◌, ◌<◌, ℕ, [], Some, None, OnOk, IfOk};
+ghost use Rattle.file_tree.specs.Tree.{tree_of};
+ghost use Rattle.file_tree.specs.declared.job.Ask.{Ask as AskOf};
+ghost use Rattle.ngx_outside.specs.Views.{ask_in};
+ghost use Rattle.memory_outside.specs.Stored.{trees_of, newest_of, failing_of};
+ghost use Rattle.replay_run.specs.Told.{Told, told_of};
+ghost use Rattle.replay_run.specs.Scene.{IsFound, AnswersJob};
+
+use byte_text::{ByteText, OutOfMemory};
+use file_tree::{Ask, JobAnswer, Node};
+use memory_outside::MemoryFiles;
+use ngx_outside::{Event, EventCore, FileFault, Files, StepAnswer};
+
+/// What the files found for a job.
+#[derive(Clone, Copy, Debug)]
+pub(crate) enum Found {
+    /// What stands at a path.
+    Stands(Node),
+    /// The bytes of a file, which lie in the block.
+    Block,
+    /// No such bytes.
+    Nothing,
+}
+
+// Looks a job up in the tree that it asks of. The bytes of a file are put into the block, in place of what is there.
+fn find(files: &mut MemoryFiles, ask: &Ask, block: &mut ByteText) -> Result<Found, OutOfMemory>
+    requires known { tree_of ask.now ≤ newest_of files.old }
+    requires sure { failing_of files.old ≡ [] }
+    ensures found { IfOk result (λ found. IsFound (trees_of files.old) ask.now found block.new) }
+    ensures told { told_of files.new ≡ told_of files.old }
+    ensures sure { failing_of files.new ≡ [] }
+{
+    match ask {
+        Ask::Stat { path, of } => match files.stat(path.as_slice(), *of) {
+            Ok(node) => Ok(Found::Stands(node)),
+            Err(_) => Ok(Found::Nothing),
+        },
+        Ask::Read {
+            path,
+            start,
+            count,
+            of,
+        } => {
+            block.clear();
+            match files.read(path.as_slice(), *start, *count, *of, block) {
+                Ok(()) => Ok(Found::Block),
+                Err(FileFault::Failed) => Ok(Found::Nothing),
+                Err(FileFault::OutOfMemory) => Err(OutOfMemory),
+            }
+        }
+    }
+}
+
+// Gives the core what was found for a node's job.
+fn give_found<E: EventCore>(
+    core: &mut E,
+    conn: u32,
+    node: u32,
+    found: Found,
+    block: &ByteText,
+) -> StepAnswer
+    ensures answers { (told : Told) (ask : AskOf) → ask_in (E.view core.old conn).jobs node ≡ Some ask → tree_of ask ≤ told.newest → IsFound told.trees ask found block.now → AnswersJob (E.fresh core.old) told conn node result (E.view core.old) (E.now core.old) (E.view core.new) (E.now core.new) }
+    ensures falls { (told : Told) (ask : AskOf) → ask_in (E.view core.old conn).jobs node ≡ Some ask → IsFound told.trees ask found block.now → E.left core.new < E.left core.old }
+    ensures steady { (E.fresh core.new ≡ E.fresh core.old) × (E.price core.new ≡ E.price core.old) }
+{
+    match found {
+        Found::Stands(stands) => core.step(Event::FileDone {
+            conn,
+            node,
+            answer: JobAnswer::Stat(stands),
+        }),
+        Found::Block => core.step(Event::FileDone {
+            conn,
+            node,
+            answer: JobAnswer::Read(block.as_slice()),
+        }),
+        Found::Nothing => core.step(Event::JobFailed { conn, node }),
+    }
+}
+
+/// Answers a node's job from the tree that it asks of; it fails where that tree has no answer to it. Nothing happens where
+/// the node has no job. The block holds the bytes that were read last.
+pub(crate) fn answer_job<E: EventCore>(
+    core: &mut E,
+    files: &mut MemoryFiles,
+    block: &mut ByteText,
+    conn: u32,
+    node: u32,
+) -> Result<StepAnswer, OutOfMemory>
+    requires newest { newest_of files.old ≡ (E.now core.old).tree }
+    requires sure { failing_of files.old ≡ [] }
+    ensures answers { IfOk result (λ a. AnswersJob (E.fresh core.old) (told_of files.old) conn node a (E.view core.old) (E.now core.old) (E.view core.new) (E.now core.new)) }
+    ensures told { told_of files.new ≡ told_of files.old }
+    ensures sure { failing_of files.new ≡ [] }
+    ensures falls { OnOk result (ask_in (E.view core.old conn).jobs node ≢ None → E.left core.new < E.left core.old) }
+    ensures steady { OnOk result ((E.fresh core.new ≡ E.fresh core.old) × (E.price core.new ≡ E.price core.old)) }
+{
+    let Some(ask) = core.ask(conn, node) else {
+        return Ok(StepAnswer::Skipped);
+    };
+    let found = find(files, ask, block)?;
+    Ok(give_found(core, conn, node, found, block))
+}
