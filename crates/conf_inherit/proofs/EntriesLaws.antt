@@ -1,10 +1,18 @@
 -- The lines of `types` blocks, line by line.
-use Rattle.std.proofs.Common.{◌≡◌, ℕ, List, [], ◌∷◌, ◌++◌, map, refl, sym, ap, ◌∙◌, append_assoc, append-nil}
+use Rattle.std.proofs.Common.{◌≡◌, List, [], ◌∷◌, ◌++◌, sym, ap, ◌∙◌, append_assoc, append-nil}
 use Rattle.file_type.specs.declared.types.TypeEntry.{TypeEntry}
 use Rattle.conf_text.specs.declared.directive.Directive.{Directive}
-use Rattle.conf_inherit.specs.Forest.{Forest, End, Branch, roots}
-use Rattle.conf_inherit.specs.Values.{Block, line_entries, lines_entries, all_entries}
-use Rattle.conf_inherit.proofs.LevelLaws.{roots-none, roots-branch}
+use Rattle.conf_block.specs.Forest.{Forest, End, Branch, roots}
+use Rattle.conf_block.specs.Blocks.{Block}
+use Rattle.conf_inherit.specs.Values.{line_entries, lines_entries, all_entries}
+
+roots-none : (f : Forest) → f ≡ End → roots f ≡ []
+unfolding roots
+roots-none f e = ap roots e
+
+roots-branch : (d : Directive) (f block beside : Forest) → f ≡ Branch d block beside → roots f ≡ d ∷ roots beside
+unfolding roots
+roots-branch d f block beside e = ap roots e
 
 pub lines-more : (now then : List TypeEntry) (d : Directive) (f block beside : Forest) → f ≡ Branch d block beside → then ≡ now ++ line_entries d
     → then ++ lines_entries (roots beside) ≡ now ++ lines_entries (roots f)

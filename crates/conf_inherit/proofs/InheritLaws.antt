@@ -1,7 +1,7 @@
 -- Laws of what holds in a level.
-use Rattle.std.proofs.Common.{◌≡◌, ℕ, List, [], ◌∷◌, ◌++◌, Option, Some, unwrap_or, refl, ap, ◌∙◌}
+use Rattle.std.proofs.Common.{◌≡◌, List, [], ◌∷◌, ◌++◌, Option, Some, unwrap_or, refl, ap, ◌∙◌}
 use Rattle.conf_inherit.specs.Values.{Stated, Values, over, all_over, defaults, values_of}
-use Rattle.conf_inherit.specs.Laws.{StatedHolds, StateNothing, nothing}
+use Rattle.conf_inherit.specs.Laws.{StatedHolds, StateNothing}
 
 all-over-last : (outer : Values) (enclosing : List Stated) (own : Stated) → all_over outer (enclosing ++ own ∷ []) ≡ over own (all_over outer enclosing)
 all-over-last outer [] own = refl

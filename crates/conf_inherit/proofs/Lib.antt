@@ -1,12 +1,4 @@
-pub mod ForestLaws
-pub mod LevelLaws
-pub mod EndsLaws
-pub mod BeforeLaws
-pub mod CheckLaws
-pub mod ServedLaws
-pub mod NamesLaws
 pub mod EntriesLaws
 pub mod SiteLaws
-pub mod FaultLaws
 pub mod InheritLaws
 pub mod BuiltLaws

@@ -1,5 +1,5 @@
 -- What a site under construction shows.
-use Rattle.std.proofs.Common.{◌≡◌, ℕ, zero, suc, ◌<◌, length, List, [], ◌∷◌, ◌++◌, map, Bool, false, cond, Option, Some, None, is_some, unwrap_or, refl, sym, ap, ◌∙◌, append_assoc, append-nil, arith}
+use Rattle.std.proofs.Common.{◌≡◌, ℕ, zero, suc, length, List, [], ◌∷◌, ◌++◌, map, false, cond, Option, Some, None, is_some, unwrap_or, refl, sym, ap, ◌∙◌, append_assoc, append-nil}
 use Rattle.std.specs.List.{slice_get}
 use Rattle.std.proofs.lemmas.List.{map_push}
 use Rattle.file_type.specs.Types.{TypeList}
@@ -12,10 +12,11 @@ use Rattle.site_model.specs.Levels.{location_seen, server_seen, types_at, raw_le
 use Rattle.std.specs.Prelude.{codes}
 use Rattle.std.specs.Option.{option_and_then}
 use Rattle.conf_text.specs.declared.directive.Directive.{Directive}
-use Rattle.conf_inherit.specs.Forest.{Forest, roots}
-use Rattle.conf_inherit.specs.Listening.{listens_of, or_default}
-use Rattle.conf_inherit.specs.Locations.{text_in}
-use Rattle.conf_inherit.specs.Values.{Block, Values, block_with, block_of, blocks_of, all_entries, entries_in, first_word, word_in, stated, over, level_with, returned_in}
+use Rattle.conf_block.specs.Forest.{Forest, roots}
+use Rattle.conf_block.specs.Listening.{listens_of, or_default}
+use Rattle.conf_block.specs.Locations.{text_in}
+use Rattle.conf_block.specs.Blocks.{Block, block_with, block_of, blocks_of}
+use Rattle.conf_inherit.specs.Values.{Values, all_entries, entries_in, first_word, word_in, stated, over, level_with, returned_in}
 use Rattle.conf_inherit.specs.Pools.{Keeps, Holds, level_by, location_in, server_in}
 
 -- lists that grow

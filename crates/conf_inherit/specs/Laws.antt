@@ -1,7 +1,7 @@
 -- Laws of what holds in a level.
-use Rattle.std.specs.Prelude.{◌≡◌, ℕ, List, [], ◌∷◌, ◌++◌, ⊤, Option, None, Some}
+use Rattle.std.specs.Prelude.{◌≡◌, ℕ, List, [], ◌∷◌, ◌++◌, ⊤, None, Some}
 use Rattle.ngx_variables.specs.declared.request.Place.{Place}
-use Rattle.conf_inherit.specs.Values.{Stated, Values, over, defaults, values_of}
+use Rattle.conf_inherit.specs.Values.{Stated, over, defaults, values_of}
 
 -- What a block holds is what it states over what holds around it.
 abbrev pub HoldsByBlock : Type 0

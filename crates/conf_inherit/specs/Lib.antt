@@ -1,15 +1,3 @@
-pub mod Forest
-pub mod Gives
-pub mod Roles
-pub mod Listening
-pub mod Locations
-pub mod Faults
-pub mod Ends
-pub mod LocationSet
-pub mod Before
-pub mod Names
-pub mod Checked
-pub mod Served
 pub mod Values
 pub mod Pools
 pub mod Laws

@@ -1,5 +1,5 @@
 -- How levels and lists of media types are kept under numbers while a site is built.
-use Rattle.std.specs.Prelude.{◌≡◌, ℕ, List, [], ◌∷◌, ◌++◌, map, Option, None, Some, codes, slice_get}
+use Rattle.std.specs.Prelude.{◌≡◌, ℕ, List, [], map, Option, None, Some, codes, slice_get}
 use Rattle.file_type.specs.Types.{TypeList}
 use Rattle.file_type.specs.declared.types.TypeEntry.{TypeEntry}
 use Rattle.ngx_variables.specs.declared.request.Place.{Place}
@@ -14,10 +14,11 @@ use Rattle.std.specs.Borrow.{Bor}
 use Rattle.conf_inherit.specs.declared.level.PlaceText.{PlaceText}
 use Rattle.conf_inherit.specs.declared.level.PlaceText.TheVariants.{Root, Rest}
 use Rattle.conf_inherit.specs.declared.level.Inherited.{Inherited}
-use Rattle.conf_inherit.specs.Forest.{Forest, forest_of, roots}
-use Rattle.conf_inherit.specs.Listening.{listens_of, or_default}
-use Rattle.conf_inherit.specs.Locations.{text_in}
-use Rattle.conf_inherit.specs.Values.{Block, Values, default_entries, all_entries, blocks_of, stated, over, level_with, returned_in}
+use Rattle.conf_block.specs.Forest.{forest_of, roots}
+use Rattle.conf_block.specs.Listening.{listens_of, or_default}
+use Rattle.conf_block.specs.Locations.{text_in}
+use Rattle.conf_block.specs.Blocks.{Block, blocks_of}
+use Rattle.conf_inherit.specs.Values.{Values, default_entries, all_entries, stated, over, level_with, returned_in}
 
 abbrev pub place_by : PlaceText → Place
 place_by (Root text) = places.Root (pieces_of text.now)

@@ -1,5 +1,5 @@
 -- What a block states, and what holds in a level.
-use Rattle.std.specs.Prelude.{ℕ, List, [], ◌∷◌, ◌++◌, map, codes, Option, None, Some, unwrap_or, option_map, is_some, bytes_eq, if◌then◌else◌}
+use Rattle.std.specs.Prelude.{ℕ, List, [], ◌∷◌, ◌++◌, map, codes, Option, None, Some, unwrap_or, option_map, is_some, if◌then◌else◌}
 use Rattle.std.specs.Option.{option_and_then}
 use Rattle.file_type.specs.Types.{TypeList}
 use Rattle.file_type.specs.declared.types.TypeEntry.{TypeEntry}
@@ -11,32 +11,8 @@ use Rattle.conf_text.specs.declared.directive.Directive.{Directive}
 use Rattle.conf_values.specs.Numbers.{count_of, time_of}
 use Rattle.conf_values.specs.Texts.{pieces_of}
 use Rattle.conf_values.specs.Returning.{form_of, return_by}
-use Rattle.conf_inherit.specs.Forest.{Forest, End, Branch, roots}
-
--- a directive with its block
-pub record Block : Type 0 where
-  pub head : Directive
-  pub body : Forest
-
-abbrev pub block_with : Directive → Forest → Block
-block_with d block = record { head = d; body = block }
-
--- in front of others, if it has the name
-abbrev pub if_named : List ℕ → Block → List Block → List Block
-if_named name b blocks = if bytes_eq b.head.name name then b ∷ blocks else blocks
-
--- the directives of this name in a level
-unfoldable pub blocks_of : List ℕ → Forest → List Block
-blocks_of name End = []
-blocks_of name (Branch d block beside) = if_named name (block_with d block) (blocks_of name beside)
-
-abbrev pub first_of : {A : Type 0} → List A → Option A
-first_of [] = None
-first_of (a ∷ others) = Some a
-
--- the first directive of this name in a level
-abbrev pub block_of : List ℕ → Forest → Option Block
-block_of name level = first_of (blocks_of name level)
+use Rattle.conf_block.specs.Forest.{Forest, roots}
+use Rattle.conf_block.specs.Blocks.{Block, blocks_of, block_of}
 
 abbrev pub first_word : List (List ℕ) → Option (List ℕ)
 first_word [] = None

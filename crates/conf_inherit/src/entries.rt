@@ -1,12 +1,13 @@
 // The media types that levels state.
 ghost use Rattle.std.specs.Prelude.{◌≡◌, ◌++◌, codes, OnOk, IfOk};
-ghost use Rattle.conf_inherit.specs.Forest.{forest_of, roots};
-ghost use Rattle.conf_inherit.specs.Values.{entry_with, line_entries, lines_entries, all_entries, blocks_of, default_entries};
+ghost use Rattle.conf_block.specs.Forest.{forest_of, roots};
+ghost use Rattle.conf_inherit.specs.Values.{entry_with, line_entries, lines_entries, all_entries, default_entries};
+ghost use Rattle.conf_block.specs.Blocks.{blocks_of};
 ghost use Rattle.conf_inherit.specs.Pools.{entries_by, values_by};
 
-use crate::branch::first_branch;
-use crate::level::{Inherited, next_named};
+use crate::level::Inherited;
 use byte_text::{ByteText, OutOfMemory};
+use conf_block::{first_branch, next_named};
 use conf_text::Directive;
 use file_type::{TypeEntry, Types};
 use std::alloc::Global;

@@ -1,41 +1,18 @@
 // The values that hold in a level.
-ghost use Rattle.std.specs.Prelude.{◌≡◌, ℕ, ◌<◌, [], ◌∷◌, ◌||◌, List, length, codes, option_map, is_some, unwrap_or, IfOk, IfSome, MatchOption};
+ghost use Rattle.std.specs.Prelude.{◌≡◌, codes, option_map, unwrap_or, IfOk};
 ghost use Rattle.std.specs.Option.{option_and_then};
 ghost use Rattle.conf_values.specs.Numbers.{count_of, time_of};
-ghost use Rattle.conf_inherit.specs.Forest.{forest_of};
-ghost use Rattle.conf_inherit.specs.Values.{block_with, blocks_of, block_of, word_in, entries_in, place_in, stated, over, defaults, returned_in};
+ghost use Rattle.conf_block.specs.Forest.{forest_of};
+ghost use Rattle.conf_inherit.specs.Values.{word_in, entries_in, place_in, stated, over, defaults, returned_in};
 ghost use Rattle.conf_inherit.specs.Pools.{place_by, entries_by, values_by, level_by};
 
-use crate::branch::{Branch, first_branch};
 use byte_text::{ByteText, OutOfMemory};
+use conf_block::{has_named, next_named};
 use conf_text::Directive;
-use conf_values::{count_of, form_of, return_by, time_of, value_of};
+use conf_values::{count_of, return_by, time_of, value_of};
 use ngx_variables::Place;
 use site_model::{Level, Return};
 use std::alloc::Global;
-
-/// The first directive of this name in a level, and what stands behind it.
-pub fn next_named<'a>(level: &'a [Directive], name: &[u8]) -> Option<Branch<'a>>
-    ensures blocks { MatchOption result (blocks_of name.now (forest_of level.now) ≡ [])
-        (λ b. blocks_of name.now (forest_of level.now) ≡ block_with b.directive.now (forest_of b.block.now) ∷ blocks_of name.now (forest_of b.beside.now)) }
-    ensures beside { IfSome result (λ b. length b.beside.now < length level.now) }
-{
-    let mut rest = level;
-    while let Some(branch) = first_branch(rest) {
-        if branch.directive.name.as_slice() == name {
-            return Some(branch);
-        }
-        rest = branch.beside;
-    }
-    None
-}
-
-/// Whether a directive of this name stands in a level.
-pub fn has_named(level: &[Directive], name: &[u8]) -> bool
-    ensures { result ≡ is_some (block_of name.now (forest_of level.now)) }
-{
-    next_named(level, name).is_some()
-}
 
 /// The first word of the first directive of this name.
 fn word_in<'a>(level: &'a [Directive], name: &[u8]) -> Option<&'a [u8]>

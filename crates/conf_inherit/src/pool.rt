@@ -1,12 +1,13 @@
 // The levels and the lists of media types of a site, under numbers.
 ghost use Rattle.std.specs.Prelude.{◌≡◌, Some, List, [], ◌∷◌, slice_get, IfOk};
-ghost use Rattle.conf_inherit.specs.Forest.{forest_of};
+ghost use Rattle.conf_block.specs.Forest.{forest_of};
 ghost use Rattle.conf_inherit.specs.Values.{stated, over, defaults as default_values};
 ghost use Rattle.conf_inherit.specs.Pools.{Keeps, values_by};
 
 use crate::entries::types_of;
-use crate::level::{Inherited, defaults, has_named, stated_over};
+use crate::level::{Inherited, defaults, stated_over};
 use byte_text::OutOfMemory;
+use conf_block::has_named;
 use conf_text::Directive;
 use file_type::Types;
 use site_model::Level;

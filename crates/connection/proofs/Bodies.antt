@@ -1,20 +1,14 @@
 -- Bodies that are dropped from the front of bytes.
-use Rattle.std.proofs.Common.{◌≡◌, ℕ, ◌+◌, ◌≤◌, Bool, true, false, cond, List, [], ◌++◌, length, drop, Option, None, Some, refl, sym, ap, ◌∙◌, subst, arith, length-drop}
-use Rattle.std.specs.Prelude.{is_some}
+use Rattle.std.proofs.Common.{◌≡◌, ℕ, ◌+◌, ◌≤◌, Bool, true, false, List, [], ◌++◌, length, drop, Option, None, Some, refl, sym, ap, ◌∙◌, subst, arith, length-drop}
 use Rattle.std.proofs.lemmas.List.{append-nil, drop_all, drop-drop, drop-append-le}
 use Rattle.body_frame.specs.Outcome.{BodyOutcome, Whole, Short, Broken, behind, step_of, used_of}
 use Rattle.body_frame.specs.State.{rest_body, body_of, IsBegun, Takes}
-use Rattle.file_tree.specs.Tree.{Trees}
 use Rattle.http_types.specs.declared.words.BodyKind.{BodyKind}
-use Rattle.ngx_outside.specs.Views.{Start}
-use Rattle.req_head.specs.declared.head.Head.{Head as RequestHead}
-use Rattle.req_head.specs.declared.head.HeadStep.{HeadStep}
-use Rattle.req_head.specs.declared.head.HeadStep.TheVariants.{More, Head, Bad}
 use Rattle.body_frame.specs.declared.state.BodyState.{BodyState}
 use Rattle.body_frame.specs.declared.step.BodyStep.{BodyStep}
 use Rattle.body_frame.specs.declared.step.BodyStep.TheVariants as steps
-use Rattle.connection.specs.Answers.{Service, behind_body, reply_at, Responds}
-use Rattle.connection.specs.Steps.{Drops, RanOne, rest_of}
+use Rattle.connection.specs.Answers.{behind_body}
+use Rattle.connection.specs.Steps.{Drops, rest_of}
 
 -- what is dropped at twice is dropped at once
 drop_twice : (m n : ℕ) (xs : List ℕ) → drop n (drop m xs) ≡ drop (m + n) xs
@@ -130,27 +124,3 @@ pub head_drops : (kind : BodyKind) (state : BodyState) (lent held held' : List �
 head_drops kind state lent held held' size used body broken begun e f d =
     subst (λ h. Drops (body_of kind) (drop size held) body h broken) (ap (drop used) e ∙ drop_twice size used held ∙ sym f)
     (subst (λ l. Drops (body_of kind) l body (drop used lent) broken) e (drops_from (rest_body state) (body_of kind) lent body (drop used lent) broken (λ text. sym (begun text)) d))
-
-pub ran_head : (service : Service) (trees : Trees) (start : Start) (k : ℕ) (head : RequestHead) (size : ℕ) (next : HeadStep) (held held' : List ℕ) (body : Option BodyState) (pending pending' : List ℕ) (keep broken closing : Bool) → next ≡ Head head size →
-    Responds service (reply_at service trees start head) start k head keep pending pending' → Drops (body_of head.body) (drop size held) body held' broken → closing ≡ cond keep broken true → RanOne service trees start k next held held' body pending pending' closing
-ran_head service trees start k head size next held held' body pending pending' keep broken closing n r d c =
-    subst (λ s. RanOne service trees start k s held held' body pending pending' closing) (sym n) (record { keep = keep; broken = broken; responds = r; drops = d; closes = c })
-
--- what is held behind a request that was answered
-pub ran_drained : (service : Service) (trees : Trees) (start : Start) (k : ℕ) (next : HeadStep) (held held' : List ℕ) (body : Option BodyState) (pending pending' : List ℕ) (closing : Bool) → RanOne service trees start k next held held' body pending pending' closing → is_some body ≡ true → held' ≡ []
-ran_drained service trees start k (Head head size) held held' body pending pending' closing r h = r.drops.drained h
-ran_drained service trees start k (Bad code no_body) held held' body pending pending' closing r h = absurd (never body r.2 h)
-  where
-    never : (b : Option BodyState) → b ≡ None → is_some b ≡ true → ⊥
-    never None e f = cc
-    never (Some state) e f = cc
-ran_drained service trees start k More held held' body pending pending' closing r h = absurd r
-
-pub ran_unended : (service : Service) (trees : Trees) (start : Start) (k : ℕ) (next : HeadStep) (held held' : List ℕ) (body : Option BodyState) (pending pending' : List ℕ) (closing : Bool) → RanOne service trees start k next held held' body pending pending' closing → is_some body ≡ true → rest_of body [] ≡ Short
-ran_unended service trees start k (Head head size) held held' body pending pending' closing r h = r.drops.unended h
-ran_unended service trees start k (Bad code no_body) held held' body pending pending' closing r h = absurd (never body r.2 h)
-  where
-    never : (b : Option BodyState) → b ≡ None → is_some b ≡ true → ⊥
-    never None e f = cc
-    never (Some state) e f = cc
-ran_unended service trees start k More held held' body pending pending' closing r h = absurd r

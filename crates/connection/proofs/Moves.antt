@@ -1,14 +1,16 @@
 -- The steps of a connection, by its parts.
-use Rattle.std.proofs.Common.{◌≡◌, ℕ, ◌+◌, ◌-◌, ◌*◌, ◌<◌, ◌≤◌, min, Bool, true, false, cond, List, [], ◌∷◌, ◌++◌, length, take, drop, map, Option, None, Some, inr, refl, sym, ap, ◌∙◌, subst, append_assoc, length-append, length-drop, arith}
-use Rattle.std.specs.Prelude.{nat_le, is_some, ◌==◌}
+use Rattle.std.proofs.Common.{◌≡◌, ℕ, ◌+◌, ◌-◌, ◌*◌, ◌<◌, ◌≤◌, min, Bool, true, false, ◌&&◌, cond, eqb, List, [], ◌∷◌, ◌++◌, length, take, drop, map, Option, None, Some, inl, inr, refl, sym, ap, ◌∙◌, subst, append_assoc, length-append, length-drop, arith, suc, zero, set, get_or}
+use Rattle.std.specs.Prelude.{nat_le, nat_lt, is_some, ◌==◌}
 use Rattle.std.specs.List.{Contains}
-use Rattle.std.proofs.lemmas.List.{append-nil, take-append-drop, map-append, drop-append-le}
+use Rattle.std.proofs.lemmas.List.{append-nil, take-append-drop, map-append, drop-append-le, length-take}
 use Rattle.std.proofs.lemmas.Bool.Decides.{nat_tests}
 use Rattle.file_tree.specs.Tree.{Trees}
-use Rattle.ngx_outside.specs.Views.{Start, start_of, Went, Ran, Goes, is_live}
+use Rattle.ngx_outside.specs.Views.{Start, start_of, Ground, Holds, Went, Ran, Goes, Refused, is_live, ask_in}
 use Rattle.ngx_outside.specs.Views.Ground.{Always}
 use Rattle.ngx_outside.specs.declared.event.Entry.{Entry}
 use Rattle.ngx_outside.specs.declared.event.StopCause.{StopCause}
+use Rattle.ngx_outside.specs.declared.event.StopCause.TheVariants as stop
+use Rattle.file_tree.specs.declared.job.Ask.{Ask}
 use Rattle.req_head.specs.declared.head.Head.{Head as RequestHead}
 use Rattle.req_head.specs.declared.head.HeadStep.{HeadStep}
 use Rattle.req_head.specs.declared.head.HeadStep.TheVariants.{More, Head, Bad}
@@ -17,43 +19,154 @@ use Rattle.req_head.specs.Laws.{HeadStays, RefusalStays, SizeFits}
 use Rattle.phase_engine.specs.Outcomes.{page_reply}
 use Rattle.body_frame.specs.State.{body_of}
 use Rattle.body_frame.specs.declared.state.BodyState.{BodyState}
-use Rattle.connection.specs.Answers.{Service, answers, first_answer, behind_body, response, reply_at, keeps, is_head}
-use Rattle.connection.specs.Steps.{begins, rest_of, past_body, Drops, RanOne}
-use Rattle.connection.specs.Conn.{view_at, bytes_at, left_at, room_at, starts_at, weight, price}
+use Rattle.connection.specs.declared.flow.Flow.{Flow}
+use Rattle.connection.specs.declared.flow.Stage.{Stage}
+use Rattle.connection.specs.declared.flow.Stage.TheVariants.{Asked, Told, Reading, Came}
+use Rattle.connection.specs.Flow.{Rest, flow_rest, closes_behind, response, is_head, shown_of, shown_by, shown_most, placed_most, kept_most, stage_fits, flow_fits, stage_written, flow_written, flow_left, flow_most, tree_asked, jobs_of, waits}
+use Rattle.connection.specs.Answers.{Service, answers, first_answer, behind_body, reply_at, keeps}
+use Rattle.connection.specs.Steps.{begins, rest_of, past_body, Drops, RanOne, GoesOn, FitsNew}
+use Rattle.connection.specs.Conn.{view_at, bytes_at, left_at, room_at, starts_at, pending_at, weight, price}
 
 -- a live connection goes on
-live_at : (service : Service) (cause : Option StopCause) (pending : List ℕ) (journal : List Entry) (closing ended : Bool) (body : Option BodyState) (held : List ℕ) (next : HeadStep) → is_some cause ≡ false → is_live (view_at service cause pending journal closing ended body held next) ≡ true
-live_at service None pending journal closing ended body held next h = refl
-live_at service (Some cause) pending journal closing ended body held next h = cc
+live_at : (service : Service) (cause : Option StopCause) (flow : Option Flow) (out : List ℕ) (journal : List Entry) (closing ended : Bool) (body : Option BodyState) (held : List ℕ) (next : HeadStep) → is_some cause ≡ false → is_live (view_at service cause flow out journal closing ended body held next) ≡ true
+live_at service None flow out journal closing ended body held next h = refl
+live_at service (Some cause) flow out journal closing ended body held next h = cc
 
 never : (A : Type 0) → false ≡ true → A
 never A e = cc
 
+-- the front of a front
+front_of : (n k : ℕ) (xs : List ℕ) → n ≤ length (take k xs) → take n (take k xs) ≡ take n xs
+front_of zero k xs h = refl
+front_of (suc n) zero xs h = absurd (omega (arith, h))
+front_of (suc n) (suc k) [] h = refl
+front_of (suc n) (suc k) (x ∷ xs) h = ap (λ r. x ∷ r) (front_of n k xs (omega (arith, h)))
+
+shown_within : (n k : ℕ) (xs : List ℕ) → n ≤ length (take k xs) → (n ≤ k) × (n ≤ length xs)
+shown_within n k xs h = let e = length-take k xs in (omega (arith, e, h), omega (arith, e, h))
+
+-- what was written of a request's bytes changes nothing of what is to come
+written_rest : (flow : Flow) (n : ℕ) (trees : Trees) → flow_rest (Some (record { wish = flow.wish; ask = flow.ask; stage = stage_written flow.stage n; len = flow.len })) trees ≡ flow_rest (Some flow) trees
+written_rest flow n trees = by flow.stage
+  where
+    by : (stage : Stage) → flow_rest (Some (record { wish = flow.wish; ask = flow.ask; stage = stage_written stage n; len = flow.len })) trees ≡ flow_rest (Some (record { wish = flow.wish; ask = flow.ask; stage = stage; len = flow.len })) trees
+    by Asked = refl
+    by (Told node) = refl
+    by (Reading left) = refl
+    by (Came left placed) = refl
+
+wrote_rest : (n : ℕ) (flow flow' : Option Flow) (trees : Trees) → flow' ≡ flow_written flow n → flow_rest flow' trees ≡ flow_rest flow trees
+wrote_rest n None flow' trees e = ap (λ f. flow_rest f trees) e
+wrote_rest n (Some flow) flow' trees e = ap (λ f. flow_rest f trees) e ∙ written_rest flow n trees
+
 -- the first pending bytes go
-pub wrote_went : (service : Service) (cause : Option StopCause) (pending pending' : List ℕ) (journal : List Entry) (closing ended : Bool) (body : Option BodyState) (held : List ℕ) (next : HeadStep) (n : ℕ) → is_some cause ≡ false → pending' ≡ drop n pending →
-    Went Always (view_at service cause pending journal closing ended body held next) (view_at service cause pending' journal closing ended body held next) [] (take n pending) []
-wrote_went service cause pending pending' journal closing ended body held next n live e = record {
-  before = live_at service cause pending journal closing ended body held next live;
-  after = live_at service cause pending' journal closing ended body held next live;
+pub wrote_went : (service : Service) (cause : Option StopCause) (flow flow' : Option Flow) (out out' : List ℕ) (journal : List Entry) (closing ended : Bool) (body : Option BodyState) (held : List ℕ) (next : HeadStep) (n : ℕ) → is_some cause ≡ false → out' ≡ drop n out → n ≤ length (pending_at flow out) → flow' ≡ flow_written flow n →
+    Went Always (view_at service cause flow out journal closing ended body held next) (view_at service cause flow' out' journal closing ended body held next) [] (take n (pending_at flow out)) []
+wrote_went service cause flow flow' out out' journal closing ended body held next n live e within w = record {
+  before = live_at service cause flow out journal closing ended body held next live;
+  after = live_at service cause flow' out' journal closing ended body held next live;
   moved = record {
     starts = sym (append-nil (map start_of journal));
     raceless = refl;
     bytes = λ trees is more later.
-        let tail = cond closing [] (past_body body (held ++ more) (λ input. answers service (length journal) trees input later)) in
-        ap (λ p. p ++ tail) (sym (take-append-drop n pending)) ∙ append_assoc (take n pending) (drop n pending) tail ∙ ap (λ p. take n pending ++ (p ++ tail)) (sym e);
+        let tail : Rest → List ℕ = λ r. r.bytes ++ cond (closes_behind r closing) [] (past_body body (held ++ more) (λ input. answers service (length journal) trees input later)) in
+        ap (λ p. p ++ tail (flow_rest flow trees)) (sym (take-append-drop n out)) ∙ append_assoc (take n out) (drop n out) (tail (flow_rest flow trees))
+        ∙ ap (λ p. p ++ (drop n out ++ tail (flow_rest flow trees))) (sym (front_of n (shown_of flow) out within))
+        ∙ ap (λ p. take n (pending_at flow out) ++ (p ++ tail (flow_rest flow trees))) (sym e)
+        ∙ ap (λ r. take n (pending_at flow out) ++ (out' ++ tail r)) (sym (wrote_rest n flow flow' trees w));
     heavy = λ trees is more later h. h;
   };
 }
 
-pub not_stopped : (cause : Option StopCause) (pending : List ℕ) (n : ℕ) → (is_some cause ≡ true → pending ≡ []) → 0 < n → n ≤ length pending → is_some cause ≡ false
-not_stopped None pending n h a b = refl
-not_stopped (Some cause) pending n h a b = absurd (let e = ap length (h refl) in omega arith)
+pub not_stopped : (cause : Option StopCause) (flow : Option Flow) (out : List ℕ) (n : ℕ) → (is_some cause ≡ true → out ≡ []) → 0 < n → n ≤ length (pending_at flow out) → is_some cause ≡ false
+not_stopped None flow out n h a b = refl
+not_stopped (Some cause) flow out n h a b = absurd (let e = ap length (h refl) in let w = shown_within n (shown_of flow) out b in omega (arith, e, w.1, a))
 
-pub wrote_left : (cause : Option StopCause) (pending pending' : List ℕ) (closing : Bool) (held : List ℕ) (n : ℕ) → is_some cause ≡ false → pending' ≡ drop n pending → 0 < n → n ≤ length pending → left_at cause pending' closing held < left_at cause pending closing held
-wrote_left None pending pending' closing held n live e a b =
-    let s : length pending' + n ≡ length pending = ap (λ p. length p + n) e ∙ rw length-drop (omega arith) in
-    omega arith
-wrote_left (Some cause) pending pending' closing held n live e a b = cc
+pub below : (a b : ℕ) → nat_le a b ≡ true → a ≤ b
+below a b e = grind (arith, nat_tests)
+
+at_most : (a b : ℕ) → a ≤ b → nat_le a b ≡ true
+at_most a b e = grind (arith, nat_tests)
+
+same_size : (a b : ℕ) → (a == b) ≡ true → a ≡ b
+same_size a b e = grind (arith, nat_tests)
+
+pub and_left : (a b : Bool) → (a && b) ≡ true → a ≡ true
+and_left true b e = refl
+and_left false b e = cc
+
+pub and_right : (a b : Bool) → (a && b) ≡ true → b ≡ true
+and_right true b e = e
+and_right false b e = cc
+
+and_both : (a b : Bool) → a ≡ true → b ≡ true → (a && b) ≡ true
+and_both true b e f = f
+and_both false b e f = cc
+
+-- no more are shown than are placed
+shown_placed : (n placed : ℕ) → n ≤ cond (nat_lt placed shown_most) placed shown_most → n ≤ placed
+shown_placed n placed h = by (nat_lt placed shown_most) refl h
+  where
+    by : (t : Bool) → nat_lt placed shown_most ≡ t → n ≤ cond t placed shown_most → n ≤ placed
+    by true e h = h
+    by false e h = grind (arith, nat_tests)
+
+-- the bytes for the peer and what is left of the response
+abbrev work : Option Flow → ℕ → ℕ
+work flow size = size + flow_left flow size
+
+stage_falls : (flow : Flow) (n size : ℕ) → 0 < n → n ≤ size → n ≤ shown_by flow.stage → stage_fits flow.len flow.ask flow.stage size ≡ true → work (Some (record { wish = flow.wish; ask = flow.ask; stage = stage_written flow.stage n; len = flow.len })) (size - n) < work (Some flow) size
+stage_falls flow n size some within shown fits = by flow.stage shown fits
+  where
+    by : (stage : Stage) → n ≤ shown_by stage → stage_fits flow.len flow.ask stage size ≡ true → work (Some (record { wish = flow.wish; ask = flow.ask; stage = stage_written stage n; len = flow.len })) (size - n) < work (Some (record { wish = flow.wish; ask = flow.ask; stage = stage; len = flow.len })) size
+    by Asked h f = omega (arith, some, within)
+    by (Told node) h f = omega (arith, some, within)
+    by (Reading left) h f = omega (arith, some, within)
+    by (Came left placed) h f =
+        let p = shown_placed n placed h in
+        omega (arith, some, within, p)
+
+wrote_falls : (n : ℕ) (flow : Option Flow) (size : ℕ) → 0 < n → n ≤ size → n ≤ shown_of flow → flow_fits flow size ≡ true → work (flow_written flow n) (size - n) < work flow size
+wrote_falls n None size some within shown fits = omega (arith, some, within)
+wrote_falls n (Some flow) size some within shown fits = stage_falls flow n size some within shown fits
+
+pub wrote_left : (cause : Option StopCause) (flow flow' : Option Flow) (out out' : List ℕ) (closing : Bool) (held : List ℕ) (n : ℕ) → is_some cause ≡ false → out' ≡ drop n out → 0 < n → n ≤ length (pending_at flow out) → flow' ≡ flow_written flow n → flow_fits flow (length out) ≡ true →
+    left_at cause flow' out' closing held < left_at cause flow out closing held
+wrote_left None flow flow' out out' closing held n live e some within w fits =
+    let s = shown_within n (shown_of flow) out within in
+    let size : length out' ≡ length out - n = ap length e ∙ length-drop n out in
+    let falls = subst (λ f. work f (length out - n) < work flow (length out)) (sym w) (wrote_falls n flow (length out) some s.1 s.0 fits) in
+    subst (λ k. 1 + work flow' k + cond closing 0 (weight * (length held + 1)) < 1 + work flow (length out) + cond closing 0 (weight * (length held + 1))) (sym size) (omega (arith, falls))
+wrote_left (Some cause) flow flow' out out' closing held n live e some within w fits = cc
+
+-- it stands so beside fewer bytes
+stage_stands : (flow : Flow) (n size : ℕ) → 0 < n → n ≤ size → n ≤ shown_by flow.stage → stage_fits flow.len flow.ask flow.stage size ≡ true → stage_fits flow.len flow.ask (stage_written flow.stage n) (size - n) ≡ true
+stage_stands flow n size some within shown fits = by flow.stage shown fits
+  where
+    by : (stage : Stage) → n ≤ shown_by stage → stage_fits flow.len flow.ask stage size ≡ true → stage_fits flow.len flow.ask (stage_written stage n) (size - n) ≡ true
+    by Asked h f = absurd (let z = same_size size 0 (and_right _ (size == 0) f) in omega (arith, some, within, z))
+    by (Told node) h f = absurd (let z = same_size size 0 (and_right _ (size == 0) f) in omega (arith, some, within, z))
+    by (Reading left) h f = and_both _ (nat_le (size - n) placed_most) (and_left _ (nat_le size placed_most) f) (at_most (size - n) placed_most (let z = below size placed_most (and_right _ (nat_le size placed_most) f) in omega (arith, z)))
+    by (Came left placed) h f =
+        let q = and_right _ ((nat_le placed size && nat_le placed placed_most) && nat_le size kept_most) f in
+        let p = and_left (nat_le placed size && nat_le placed placed_most) (nat_le size kept_most) q in
+        let k = below size kept_most (and_right (nat_le placed size && nat_le placed placed_most) (nat_le size kept_most) q) in
+        let a = below placed size (and_left (nat_le placed size) (nat_le placed placed_most) p) in
+        let b = below placed placed_most (and_right (nat_le placed size) (nat_le placed placed_most) p) in
+        and_both _ ((nat_le (placed - n) (size - n) && nat_le (placed - n) placed_most) && nat_le (size - n) kept_most) (and_left _ ((nat_le placed size && nat_le placed placed_most) && nat_le size kept_most) f)
+        (and_both (nat_le (placed - n) (size - n) && nat_le (placed - n) placed_most) (nat_le (size - n) kept_most)
+        (and_both (nat_le (placed - n) (size - n)) (nat_le (placed - n) placed_most) (at_most (placed - n) (size - n) (omega (arith, a))) (at_most (placed - n) placed_most (omega (arith, b))))
+        (at_most (size - n) kept_most (omega (arith, k))))
+
+pub wrote_stands : (n : ℕ) (flow flow' : Option Flow) (out out' : List ℕ) → flow' ≡ flow_written flow n → out' ≡ drop n out → 0 < n → n ≤ length (pending_at flow out) → flow_fits flow (length out) ≡ true → flow_fits flow' (length out') ≡ true
+wrote_stands n None flow' out out' w e some within fits =
+    let size : length out' ≡ length out - n = ap length e ∙ length-drop n out in
+    let few = below (length out) placed_most fits in
+    ap (λ f. flow_fits f (length out')) w ∙ at_most (length out') placed_most (omega (arith, size, few))
+wrote_stands n (Some flow) flow' out out' w e some within fits =
+    let s = shown_within n (shown_by flow.stage) out within in
+    let size : length out' ≡ length out - n = ap length e ∙ length-drop n out in
+    subst (λ k. flow_fits flow' k ≡ true) (sym size) (subst (λ f. flow_fits f (length out - n) ≡ true) (sym w) (stage_stands flow n (length out) some s.1 s.0 fits))
 
 some_room : (t : Bool) (n room : ℕ) → nat_le 8192 n ≡ t → cond t None (Some (8192 - n)) ≡ Some room → 0 < room
 some_room true n room e h = cc
@@ -81,44 +194,53 @@ absorbed g (Some state) body' held held' bytes kept more broken drained still d 
     ap (λ h. past_body (Some state) (h ++ (bytes ++ more)) g) none ∙ d.rest g more
     ∙ ap (λ k. cond broken [] (past_body body' (k ++ more) g)) (sym (e ∙ ap (λ h. h ++ kept) none))
 
-pub arrived_went : (service : Service) (cause : Option StopCause) (pending : List ℕ) (journal : List Entry) (closing closing' ended : Bool) (body body' : Option BodyState) (held held' kept : List ℕ) (next next' : HeadStep) (bytes : List ℕ) → is_some cause ≡ false → closing ≡ false →
+-- whether the connection closes behind a response, where it doesn't yet
+behind_kept : (r : Rest) (closing closing' : Bool) (x y : List ℕ) → closing ≡ false → x ≡ cond closing' [] y → cond (closes_behind r closing) [] x ≡ cond (closes_behind r closing') [] y
+behind_kept r closing closing' x y e f = ap (λ c. cond (closes_behind r c) [] x) e ∙ by r.stays
+  where
+    by : (stays : Bool) → cond (cond stays false true) [] x ≡ cond (cond stays closing' true) [] y
+    by true = f
+    by false = refl
+
+pub arrived_went : (service : Service) (cause : Option StopCause) (flow : Option Flow) (out : List ℕ) (journal : List Entry) (closing closing' ended : Bool) (body body' : Option BodyState) (held held' kept : List ℕ) (next next' : HeadStep) (bytes : List ℕ) → is_some cause ≡ false → closing ≡ false →
     (is_some body ≡ true → held ≡ []) → (body ≡ None → (body' ≡ None) × (closing' ≡ false) × (kept ≡ bytes)) → Drops (rest_of body) bytes body' kept closing' → held' ≡ held ++ kept →
-    Went Always (view_at service cause pending journal closing ended body held next) (view_at service cause pending journal closing' ended body' held' next') bytes [] []
-arrived_went service cause pending journal closing closing' ended body body' held held' kept next next' bytes live unclosed drained still d e = record {
-  before = live_at service cause pending journal closing ended body held next live;
-  after = live_at service cause pending journal closing' ended body' held' next' live;
+    Went Always (view_at service cause flow out journal closing ended body held next) (view_at service cause flow out journal closing' ended body' held' next') bytes [] []
+arrived_went service cause flow out journal closing closing' ended body body' held held' kept next next' bytes live unclosed drained still d e = record {
+  before = live_at service cause flow out journal closing ended body held next live;
+  after = live_at service cause flow out journal closing' ended body' held' next' live;
   moved = record {
     starts = sym (append-nil (map start_of journal));
     raceless = refl;
     bytes = λ trees is more later.
         let g : List ℕ → List ℕ = λ input. answers service (length journal) trees input later in
-        ap (λ b. pending ++ cond b [] (past_body body (held ++ (bytes ++ more)) g)) unclosed ∙ ap (λ x. pending ++ x) (absorbed g body body' held held' bytes kept more closing' drained still d e);
+        ap (λ x. out ++ ((flow_rest flow trees).bytes ++ x))
+        (behind_kept (flow_rest flow trees) closing closing' (past_body body (held ++ (bytes ++ more)) g) (past_body body' (held' ++ more) g) unclosed (absorbed g body body' held held' bytes kept more closing' drained still d e));
     heavy = λ trees is more later h. h;
   };
 }
 
-pub arrived_left : (cause : Option StopCause) (pending : List ℕ) (closing closing' : Bool) (held held' kept bytes : List ℕ) (n : ℕ) → closing ≡ false → held' ≡ held ++ kept → length kept ≤ n → left_at cause pending closing' held' ≤ left_at cause pending closing held + price * n
+pub arrived_left : (cause : Option StopCause) (flow : Option Flow) (out : List ℕ) (closing closing' : Bool) (held held' kept bytes : List ℕ) (n : ℕ) → closing ≡ false → held' ≡ held ++ kept → length kept ≤ n → left_at cause flow out closing' held' ≤ left_at cause flow out closing held + price * n
 unfolding price weight
-arrived_left None pending true closing' held held' kept bytes n o e h = cc
-arrived_left None pending false true held held' kept bytes n o e h = omega arith
-arrived_left None pending false false held held' kept bytes n o e h =
+arrived_left None flow out true closing' held held' kept bytes n o e h = cc
+arrived_left None flow out false true held held' kept bytes n o e h = omega arith
+arrived_left None flow out false false held held' kept bytes n o e h =
     let s : length held' ≡ length held + length kept = ap length e ∙ length-append held kept in
     omega (arith, s, h)
-arrived_left (Some cause) pending closing closing' held held' kept bytes n o e h = omega arith
+arrived_left (Some cause) flow out closing closing' held held' kept bytes n o e h = omega arith
 
 -- a further request starts
-pub starts_if : (stopped closing : Bool) (pending : List ℕ) (body : Option BodyState) (next : HeadStep) → starts_at stopped closing pending body next ≡ true → (stopped ≡ false) × (closing ≡ false) × (begins next ≡ true) × (body ≡ None)
+pub starts_if : (stopped closing : Bool) (out : List ℕ) (body : Option BodyState) (next : HeadStep) → starts_at stopped closing out body next ≡ true → (stopped ≡ false) × (closing ≡ false) × (begins next ≡ true) × (body ≡ None)
 starts_if false false [] None (Head head size) h = (refl, refl, refl, refl)
 starts_if false false [] None (Bad code no_body) h = (refl, refl, refl, refl)
 starts_if false false [] None More h = cc
 starts_if false false [] (Some state) next h = cc
-starts_if false false (b ∷ pending) body next h = cc
-starts_if false true pending body next h = cc
-starts_if true closing pending body next h = cc
+starts_if false false (b ∷ out) body next h = cc
+starts_if false true out body next h = cc
+starts_if true closing out body next h = cc
 
-pub ready_at : (t : Bool) (node : ℕ) → t ≡ true → node ≡ 0 → Contains (cond t (0 ∷ []) []) node
-ready_at true node e f = subst (Contains (0 ∷ [])) (sym f) (0, omega arith, refl)
-ready_at false node e f = cc
+pub node_ready : (t : Bool) (node : ℕ) → t ≡ true → node ≡ 0 → Contains (cond t (0 ∷ []) []) node
+node_ready true node e f = subst (Contains (0 ∷ [])) (sym f) (0, omega arith, refl)
+node_ready false node e f = cc
 
 answers_head : HeadStays → SizeFits → (service : Service) (k : ℕ) (trees : Trees) (input more : List ℕ) (start : Start) (later : List Start) (head : RequestHead) (size : ℕ) → head_step input ≡ Head head size →
     answers service k trees (input ++ more) (start ∷ later) ≡ response (reply_at service trees start head) start (is_head head.method) (keeps service k head (reply_at service trees start head)) ++ cond (keeps service k head (reply_at service trees start head)) (behind_body (body_of head.body (drop size input ++ more)) (λ n. answers service (k + 1) trees (drop n (drop size input ++ more)) later)) []
@@ -134,71 +256,173 @@ answers_bad stays service k trees input more start later code no_body h =
     ap (λ s. first_answer service trees k start s (λ n kind. behind_body (body_of kind (drop n (input ++ more))) (λ m. answers service (k + 1) trees (drop m (drop n (input ++ more))) later))) (stays input more code no_body h)
 
 -- where the response keeps the connection open, what comes is what comes behind the body; else nothing
-kept_or_closed : (keep broken : Bool) (x y : List ℕ) → x ≡ cond broken [] y → cond keep x [] ≡ cond (cond keep broken true) [] y
-kept_or_closed true broken x y e = e
-kept_or_closed false broken x y e = refl
+kept_or_closed : (keep broken closes : Bool) (x y : List ℕ) → closes ≡ cond keep broken true → x ≡ cond broken [] y → cond keep x [] ≡ cond closes [] y
+kept_or_closed true broken closes x y c e = e ∙ ap (λ t. cond t [] y) (sym c)
+kept_or_closed false broken closes x y c e = ap (λ t. cond t [] y) (sym c)
 
--- the bytes that are still to come, behind a request that was answered
-ran_bytes : HeadStays → RefusalStays → SizeFits → (service : Service) (trees : Trees) (now : Start) (pending pending' : List ℕ) (journal journal' : List Entry) (entry : Entry) (closing closing' : Bool) (body body' : Option BodyState) (held held' : List ℕ) (next : HeadStep) →
-    closing ≡ false → body ≡ None → next ≡ head_step held → start_of entry ≡ now → journal' ≡ journal ++ entry ∷ [] → RanOne service trees now (length journal) next held held' body' pending pending' closing' → (more : List ℕ) (later : List Start) →
-    bytes_at service pending journal closing body held trees more (now ∷ later) ≡ bytes_at service pending' journal' closing' body' held' trees more later
-ran_bytes stays refused fits service trees now pending pending' journal journal' entry closing closing' body body' held held' (Head head size) c b l s j r more later =
+-- the bytes that are still to come, behind a request that was started
+ran_bytes : HeadStays → RefusalStays → SizeFits → (service : Service) (trees : Trees) (now : Start) (flow' : Option Flow) (out out' : List ℕ) (journal journal' : List Entry) (entry : Entry) (closing closing' : Bool) (body body' : Option BodyState) (held held' : List ℕ) (next : HeadStep) →
+    closing ≡ false → body ≡ None → next ≡ head_step held → start_of entry ≡ now → journal' ≡ journal ++ entry ∷ [] → RanOne service trees now (length journal) next held held' body' flow' out out' closing' → (more : List ℕ) (later : List Start) →
+    bytes_at service (flow_rest None) out journal closing body held trees more (now ∷ later) ≡ bytes_at service (flow_rest flow') out' journal' closing' body' held' trees more later
+ran_bytes stays refused fits service trees now flow' out out' journal journal' entry closing closing' body body' held held' (Head head size) c b l s j r more later =
     let k = length journal in
     let reply = reply_at service trees now head in
     let keep = keeps service k head reply in
     let text = response reply now (is_head head.method) keep in
+    let rest = flow_rest flow' trees in
     let g : List ℕ → List ℕ = λ input. answers service (k + 1) trees input later in
     let count : length journal' ≡ k + 1 = ap length j ∙ length-append journal (entry ∷ []) in
     let behind = drop size held in
-    ap (λ x. pending ++ cond x [] (past_body body (held ++ more) (λ input. answers service k trees input (now ∷ later)))) c
-    ∙ ap (λ x. pending ++ past_body x (held ++ more) (λ input. answers service k trees input (now ∷ later))) b
-    ∙ ap (λ x. pending ++ x) (answers_head stays fits service k trees held more now later head size (sym l))
-    ∙ sym (append_assoc pending text (cond keep (behind_body (body_of head.body (behind ++ more)) (λ n. g (drop n (behind ++ more)))) []))
-    ∙ ap (λ x. (pending ++ text) ++ x) (kept_or_closed keep r.broken (behind_body (body_of head.body (behind ++ more)) (λ n. g (drop n (behind ++ more)))) (past_body body' (held' ++ more) g) (r.drops.rest g more))
-    ∙ ap (λ x. (pending ++ text) ++ cond (cond x r.broken true) [] (past_body body' (held' ++ more) g)) (sym (r.responds).stays)
-    ∙ ap (λ x. (pending ++ text) ++ cond x [] (past_body body' (held' ++ more) g)) (sym r.closes)
-    ∙ ap (λ n. (pending ++ text) ++ cond closing' [] (past_body body' (held' ++ more) (λ input. answers service n trees input later))) (sym count)
-    ∙ ap (λ q. q ++ cond closing' [] (past_body body' (held' ++ more) (λ input. answers service (length journal') trees input later))) (sym (r.responds).put)
-ran_bytes stays refused fits service trees now pending pending' journal journal' entry closing closing' body body' held held' (Bad code no_body) c b l s j r more later =
-    ap (λ x. pending ++ cond x [] (past_body body (held ++ more) (λ input. answers service (length journal) trees input (now ∷ later)))) c
-    ∙ ap (λ x. pending ++ past_body x (held ++ more) (λ input. answers service (length journal) trees input (now ∷ later))) b
-    ∙ ap (λ x. pending ++ x) (answers_bad refused service (length journal) trees held more now later code no_body (sym l))
-    ∙ sym r.0 ∙ sym (append-nil pending') ∙ ap (λ x. pending' ++ cond x [] (past_body body' (held' ++ more) (λ input. answers service (length journal') trees input later))) (sym r.3)
-ran_bytes stays refused fits service trees now pending pending' journal journal' entry closing closing' body body' held held' More c b l s j r more later = absurd r
+    ap (λ x. out ++ cond x [] (past_body body (held ++ more) (λ input. answers service k trees input (now ∷ later)))) c
+    ∙ ap (λ x. out ++ past_body x (held ++ more) (λ input. answers service k trees input (now ∷ later))) b
+    ∙ ap (λ x. out ++ x) (answers_head stays fits service k trees held more now later head size (sym l))
+    ∙ sym (append_assoc out text (cond keep (behind_body (body_of head.body (behind ++ more)) (λ n. g (drop n (behind ++ more)))) []))
+    ∙ ap (λ x. (out ++ text) ++ x) (kept_or_closed keep r.broken (closes_behind rest closing') (behind_body (body_of head.body (behind ++ more)) (λ n. g (drop n (behind ++ more)))) (past_body body' (held' ++ more) g) r.closes (r.drops.rest g more))
+    ∙ ap (λ q. q ++ cond (closes_behind rest closing') [] (past_body body' (held' ++ more) g)) (sym r.put)
+    ∙ append_assoc out' rest.bytes (cond (closes_behind rest closing') [] (past_body body' (held' ++ more) g))
+    ∙ ap (λ n. out' ++ (rest.bytes ++ cond (closes_behind rest closing') [] (past_body body' (held' ++ more) (λ input. answers service n trees input later)))) (sym count)
+ran_bytes stays refused fits service trees now flow' out out' journal journal' entry closing closing' body body' held held' (Bad code no_body) c b l s j r more later =
+    ap (λ x. out ++ cond x [] (past_body body (held ++ more) (λ input. answers service (length journal) trees input (now ∷ later)))) c
+    ∙ ap (λ x. out ++ past_body x (held ++ more) (λ input. answers service (length journal) trees input (now ∷ later))) b
+    ∙ ap (λ x. out ++ x) (answers_bad refused service (length journal) trees held more now later code no_body (sym l))
+    ∙ sym r.put ∙ sym (append-nil out') ∙ ap (λ x. out' ++ cond x [] (past_body body' (held' ++ more) (λ input. answers service (length journal') trees input later))) (sym r.closes)
+    ∙ ap (λ f. out' ++ ((flow_rest f trees).bytes ++ cond (closes_behind (flow_rest f trees) closing') [] (past_body body' (held' ++ more) (λ input. answers service (length journal') trees input later)))) (sym r.over)
+ran_bytes stays refused fits service trees now flow' out out' journal journal' entry closing closing' body body' held held' More c b l s j r more later = absurd r
 
-pub ran_went : HeadStays → RefusalStays → SizeFits → (service : Service) (now : Start) (cause : Option StopCause) (pending pending' : List ℕ) (journal journal' : List Entry) (entry : Entry) (closing closing' ended : Bool) (body body' : Option BodyState) (held held' : List ℕ) (next next' : HeadStep) →
-    is_some cause ≡ false → closing ≡ false → body ≡ None → next ≡ head_step held → start_of entry ≡ now → journal' ≡ journal ++ entry ∷ [] → ((trees : Trees) → RanOne service trees now (length journal) next held held' body' pending pending' closing') →
-    Ran now (view_at service cause pending journal closing ended body held next) (view_at service cause pending' journal' closing' ended body' held' next')
-ran_went stays refused fits service now cause pending pending' journal journal' entry closing closing' ended body body' held held' next next' live c b l s j r =
+pub ran_went : HeadStays → RefusalStays → SizeFits → (service : Service) (now : Start) (cause : Option StopCause) (flow' : Option Flow) (out out' : List ℕ) (journal journal' : List Entry) (entry : Entry) (closing closing' ended : Bool) (body body' : Option BodyState) (held held' : List ℕ) (next next' : HeadStep) →
+    is_some cause ≡ false → closing ≡ false → body ≡ None → next ≡ head_step held → start_of entry ≡ now → journal' ≡ journal ++ entry ∷ [] → ((trees : Trees) → RanOne service trees now (length journal) next held held' body' flow' out out' closing') →
+    Ran now (view_at service cause None out journal closing ended body held next) (view_at service cause flow' out' journal' closing' ended body' held' next')
+ran_went stays refused fits service now cause flow' out out' journal journal' entry closing closing' ended body body' held held' next next' live c b l s j r =
     Goes (now ∷ []) (inr refl) (record {
-      before = live_at service cause pending journal closing ended body held next live;
-      after = live_at service cause pending' journal' closing' ended body' held' next' live;
+      before = live_at service cause None out journal closing ended body held next live;
+      after = live_at service cause flow' out' journal' closing' ended body' held' next' live;
       moved = record {
         starts = ap (map start_of) j ∙ map-append start_of journal (entry ∷ []) ∙ ap (λ x. map start_of journal ++ x ∷ []) s;
         raceless = refl;
-        bytes = λ trees is more later. ran_bytes stays refused fits service trees now pending pending' journal journal' entry closing closing' body body' held held' next c b l s j (r trees) more later;
+        bytes = λ trees is more later. ran_bytes stays refused fits service trees now flow' out out' journal journal' entry closing closing' body body' held held' next c b l s j (r trees) more later;
         heavy = λ trees is more later h. h;
       };
     })
 
-falls : (p p' n n' : ℕ) (closing : Bool) → p' ≤ p + 65536 → n' < n → 1 + p' + cond closing 0 (65537 * (n' + 1)) < 1 + p + 65537 * (n + 1)
-falls p p' n n' true a b = omega arith
-falls p p' n n' false a b = omega arith
-
-pub ran_left : SizeFits → (service : Service) (trees : Trees) (now : Start) (k : ℕ) (cause : Option StopCause) (pending pending' : List ℕ) (closing closing' : Bool) (body' : Option BodyState) (held held' : List ℕ) (next : HeadStep) →
-    is_some cause ≡ false → closing ≡ false → next ≡ head_step held → length pending' ≤ length pending + 65536 → RanOne service trees now k next held held' body' pending pending' closing' → left_at cause pending' closing' held' < left_at cause pending closing held
+falls : (w w' n n' : ℕ) (closing : Bool) → w' < w + weight → n' < n → 1 + w' + cond closing 0 (weight * (n' + 1)) < 1 + w + weight * (n + 1)
 unfolding weight
-ran_left fits service trees now k (Some cause) pending pending' closing closing' body' held held' next live c l f r = cc
-ran_left fits service trees now k None pending pending' closing closing' body' held held' (Head head size) live c l f r =
+falls w w' n n' true a b = omega arith
+falls w w' n n' false a b = omega arith
+
+new_work : (flow : Option Flow) (size : ℕ) → FitsNew flow size → work flow size < weight
+unfolding weight flow_most
+new_work None size f = omega (arith, f)
+new_work (Some flow) size f = subst (λ s. size + flow_left (Some (record { wish = flow.wish; ask = flow.ask; stage = s; len = flow.len })) size < weight) (sym f.1) (let z = f.0 in omega (arith, z))
+
+pub ran_left : SizeFits → (service : Service) (trees : Trees) (now : Start) (k : ℕ) (cause : Option StopCause) (flow' : Option Flow) (out out' : List ℕ) (closing closing' : Bool) (body' : Option BodyState) (held held' : List ℕ) (next : HeadStep) →
+    is_some cause ≡ false → closing ≡ false → next ≡ head_step held → FitsNew flow' (length out') → RanOne service trees now k next held held' body' flow' out out' closing' → left_at cause flow' out' closing' held' < left_at cause None out closing held
+ran_left fits service trees now k (Some cause) flow' out out' closing closing' body' held held' next live c l f r = cc
+ran_left fits service trees now k None flow' out out' closing closing' body' held held' (Head head size) live c l f r =
     let s = fits held head size (sym l) in
     let d : length (drop size held) ≡ length held - size = length-drop size held in
     let shorter : length held' < length held = omega (arith, s.0, s.1, d, r.drops.shorter) in
-    rw c (falls (length pending) (length pending') (length held) (length held') closing' f shorter)
-ran_left fits service trees now k None pending pending' closing closing' body' held held' (Bad code no_body) live c l f r = rw (c, r.3) (omega arith)
-ran_left fits service trees now k None pending pending' closing closing' body' held held' More live c l f r = absurd r
+    let w : work flow' (length out') < work None (length out) + weight = (let n = new_work flow' (length out') f in omega (arith, n)) in
+    rw c (falls (work None (length out)) (work flow' (length out')) (length held) (length held') closing' w shorter)
+ran_left fits service trees now k None flow' out out' closing closing' body' held held' (Bad code no_body) live c l f r =
+    let w = new_work flow' (length out') f in
+    rw (c, r.closes) (omega (arith, w))
+ran_left fits service trees now k None flow' out out' closing closing' body' held held' More live c l f r = absurd r
+
+-- a request that seeks a file goes on
+goes_bytes : (service : Service) (trees : Trees) (flow flow' : Option Flow) (out out' : List ℕ) (journal journal' : List Entry) (closing closing' : Bool) (body : Option BodyState) (held more : List ℕ) (later : List Start) → length journal' ≡ length journal → GoesOn trees flow flow' out out' closing closing' →
+    bytes_at service (flow_rest flow) out journal closing body held trees more later ≡ bytes_at service (flow_rest flow') out' journal' closing' body held trees more later
+goes_bytes service trees flow flow' out out' journal journal' closing closing' body held more later n g =
+    let r = flow_rest flow trees in
+    let r' = flow_rest flow' trees in
+    let tail : ℕ → Bool → List ℕ = λ k c. cond c [] (past_body body (held ++ more) (λ input. answers service k trees input later)) in
+    sym (append_assoc out r.bytes (tail (length journal) (closes_behind r closing))) ∙ ap (λ x. x ++ tail (length journal) (closes_behind r closing)) (sym g.bytes)
+    ∙ append_assoc out' r'.bytes (tail (length journal) (closes_behind r closing)) ∙ ap (λ c. out' ++ (r'.bytes ++ tail (length journal) c)) (sym g.closes)
+    ∙ ap (λ k. out' ++ (r'.bytes ++ tail k (closes_behind r' closing'))) (sym n)
+
+pub goes_went : (ground : Ground) (service : Service) (cause : Option StopCause) (flow flow' : Option Flow) (out out' : List ℕ) (journal journal' : List Entry) (closing closing' ended : Bool) (body : Option BodyState) (held : List ℕ) (next : HeadStep) →
+    is_some cause ≡ false → length journal' ≡ length journal → map start_of journal' ≡ map start_of journal → ((trees : Trees) → Holds ground trees → GoesOn trees flow flow' out out' closing closing') →
+    Went ground (view_at service cause flow out journal closing ended body held next) (view_at service cause flow' out' journal' closing' ended body held next) [] [] []
+goes_went ground service cause flow flow' out out' journal journal' closing closing' ended body held next live n m g = record {
+  before = live_at service cause flow out journal closing ended body held next live;
+  after = live_at service cause flow' out' journal' closing' ended body held next live;
+  moved = record {
+    starts = m ∙ sym (append-nil (map start_of journal));
+    raceless = refl;
+    bytes = λ trees is more later. goes_bytes service trees flow flow' out out' journal journal' closing closing' body held more later n (g trees is);
+    heavy = λ trees is more later h. h;
+  };
+}
+
+pub goes_left : (cause : Option StopCause) (flow flow' : Option Flow) (out out' : List ℕ) (closing closing' : Bool) (held : List ℕ) → is_some cause ≡ false → (closing ≡ true → closing' ≡ true) → work flow' (length out') < work flow (length out) → left_at cause flow' out' closing' held < left_at cause flow out closing held
+goes_left (Some cause) flow flow' out out' closing closing' held live k w = cc
+goes_left None flow flow' out out' true true held live k w = omega (arith, w)
+goes_left None flow flow' out out' true false held live k w = absurd (let e : false ≡ true = k refl in cc)
+goes_left None flow flow' out out' false true held live k w = omega (arith, w)
+goes_left None flow flow' out out' false false held live k w = omega (arith, w)
 
 pub some_taken : (n room taken : ℕ) → taken ≡ min n room → (n == 0) ≡ false → 0 < room → 0 < taken
 some_taken n room taken e f h = grind (arith, nat_tests)
 
 pub within_taken : (n room taken : ℕ) → taken ≡ min n room → taken ≤ n
 within_taken n room taken e = omega arith
+
+pub written_asked : (n : ℕ) (flow flow' : Option Flow) → flow' ≡ flow_written flow n → tree_asked flow' ≡ tree_asked flow
+written_asked n None flow' e = ap tree_asked e
+written_asked n (Some flow) flow' e = ap tree_asked e
+
+pub none_taken : (n : ℕ) → take {A = ℕ} n [] ≡ []
+none_taken zero = refl
+none_taken (suc n) = refl
+
+-- an event for which there was no memory
+pub refused : (now : Start) (service : Service) (cause : Option StopCause) (flow : Option Flow) (out out' : List ℕ) (journal journal' : List Entry) (closing closing' ended ended' : Bool) (body body' : Option BodyState) (held held' : List ℕ) (next next' : HeadStep) →
+    is_some cause ≡ false → out' ≡ [] → journal' ≡ journal → Refused now (view_at service cause flow out journal closing ended body held next) (view_at service (Some stop.Memory) None out' journal' closing' ended' body' held' next')
+refused now service cause flow out out' journal journal' closing closing' ended ended' body body' held held' next next' live e j = (
+  [],
+  inl refl,
+  record {
+    before = live_at service cause flow out journal closing ended body held next live;
+    held = refl;
+    why = refl;
+    pending = ap (take shown_most) e ∙ none_taken shown_most;
+    starts = ap (map start_of) j ∙ sym (append-nil (map start_of journal));
+    raceless = refl;
+  },
+)
+
+pub refused_left : (cause : Option StopCause) (flow : Option Flow) (out out' : List ℕ) (closing closing' : Bool) (held held' : List ℕ) → is_some cause ≡ false → left_at (Some stop.Memory) None out' closing' held' < left_at cause flow out closing held
+refused_left None flow out out' closing closing' held held' live = omega arith
+refused_left (Some cause) flow out out' closing closing' held held' live = cc
+
+-- what a job that waits says of the request in flight
+pub job_waits : (flow : Flow) (node : ℕ) (job : Ask) → ask_in (jobs_of (Some flow)) node ≡ Some job → (waits flow.stage ≡ true) × (flow.ask ≡ job)
+job_waits flow node job e = by (waits flow.stage) refl e
+  where
+    some : (t : Bool) → cond t (Some flow.ask) None ≡ Some job → flow.ask ≡ job
+    some true e = cc
+    some false e = cc
+
+    by : (t : Bool) → waits flow.stage ≡ t → ask_in (cond t (record { node = 0; ask = flow.ask } ∷ []) []) node ≡ Some job → (waits flow.stage ≡ true) × (flow.ask ≡ job)
+    by true w e = (w, some (eqb 0 node) e)
+    by false w e = cc
+
+-- where a request is in flight the connection is live
+pub waits_live : (cause : Option StopCause) (flow : Option Flow) (f : Flow) → (is_some cause ≡ true → flow ≡ None) → flow ≡ Some f → is_some cause ≡ false
+waits_live None flow f quit is = refl
+waits_live (Some cause) flow f quit is = absurd (let e : None ≡ Some f = sym (quit refl) ∙ is in cc)
+
+-- the journal's last request is over
+map_length : {A B : Type 0} (f : A → B) (xs : List A) → length (map f xs) ≡ length xs
+map_length f [] = refl
+map_length f (x ∷ xs) = ap suc (map_length f xs)
+
+pub same_length : (xs ys : List Entry) → map start_of ys ≡ map start_of xs → length ys ≡ length xs
+same_length xs ys e = sym (map_length start_of ys) ∙ ap length e ∙ map_length start_of xs
+
+finished_at : (xs : List Entry) (n : ℕ) (new default : Entry) → start_of new ≡ start_of (get_or xs n default) → map start_of (set xs n new) ≡ map start_of xs
+finished_at [] n new default e = refl
+finished_at (x ∷ xs) zero new default e = ap (λ s. s ∷ map start_of xs) e
+finished_at (x ∷ xs) (suc n) new default e = ap (λ r. start_of x ∷ r) (finished_at xs n new default e)
+
+pub finished : (xs : List Entry) (n : ℕ) (entry new : Entry) → entry ≡ get_or xs n entry → start_of new ≡ start_of entry → map start_of (set xs n new) ≡ map start_of xs
+finished xs n entry new is e = finished_at xs n new entry (e ∙ ap start_of is)

@@ -4,7 +4,7 @@ use Rattle.ngx_outside.specs.Views.{Start}
 use Rattle.resp_head.specs.declared.head.ReplyHead.{ReplyHead}
 use Rattle.resp_head.specs.Head.{head_of}
 use Rattle.phase_engine.specs.declared.meaning.WholeReply.{WholeReply as Reply}
-use Rattle.connection.specs.Answers.{response, reply_head, content_of}
+use Rattle.connection.specs.Flow.{response, reply_head, content_of}
 
 abbrev parts_head : ℕ → ℕ → List ℕ → ℕ → Option ℕ → Bool → ReplyHead
 parts_head status moment kind len modified keep = record { status = status; moment = moment; kind = Some kind; length = Some len; modified = modified; location = None; chunked = false; keep = keep }

@@ -1,21 +1,28 @@
 -- What a connection shows is sound.
-use Rattle.std.proofs.Common.{◌≡◌, ℕ, ◌+◌, drop, Bool, true, false, not, ◌||◌, List, [], ◌∷◌, ◌++◌, length, Option, None, Some, refl, sym, ap, ◌∙◌}
-use Rattle.std.specs.Prelude.{is_some}
+use Rattle.std.proofs.Common.{◌≡◌, ◌≢◌, ℕ, ◌+◌, ◌-◌, ◌<◌, ◌≤◌, drop, take, Bool, true, false, not, ◌&&◌, ◌||◌, cond, List, [], ◌∷◌, ◌++◌, length, Option, None, Some, refl, sym, ap, ◌∙◌, arith, suc, zero}
+use Rattle.std.specs.Prelude.{is_some, nat_le, nat_lt, ◌==◌}
+use Rattle.file_tree.specs.declared.job.Ask.{Ask}
 use Rattle.std.proofs.lemmas.List.{append-nil}
+use Rattle.std.proofs.lemmas.Bool.Decides.{nat_tests}
 use Rattle.file_tree.specs.Tree.{Trees}
-use Rattle.ngx_outside.specs.Views.{Start, IsSound, is_idle, no_bytes}
+use Rattle.ngx_outside.specs.Views.{Start, IsSound, is_idle, no_bytes, no_nodes, no_jobs}
 use Rattle.ngx_outside.specs.declared.event.Entry.{Entry}
 use Rattle.ngx_outside.specs.declared.event.StopCause.{StopCause}
 use Rattle.req_head.specs.declared.head.HeadStep.{HeadStep}
 use Rattle.req_head.specs.declared.head.HeadStep.TheVariants.{More, Head, Bad}
 use Rattle.req_head.specs.Step.{head_step}
+use Rattle.req_head.specs.Laws.{FullDecides}
 use Rattle.body_frame.specs.Outcome.{Short}
 use Rattle.body_frame.specs.State.{body_of}
 use Rattle.body_frame.specs.declared.state.BodyState.{BodyState}
+use Rattle.connection.specs.declared.flow.Flow.{Flow}
+use Rattle.connection.specs.declared.flow.Stage.{Stage}
+use Rattle.connection.specs.declared.flow.Stage.TheVariants.{Asked, Told, Reading, Came}
 use Rattle.connection.specs.Answers.{Service, answers, first_answer, behind_body}
 use Rattle.connection.specs.Steps.{starts, rest_of, past_body}
-use Rattle.connection.specs.Conn.{view_at, bytes_at, shut_at}
-use Rattle.connection.proofs.Moves.{room_some}
+use Rattle.connection.specs.Flow.{flow_rest, jobs_of, is_stat, may_run, shown_by, shown_most, placed_most, kept_most, is_block, stage_fits, flow_fits}
+use Rattle.connection.specs.Conn.{view_at, bytes_at, room_at, starts_at, idle_at, shut_at}
+use Rattle.connection.proofs.Moves.{room_some, none_taken, below, and_left, and_right}
 
 -- bytes that begin no request are answered by nothing
 unanswered : (service : Service) (k : ℕ) (trees : Trees) (held : List ℕ) (later : List Start) → More ≡ head_step held → answers service k trees (held ++ []) later ≡ []
@@ -29,41 +36,175 @@ unanswered service k trees held (start ∷ later) e =
 unfinished : (state : BodyState) (held : List ℕ) (g : List ℕ → List ℕ) → held ≡ [] → rest_of (Some state) [] ≡ Short → past_body (Some state) (held ++ []) g ≡ []
 unfinished state held g e s = ap (λ h. past_body (Some state) (h ++ []) g) e ∙ ap (λ o. behind_body o (λ n. g (drop n []))) s
 
--- where nothing is pending and no request begins, nothing more comes
-quiet : (service : Service) (pending : List ℕ) (journal : List Entry) (closing : Bool) (body : Option BodyState) (held : List ℕ) (next : HeadStep) (trees : Trees) (later : List Start) →
-    no_bytes pending ≡ true → (closing || not (starts body next)) ≡ true → next ≡ head_step held → (is_some body ≡ true → held ≡ []) → (is_some body ≡ true → rest_of body [] ≡ Short) → bytes_at service pending journal closing body held trees [] later ≡ []
+-- where nothing is kept for the peer and no request begins, nothing more comes
+quiet : (service : Service) (out : List ℕ) (journal : List Entry) (closing : Bool) (body : Option BodyState) (held : List ℕ) (next : HeadStep) (trees : Trees) (later : List Start) →
+    no_bytes out ≡ true → (closing || not (starts body next)) ≡ true → next ≡ head_step held → (is_some body ≡ true → held ≡ []) → (is_some body ≡ true → rest_of body [] ≡ Short) → bytes_at service (flow_rest None) out journal closing body held trees [] later ≡ []
 quiet service [] journal true body held next trees later p q e d u = refl
 quiet service [] journal false (Some state) held next trees later p q e d u = unfinished state held (λ input. answers service (length journal) trees input later) (d refl) (u refl)
 quiet service [] journal false None held More trees later p q e d u = unanswered service (length journal) trees held later e
 quiet service [] journal false None held (Head head size) trees later p q e d u = cc
 quiet service [] journal false None held (Bad code no_body) trees later p q e d u = cc
-quiet service (b ∷ pending) journal closing body held next trees later p q e d u = cc
+quiet service (b ∷ out) journal closing body held next trees later p q e d u = cc
 
-idle_parts : (service : Service) (pending : List ℕ) (journal : List Entry) (closing ended : Bool) (body : Option BodyState) (held : List ℕ) (next : HeadStep) →
-    is_idle (view_at service None pending journal closing ended body held next) ≡ true → (no_bytes pending ≡ true) × ((closing || not (starts body next)) ≡ true)
-idle_parts service [] journal true ended body held next h = (refl, refl)
-idle_parts service [] journal false ended (Some state) held next h = (refl, refl)
-idle_parts service [] journal false ended None held More h = (refl, refl)
-idle_parts service [] journal false ended None held (Head head size) h = cc
-idle_parts service [] journal false ended None held (Bad code no_body) h = cc
-idle_parts service (b ∷ pending) journal closing ended body held next h = cc
+-- some bytes are shown where some are kept
+shown_some : (n : ℕ) (xs : List ℕ) → 0 < n → no_bytes (take n xs) ≡ no_bytes xs
+shown_some n [] h = ap no_bytes (none_taken n)
+shown_some zero (x ∷ xs) h = absurd (omega (arith, h))
+shown_some (suc n) (x ∷ xs) h = refl
 
-shut_parts : (pending : List ℕ) (closing ended : Bool) (body : Option BodyState) (next : HeadStep) →
-    shut_at false closing ended pending body next ≡ true → (no_bytes pending ≡ true) × ((closing || not (starts body next)) ≡ true)
-shut_parts [] true ended body next h = (refl, refl)
-shut_parts [] false true (Some state) next h = (refl, refl)
-shut_parts [] false true None More h = (refl, refl)
+positive : 0 < shown_most
+unfolding shown_most
+positive = omega arith
+
+shown_none : (out : List ℕ) → no_bytes (take shown_most out) ≡ no_bytes out
+shown_none out = shown_some shown_most out positive
+
+pub record Idle (out : List ℕ) (closing : Bool) (body : Option BodyState) (next : HeadStep) : Type 0 where
+  pub unsent : no_bytes out ≡ true
+  pub waits : (closing || not (starts body next)) ≡ true
+
+unstarted : (t : Bool) → no_nodes (cond t (0 ∷ []) []) ≡ true → t ≡ false
+unstarted true e = cc
+unstarted false e = refl
+
+waits_by : (out : List ℕ) (closing : Bool) (body : Option BodyState) (next : HeadStep) → no_bytes out ≡ true → starts_at false closing out body next ≡ false → (closing || not (starts body next)) ≡ true
+waits_by [] true body next p e = refl
+waits_by [] false body next p e = ap not e
+waits_by (b ∷ out) closing body next p e = cc
+
+idle_parts : (out : List ℕ) (closing : Bool) (body : Option BodyState) (next : HeadStep) → (no_bytes (take shown_most out) && no_nodes (cond (starts_at false closing out body next) (0 ∷ []) []) && true) ≡ true → Idle out closing body next
+idle_parts out closing body next h =
+    let nodes = no_nodes (cond (starts_at false closing out body next) (0 ∷ []) []) in
+    let both = and_left (no_bytes (take shown_most out) && nodes) true h in
+    let unsent : no_bytes out ≡ true = sym (shown_none out) ∙ and_left (no_bytes (take shown_most out)) nodes both in
+    record {
+      unsent = unsent;
+      waits = waits_by out closing body next unsent (unstarted (starts_at false closing out body next) (and_right (no_bytes (take shown_most out)) nodes both));
+    }
+
+shut_parts : (out : List ℕ) (closing ended : Bool) (body : Option BodyState) (next : HeadStep) → shut_at false None closing ended out body next ≡ true → Idle out closing body next
+shut_parts [] true ended body next h = record { unsent = refl; waits = refl }
+shut_parts [] false true (Some state) next h = record { unsent = refl; waits = refl }
+shut_parts [] false true None More h = record { unsent = refl; waits = refl }
 shut_parts [] false true None (Head head size) h = cc
 shut_parts [] false true None (Bad code no_body) h = cc
 shut_parts [] false false body next h = cc
-shut_parts (b ∷ pending) true ended body next h = cc
-shut_parts (b ∷ pending) false true body next h = cc
-shut_parts (b ∷ pending) false false body next h = cc
+shut_parts (b ∷ out) true ended body next h = cc
+shut_parts (b ∷ out) false true body next h = cc
+shut_parts (b ∷ out) false false body next h = cc
 
-pub sound : (service : Service) (cause : Option StopCause) (pending : List ℕ) (journal : List Entry) (closing ended : Bool) (body : Option BodyState) (held : List ℕ) (next : HeadStep) →
-    (is_some cause ≡ false → next ≡ head_step held) → (is_some cause ≡ true → pending ≡ []) → (is_some body ≡ true → held ≡ []) → (is_some body ≡ true → rest_of body [] ≡ Short) → IsSound (view_at service cause pending journal closing ended body held next)
-sound service (Some why) pending journal closing ended body held next looked dropped drained unended = record {
-  unsent = λ h. dropped refl;
+-- nothing is read behind the end of the input
+silent_at : (stopped closing ended : Bool) (held : List ℕ) → ended ≡ true → room_at stopped closing ended held ≡ None
+silent_at true closing ended held e = refl
+silent_at false true ended held e = refl
+silent_at false false true held e = refl
+silent_at false false false held e = cc
+
+-- one that closes before the end of its input closes behind its response, and nothing comes behind that
+closed : (service : Service) (out : List ℕ) (journal : List Entry) (closing ended : Bool) (body : Option BodyState) (held : List ℕ) (next : HeadStep) (trees : Trees) (more : List ℕ) (later : List Start) →
+    shut_at false None closing ended out body next ≡ true → ended ≡ false → bytes_at service (flow_rest None) out journal closing body held trees more later ≡ []
+closed service [] journal true ended body held next trees more later h e = refl
+closed service [] journal false false body held next trees more later h e = cc
+closed service [] journal false true body held next trees more later h e = cc
+closed service (b ∷ out) journal true ended body held next trees more later h e = cc
+closed service (b ∷ out) journal false false body held next trees more later h e = cc
+closed service (b ∷ out) journal false true body held next trees more later h e = cc
+
+-- where no bytes are taken though nothing is closed, as many are held as are looked at
+held_full : (n : ℕ) → cond (nat_le 8192 n) None (Some (8192 - n)) ≡ None → 8192 ≤ n
+held_full n h = by (nat_le 8192 n) refl h
+  where
+    by : (t : Bool) → nat_le 8192 n ≡ t → cond t None (Some (8192 - n)) ≡ None → 8192 ≤ n
+    by true e h = grind (arith, nat_tests)
+    by false e h = cc
+
+-- and these are decided
+decided : FullDecides → (held : List ℕ) (next : HeadStep) → next ≡ head_step held → 8192 ≤ length held → next ≢ More
+decided full held next e h m = full held h (sym e ∙ m)
+
+-- an idle connection that isn't to be closed reads
+reading : FullDecides → (out : List ℕ) (closing ended : Bool) (body : Option BodyState) (held : List ℕ) (next : HeadStep) → next ≡ head_step held → (is_some body ≡ true → held ≡ []) → Idle out closing body next → shut_at false None closing ended out body next ≡ false → room_at false closing ended held ≢ None
+reading full (b ∷ out) closing ended body held next looked drained i shut none = absurd (let e = i.unsent in cc)
+reading full [] true ended body held next looked drained i shut none = cc
+reading full [] false true body held next looked drained i shut none = absurd (let e : true ≡ false = sym i.waits ∙ shut in cc)
+reading full [] false false None held (Head head size) looked drained i shut none = absurd (let e = i.waits in cc)
+reading full [] false false None held (Bad code no_body) looked drained i shut none = absurd (let e = i.waits in cc)
+reading full [] false false None held More looked drained i shut none = absurd (decided full held More looked (held_full (length held) none) refl)
+reading full [] false false (Some state) held next looked drained i shut none = absurd (let n = ap length (drained refl) in let h = held_full (length held) none in omega (arith, n, h))
+
+never_all : (a b : Bool) → (a && b && false) ≡ true → ⊥
+never_all true true e = cc
+never_all true false e = cc
+never_all false b e = cc
+
+never_mid : (a : Bool) → (a && false && true) ≡ true → ⊥
+never_mid true e = cc
+never_mid false e = cc
+
+-- where as much is placed as there is room for, all of what is shown is there
+some_kept : (placed : ℕ) (xs : List ℕ) → placed_most ≤ placed → placed ≤ length xs → no_bytes xs ≡ false
+unfolding placed_most
+some_kept placed [] a b = absurd (omega (arith, a, b))
+some_kept placed (x ∷ xs) a b = refl
+
+full_shown : (placed : ℕ) → placed_most ≤ placed → cond (nat_lt placed shown_most) placed shown_most ≡ shown_most
+unfolding placed_most shown_most
+full_shown placed a = ap (λ t. cond t placed 65536) (let f : nat_lt placed 65536 ≡ false = grind (arith, nat_tests) in f)
+
+unplaced : (out : List ℕ) (t : Bool) (placed : ℕ) → nat_lt placed placed_most ≡ t → placed ≤ length out →
+    (no_bytes (take (cond (nat_lt placed shown_most) placed shown_most) out) && no_nodes (cond (not false && t) (0 ∷ []) []) && true) ≡ true → ⊥
+unplaced out true placed e within h = never_mid (no_bytes (take (cond (nat_lt placed shown_most) placed shown_most) out)) h
+unplaced out false placed e within h =
+    let most : placed_most ≤ placed = grind (arith, nat_tests) in
+    let some : no_bytes (take (cond (nat_lt placed shown_most) placed shown_most) out) ≡ false = ap (λ n. no_bytes (take n out)) (full_shown placed most) ∙ shown_none out ∙ some_kept placed out most within in
+    let is = and_left (no_bytes (take (cond (nat_lt placed shown_most) placed shown_most) out)) true (and_left (no_bytes (take (cond (nat_lt placed shown_most) placed shown_most) out) && true) true h) in
+    let clash : true ≡ false = sym is ∙ some in
+    cc
+
+-- a request in flight waits for its job, or runs, or has bytes to be written
+busy : (flow : Flow) (out : List ℕ) → flow_fits (Some flow) (length out) ≡ true →
+    (no_bytes (take (shown_by flow.stage) out) && no_nodes (cond (not false && may_run flow.stage) (0 ∷ []) []) && no_jobs (jobs_of (Some flow))) ≡ true → ⊥
+busy flow out fits h = by flow.stage fits h
+  where
+    by : (stage : Stage) → stage_fits flow.len flow.ask stage (length out) ≡ true →
+        (no_bytes (take (shown_by stage) out) && no_nodes (cond (not false && may_run stage) (0 ∷ []) []) && no_jobs (jobs_of (Some (record { wish = flow.wish; ask = flow.ask; stage = stage; len = flow.len })))) ≡ true → ⊥
+    by Asked f h = never_all (no_bytes (take shown_most out)) true h
+    by (Told node) f h = never_mid (no_bytes (take shown_most out)) h
+    by (Reading left) f h = never_all (no_bytes (take shown_most out)) true h
+    by (Came left placed) f h =
+        let q = and_right (nat_le left flow.len && not (is_stat flow.ask)) ((nat_le placed (length out) && nat_le placed placed_most) && nat_le (length out) kept_most) f in
+        let p = and_left (nat_le placed (length out) && nat_le placed placed_most) (nat_le (length out) kept_most) q in
+        unplaced out (nat_lt placed placed_most) placed refl (below placed (length out) (and_left (nat_le placed (length out)) (nat_le placed placed_most) p)) h
+
+-- what is idle by its parts is shown as idle
+is_false : (b : Bool) → (b ≡ true → ⊥) → b ≡ false
+is_false true h = absurd (h refl)
+is_false false h = refl
+
+idle_none : (out : List ℕ) (closing : Bool) (body : Option BodyState) (next : HeadStep) →
+    (no_bytes out && (closing || not (starts body next))) ≡ (no_bytes out && no_nodes (cond (starts_at false closing out body next) (0 ∷ []) []) && true)
+idle_none (b ∷ out) closing body next = refl
+idle_none [] true body next = refl
+idle_none [] false body next = elim (starts body next) as (λ t. not t ≡ (no_nodes (cond t (0 ∷ []) []) && true)) [ true ↦ refl | false ↦ refl ]
+
+pub idle_shown : (service : Service) (cause : Option StopCause) (flow : Option Flow) (out : List ℕ) (journal : List Entry) (closing ended : Bool) (body : Option BodyState) (held : List ℕ) (next : HeadStep) → flow_fits flow (length out) ≡ true →
+    idle_at (is_some cause) flow closing out body next ≡ is_idle (view_at service cause flow out journal closing ended body held next)
+idle_shown service (Some why) None out journal closing ended body held next fits = refl
+idle_shown service (Some why) (Some flow) out journal closing ended body held next fits = refl
+idle_shown service None None out journal closing ended body held next fits =
+    idle_none out closing body next ∙ ap (λ b. b && no_nodes (cond (starts_at false closing out body next) (0 ∷ []) []) && true) (sym (shown_none out))
+idle_shown service None (Some flow) out journal closing ended body held next fits = sym (is_false _ (busy flow out fits))
+
+unshut : (closing ended : Bool) → ((closing || ended) && false) ≡ true → ⊥
+unshut true ended e = cc
+unshut false true e = cc
+unshut false false e = cc
+
+pub sound : FullDecides → (service : Service) (cause : Option StopCause) (flow : Option Flow) (out : List ℕ) (journal : List Entry) (closing ended : Bool) (body : Option BodyState) (held : List ℕ) (next : HeadStep) →
+    (is_some cause ≡ false → next ≡ head_step held) → (is_some cause ≡ true → out ≡ []) → (is_some cause ≡ true → flow ≡ None) → flow_fits flow (length out) ≡ true → (is_some body ≡ true → held ≡ []) → (is_some body ≡ true → rest_of body [] ≡ Short) → IsSound (view_at service cause flow out journal closing ended body held next)
+sound full service (Some why) (Some flow) out journal closing ended body held next looked dropped quit fits drained unended = absurd (let e : Some flow ≡ None = quit refl in cc)
+sound full service (Some why) None out journal closing ended body held next looked dropped quit fits drained unended = record {
+  unsent = λ h. ap (take shown_most) (dropped refl) ∙ none_taken shown_most;
   unready = λ h. refl;
   unasked = λ h. refl;
   unread = λ h. refl;
@@ -71,10 +212,13 @@ sound service (Some why) pending journal closing ended body held next looked dro
   stopped = λ cause h e. refl;
   absent = λ h. cc;
   roomy = λ room h. cc;
+  silent = λ h. refl;
+  reads = λ h. cc;
   idle = λ h trees later. cc;
   shut = λ h s trees later. cc;
+  closes = λ h s e trees more later. cc;
 }
-sound service None pending journal closing ended body held next looked dropped drained unended = record {
+sound full service None None out journal closing ended body held next looked dropped quit fits drained unended = record {
   unsent = λ h. cc;
   unready = λ h. cc;
   unasked = λ h. refl;
@@ -83,6 +227,44 @@ sound service None pending journal closing ended body held next looked dropped d
   stopped = λ cause h e. cc;
   absent = λ h. cc;
   roomy = λ room h. (room_some false closing ended held room h).3;
-  idle = λ h trees later. let p = idle_parts service pending journal closing ended body held next h in quiet service pending journal closing body held next trees later p.0 p.1 (looked refl) drained unended;
-  shut = λ l h trees later. let p = shut_parts pending closing ended body next h in quiet service pending journal closing body held next trees later p.0 p.1 (looked refl) drained unended;
+  silent = silent_at false closing ended held;
+  reads = λ h s. reading full out closing ended body held next (looked refl) drained (idle_parts out closing body next h) s;
+  idle = λ h trees later. let i = idle_parts out closing body next h in quiet service out journal closing body held next trees later i.unsent i.waits (looked refl) drained unended;
+  shut = λ l h trees later. let i = shut_parts out closing ended body next h in quiet service out journal closing body held next trees later i.unsent i.waits (looked refl) drained unended;
+  closes = λ l h e trees more later. closed service out journal closing ended body held next trees more later h e;
 }
+sound full service None (Some flow) out journal closing ended body held next looked dropped quit fits drained unended = record {
+  unsent = λ h. cc;
+  unready = λ h. cc;
+  unasked = λ h. cc;
+  unread = λ h. cc;
+  untimed = λ h. refl;
+  stopped = λ cause h e. cc;
+  absent = λ h. cc;
+  roomy = λ room h. (room_some false closing ended held room h).3;
+  silent = silent_at false closing ended held;
+  reads = λ h. absurd (busy flow out fits h);
+  idle = λ h trees later. absurd (busy flow out fits h);
+  shut = λ l h trees later. absurd (unshut closing ended h);
+  closes = λ l h e trees more later. absurd (unshut closing ended h);
+}
+
+-- as much is kept for a peer
+few_kept : (size : ℕ) → nat_le size placed_most ≡ true → size ≤ kept_most
+unfolding placed_most kept_most
+few_kept size f = let z = below size 98304 f in omega (arith, z)
+
+below_none : (size : ℕ) → (size == 0) ≡ true → nat_le size placed_most ≡ true
+unfolding placed_most
+below_none size f = grind (arith, nat_tests)
+
+stage_bounded : (len size : ℕ) (job : Ask) (stage : Stage) → stage_fits len job stage size ≡ true → size ≤ kept_most
+stage_bounded len size job Asked f = few_kept size (below_none size (and_right (is_stat job) (size == 0) f))
+stage_bounded len size job (Told node) f = few_kept size (below_none size (and_right (is_stat job) (size == 0) f))
+stage_bounded len size job (Reading left) f = few_kept size (and_right (nat_le left len && is_block len left job) (nat_le size placed_most) f)
+stage_bounded len size job (Came left placed) f =
+    below size kept_most (and_right (nat_le placed size && nat_le placed placed_most) (nat_le size kept_most) (and_right (nat_le left len && not (is_stat job)) ((nat_le placed size && nat_le placed placed_most) && nat_le size kept_most) f))
+
+pub bounded : (flow : Option Flow) (size : ℕ) → flow_fits flow size ≡ true → size ≤ kept_most
+bounded None size f = few_kept size f
+bounded (Some flow) size f = stage_bounded flow.len size flow.ask flow.stage f

@@ -1,20 +1,16 @@
 -- The answers of a connection: the responses to its requests, one after another.
-use Rattle.std.specs.Prelude.{◌≡◌, ℕ, ◌+◌, nat_lt, ◌==◌, Bool, true, false, not, ◌&&◌, List, [], ◌∷◌, ◌++◌, length, drop, Option, None, Some, if◌then◌else◌}
+use Rattle.std.specs.Prelude.{◌≡◌, ◌≤◌, ℕ, ◌+◌, nat_lt, ◌==◌, Bool, true, false, not, ◌&&◌, List, [], ◌∷◌, ◌++◌, drop, Option, None, Some, if◌then◌else◌}
 use Rattle.file_tree.specs.Tree.{Trees}
-use Rattle.http_types.specs.declared.words.Method.{Method}
-use Rattle.http_types.specs.declared.words.Method.TheVariants as methods
 use Rattle.http_types.specs.declared.words.BodyKind.{BodyKind}
 use Rattle.body_frame.specs.Outcome.{BodyOutcome, Whole, Short, Broken}
 use Rattle.body_frame.specs.State.{body_of}
 use Rattle.ngx_outside.specs.Views.{Start}
-use Rattle.resp_head.specs.declared.head.ReplyHead.{ReplyHead}
-use Rattle.resp_head.specs.Head.{head_of}
 use Rattle.req_head.specs.declared.head.Head.{Head as RequestHead}
 use Rattle.req_head.specs.declared.head.HeadStep.{HeadStep}
 use Rattle.req_head.specs.declared.head.HeadStep.TheVariants.{More, Head, Bad}
 use Rattle.req_head.specs.Step.{head_step}
 use Rattle.http_types.specs.declared.words.Addr.{Addr}
-use Rattle.file_tree.specs.Tree.{Tree, Nothing}
+use Rattle.file_tree.specs.Tree.{Tree, tree_of}
 use Rattle.site_model.specs.declared.site.Site.{Site}
 use Rattle.site_model.specs.Levels.{SiteView, ServerView, LevelView, seen}
 use Rattle.site_model.specs.Search.{server_for}
@@ -23,6 +19,13 @@ use Rattle.phase_engine.specs.declared.meaning.WholeReply.{WholeReply as Reply}
 use Rattle.phase_engine.specs.Asking.{level_asked, main_of, request_of}
 use Rattle.phase_engine.specs.Serving.{reply_of}
 use Rattle.phase_engine.specs.Outcomes.{page_reply}
+use Rattle.connection.specs.declared.respond.Answered.{Answered}
+use Rattle.connection.specs.declared.respond.Answered.TheVariants.{AtOnce, Seeks}
+use Rattle.connection.specs.declared.flow.Stage.TheVariants.{Asked}
+use Rattle.connection.specs.Flow.{Rest, flow_rest, response, is_head, is_stat}
+use Rattle.file_tree.specs.declared.job.Ask.TheVariants.{Stat}
+use Rattle.file_type.specs.Types.{TypeList, type_of}
+use Rattle.http_types.specs.declared.words.Method.{Method}
 
 -- what a connection is served: a site, at its two ends
 pub record Service : Type 0 where
@@ -33,37 +36,6 @@ pub record Service : Type 0 where
 abbrev pub service_of : Site → Addr → Addr → Service
 service_of site local peer = record { site = seen site; local = local; peer = peer }
 
--- the response's head: its length is that of the body, whether the body is sent or not
-unfoldable pub reply_head : Reply → Start → Bool → ReplyHead
-reply_head r start keep =
-    record {
-      status = r.status;
-      moment = start.moment;
-      kind = Some r.kind;
-      length = Some (length r.body);
-      modified = r.modified;
-      location = None;
-      chunked = false;
-      keep = keep;
-    }
-
--- what of the body is sent: nothing to a HEAD (RFC 9110, 9.3.2)
-abbrev pub content_of : Reply → Bool → List ℕ
-content_of r no_body = if no_body then [] else r.body
-
-unfoldable pub response : Reply → Start → Bool → Bool → List ℕ
-response r start no_body keep = head_of (reply_head r start keep) ++ content_of r no_body
-
-abbrev pub is_head : Method → Bool
-is_head methods.Get = false
-is_head methods.Head = true
-is_head methods.Post = false
-is_head (methods.Other name) = false
-
--- files aren't served yet: each request is answered as from a tree that holds nothing
-abbrev pub no_files : Tree
-no_files path = Nothing
-
 abbrev pub meeting_at : Service → Start → Meeting
 meeting_at service start = record { local = service.local; peer = service.peer; moment = start.moment; tree = start.tree }
 
@@ -71,15 +43,15 @@ meeting_at service start = record { local = service.local; peer = service.peer; 
 abbrev pub server_of : Service → Option ServerView
 server_of service = server_for service.site.servers service.local
 
--- the reply of a server to a head
-unfoldable pub reply_in : Service → Start → RequestHead → Option ServerView → Reply
-reply_in service start head None = page_reply 404
-reply_in service start head (Some server) =
-    reply_of (level_asked server head) (main_of service.site.folder (meeting_at service start) head) (request_of (level_asked server head) head) no_files
+-- the reply of a server to a head, from a tree
+unfoldable pub reply_in : Service → Tree → Start → RequestHead → Option ServerView → Reply
+reply_in service tree start head None = page_reply 404
+reply_in service tree start head (Some server) =
+    reply_of (level_asked server head) (main_of service.site.folder (meeting_at service start) head) (request_of (level_asked server head) head) tree
 
--- the reply to a head
+-- the reply to a head, from the tree of the request's start
 unfoldable pub reply_at : Service → Trees → Start → RequestHead → Reply
-reply_at service trees start head = reply_in service start head (server_of service)
+reply_at service trees start head = reply_in service (trees start.tree) start head (server_of service)
 
 abbrev pub stays_by : ℕ → LevelView → Bool
 stays_by k level = nat_lt (k + 1) level.requests && not (level.idle == 0)
@@ -94,16 +66,41 @@ stays_in k head (Some server) = stays_by k (level_asked server head)
 unfoldable pub keeps : Service → ℕ → RequestHead → Reply → Bool
 keeps service k head r = (head.keep && stays_in k head (server_of service)) && not r.closes
 
+-- what becomes of a request: it was answered, behind which the connection stays open or not, or it seeks a file
+abbrev pub rest_after : Answered → Trees → Rest
+rest_after (AtOnce sent) trees = record { bytes = []; stays = sent.keep }
+rest_after (Seeks flow) trees = flow_rest (Some flow) trees
+
 -- a reply is put behind what is kept for a peer, and the connection stays open behind it where it may and the reply doesn't
 -- close it
 pub record Puts (r : Reply) (start : Start) (no_body stays keep : Bool) (old new : List ℕ) : Type 0 where
   pub kept : keep ≡ (stays && not r.closes)
   pub put : new ≡ old ++ response r start no_body (stays && not r.closes)
 
--- this response is put behind what is kept for a peer, and the connection stays open behind it or not
-pub record Responds (service : Service) (r : Reply) (start : Start) (k : ℕ) (head : RequestHead) (keep : Bool) (old new : List ℕ) : Type 0 where
-  pub stays : keep ≡ keeps service k head r
-  pub put : new ≡ old ++ response r start (is_head head.method) (keeps service k head r)
+-- what was put behind what is kept for a peer and what is still to come is the response with this reply
+pub record Meets (r : Reply) (start : Start) (no_body stays : Bool) (rest : Rest) (old new : List ℕ) : Type 0 where
+  pub kept : rest.stays ≡ (stays && not r.closes)
+  pub put : new ++ rest.bytes ≡ old ++ response r start no_body (stays && not r.closes)
+
+-- a request that seeks a file at a path, for a reply with the media type of its own path
+abbrev pub SeeksFor : TypeList → (path : List ℕ) → Method → Meeting → (at : List ℕ) → (stays : Bool) → Answered → Type 0
+SeeksFor types path method meeting at stays answered =
+    answered ≡ Seeks (record {
+      wish = record { kind = type_of types path; method = method; moment = meeting.moment; tree = meeting.tree; stays = stays };
+      ask = Stat at meeting.tree;
+      stage = Asked;
+      len = 0;
+    })
+
+-- A response has at most 65536 bytes, since no more are kept for a peer at once; a request that seeks a file appends nothing.
+abbrev pub FitsOne : Answered → (tree : ℕ) → ℕ → ℕ → Type 0
+FitsOne (AtOnce sent) tree old new = new ≤ old + 65536
+FitsOne (Seeks flow) tree old new = (new ≡ old) × (flow.stage ≡ Asked) × (is_stat flow.ask ≡ true) × (tree_of flow.ask ≡ tree)
+
+-- the response to a head, behind which the connection stays open or not
+pub record Responds (service : Service) (r : Reply) (start : Start) (k : ℕ) (head : RequestHead) (rest : Rest) (old new : List ℕ) : Type 0 where
+  pub stays : rest.stays ≡ keeps service k head r
+  pub put : new ++ rest.bytes ≡ old ++ response r start (is_head head.method) (keeps service k head r)
 
 -- what is answered to the bytes behind a request's body (RFC 9112, section 6): nothing, where no whole body stands there
 abbrev pub behind_body : BodyOutcome → (ℕ → List ℕ) → List ℕ

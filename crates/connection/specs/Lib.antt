@@ -1,3 +1,5 @@
+pub mod Padded
+pub mod Flow
 pub mod Answers
 pub mod Steps
 pub mod Conn

@@ -6,7 +6,12 @@ use Rattle.phase_engine.specs.Outcomes.{page_reply}
 use Rattle.body_frame.specs.Outcome.{BodyOutcome, Whole, Short}
 use Rattle.body_frame.specs.State.{body_of, rest_body}
 use Rattle.body_frame.specs.declared.state.BodyState.{BodyState}
-use Rattle.connection.specs.Answers.{Service, Responds, reply_at, response, behind_body}
+use Rattle.connection.specs.declared.flow.Flow.{Flow}
+use Rattle.connection.specs.declared.flow.Stage.TheVariants.{Asked}
+use Rattle.connection.specs.declared.respond.Answered.{Answered}
+use Rattle.connection.specs.declared.respond.Answered.TheVariants.{AtOnce, Seeks}
+use Rattle.connection.specs.Flow.{flow_rest, closes_behind, response, is_head, is_stat}
+use Rattle.connection.specs.Answers.{Service, reply_at, keeps, behind_body}
 use Rattle.req_head.specs.declared.head.Head.{Head as RequestHead}
 use Rattle.req_head.specs.declared.head.HeadStep.{HeadStep}
 use Rattle.req_head.specs.declared.head.HeadStep.TheVariants.{More, Head, Bad}
@@ -40,18 +45,44 @@ pub record Drops (from : List ℕ → BodyOutcome) (input : List ℕ) (body : Op
   pub unended : is_some body ≡ true → rest_of body [] ≡ Short
   pub shorter : length held ≤ length input
 
--- A request is answered: its response is behind what was pending, its head is dropped and its body as far as it is there,
--- and the connection closes where the response says so or the body is broken. One that is refused closes it, and its bytes
--- stay.
-pub record RanHead (service : Service) (trees : Trees) (start : Start) (k : ℕ) (head : RequestHead) (size : ℕ) (held held' : List ℕ) (body' : Option BodyState) (pending pending' : List ℕ) (closing : Bool) : Type 0 where
-  pub keep : Bool
+-- A request starts: its head is dropped, and its body as far as it is there. What was put behind what is kept for the peer and
+-- what is still to come is its response; and the connection closes behind it where the response says so or the body is broken.
+pub record RanHead (service : Service) (trees : Trees) (start : Start) (k : ℕ) (head : RequestHead) (size : ℕ) (held held' : List ℕ) (body' : Option BodyState) (flow' : Option Flow) (out out' : List ℕ) (closing : Bool) : Type 0 where
   pub broken : Bool
-  pub responds : Responds service (reply_at service trees start head) start k head keep pending pending'
+  pub put : out' ++ (flow_rest flow' trees).bytes ≡ out ++ response (reply_at service trees start head) start (is_head head.method) (keeps service k head (reply_at service trees start head))
+  pub closes : closes_behind (flow_rest flow' trees) closing ≡ (if keeps service k head (reply_at service trees start head) then broken else true)
   pub drops : Drops (body_of head.body) (drop size held) body' held' broken
-  pub closes : closing ≡ (if keep then broken else true)
 
-abbrev pub RanOne : Service → Trees → Start → ℕ → HeadStep → List ℕ → List ℕ → Option BodyState → List ℕ → List ℕ → Bool → Type 0
-RanOne service trees start k (Head head size) held held' body' pending pending' closing = RanHead service trees start k head size held held' body' pending pending' closing
-RanOne service trees start k (Bad code no_body) held held' body' pending pending' closing =
-    (pending' ≡ pending ++ response (page_reply code) start no_body false) × (held' ≡ held) × (body' ≡ None) × (closing ≡ true)
-RanOne service trees start k More held held' body' pending pending' closing = ⊥
+-- One that is refused closes the connection, and its bytes stay.
+pub record RanBad (start : Start) (code : ℕ) (no_body : Bool) (held held' : List ℕ) (body' : Option BodyState) (flow' : Option Flow) (out out' : List ℕ) (closing : Bool) : Type 0 where
+  pub put : out' ≡ out ++ response (page_reply code) start no_body false
+  pub stands : held' ≡ held
+  pub bodiless : body' ≡ None
+  pub over : flow' ≡ None
+  pub closes : closing ≡ true
+
+abbrev pub RanOne : Service → Trees → Start → ℕ → HeadStep → List ℕ → List ℕ → Option BodyState → Option Flow → List ℕ → List ℕ → Bool → Type 0
+RanOne service trees start k (Head head size) held held' body' flow' out out' closing = RanHead service trees start k head size held held' body' flow' out out' closing
+RanOne service trees start k (Bad code no_body) held held' body' flow' out out' closing = RanBad start code no_body held held' body' flow' out out' closing
+RanOne service trees start k More held held' body' flow' out out' closing = ⊥
+
+-- A request that seeks a file goes on: what is kept for the peer and what is still to come stay the same, and so does whether
+-- the connection closes behind it.
+pub record GoesOn (trees : Trees) (flow flow' : Option Flow) (out out' : List ℕ) (closing closing' : Bool) : Type 0 where
+  pub bytes : out' ++ (flow_rest flow' trees).bytes ≡ out ++ (flow_rest flow trees).bytes
+  pub closes : closes_behind (flow_rest flow' trees) closing' ≡ closes_behind (flow_rest flow trees) closing
+
+-- what becomes of a request that starts: how it goes on, and whether the connection closes, behind a body that is broken or not
+abbrev pub flow_in : Answered → Option Flow
+flow_in (AtOnce sent) = None
+flow_in (Seeks flow) = Some flow
+
+abbrev pub closes_in : Answered → Bool → Bool
+closes_in (AtOnce sent) broken = if sent.keep then broken else true
+closes_in (Seeks flow) broken = broken
+
+-- what starts on a connection on which nothing is kept for the peer puts at most 65536 bytes there, or nothing and asks what
+-- stands at a path
+abbrev pub FitsNew : Option Flow → ℕ → Type 0
+FitsNew None size = size ≤ 65536
+FitsNew (Some flow) size = (size ≡ 0) × (flow.stage ≡ Asked) × (is_stat flow.ask ≡ true)

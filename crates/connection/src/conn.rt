@@ -1,23 +1,29 @@
 // One connection.
-ghost use Rattle.std.specs.Prelude.{◌≡◌, ◌≤◌, ◌<◌, ◌+◌, ◌++◌, ◌∷◌, ◌^◌, ◌⊎◌, true, false, [], ℕ, length, take, drop, is_some, OnOk, OnErr, IfOk, vec_len, Some};
+ghost use Rattle.std.specs.Prelude.{◌≡◌, ◌≤◌, ◌<◌, ◌+◌, ◌++◌, ◌∷◌, ◌^◌, ◌⊎◌, true, false, [], ℕ, length, take, drop, is_some, OnOk, OnErr, IfOk, vec_len, map, Some, None};
 ghost use Rattle.ngx_outside.specs.Views.{Start, start_of};
 ghost use Rattle.req_head.specs.Step.{head_step};
 ghost use Rattle.file_tree.specs.Tree.{Trees};
 ghost use Rattle.ngx_outside.specs.declared.event.Entry.{Entry as Logged};
-ghost use Rattle.connection.specs.Steps.{begins as head_begins, starts, rest_of, RanOne};
+ghost use Rattle.connection.specs.Flow.{flow_fits, tree_asked};
+ghost use Rattle.connection.specs.Steps.{begins as head_begins, starts, rest_of, RanOne, FitsNew, flow_in, closes_in};
 ghost use Rattle.connection.specs.Answers.{service_of};
 ghost use Rattle.body_frame.specs.Outcome.{Short};
 
 use crate::body::{drop_body, drop_rest};
-use crate::respond::{put_answer, put_page};
+use crate::flow::{Flow, Onward, Stage, answered, may_run, run_on, waits, written};
+use crate::respond::{Answered, put_answer, put_page};
 use body_frame::BodyState;
 use byte_text::{ByteQueue, OutOfMemory};
+use file_tree::{Ask, JobAnswer, is_fitting};
 use http_types::Addr;
 use ngx_outside::{Entry, StepAnswer, StopCause};
 use phase_engine::Meeting;
 use req_head::{HeadStep, head_stays, may_decide, read_head, refusal_stays, size_fits};
 use site_model::Site;
 use std::alloc::Global;
+
+/// No more bytes than these are shown as pending.
+const SHOWN: usize = 65536;
 
 fn begins(next: &HeadStep) -> bool
     ensures { result ≡ head_begins next.now }
@@ -76,26 +82,57 @@ fn behind(held: &ByteQueue, size: usize) -> &[u8]
 }
 
 // A request is written into the journal.
-fn log(
+fn enter(
     journal: &mut Vec<Entry>,
     moment: u64,
     tree: u64,
-    status: u16,
-    length: u64,
+    log: Option<(u16, u64)>,
 ) -> Result<(), OutOfMemory>
     ensures ok { OnOk result ((entry : Logged) × (start_of entry ≡ record { moment = moment; tree = tree }) × (journal.new.items ≡ journal.old.items ++ entry ∷ [])) }
     ensures err { OnErr result (journal.new.items ≡ journal.old.items) }
 {
-    journal.push(Entry {
-        moment,
-        tree,
-        log: Some((status, length)),
-    })?;
+    journal.push(Entry { moment, tree, log })?;
     Ok(())
 }
 
-// Starts a request, and answers it: the response is put behind what is pending, the request is written into the journal,
-// and what is held behind it is looked at.
+// The last request that was started is over.
+fn finish(journal: &mut Vec<Entry>, log: Option<(u16, u64)>)
+    ensures starts { map start_of journal.new.items ≡ map start_of journal.old.items }
+    ensures count { vec_len journal.new ≡ vec_len journal.old }
+{
+    if log.is_none() || journal.is_empty() {
+        return;
+    }
+    let last = journal.len() - 1;
+    let entry = journal[last];
+    journal[last] = Entry {
+        moment: entry.moment,
+        tree: entry.tree,
+        log,
+    };
+}
+
+// What becomes of a request that starts, behind whose body the input is broken or not.
+fn outcome(answered: Answered, broken: bool) -> Onward
+    ensures flow { result.flow ≡ flow_in answered }
+    ensures closing { result.closing ≡ closes_in answered broken }
+{
+    match answered {
+        Answered::AtOnce(sent) => Onward {
+            flow: None,
+            closing: !sent.keep || broken,
+            log: Some((sent.status, sent.length)),
+        },
+        Answered::Seeks(flow) => Onward {
+            flow: Some(flow),
+            closing: broken,
+            log: None,
+        },
+    }
+}
+
+// Starts a request, and answers it or has it seek its file: what is answered at once is put behind what is kept for the peer,
+// the request is written into the journal, and what is held behind it is looked at.
 fn run_one(
     alloc: Global,
     site: &Site,
@@ -103,16 +140,18 @@ fn run_one(
     held: &mut ByteQueue,
     next: &mut HeadStep,
     body: &mut Option<BodyState>,
-    pending: &mut ByteQueue,
+    out: &mut ByteQueue,
     journal: &mut Vec<Entry>,
-) -> Result<bool, OutOfMemory>
+) -> Result<Onward, OutOfMemory>
     requires looked { next.old ≡ head_step held.old }
     requires begins { head_begins next.old ≡ true }
-    ensures ran { (trees : Trees) → IfOk result (λ closing. RanOne (service_of site.now meeting.local meeting.peer) trees (record { moment = meeting.moment; tree = meeting.tree }) (vec_len journal.old) next.old held.old held.new body.new pending.old pending.new closing) }
+    requires unsent { out.old ≡ [] }
+    ensures ran { (trees : Trees) → IfOk result (λ o. RanOne (service_of site.now meeting.local meeting.peer) trees (record { moment = meeting.moment; tree = meeting.tree }) (vec_len journal.old) next.old held.old held.new body.new o.flow out.old out.new o.closing) }
     ensures looked { OnOk result (next.new ≡ head_step held.new) }
     ensures journal { OnOk result ((entry : Logged) × (start_of entry ≡ record { moment = meeting.moment; tree = meeting.tree }) × (journal.new.items ≡ journal.old.items ++ entry ∷ [])) }
     ensures kept { OnErr result (journal.new.items ≡ journal.old.items) }
-    ensures fits { OnOk result (length pending.new ≤ length pending.old + 65536) }
+    ensures fits { IfOk result (λ o. FitsNew o.flow (length out.new)) }
+    ensures asked { IfOk result (λ o. tree_asked o.flow ≡ 0 ⊎ tree_asked o.flow ≡ meeting.tree) }
 {
     match next {
         HeadStep::Head { head, size } => {
@@ -120,37 +159,42 @@ fn run_one(
             let dropped = drop_body(BodyState::new(head.body), behind(held, *size));
             let size = *size + dropped.used;
             let following = read_head(alloc, behind(held, size))?;
-            let sent = put_answer(alloc, site, pending, head, journal.len(), meeting)?;
-            log(
-                journal,
-                meeting.moment,
-                meeting.tree,
-                sent.status,
-                sent.length,
-            )?;
+            let answered = put_answer(alloc, site, out, head, journal.len(), meeting)?;
+            let onward = outcome(answered, dropped.broken);
+            enter(journal, meeting.moment, meeting.tree, onward.log)?;
             held.used(size);
             *next = following;
             *body = dropped.body;
-            Ok(!sent.keep || dropped.broken)
+            Ok(onward)
         }
         HeadStep::Bad { code, no_body } => {
-            let length = put_page(alloc, pending, *code, meeting.moment, *no_body)?;
-            log(journal, meeting.moment, meeting.tree, *code, length as u64)?;
+            let length = put_page(alloc, out, *code, meeting.moment, *no_body)?;
+            enter(
+                journal,
+                meeting.moment,
+                meeting.tree,
+                Some((*code, length as u64)),
+            )?;
             *body = None;
-            Ok(true)
+            Ok(Onward {
+                flow: None,
+                closing: true,
+                log: None,
+            })
         }
-        HeadStep::More => Ok(false),
+        HeadStep::More => unreachable!(),
     }
 }
 
-/// One connection: the bytes that are held and what they begin, the bytes that are pending, and the journal of its
-/// requests.
+/// One connection: the bytes that are held and what they begin, the request that seeks a file, the bytes that are kept for the
+/// peer, and the journal of its requests.
 #[derive(Drop)]
 pub struct Conn {
     local: Addr,
     peer: Addr,
     held: ByteQueue,
-    pending: ByteQueue,
+    flow: Option<Flow>,
+    out: ByteQueue,
     journal: Vec<Entry>,
     next: HeadStep,
     body: Option<BodyState>,
@@ -158,21 +202,25 @@ pub struct Conn {
     ended: bool,
     cause: Option<StopCause>,
     ghost looked: { is_some cause ≡ false → next ≡ head_step held },
-    ghost dropped: { is_some cause ≡ true → pending ≡ [] },
+    ghost dropped: { is_some cause ≡ true → out ≡ [] },
+    ghost quit: { is_some cause ≡ true → flow ≡ None },
+    ghost flowing: { flow_fits flow (length out) ≡ true },
     ghost drained: { is_some body ≡ true → held ≡ [] },
     ghost unended: { is_some body ≡ true → rest_of body [] ≡ Short },
 }
 
 impl Conn {
-    ghost use Rattle.std.specs.Prelude.{◌≡◌, ℕ, List, true, false, [], is_some, IfOk, Option};
-    ghost use Rattle.ngx_outside.specs.Views.{Fresh, Start};
-    ghost use Rattle.ngx_outside.specs.declared.event.Event.TheVariants.{Arrived, Ended, Wrote, LinkFailed, JobFailed, Run};
-    ghost use Rattle.connection.specs.Conn.{view_of, left_of, fresh_course, room_at, starts_at, idle_at, shut_at, weight, StepsConn};
+    ghost use Rattle.std.specs.Prelude.{◌≡◌, ℕ, List, true, false, [], length, is_some, IfOk, Option, Some, None, option_copied};
+    ghost use Rattle.ngx_outside.specs.Views.{Fresh, Start, ask_in, is_idle as idle_in};
+    ghost use Rattle.ngx_outside.specs.declared.event.Event.TheVariants.{Arrived, Ended, Wrote, LinkFailed, FileDone, JobFailed, Run};
+    ghost use Rattle.connection.specs.Conn.{view_of, left_of, fresh_course, room_at, starts_at, ready_at, idle_at, shut_at, pending_at, weight, asked_of, StepsConn};
+    ghost use Rattle.connection.specs.Flow.{shown_of, jobs_of};
 
     /// A connection with these two ends, on which nothing has come and gone.
     pub fn new(alloc: Global, local: Addr, peer: Addr) -> Result<Self, OutOfMemory>
         ensures fresh { IfOk result (λ c. (site : _) → Fresh (fresh_course site local peer) (view_of site c)) }
         ensures left { IfOk result (λ c. left_of c ≡ 1 + weight) }
+        ensures asked { IfOk result (λ c. asked_of c ≡ 0) }
     {
         let held = ByteQueue::new(alloc);
         let next = read_head(alloc, held.front())?;
@@ -180,7 +228,8 @@ impl Conn {
             local,
             peer,
             held,
-            pending: ByteQueue::new(alloc),
+            flow: None,
+            out: ByteQueue::new(alloc),
             journal: Vec::new(alloc),
             next,
             body: None,
@@ -190,11 +239,42 @@ impl Conn {
         })
     }
 
+    // How many of the bytes that are kept for the peer are shown.
+    #[tactic(auto, unfolding(crate::specs::Flow::shown_most))]
+    fn shown(&self) -> usize
+        ensures { result ≡ shown_of self.now.flow }
+    {
+        match &self.flow {
+            Some(flow) => match flow.stage {
+                Stage::Came { left: _, placed } => placed.min(SHOWN),
+                _ => SHOWN,
+            },
+            None => SHOWN,
+        }
+    }
+
     /// The bytes that are to be written next.
     pub fn pending(&self) -> &[u8]
-        ensures { result.now ≡ self.now.pending }
+        ensures { result.now ≡ pending_at self.now.flow self.now.out }
     {
-        self.pending.front()
+        let bytes = self.out.front();
+        &bytes[..self.shown().min(bytes.len())]
+    }
+
+    /// The job of a node; none where it has no job that waits.
+    pub fn ask(&self, node: u32) -> Option<&Ask>
+        ensures { option_copied result ≡ ask_in (jobs_of self.now.flow) node }
+    {
+        match &self.flow {
+            Some(flow) => {
+                if node == 0 && waits(flow.stage) {
+                    Some(&flow.ask)
+                } else {
+                    None
+                }
+            }
+            None => None,
+        }
     }
 
     /// The requests that were started, each with what was logged of it.
@@ -238,37 +318,57 @@ impl Conn {
         }
     }
 
-    /// Whether a further request may start.
-    pub fn is_ready(&self) -> bool
-        ensures { result ≡ starts_at (is_some self.now.cause) self.now.closing self.now.pending self.now.body self.now.next }
+    // Whether a further request may start, where none is in flight that seeks a file.
+    fn may_start(&self) -> bool
+        ensures { result ≡ starts_at (is_some self.now.cause) self.now.closing self.now.out self.now.body self.now.next }
     {
-        !self.is_stopped() && !self.closing && self.pending.is_empty() && self.starts()
+        !self.is_stopped() && !self.closing && self.out.is_empty() && self.starts()
+    }
+
+    /// Whether its node can run: the request that seeks a file goes on, or a further one starts.
+    pub fn is_ready(&self) -> bool
+        ensures { result ≡ ready_at (is_some self.now.cause) self.now.flow self.now.closing self.now.out self.now.body self.now.next }
+    {
+        match &self.flow {
+            Some(flow) => !self.is_stopped() && may_run(flow.stage),
+            None => self.may_start(),
+        }
+    }
+
+    // Whether nothing is to be done until more arrives, by its parts.
+    fn rests(&self) -> bool
+        ensures { result ≡ idle_at (is_some self.now.cause) self.now.flow self.now.closing self.now.out self.now.body self.now.next }
+    {
+        match &self.flow {
+            Some(_) => false,
+            None => !self.is_stopped() && self.out.is_empty() && (self.closing || !self.starts()),
+        }
     }
 
     /// Whether nothing is to be done until more arrives.
     pub fn is_idle(&self) -> bool
-        ensures { result ≡ idle_at (is_some self.now.cause) self.now.closing self.now.pending self.now.body self.now.next }
+        ensures { (site : _) → result ≡ idle_in (view_of site self.now) }
     {
-        !self.is_stopped() && self.pending.is_empty() && (self.closing || !self.starts())
+        self.rests()
     }
 
     /// Whether its link is to be closed.
     pub fn is_shut(&self) -> bool
-        ensures { result ≡ shut_at (is_some self.now.cause) self.now.closing self.now.ended self.now.pending self.now.body self.now.next }
+        ensures { result ≡ shut_at (is_some self.now.cause) self.now.flow self.now.closing self.now.ended self.now.out self.now.body self.now.next }
     {
-        self.is_stopped()
-            || ((self.closing || self.ended)
-                && self.pending.is_empty()
-                && (self.closing || !self.starts()))
+        self.is_stopped() || ((self.closing || self.ended) && self.rests())
     }
 
     // It is stopped: what is unsent is dropped.
     fn stop(&mut self, cause: StopCause)
         ensures cause { self.new.cause ≡ Some cause }
-        ensures pending { self.new.pending ≡ [] }
+        ensures flow { self.new.flow ≡ None }
+        ensures out { self.new.out ≡ [] }
         ensures journal { self.new.journal.items ≡ self.old.journal.items }
+        ensures ended { self.new.ended ≡ self.old.ended }
     {
-        self.pending.clear();
+        self.flow = None;
+        self.out.clear();
         self.cause = Some(cause);
     }
 
@@ -298,7 +398,8 @@ impl Conn {
             }
             Err(OutOfMemory) => {
                 self.body = None;
-                self.pending.clear();
+                self.flow = None;
+                self.out.clear();
                 self.cause = Some(StopCause::Memory);
                 StepAnswer::OutOfMemory
             }
@@ -322,10 +423,50 @@ impl Conn {
     pub fn wrote(&mut self, count: usize) -> StepAnswer
         ensures { (site : _) (now : Start) (conn : ℕ) → StepsConn site now (Wrote conn count) result self.old self.new }
     {
-        if count == 0 || count > self.pending.len() {
+        if count == 0 || count > self.pending().len() {
             return StepAnswer::Skipped;
         }
-        self.pending.used(count);
+        self.flow = written(self.flow.take(), count);
+        self.out.used(count);
+        StepAnswer::Done { taken: 0 }
+    }
+
+    /// A node's job is answered: the only one is the main request's.
+    pub fn file_done(&mut self, node: u32, answer: JobAnswer) -> StepAnswer
+        ensures { (site : _) (now : Start) (conn : ℕ) → StepsConn site now (FileDone conn node answer.entry) result self.old self.new }
+    {
+        match self.ask(node) {
+            Some(ask) => {
+                if !is_fitting(ask, answer) {
+                    return StepAnswer::Skipped;
+                }
+            }
+            None => return StepAnswer::Skipped,
+        }
+        let Some(flow) = self.flow.take() else {
+            return StepAnswer::Skipped;
+        };
+        match answered(flow, &mut self.out, answer) {
+            Ok(flow) => {
+                self.flow = Some(flow);
+                StepAnswer::Done { taken: 0 }
+            }
+            Err(OutOfMemory) => {
+                self.out.clear();
+                self.stop(StopCause::Memory);
+                StepAnswer::OutOfMemory
+            }
+        }
+    }
+
+    /// A node's job failed.
+    pub fn job_failed(&mut self, node: u32) -> StepAnswer
+        ensures { (site : _) (now : Start) (conn : ℕ) → StepsConn site now (JobFailed conn node) result self.old self.new }
+    {
+        if self.ask(node).is_none() {
+            return StepAnswer::Skipped;
+        }
+        self.stop(StopCause::FileFault);
         StepAnswer::Done { taken: 0 }
     }
 
@@ -340,23 +481,39 @@ impl Conn {
         StepAnswer::Done { taken: 0 }
     }
 
-    /// A node runs: the only one is the main request's, which starts and is answered whole.
-    pub fn runs(
-        &mut self,
-        alloc: Global,
-        site: &Site,
-        moment: u64,
-        tree: u64,
-        node: u32,
-    ) -> StepAnswer
-        ensures { (conn : ℕ) → StepsConn site.now (record { moment = moment; tree = tree }) (Run conn node) result self.old self.new }
+    // The request that seeks a file runs on.
+    fn goes_on(&mut self, alloc: Global) -> StepAnswer
+        requires some { is_some self.old.flow ≡ true }
+        requires ready { ready_at (is_some self.old.cause) self.old.flow self.old.closing self.old.out self.old.body self.old.next ≡ true }
+        ensures { (site : _) (now : Start) (conn : ℕ) → StepsConn site now (Run conn 0) result self.old self.new }
+    {
+        let Some(flow) = self.flow.take() else {
+            unreachable!()
+        };
+        match run_on(alloc, flow, &mut self.out, self.closing) {
+            Ok(onward) => {
+                finish(&mut self.journal, onward.log);
+                self.flow = onward.flow;
+                self.closing = onward.closing;
+                StepAnswer::Done { taken: 0 }
+            }
+            Err(OutOfMemory) => {
+                self.out.clear();
+                self.stop(StopCause::Memory);
+                StepAnswer::OutOfMemory
+            }
+        }
+    }
+
+    // A request starts.
+    fn starts_one(&mut self, alloc: Global, site: &Site, moment: u64, tree: u64) -> StepAnswer
+        requires none { self.old.flow ≡ None }
+        requires ready { starts_at (is_some self.old.cause) self.old.closing self.old.out self.old.body self.old.next ≡ true }
+        ensures { (conn : ℕ) → StepsConn site.now (record { moment = moment; tree = tree }) (Run conn 0) result self.old self.new }
     {
         head_stays();
         refusal_stays();
         size_fits();
-        if node != 0 || !self.is_ready() {
-            return StepAnswer::Skipped;
-        }
         match run_one(
             alloc,
             site,
@@ -369,19 +526,42 @@ impl Conn {
             &mut self.held,
             &mut self.next,
             &mut self.body,
-            &mut self.pending,
+            &mut self.out,
             &mut self.journal,
         ) {
-            Ok(closing) => {
-                self.closing = closing;
+            Ok(onward) => {
+                self.flow = onward.flow;
+                self.closing = onward.closing;
                 StepAnswer::Done { taken: 0 }
             }
             Err(OutOfMemory) => {
                 self.body = None;
-                self.pending.clear();
+                self.flow = None;
+                self.out.clear();
                 self.cause = Some(StopCause::Memory);
                 StepAnswer::OutOfMemory
             }
+        }
+    }
+
+    /// A node runs: the only one is the main request's, which starts, or goes on with its file.
+    pub fn runs(
+        &mut self,
+        alloc: Global,
+        site: &Site,
+        moment: u64,
+        tree: u64,
+        node: u32,
+    ) -> StepAnswer
+        ensures { (conn : ℕ) → StepsConn site.now (record { moment = moment; tree = tree }) (Run conn node) result self.old self.new }
+    {
+        if node != 0 || !self.is_ready() {
+            return StepAnswer::Skipped;
+        }
+        if self.flow.is_some() {
+            self.goes_on(alloc)
+        } else {
+            self.starts_one(alloc, site, moment, tree)
         }
     }
 }

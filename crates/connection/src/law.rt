@@ -1,17 +1,18 @@
 // Laws of connections, which those that hold many rest on.
-ghost use Rattle.connection.specs.Conn.{AllSound, AllGoOn};
+ghost use Rattle.connection.specs.Conn.{AllSound, AllBounded};
 
 use req_head::full_decides;
 
-/// What a connection shows is sound: one that isn't live has nothing to do, and one that is idle, or live and to be closed,
-/// has nothing more to come.
+/// What a connection shows is sound: one that isn't live has nothing to do; one that is idle, or live and to be closed, has
+/// nothing more to come; one that is idle and isn't to be closed reads; and one is closed before its input's end only where
+/// nothing would come whatever arrived.
 pub fn connections_are_sound()
     ensures { AllSound }
-{}
-
-/// No connection waits for nothing: one that is live, and isn't to be closed, reads, or can run, or has bytes pending.
-pub fn connections_go_on()
-    ensures { AllGoOn }
 {
     full_decides();
 }
+
+/// Whatever is served, and however slowly a peer reads: a connection keeps no more than 114688 bytes for it.
+pub fn connections_are_bounded()
+    ensures { AllBounded }
+{}

@@ -3,9 +3,11 @@
 
 mod body;
 mod conn;
+mod flow;
 mod law;
 mod respond;
 
 pub use conn::Conn;
-pub use law::{connections_are_sound, connections_go_on};
-pub use respond::{Sent, put_answer, put_page};
+pub use flow::{Flow, Stage, Wish};
+pub use law::{connections_are_bounded, connections_are_sound};
+pub use respond::{Answered, Sent, put_answer, put_page};

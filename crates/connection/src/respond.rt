@@ -1,23 +1,22 @@
 // The responses to requests.
-ghost use Rattle.std.specs.Prelude.{◌≡◌, ◌≤◌, ◌<◌, ◌+◌, ◌^◌, ◌++◌, ◌&&◌, not, ℕ, Bool, false, length, IfOk, OnOk, Some, option_map, option_copied};
-ghost use Rattle.file_tree.specs.Tree.{Trees, Nothing};
+ghost use Rattle.std.specs.Prelude.{◌≡◌, ◌≤◌, ◌<◌, ◌+◌, ◌^◌, ◌++◌, ◌&&◌, not, false, ℕ, Bool, List, length, IfOk, OnOk, Some, option_map, option_copied};
+ghost use Rattle.file_tree.specs.Tree.{Trees};
 ghost use Rattle.ngx_outside.specs.Views.{Start};
 ghost use Rattle.resp_head.specs.Head.{head_of};
 ghost use Rattle.site_model.specs.Levels.{level_seen, server_seen};
 ghost use Rattle.phase_engine.specs.declared.meaning.WholeReply.{WholeReply as Replied};
-ghost use Rattle.phase_engine.specs.Asking.{level_asked};
-ghost use Rattle.phase_engine.specs.Outcomes.{page_reply as page_replied, reply_by, found_reply};
+ghost use Rattle.phase_engine.specs.Outcomes.{page_reply as page_replied, text_reply as text_replied, reply_by};
 ghost use Rattle.phase_engine.specs.Shown.{IsReply, shown, level_asked as asked_level};
-ghost use Rattle.connection.specs.Answers.{Service, response, reply_head, reply_at, reply_in, stays_in, stays_by, content_of, Puts, Responds, no_files, is_head as asks_head};
-ghost use Rattle.connection.specs.Answers.{service_of};
+ghost use Rattle.connection.specs.Flow.{response, reply_head, content_of, file_reply, start_of_wish, is_head as asks_head};
+ghost use Rattle.connection.specs.Answers.{Service, service_of, reply_at, reply_in, stays_in, stays_by, rest_after, Puts, Meets, Responds, SeeksFor, FitsOne};
 
+use crate::flow::{Flow, Stage, Wish};
 use byte_text::{ByteQueue, ByteText, OutOfMemory};
 use error_page::page_text;
-use file_tree::Node;
-use http_types::{Addr, Method};
+use file_tree::Ask;
+use http_types::Method;
 use phase_engine::{
-    Asked, Found, Meeting, Outcome, Reply, Target, on_node, outcome_for, page_reply, replies_are,
-    target_of, text_reply,
+    Asked, Meeting, Outcome, Reply, outcome_for, page_reply, replies_are, target_of, text_reply,
 };
 use req_head::Head;
 use resp_head::{ReplyHead, head_text};
@@ -88,7 +87,7 @@ fn put_parts(out: &mut ByteQueue, head: &[u8], body: &[u8]) -> Result<(), OutOfM
 }
 
 /// Appends a response to what is kept for a peer. Where it doesn't fit, there is no memory for it.
-#[tactic(auto, unfolding(crate::specs::Answers::response))]
+#[tactic(auto, unfolding(crate::specs::Flow::response))]
 pub fn put_response(
     alloc: Global,
     out: &mut ByteQueue,
@@ -179,48 +178,103 @@ fn put_error(
     Ok(sent)
 }
 
-// The code that answers a request of a method for a file that isn't there.
-fn missing_code(method: &Method) -> u16
-    ensures { (level : _) (path : _) → found_reply level method.now path Nothing ≡ page_replied result }
-{
-    match on_node(Node::Missing, method) {
-        Found::Refused(code) => code,
-        Found::Sends { len: _, date: _ } => 404,
-    }
+/// What becomes of a request: its whole response was put behind what is kept for the peer, or it seeks a file.
+#[derive(Drop)]
+pub enum Answered {
+    AtOnce(Sent),
+    Seeks(Flow),
 }
 
-// Appends what a request comes to, where no file is there.
+fn at_once(sent: Result<Sent, OutOfMemory>) -> Result<Answered, OutOfMemory>
+    ensures fits { (tree old new : ℕ) → OnOk sent (new ≤ old + 65536) → IfOk result (λ a. FitsOne a tree old new) }
+    ensures meets { (r : Replied) (start : Start) (no_body stays : Bool) (old new : List ℕ) → IfOk sent (λ s. Puts r start no_body stays s.keep old new) → IfOk result (λ a. (trees : Trees) → Meets r start no_body stays (rest_after a trees) old new) }
+{
+    let sent = sent?;
+    Ok(Answered::AtOnce(sent))
+}
+
+fn copy_method(method: &Method) -> Result<Method, OutOfMemory>
+    ensures { IfOk result (λ copy. copy ≡ method.now) }
+{
+    let copy = method.clone()?;
+    Ok(copy)
+}
+
+// A request that seeks a file at a path.
+fn seek(
+    alloc: Global,
+    asked: &Asked<'_>,
+    at: ByteText,
+    stays: bool,
+) -> Result<Answered, OutOfMemory>
+    ensures { IfOk result (λ a. SeeksFor (asked_level asked.now).types asked.now.target.now.path asked.now.head.now.method asked.now.meeting at stays a) }
+{
+    let kind = asked
+        .site
+        .types(asked.level.types)
+        .type_of(asked.target.path.as_slice());
+    let kind = ByteText::from_slice(alloc, kind)?;
+    let method = copy_method(&asked.head.method)?;
+    Ok(Answered::Seeks(Flow {
+        wish: Wish {
+            kind,
+            method,
+            moment: asked.meeting.moment,
+            tree: asked.meeting.tree,
+            stays,
+        },
+        ask: Ask::Stat {
+            path: at,
+            of: asked.meeting.tree,
+        },
+        stage: Stage::Asked,
+        len: 0,
+    }))
+}
+
+// Appends a text of a status.
+fn put_text(
+    alloc: Global,
+    out: &mut ByteQueue,
+    asked: &Asked<'_>,
+    code: u16,
+    text: &[u8],
+    stays: bool,
+) -> Result<Sent, OutOfMemory>
+    ensures puts { (start : Start) → start.moment ≡ asked.now.meeting.moment → IfOk result (λ sent. Puts (text_replied (asked_level asked.now) asked.now.target.now.path code text.now) start (asks_head asked.now.head.now.method) stays sent.keep out.old out.new) }
+    ensures fits { OnOk result (length out.new ≤ length out.old + 65536) }
+{
+    let reply = text_reply(
+        asked.site,
+        asked.level,
+        asked.target.path.as_slice(),
+        code,
+        text,
+    );
+    let no_body = is_head(&asked.head.method);
+    put_reply(alloc, out, reply, asked.meeting.moment, no_body, stays)
+}
+
+// Appends what a request comes to, or has it seek its file.
 fn put_outcome(
     alloc: Global,
     out: &mut ByteQueue,
     asked: &Asked<'_>,
-    outcome: &Outcome<'_>,
+    outcome: Outcome<'_>,
     stays: bool,
-) -> Result<Sent, OutOfMemory>
-    ensures puts { (start : Start) → start.moment ≡ asked.now.meeting.moment → IfOk result (λ sent. Puts (reply_by (asked_level asked.now) asked.now.head.now.method asked.now.target.now.path (shown outcome.now) no_files) start (asks_head asked.now.head.now.method) stays sent.keep out.old out.new) }
-    ensures fits { OnOk result (length out.new ≤ length out.old + 65536) }
+) -> Result<Answered, OutOfMemory>
+    ensures meets { (start : Start) → start ≡ record { moment = asked.now.meeting.moment; tree = asked.now.meeting.tree } → IfOk result (λ a. (trees : Trees) → Meets (reply_by (asked_level asked.now) asked.now.head.now.method asked.now.target.now.path (shown outcome.entry) (trees start.tree)) start (asks_head asked.now.head.now.method) stays (rest_after a trees) out.old out.new) }
+    ensures fits { IfOk result (λ a. FitsOne a asked.now.meeting.tree (length out.old) (length out.new)) }
 {
     let moment = asked.meeting.moment;
     let no_body = is_head(&asked.head.method);
-    let path = asked.target.path.as_slice();
     match outcome {
-        Outcome::Page(code) => put_error(alloc, out, *code, moment, no_body, stays),
-        Outcome::Given { code, text } => {
-            let reply = text_reply(asked.site, asked.level, path, *code, text);
-            put_reply(alloc, out, reply, moment, no_body, stays)
-        }
+        Outcome::Page(code) => at_once(put_error(alloc, out, code, moment, no_body, stays)),
+        Outcome::Given { code, text } => at_once(put_text(alloc, out, asked, code, text, stays)),
         Outcome::Made { code, text } => {
-            let reply = text_reply(asked.site, asked.level, path, *code, text.as_slice());
-            put_reply(alloc, out, reply, moment, no_body, stays)
+            at_once(put_text(alloc, out, asked, code, text.as_slice(), stays))
         }
-        Outcome::Seek(_) => put_error(
-            alloc,
-            out,
-            missing_code(&asked.head.method),
-            moment,
-            no_body,
-            stays,
-        ),
+        Outcome::Seek(at) => seek(alloc, asked, at, stays),
     }
 }
 
@@ -246,7 +300,7 @@ fn may_stay(head: &Head, level: &Level, count: usize) -> bool
     both(head.keep, stays_by_level(level, count))
 }
 
-// Appends the response of a server to a request that so many others came before.
+// Appends the response of a server to a request that so many others came before, or has it seek its file.
 fn put_served(
     alloc: Global,
     site: &Site,
@@ -255,10 +309,10 @@ fn put_served(
     head: &Head,
     count: usize,
     meeting: Meeting,
-) -> Result<Sent, OutOfMemory>
+) -> Result<Answered, OutOfMemory>
     requires { count < 2 ^ 63 }
-    ensures puts { (service : Service) (start : Start) → service ≡ service_of site.now meeting.local meeting.peer → start ≡ record { moment = meeting.moment; tree = meeting.tree } → IfOk result (λ sent. Puts (reply_in service start head.now (Some (server_seen site.now server.now))) start (asks_head head.now.method) (head.now.keep && stays_in count head.now (Some (server_seen site.now server.now))) sent.keep out.old out.new) }
-    ensures fits { OnOk result (length out.new ≤ length out.old + 65536) }
+    ensures meets { (service : Service) (start : Start) → service ≡ service_of site.now meeting.local meeting.peer → start ≡ record { moment = meeting.moment; tree = meeting.tree } → IfOk result (λ a. (trees : Trees) → Meets (reply_in service (trees start.tree) start head.now (Some (server_seen site.now server.now))) start (asks_head head.now.method) (head.now.keep && stays_in count head.now (Some (server_seen site.now server.now))) (rest_after a trees) out.old out.new) }
+    ensures fits { IfOk result (λ a. FitsOne a meeting.tree (length out.old) (length out.new)) }
 {
     replies_are();
     let target = target_of(alloc, head)?;
@@ -272,11 +326,11 @@ fn put_served(
     };
     let outcome = outcome_for(alloc, &asked)?;
     let stays = may_stay(head, level, count);
-    let sent = put_outcome(alloc, out, &asked, &outcome, stays)?;
-    Ok(sent)
+    let answered = put_outcome(alloc, out, &asked, outcome, stays)?;
+    Ok(answered)
 }
 
-/// Appends the response to a request that so many others came before.
+/// Appends the response to a request that so many others came before, or has it seek its file.
 pub fn put_answer(
     alloc: Global,
     site: &Site,
@@ -284,20 +338,75 @@ pub fn put_answer(
     head: &Head,
     count: usize,
     meeting: Meeting,
-) -> Result<Sent, OutOfMemory>
+) -> Result<Answered, OutOfMemory>
     requires { count < 2 ^ 63 }
-    ensures put { (trees : Trees) (service : Service) (start : Start) → service ≡ service_of site.now meeting.local meeting.peer → start ≡ record { moment = meeting.moment; tree = meeting.tree } → IfOk result (λ sent. Responds service (reply_at service trees start head.now) start count head.now sent.keep out.old out.new) }
-    ensures fits { OnOk result (length out.new ≤ length out.old + 65536) }
+    ensures put { (service : Service) (start : Start) → service ≡ service_of site.now meeting.local meeting.peer → start ≡ record { moment = meeting.moment; tree = meeting.tree } → IfOk result (λ a. (trees : Trees) → Responds service (reply_at service trees start head.now) start count head.now (rest_after a trees) out.old out.new) }
+    ensures fits { IfOk result (λ a. FitsOne a meeting.tree (length out.old) (length out.new)) }
 {
     match site.server_at(meeting.local) {
         Some(server) => put_served(alloc, site, server, out, head, count, meeting),
-        None => put_error(
+        None => at_once(put_error(
             alloc,
             out,
             404,
             meeting.moment,
             is_head(&head.method),
             false,
-        ),
+        )),
     }
+}
+
+// The head of a response with a file.
+fn file_head(alloc: Global, wish: &Wish, len: u64, date: u64) -> Result<ReplyHead, OutOfMemory>
+    ensures { (bytes : List ℕ) → length bytes ≡ len → IfOk result (λ h. h ≡ reply_head (file_reply wish.now.kind bytes date) (start_of_wish wish.now) wish.now.stays) }
+{
+    let kind = ByteText::from_slice(alloc, wish.kind.as_slice())?;
+    Ok(ReplyHead {
+        status: 200,
+        moment: wish.moment,
+        kind: Some(kind),
+        length: Some(len),
+        modified: Some(date),
+        location: None,
+        chunked: false,
+        keep: wish.stays,
+    })
+}
+
+/// Appends the head of a response with a file of this length and date.
+pub fn put_file_head(
+    alloc: Global,
+    out: &mut ByteQueue,
+    wish: &Wish,
+    len: u64,
+    date: u64,
+) -> Result<(), OutOfMemory>
+    ensures put { (bytes : List ℕ) → length bytes ≡ len → OnOk result (out.new ≡ out.old ++ head_of (reply_head (file_reply wish.now.kind bytes date) (start_of_wish wish.now) wish.now.stays)) }
+    ensures fits { OnOk result (length out.new ≤ length out.old + 65536) }
+{
+    let head = file_head(alloc, wish, len, date)?;
+    let mut text = ByteText::new(alloc);
+    head_text(&head, &mut text)?;
+    put_parts(out, text.as_slice(), b"")?;
+    Ok(())
+}
+
+/// Appends the built-in page that answers a request that sought a file.
+pub fn put_refusal(
+    alloc: Global,
+    out: &mut ByteQueue,
+    wish: &Wish,
+    code: u16,
+) -> Result<Sent, OutOfMemory>
+    ensures puts { IfOk result (λ sent. Puts (page_replied code) (start_of_wish wish.now) (asks_head wish.now.method) wish.now.stays sent.keep out.old out.new) }
+    ensures fits { OnOk result (length out.new ≤ length out.old + 65536) }
+{
+    put_error(
+        alloc,
+        out,
+        code,
+        wish.moment,
+        is_head(&wish.method),
+        wish.stays,
+    )
 }

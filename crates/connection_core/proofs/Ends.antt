@@ -1,20 +1,27 @@
 -- A connection is held, or let go.
-use Rattle.std.proofs.Common.{◌≡◌, ◌≢◌, ℕ, ◌+◌, ◌*◌, ◌<◌, ◌≤◌, Bool, true, false, cond, eqb, not, ◌&&◌, List, [], ◌∷◌, ◌++◌, length, get_or, refl, sym, ap, ◌∙◌, subst, arith, length-append, suc, zero}
-use Rattle.std.specs.Prelude.{nat_lt, ◌↔◌}
+use Rattle.std.proofs.Common.{◌≡◌, ◌≢◌, inl, inr, ℕ, ◌+◌, ◌*◌, ◌<◌, ◌≤◌, Bool, true, false, cond, eqb, not, ◌&&◌, List, [], ◌∷◌, ◌++◌, length, get_or, refl, sym, ap, ◌∙◌, subst, arith, length-append, suc, zero}
+use Rattle.std.specs.Borrow.{Bor}
+use Rattle.std.specs.Prelude.{nat_lt, ◌↔◌, ◌⊎◌, Option, None, Some, IfSome, option_copied}
 use Rattle.std.specs.List.{AllByRecursion, Contains, insert, remove}
 use Rattle.std.specs.List.Sorted.{IsStrictlyIncreasing}
 use Rattle.std.proofs.lemmas.Bool.Decides.{nat_tests}
 use Rattle.std.proofs.lemmas.List.Sums.{sum_by-append}
-use Rattle.ngx_outside.specs.Views.{ConnView, Start, StepsOwn, OneSteps, Fresh, nobody}
+use Rattle.ngx_outside.specs.Views.{ConnView, Start, StepsOwn, OneSteps, Fresh, nobody, ask_in}
 use Rattle.ngx_outside.specs.Wants.{wants_at}
 use Rattle.http_types.specs.declared.words.Addr.{Addr}
 use Rattle.ngx_outside.specs.declared.event.Want.{Want}
+use Rattle.file_tree.specs.Tree.{tree_of}
+use Rattle.file_tree.specs.declared.job.Ask.{Ask}
+use Rattle.ngx_outside.specs.declared.event.Event.{Event}
+use Rattle.ngx_outside.specs.declared.event.StepAnswer.{StepAnswer}
 use Rattle.ngx_outside.specs.declared.event.Event.TheVariants as ev
 use Rattle.ngx_outside.specs.declared.event.StepAnswer.TheVariants.{Done, Skipped}
 use Rattle.site_model.specs.declared.site.Site.{Site}
 use Rattle.connection.specs.declared.conn.Conn.{Conn}
-use Rattle.connection.specs.Conn.{view_of, left_of, price, weight, fresh_course}
-use Rattle.connection_core.specs.Table.{view_in, wants_held, left_in, price_each, most_held, opens_in, listens_there, is_among, tally, StandsAt, BelongsAt, Splits}
+use Rattle.connection.specs.declared.flow.Flow.{Flow}
+use Rattle.connection.specs.Flow.{jobs_of, waits, tree_asked}
+use Rattle.connection.specs.Conn.{view_of, left_of, asked_of, price, weight, fresh_course, StepsConn}
+use Rattle.connection_core.specs.Table.{view_in, wants_held, left_in, price_each, most_held, opens_in, listens_there, is_among, tally, AllKnown, StandsAt, BelongsAt, Splits, Placed, Replaced}
 use Rattle.connection_core.proofs.Tables.{there, elsewhere, nowhere, none_of_two, wants_split, wants_joined}
 use Rattle.connection_core.proofs.Spliced.{wants_count}
 use Rattle.connection_core.proofs.Rows.{parted_between, inserted, removed, put_rises, cut_rises, among_here, among_none}
@@ -190,7 +197,7 @@ tally_few : (b : Bool) → tally b ≤ 1
 tally_few true = omega arith
 tally_few false = omega arith
 
-pub few_wants : (site : Site) (ids : List ℕ) (conns : List Conn) → length (wants_held site ids conns) ≤ 4 * length ids
+pub few_wants : (site : Site) (ids : List ℕ) (conns : List Conn) → length (wants_held site ids conns) ≤ 5 * length ids
 few_wants site [] conns = omega arith
 few_wants site (id ∷ ids) [] = omega arith
 few_wants site (id ∷ ids) (conn ∷ conns) =
@@ -229,11 +236,63 @@ stands site (id ∷ ids) (conn ∷ conns) c h = stands_if site id ids conn conns
 pub held_as : (site : Site) (ids : List ℕ) (conns : List Conn) → length conns ≡ length ids → (c : ℕ) → Contains ids c ↔ ((view_in site ids conns c).held ≡ true)
 held_as site ids conns e c = (λ h. shows site ids conns c h.0 e h.1 h.2, stands site ids conns c)
 
--- no connection has a job
-pub jobless : (site : Site) (ids : List ℕ) (conns : List Conn) (c : ℕ) → (view_in site ids conns c).jobs ≡ []
-jobless site [] conns c = refl
-jobless site (id ∷ ids) [] c = refl
-jobless site (id ∷ ids) (conn ∷ conns) c = elim (eqb id c) as (λ t. (cond t (view_of site conn) (view_in site ids conns c)).jobs ≡ []) [ true ↦ refl | false ↦ jobless site ids conns c ]
+-- no job asks of a newer tree
+pub known_of_two : (tree : ℕ) (front back : List Conn) → AllKnown tree front → AllKnown tree back → AllKnown tree (front ++ back)
+known_of_two tree [] back a b = b
+known_of_two tree (x ∷ front) back a b = (a.0, known_of_two tree front back a.1 b)
+
+known_front : (tree : ℕ) (front back : List Conn) → AllKnown tree (front ++ back) → AllKnown tree front
+known_front tree [] back a = tt
+known_front tree (x ∷ front) back a = (a.0, known_front tree front back a.1)
+
+known_back : (tree : ℕ) (front back : List Conn) → AllKnown tree (front ++ back) → AllKnown tree back
+known_back tree [] back a = a
+known_back tree (x ∷ front) back a = known_back tree front back a.1
+
+either_known : (asked was tree : ℕ) → (asked ≤ was) ⊎ (asked ≡ tree) → was ≤ tree → asked ≤ tree
+either_known asked was tree (inl e) h = omega (arith, e, h)
+either_known asked was tree (inr e) h = omega (arith, e)
+
+pub own_known : (site : Site) (c at : ℕ) (conns conns' : List Conn) (wants wants' : List Want) (now : Start) (e : Event) (a : StepAnswer) (p : Placed site c at conns wants) →
+    Replaced site c at conns wants (λ old new. StepsConn site now e a old new) p conns' wants' → AllKnown now.tree conns → AllKnown now.tree conns'
+own_known site c at conns conns' wants wants' now e a p r known =
+    let all = subst (AllKnown now.tree) p.whole known in
+    let back = known_back now.tree p.front (p.here ∷ p.back) all in
+    subst (AllKnown now.tree) (sym r.whole) (known_of_two now.tree p.front (r.there ∷ p.back) (known_front now.tree p.front (p.here ∷ p.back) all) (either_known (asked_of r.there) (asked_of p.here) now.tree r.does.asked back.0, back.1))
+
+pub put_known : (tree c at : ℕ) (ids : List ℕ) (conns conns' : List Conn) (x : Conn) (g : Gap c at ids conns) → conns' ≡ insert conns at x → asked_of x ≡ 0 → AllKnown tree conns → AllKnown tree conns'
+put_known tree c at ids conns conns' x g e fresh known =
+    let all = subst (AllKnown tree) g.whole known in
+    subst (AllKnown tree) (sym (e ∙ conns_put c at ids conns x g)) (known_of_two tree g.front (x ∷ g.back) (known_front tree g.front g.back all) (omega (arith, fresh), known_back tree g.front g.back all))
+
+pub cut_known : (tree : ℕ) (site : Site) (c at : ℕ) (ids : List ℕ) (conns conns' : List Conn) (wants : List Want) (s : Seat site c at ids conns wants) → conns' ≡ remove conns at → AllKnown tree conns → AllKnown tree conns'
+cut_known tree site c at ids conns conns' wants s e known =
+    let p = s.placed in
+    let all = subst (AllKnown tree) p.whole known in
+    subst (AllKnown tree) (sym (e ∙ conns_cut site c at ids conns wants s)) (known_of_two tree p.front p.back (known_front tree p.front (p.here ∷ p.back) all) (known_back tree p.front (p.here ∷ p.back) all).1)
+
+pub known_at : (tree : ℕ) (site : Site) (c at : ℕ) (ids : List ℕ) (conns : List Conn) (wants : List Want) (s : Seat site c at ids conns wants) → AllKnown tree conns → asked_of s.placed.here ≤ tree
+known_at tree site c at ids conns wants s known =
+    let p = s.placed in
+    (known_back tree p.front (p.here ∷ p.back) (subst (AllKnown tree) p.whole known)).0
+
+pub known_later : (tree later : ℕ) (conns : List Conn) → tree ≤ later → AllKnown tree conns → AllKnown later conns
+known_later tree later [] h a = tt
+known_later tree later (x ∷ conns) h a = (let b = a.0 in omega (arith, h, b), known_later tree later conns h a.1)
+
+-- a job asks of the tree of its connection's request
+pub asks_known : (flow : Option Flow) (node tree : ℕ) (job : Option (Bor Ask)) → option_copied job ≡ ask_in (jobs_of flow) node → tree_asked flow ≤ tree → IfSome job (λ ask. tree_of ask.now ≤ tree)
+asks_known flow node tree None e h = tt
+asks_known None node tree (Some ask) e h = cc
+asks_known (Some flow) node tree (Some ask) e h = by (waits flow.stage) e
+  where
+    at : (t : Bool) → Some ask.now ≡ cond t (Some flow.ask) None → tree_of ask.now ≤ tree
+    at true f = let g = ap tree_of (let i : ask.now ≡ flow.ask = cc in i) in omega (arith, g, h)
+    at false f = cc
+
+    by : (t : Bool) → Some ask.now ≡ ask_in (cond t (record { node = 0; ask = flow.ask } ∷ []) []) node → tree_of ask.now ≤ tree
+    by true f = at (eqb 0 node) f
+    by false f = cc
 
 -- nobody wants anything
 pub no_wants : (c : ℕ) → wants_at c nobody ≡ []

@@ -14,7 +14,7 @@ use Rattle.ngx_outside.specs.declared.event.StepAnswer.{StepAnswer}
 use Rattle.ngx_outside.specs.declared.event.StepAnswer.TheVariants.{Done, Skipped, OutOfMemory}
 use Rattle.site_model.specs.declared.site.Site.{Site}
 use Rattle.connection.specs.declared.conn.Conn.{Conn}
-use Rattle.connection.specs.Conn.{view_of, left_of, price, StepsConn}
+use Rattle.connection.specs.Conn.{view_of, left_of, price, ended_by, StepsConn}
 use Rattle.connection_core.specs.Table.{view_in, journal_in, wants_held, left_in, conn_of, is_own, price_each, Below, StandsAt, BelongsAt, Splits, Placed, Replaced}
 use Rattle.connection_core.proofs.Tables.{there, elsewhere, nowhere, none_of_two, wants_split}
 use Rattle.connection_core.proofs.Rows.{Parted, parted_at}
@@ -168,6 +168,13 @@ one_steps site c at ids conns conns' wants wants' now e a s r course = record {
       (subst (λ v. StepsOwn course now e a (view_of site s.placed.here) v) (sym (changed site c at ids conns conns' wants wants' (λ old new. StepsConn site now e a old new) s r)) (r.does.own course));
   others = beside site c at ids conns conns' wants wants' (λ old new. StepsConn site now e a old new) s r;
 }
+
+-- its input ended as its event says
+pub one_ended : (site : Site) (c at : ℕ) (ids : List ℕ) (conns conns' : List Conn) (wants wants' : List Want) (now : Start) (e : Event) (a : StepAnswer) (s : Seat site c at ids conns wants) →
+    Replaced site c at conns wants (λ old new. StepsConn site now e a old new) s.placed conns' wants' → (view_in site ids conns' c).ended ≡ ended_by e a (view_in site ids conns c).ended
+one_ended site c at ids conns conns' wants wants' now e a s r =
+    ap (λ (v : ConnView). v.ended) (changed site c at ids conns conns' wants wants' (λ old new. StepsConn site now e a old new) s r) ∙ r.does.ended
+    ∙ sym (ap (λ (v : ConnView). ended_by e a v.ended) (seen site c at ids conns wants s))
 
 -- the wants of all are told
 pub told_after : (site : Site) (c at : ℕ) (ids : List ℕ) (conns conns' : List Conn) (wants wants' : List Want) (Does : Conn → Conn → Type 0) (s : Seat site c at ids conns wants) →

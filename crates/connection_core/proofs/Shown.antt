@@ -17,8 +17,11 @@ nobody_sound = record {
   stopped = λ cause h e. cc;
   absent = λ h. refl;
   roomy = λ room h. cc;
+  silent = λ h. cc;
+  reads = λ h s none. cc;
   idle = λ h trees later. refl;
   shut = λ h s trees later. refl;
+  closes = λ l h e trees more later. cc;
 }
 
 pub sound_in : AllSound → (site : Site) (ids : List ℕ) (conns : List Conn) (c : ℕ) → IsSound (view_in site ids conns c)

@@ -6,14 +6,17 @@ use Rattle.std.proofs.Math.Seq.{get_or-append_right}
 use Rattle.std.proofs.lemmas.Bool.{cases_lt}
 use Rattle.std.proofs.lemmas.Bool.Decides.{nat_tests}
 use Rattle.std.proofs.lemmas.List.{get_or_append_left}
-use Rattle.std.specs.Prelude.{Option, None, Some, is_some, map, not}
+use Rattle.std.specs.Borrow.{Bor}
+use Rattle.std.specs.Prelude.{Option, None, Some, is_some, map, not, option_copied}
 use Rattle.ngx_outside.specs.declared.event.Want.{Want}
 use Rattle.ngx_outside.specs.declared.event.Want.TheVariants as want
 use Rattle.ngx_outside.specs.Wants.{wants_at, read_want}
-use Rattle.ngx_outside.specs.Views.{no_bytes}
+use Rattle.ngx_outside.specs.Views.{Job, ask_in, no_bytes}
 use Rattle.site_model.specs.declared.site.Site.{Site}
 use Rattle.connection.specs.declared.conn.Conn.{Conn}
-use Rattle.connection.specs.Conn.{view_of, starts_at}
+use Rattle.connection.specs.declared.flow.Flow.{Flow}
+use Rattle.connection.specs.Flow.{jobs_of, waits}
+use Rattle.connection.specs.Conn.{view_of, ready_at, pending_at}
 use Rattle.connection_core.specs.Table.{conn_of, tally, Splits}
 
 at_all : {X : Type 0} (P : X → Type 0) (xs : List X) (k : ℕ) (d : X) → AllByRecursion P xs → k < length xs → P (get_or xs k d)
@@ -149,30 +152,52 @@ settled xs mid new lower own higher last start gone added whole a b c m n =
         omega (arith, e, f, g, h, i, j, b)
 
 -- how many wants there are
-parts_count : (number : ℕ) (o : Option ℕ) (t e s : Bool) →
-    tally (is_some o) + tally t + tally (not e) + tally s
-    ≡ length (read_want number o ++ map (λ node. want.Run number node) (cond t (0 ∷ []) []) ++ [] ++ (cond e [] (want.Write number ∷ [])) ++ cond s (want.Close number ∷ []) [])
-parts_count number None true true true = refl
-parts_count number None true true false = refl
-parts_count number None true false true = refl
-parts_count number None true false false = refl
-parts_count number None false true true = refl
-parts_count number None false true false = refl
-parts_count number None false false true = refl
-parts_count number None false false false = refl
-parts_count number (Some room) true true true = refl
-parts_count number (Some room) true true false = refl
-parts_count number (Some room) true false true = refl
-parts_count number (Some room) true false false = refl
-parts_count number (Some room) false true true = refl
-parts_count number (Some room) false true false = refl
-parts_count number (Some room) false false true = refl
-parts_count number (Some room) false false false = refl
+read_count : (number : ℕ) (o : Option ℕ) → length (read_want number o) ≡ tally (is_some o)
+read_count number None = refl
+read_count number (Some room) = refl
+
+run_count : (number : ℕ) (t : Bool) → length (map (λ node. want.Run number node) (cond t (0 ∷ []) [])) ≡ tally t
+run_count number true = refl
+run_count number false = refl
+
+when_count : (w : Want) (t : Bool) → length (cond t (w ∷ []) []) ≡ tally t
+when_count w true = refl
+when_count w false = refl
+
+unless_count : (w : Want) (t : Bool) → length (cond t [] (w ∷ [])) ≡ tally (not t)
+unless_count w true = refl
+unless_count w false = refl
+
+-- what is lent stands there
+pub some_copied : {A : Type 0} (o : Option (Bor A)) → is_some o ≡ is_some (option_copied o)
+some_copied None = refl
+some_copied (Some a) = refl
+
+-- the want for a job
+pub job_wants : (number : ℕ) (flow : Option Flow) → map (λ job. want.Job number job.node) (jobs_of flow) ≡ cond (is_some (ask_in (jobs_of flow) 0)) (want.Job number 0 ∷ []) []
+job_wants number None = refl
+job_wants number (Some flow) = elim (waits flow.stage) as (λ t. map (λ (job : Job). want.Job number job.node) (cond t (record { node = 0; ask = flow.ask } ∷ []) []) ≡ cond (is_some (ask_in (cond t (record { node = 0; ask = flow.ask } ∷ []) []) 0)) (want.Job number 0 ∷ []) []) [ true ↦ refl | false ↦ refl ]
+
+parts_count : (number : ℕ) (o : Option ℕ) (t : Bool) (flow : Option Flow) (e s : Bool) →
+    tally (is_some o) + tally t + tally (is_some (ask_in (jobs_of flow) 0)) + tally (not e) + tally s
+    ≡ length (read_want number o ++ map (λ node. want.Run number node) (cond t (0 ∷ []) []) ++ map (λ job. want.Job number job.node) (jobs_of flow) ++ (cond e [] (want.Write number ∷ [])) ++ cond s (want.Close number ∷ []) [])
+parts_count number o t flow e s =
+    let reads = read_want number o in
+    let runs = map (λ node. want.Run number node) (cond t (0 ∷ []) []) in
+    let jobs = map (λ (job : Job). want.Job number job.node) (jobs_of flow) in
+    let writes : List Want = cond e [] (want.Write number ∷ []) in
+    let closes : List Want = cond s (want.Close number ∷ []) [] in
+    let a = length-append reads runs in
+    let b = length-append (reads ++ runs) jobs in
+    let c = length-append (reads ++ runs ++ jobs) writes in
+    let d = length-append (reads ++ runs ++ jobs ++ writes) closes in
+    let job = ap length (job_wants number flow) ∙ when_count (want.Job number 0) (is_some (ask_in (jobs_of flow) 0)) in
+    omega (arith, a, b, c, d, read_count number o, run_count number t, job, unless_count (want.Write number) e, when_count (want.Close number) s)
 
 pub wants_count : (number : ℕ) (site : Site) (conn : Conn) →
-    tally (is_some (view_of site conn).room) + tally (starts_at (is_some conn.cause) conn.closing conn.pending conn.body conn.next) + tally (not (no_bytes conn.pending)) + tally (view_of site conn).shut ≡ length (wants_at number (view_of site conn))
+    tally (is_some (view_of site conn).room) + tally (ready_at (is_some conn.cause) conn.flow conn.closing conn.out conn.body conn.next) + tally (is_some (ask_in (jobs_of conn.flow) 0)) + tally (not (no_bytes (pending_at conn.flow conn.out))) + tally (view_of site conn).shut ≡ length (wants_at number (view_of site conn))
 unfolding wants_at
-wants_count number site conn = parts_count number (view_of site conn).room (starts_at (is_some conn.cause) conn.closing conn.pending conn.body conn.next) (no_bytes conn.pending) (view_of site conn).shut
+wants_count number site conn = parts_count number (view_of site conn).room (ready_at (is_some conn.cause) conn.flow conn.closing conn.out conn.body conn.next) conn.flow (no_bytes (pending_at conn.flow conn.out)) (view_of site conn).shut
 
 -- all that stand before the last ones
 pub size_within : (c : ℕ) (wants : List Want) (count start len : ℕ) (s : Splits c wants count) → start ≡ length s.lower → len ≡ length wants → start + count ≤ len
@@ -216,3 +241,19 @@ written_last c wants gone start more s at whole =
         let a = ap length s.whole ∙ length-append s.lower (s.own ++ s.higher) in
         let b = length-append s.own s.higher in
         omega (arith, a, b, at, whole, s.size)
+
+-- what was added one after another
+pub run_wants : (number : ℕ) (t : Bool) → cond t (want.Run number 0 ∷ []) [] ≡ map (λ node. want.Run number node) (cond t (0 ∷ []) [])
+run_wants number true = refl
+run_wants number false = refl
+
+pub write_wants : (number : ℕ) (e : Bool) → cond (not e) (want.Write number ∷ []) [] ≡ cond e [] (want.Write number ∷ [])
+write_wants number true = refl
+write_wants number false = refl
+
+added : (old mid new before last : List Want) → mid ≡ old ++ before → new ≡ mid ++ last → new ≡ old ++ (before ++ last)
+added old mid new before last e f = f ∙ ap (λ x. x ++ last) e ∙ append_assoc old before last
+
+pub all_added : (old w1 w2 w3 w4 w5 a b c d e : List Want) → w1 ≡ old ++ a → w2 ≡ w1 ++ b → w3 ≡ w2 ++ c → w4 ≡ w3 ++ d → w5 ≡ w4 ++ e → w5 ≡ old ++ (a ++ b ++ c ++ d ++ e)
+all_added old w1 w2 w3 w4 w5 a b c d e f g h i j =
+    added old w4 w5 (a ++ b ++ c ++ d) e (added old w3 w4 (a ++ b ++ c) d (added old w2 w3 (a ++ b) c (added old w1 w2 a b f g) h) i) j

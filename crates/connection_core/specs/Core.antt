@@ -1,11 +1,9 @@
 -- What the core shows.
-use Rattle.std.specs.Prelude.{◌≡◌, ℕ, Bool, true, List, map}
+use Rattle.std.specs.Prelude.{◌≡◌, ℕ, Bool, true, List, map, Option, None}
 use Rattle.http_types.specs.declared.words.Addr.{Addr}
 use Rattle.ngx_outside.specs.Views.{ConnView, Course, Start, start_of, IsSound}
 use Rattle.ngx_outside.specs.declared.event.Entry.{Entry}
-use Rattle.ngx_outside.specs.Causes.{Rose}
-use Rattle.ngx_outside.specs.declared.event.StepAnswer.{StepAnswer}
-use Rattle.ngx_outside.specs.declared.event.StepAnswer.TheVariants.{Done, Skipped, OutOfMemory}
+use Rattle.ngx_outside.specs.Records.{Given}
 use Rattle.connection.specs.Conn.{fresh_course}
 use Rattle.connection_core.specs.Table.{view_in, journal_in, left_in, opens_in, price_each}
 use Rattle.connection_core.specs.declared.hub.Hub.{Hub}
@@ -41,11 +39,9 @@ price_at h = price_each
 abbrev pub refused_at : Hub → ℕ
 refused_at h = h.refused
 
--- an answer that refuses raises the count
-abbrev pub Counted : StepAnswer → ℕ → ℕ → Type 0
-Counted (Done taken) old new = new ≡ old
-Counted Skipped old new = new ≡ old
-Counted OutOfMemory old new = Rose old new
+-- it doesn't tell the events that it was given
+abbrev pub events_at : Hub → Option (List Given)
+events_at h = None
 
 -- what is so of each connection that a core shows: it is sound, its journal tells when its requests started, and the order of
 -- steps can't change its bytes

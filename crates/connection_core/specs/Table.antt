@@ -1,10 +1,13 @@
 -- The connections that are held, each under its number.
-use Rattle.std.specs.Prelude.{◌≡◌, Bool, true, false, ℕ, ◌+◌, ◌==◌, ◌<◌, List, [], ◌∷◌, ◌++◌, length, sum_by, not, ◌&&◌, ◌||◌, nat_lt, is_some, if◌then◌else◌}
+use Rattle.std.specs.Prelude.{◌≡◌, Bool, true, false, ℕ, ◌+◌, ◌==◌, ◌<◌, ◌≤◌, List, [], ◌∷◌, ◌++◌, length, sum_by, not, ◌&&◌, ◌||◌, nat_lt, is_some, if◌then◌else◌}
 use Rattle.std.specs.List.{AllByRecursion}
 use Rattle.ngx_outside.specs.Views.{ConnView, nobody}
 use Rattle.ngx_outside.specs.Wants.{wants_at}
 use Rattle.ngx_outside.specs.declared.event.Want.{Want}
 use Rattle.ngx_outside.specs.declared.event.Want.TheVariants as want
+use Rattle.ngx_outside.specs.Causes.{Rose}
+use Rattle.ngx_outside.specs.declared.event.StepAnswer.{StepAnswer}
+use Rattle.ngx_outside.specs.declared.event.StepAnswer.TheVariants.{Done, Skipped, OutOfMemory}
 use Rattle.ngx_outside.specs.declared.event.Entry.{Entry}
 use Rattle.ngx_outside.specs.declared.event.Event.{Event}
 use Rattle.ngx_outside.specs.declared.event.Event.TheVariants as ev
@@ -13,7 +16,7 @@ use Rattle.site_model.specs.Levels.{seen}
 use Rattle.site_model.specs.Search.{server_for}
 use Rattle.site_model.specs.declared.site.Site.{Site}
 use Rattle.connection.specs.declared.conn.Conn.{Conn}
-use Rattle.connection.specs.Conn.{view_of, left_of, price}
+use Rattle.connection.specs.Conn.{view_of, left_of, asked_of, price}
 
 -- what the connection under a number shows
 abbrev pub view_in : Site → List ℕ → List Conn → ℕ → ConnView
@@ -36,6 +39,10 @@ wants_held site (id ∷ ids) (conn ∷ conns) = wants_at id (view_of site conn) 
 -- the work that is left on all, with one for each that is to be closed some time
 abbrev pub left_in : List Conn → ℕ
 left_in conns = sum_by (λ conn. 1 + left_of conn) conns
+
+-- no job asks of a tree with a higher number than this
+abbrev pub AllKnown : ℕ → List Conn → Type 0
+AllKnown tree conns = AllByRecursion (λ conn. asked_of conn ≤ tree) conns
 
 -- the connection of a want
 abbrev pub conn_of : Want → ℕ
@@ -157,3 +164,9 @@ pub record Splits (c : ℕ) (wants : List Want) (count : ℕ) : Type 0 where
   pub all_lower : AllByRecursion (λ w. conn_of w < c) lower
   pub all_own : AllByRecursion (λ w. conn_of w ≡ c) own
   pub all_higher : AllByRecursion (λ w. c < conn_of w) higher
+
+-- an answer that refuses raises the count
+abbrev pub Counted : StepAnswer → ℕ → ℕ → Type 0
+Counted (Done taken) old new = new ≡ old
+Counted Skipped old new = new ≡ old
+Counted OutOfMemory old new = Rose old new

@@ -1,7 +1,9 @@
 // The core.
 ghost use Rattle.std.specs.Prelude.{◌≡◌};
-ghost use Rattle.connection_core.specs.Core.{Counted};
+ghost use Rattle.std.proofs.Props.{props};
+ghost use Rattle.connection_core.specs.Table.{AllKnown, Counted};
 
+use crate::law::cores_are_sound;
 use crate::table::Table;
 use byte_text::OutOfMemory;
 use connection::connections_are_sound;
@@ -34,13 +36,14 @@ pub struct Hub {
     pub(crate) moment: u64,
     pub(crate) tree: u64,
     pub(crate) refused: u64,
+    ghost known: { AllKnown tree table.conns.items } by { Prim.hlevel props },
 }
 
 impl Hub {
     ghost use Rattle.std.specs.Prelude.{◌≡◌, ◌↔◌, ℕ, Bool, true, IfOk, Contains};
     ghost use Rattle.std.specs.List.Sorted.{IsStrictlyIncreasing};
     ghost use Rattle.http_types.specs.declared.words.Addr.{Addr as End};
-    ghost use Rattle.ngx_outside.specs.Views.{Steps, OpensIf, LeftBy, CountsRefused, Course, now_after, nobody, is_idle as idle_in};
+    ghost use Rattle.ngx_outside.specs.Views.{Steps, OpensIf, LeftBy, CountsRefused, TakesNone, Course, now_after, ended_after, nobody, is_idle as idle_in};
     ghost use Rattle.connection.specs.Conn.{fresh_course};
     ghost use Rattle.connection_core.specs.Table.{is_own, event_conn, price_each};
     ghost use Rattle.connection_core.specs.Core.{view_at, journal_at, conns_held, fresh_at, now_at, left_at, refused_at};
@@ -50,6 +53,8 @@ impl Hub {
         ensures empty { IfOk result (λ hub. (c : ℕ) → view_at hub c ≡ nobody) }
         ensures fresh { IfOk result (λ hub. fresh_at hub ≡ fresh_course site) }
         ensures now { IfOk result (λ hub. now_at hub ≡ record { moment = 0; tree = 0 }) }
+        ensures left { IfOk result (λ hub. left_at hub ≡ 0) }
+        ensures refused { IfOk result (λ hub. refused_at hub ≡ 0) }
     {
         let table = Table::new(alloc, site)?;
         Ok(Hub {
@@ -116,6 +121,8 @@ impl Hub {
         requires conn { event_conn event ≡ conn }
         ensures steps { (fresh : End → End → Course) → Steps fresh (now_at self.old) event.entry result (view_at self.old) (view_at self.new) }
         ensures opens { (opens : ℕ → End → Bool) → OpensIf opens event.entry result }
+        ensures ended { (c : ℕ) → (view_at self.new c).ended ≡ ended_after event.entry result c (view_at self.old c).ended }
+        ensures taken { TakesNone event.entry result }
         ensures now { now_at self.new ≡ now_after (now_at self.old) event.entry result }
         ensures left { LeftBy price_each event.entry result (left_at self.old) (left_at self.new) }
         ensures refused { CountsRefused event.entry result (refused_at self.old) (refused_at self.new) }
@@ -130,7 +137,7 @@ impl Hub {
 }
 
 impl EventCore for Hub {
-    ghost use Rattle.connection_core.specs.Core.{view_at, conns_held, fresh_at, opens_at, now_at, left_at, price_at, refused_at};
+    ghost use Rattle.connection_core.specs.Core.{view_at, conns_held, fresh_at, opens_at, now_at, left_at, price_at, refused_at, events_at};
 
     ghost view = { view_at };
 
@@ -148,7 +155,10 @@ impl EventCore for Hub {
 
     ghost refused = { refused_at };
 
+    ghost events = { events_at };
+
     fn step(&mut self, event: Event) -> StepAnswer {
+        cores_are_sound();
         match event {
             Event::Opened { conn, local, peer } => self.table.open(self.alloc, conn, local, peer),
             Event::Arrived { conn, bytes: _ } => self.own(conn, event),
@@ -193,7 +203,10 @@ impl EventCore for Hub {
         self.table.wants_of(conn)
     }
 
-    fn ask(&self, _conn: u32, _node: u32) -> Option<&Ask> {
-        None
+    fn ask(&self, conn: u32, node: u32) -> Option<&Ask> {
+        match self.table.get(conn) {
+            Some(held) => held.ask(node),
+            None => None,
+        }
     }
 }

@@ -55,10 +55,10 @@ pub(crate) fn happen(
         Event::LinkFailed { conn: _ } => conn.link_failed(),
         Event::FileDone {
             conn: _,
-            node: _,
-            answer: _,
-        } => StepAnswer::Skipped,
-        Event::JobFailed { conn: _, node: _ } => StepAnswer::Skipped,
+            node,
+            answer,
+        } => conn.file_done(node, answer),
+        Event::JobFailed { conn: _, node } => conn.job_failed(node),
         Event::Run { conn: _, node } => conn.runs(alloc, site, moment, tree, node),
         Event::Tick { now: _ } => StepAnswer::Skipped,
         Event::Tree { to: _ } => StepAnswer::Skipped,
@@ -79,7 +79,7 @@ pub(crate) fn happen_at(
     event: Event,
 ) -> StepAnswer
     requires placed { Placed site.now number at conns.old.items wants.old.items }
-    requires room { vec_len wants.old + 4 ≤ vec_capacity wants.old }
+    requires room { vec_len wants.old + 5 ≤ vec_capacity wants.old }
     ensures replaced { is_own event.entry ≡ true → (p : Placed site.now number at conns.old.items wants.old.items) → Replaced site.now number at conns.old.items wants.old.items (λ old new. StepsConn site.now (record { moment = moment; tree = tree }) event.entry result old new) p conns.new.items wants.new.items }
     ensures len { vec_len conns.new ≡ vec_len conns.old }
     ensures capacity { vec_capacity wants.new ≡ vec_capacity wants.old }

@@ -34,24 +34,24 @@ pub(crate) struct Table {
     ghost rising: { IsStrictlyIncreasing ids.items },
     ghost paired: { vec_len conns ≡ vec_len ids },
     ghost told: { wants.items ≡ wants_held site ids.items conns.items },
-    ghost roomy: { 4 * vec_len ids + 4 ≤ vec_capacity wants },
+    ghost roomy: { 5 * vec_len ids + 5 ≤ vec_capacity wants },
 }
 
 impl Table {
-    ghost use Rattle.std.specs.Prelude.{◌≡◌, ◌≢◌, ◌+◌, ◌*◌, ◌<◌, ◌≤◌, ℕ, List, [], true, false, IfOk, OnOk, MatchOption, length, insert, vec_len, vec_capacity};
+    ghost use Rattle.std.specs.Prelude.{◌≡◌, ◌≢◌, ◌+◌, ◌*◌, ◌<◌, ◌≤◌, ℕ, List, [], true, false, IfOk, IfSome, OnOk, MatchOption, length, insert, vec_len, vec_capacity};
     ghost use Rattle.http_types.specs.declared.words.Addr.{Addr as End};
-    ghost use Rattle.ngx_outside.specs.Views.{Start, Steps, StepsOwn, OneSteps, LeftBy, OpensIf, Course, Fresh, nobody};
+    ghost use Rattle.ngx_outside.specs.Views.{Start, Steps, StepsOwn, OneSteps, LeftBy, OpensIf, TakesNone, Course, Fresh, nobody};
     ghost use Rattle.ngx_outside.specs.Wants.{wants_at};
     ghost use Rattle.ngx_outside.specs.declared.event.Event.TheVariants.{Opened, Gone};
-    ghost use Rattle.connection.specs.Conn.{view_of, fresh_course, left_of, weight};
-    ghost use Rattle.connection_core.specs.Table.{is_own, view_in, journal_in, left_in, price_each, opens_in, BelongsAt};
+    ghost use Rattle.connection.specs.Conn.{view_of, fresh_course, left_of, weight, asked_of, ended_by};
+    ghost use Rattle.connection_core.specs.Table.{is_own, view_in, journal_in, left_in, price_each, opens_in, AllKnown, BelongsAt};
 
     /// No connection is held.
     pub(crate) fn new(alloc: Global, site: Site) -> Result<Self, OutOfMemory>
         ensures { IfOk result (λ t. (t.site ≡ site) × (t.ids.items ≡ []) × (t.conns.items ≡ [])) }
     {
         let mut wants = Vec::new(alloc);
-        wants.reserve(4)?;
+        wants.reserve(5)?;
         Ok(Table {
             site,
             ids: Vec::new(alloc),
@@ -63,6 +63,7 @@ impl Table {
     /// The connection under a number.
     pub(crate) fn get(&self, conn: u32) -> Option<&Conn>
         ensures view { MatchOption result (view_in self.now.site self.now.ids.items self.now.conns.items conn ≡ nobody) (λ c. view_in self.now.site self.now.ids.items self.now.conns.items conn ≡ view_of self.now.site c.now) }
+        ensures known { (tree : ℕ) → AllKnown tree self.now.conns.items → IfSome result (λ c. asked_of c.now ≤ tree) }
         ensures journal { MatchOption result (journal_in self.now.ids.items self.now.conns.items conn ≡ []) (λ c. journal_in self.now.ids.items self.now.conns.items conn ≡ c.now.journal.items) }
     {
         match place(self.ids.as_slice(), conn) {
@@ -92,13 +93,14 @@ impl Table {
         ensures conns { self.new.conns.items ≡ self.old.conns.items }
         ensures ids_room { OnOk result (vec_len self.new.ids < vec_capacity self.new.ids) }
         ensures conns_room { OnOk result (vec_len self.new.conns < vec_capacity self.new.conns) }
-        ensures wants_room { OnOk result (4 * vec_len self.new.ids + 8 ≤ vec_capacity self.new.wants) }
+        ensures wants_room { OnOk result (5 * vec_len self.new.ids + 10 ≤ vec_capacity self.new.wants) }
         ensures fresh { IfOk result (λ c. (site : _) → Fresh (fresh_course site local peer) (view_of site c)) }
         ensures left { IfOk result (λ c. left_of c ≡ 1 + weight) }
+        ensures asked { IfOk result (λ c. asked_of c ≡ 0) }
     {
         self.ids.reserve(1)?;
         self.conns.reserve(1)?;
-        let room = 4 * self.ids.len() + 8;
+        let room = 5 * self.ids.len() + 10;
         self.wants.reserve(room.saturating_sub(self.wants.len()))?;
         let conn = Conn::new(alloc, local, peer)?;
         Ok(conn)
@@ -109,7 +111,7 @@ impl Table {
         requires belongs { BelongsAt conn self.old.ids.items at }
         requires ids_room { vec_len self.old.ids < vec_capacity self.old.ids }
         requires conns_room { vec_len self.old.conns < vec_capacity self.old.conns }
-        requires wants_room { 4 * vec_len self.old.ids + 8 ≤ vec_capacity self.old.wants }
+        requires wants_room { 5 * vec_len self.old.ids + 10 ≤ vec_capacity self.old.wants }
         ensures ids { self.new.ids.items ≡ insert self.old.ids.items at conn }
         ensures conns { self.new.conns.items ≡ insert self.old.conns.items at fresh }
         ensures site { self.new.site ≡ self.old.site }
@@ -123,6 +125,8 @@ impl Table {
     pub(crate) fn open(&mut self, alloc: Global, conn: u32, local: Addr, peer: Addr) -> StepAnswer
         ensures steps { (now : Start) → OneSteps conn (StepsOwn (fresh_course self.old.site local peer) now (Opened conn local peer) result) (view_in self.old.site self.old.ids.items self.old.conns.items) (view_in self.new.site self.new.ids.items self.new.conns.items) }
         ensures opens { OpensIf (opens_in self.old.site self.old.ids.items) (Opened conn local peer) result }
+        ensures taken { TakesNone (Opened conn local peer) result }
+        ensures known { (tree : ℕ) → AllKnown tree self.old.conns.items → AllKnown tree self.new.conns.items }
         ensures left { LeftBy price_each (Opened conn local peer) result (left_in self.old.conns.items) (left_in self.new.conns.items) }
         ensures site { self.new.site ≡ self.old.site }
     {
@@ -153,6 +157,9 @@ impl Table {
         requires own { is_own event ≡ true }
         ensures steps { OneSteps conn (StepsOwn nobody.course (record { moment = moment; tree = tree }) event.entry result) (view_in self.old.site self.old.ids.items self.old.conns.items) (view_in self.new.site self.new.ids.items self.new.conns.items) }
         ensures left { LeftBy price_each event.entry result (left_in self.old.conns.items) (left_in self.new.conns.items) }
+        ensures ended { (view_in self.new.site self.new.ids.items self.new.conns.items conn).ended ≡ ended_by event.entry result (view_in self.old.site self.old.ids.items self.old.conns.items conn).ended }
+        ensures taken { TakesNone event.entry result }
+        ensures known { AllKnown tree self.old.conns.items → AllKnown tree self.new.conns.items }
         ensures ids { self.new.ids.items ≡ self.old.ids.items }
         ensures site { self.new.site ≡ self.old.site }
     {
@@ -175,6 +182,8 @@ impl Table {
     /// Lets a connection go, whose link is to be closed.
     pub(crate) fn close(&mut self, conn: u32) -> StepAnswer
         ensures steps { (now : Start) → OneSteps conn (StepsOwn nobody.course now (Gone conn) result) (view_in self.old.site self.old.ids.items self.old.conns.items) (view_in self.new.site self.new.ids.items self.new.conns.items) }
+        ensures taken { TakesNone (Gone conn) result }
+        ensures known { (tree : ℕ) → AllKnown tree self.old.conns.items → AllKnown tree self.new.conns.items }
         ensures left { LeftBy price_each (Gone conn) result (left_in self.old.conns.items) (left_in self.new.conns.items) }
         ensures site { self.new.site ≡ self.old.site }
     {

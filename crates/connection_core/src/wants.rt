@@ -1,6 +1,6 @@
 // The wants of all connections, kept in the order of their numbers.
-ghost use Rattle.std.specs.Prelude.{◌≡◌, ◌++◌, ◌+◌, ◌≤◌, ◌<◌, ◌-◌, ℕ, List, length, take, drop, vec_len, vec_capacity};
-ghost use Rattle.ngx_outside.specs.Wants.{wants_at};
+ghost use Rattle.std.specs.Prelude.{◌≡◌, ◌++◌, ◌+◌, ◌≤◌, ◌<◌, ◌-◌, ℕ, List, length, take, drop, [], ◌∷◌, if◌then◌else◌, vec_len, vec_capacity};
+ghost use Rattle.ngx_outside.specs.Wants.{wants_at, read_want};
 ghost use Rattle.ngx_outside.specs.declared.event.Want.{Want as AWant};
 ghost use Rattle.site_model.specs.declared.site.Site.{Site as SiteParts};
 ghost use Rattle.connection.specs.Conn.{view_of};
@@ -38,38 +38,63 @@ fn one_if(test: bool) -> usize
 /// How many wants a connection has.
 pub(crate) fn count(conn: &Conn) -> usize
     ensures value { (number : ℕ) (site : SiteParts) → result ≡ length (wants_at number (view_of site conn.now)) }
-    ensures few { result ≤ 4 }
+    ensures few { result ≤ 5 }
 {
     one_if(conn.room().is_some())
         + one_if(conn.is_ready())
+        + one_if(conn.ask(0).is_some())
         + one_if(!conn.pending().is_empty())
         + one_if(conn.is_shut())
 }
 
-// Adds the wants of a connection; there is room for them.
-#[tactic(auto, unfolding(ngx_outside::specs::Wants::wants_at))]
-fn add(wants: &mut Vec<Want>, number: u32, conn: &Conn)
-    requires { vec_len wants.old + 4 ≤ vec_capacity wants.old }
-    ensures items { (site : SiteParts) → wants.new.items ≡ wants.old.items ++ wants_at number (view_of site conn.now) }
-    ensures len { vec_len wants.new ≤ vec_len wants.old + 4 }
+// Adds what is read, if anything is; there is room for it.
+fn add_read(wants: &mut Vec<Want>, number: u32, room: Option<usize>)
+    requires { vec_len wants.old < vec_capacity wants.old }
+    ensures items { wants.new.items ≡ wants.old.items ++ read_want number room }
+    ensures len { vec_len wants.new ≤ vec_len wants.old + 1 }
     ensures grows { vec_len wants.old ≤ vec_len wants.new }
     ensures capacity { vec_capacity wants.new ≡ vec_capacity wants.old }
 {
-    if let Some(room) = conn.room() {
+    if let Some(room) = room {
         wants.push_reserved(Want::Read { conn: number, room });
     }
-    if conn.is_ready() {
-        wants.push_reserved(Want::Run {
-            conn: number,
-            node: 0,
-        });
+}
+
+// Adds a want where a test holds; there is room for it.
+fn add_if(wants: &mut Vec<Want>, test: bool, want: Want)
+    requires { vec_len wants.old < vec_capacity wants.old }
+    ensures items { wants.new.items ≡ wants.old.items ++ (if test then want ∷ [] else []) }
+    ensures len { vec_len wants.new ≤ vec_len wants.old + 1 }
+    ensures grows { vec_len wants.old ≤ vec_len wants.new }
+    ensures capacity { vec_capacity wants.new ≡ vec_capacity wants.old }
+{
+    if test {
+        wants.push_reserved(want);
     }
-    if !conn.pending().is_empty() {
-        wants.push_reserved(Want::Write { conn: number });
-    }
-    if conn.is_shut() {
-        wants.push_reserved(Want::Close { conn: number });
-    }
+}
+
+// Adds the wants of a connection; there is room for them.
+fn add(wants: &mut Vec<Want>, number: u32, conn: &Conn)
+    requires { vec_len wants.old + 5 ≤ vec_capacity wants.old }
+    ensures items { (site : SiteParts) → wants.new.items ≡ wants.old.items ++ wants_at number (view_of site conn.now) }
+    ensures len { vec_len wants.new ≤ vec_len wants.old + 5 }
+    ensures grows { vec_len wants.old ≤ vec_len wants.new }
+    ensures capacity { vec_capacity wants.new ≡ vec_capacity wants.old }
+{
+    add_read(wants, number, conn.room());
+    let run = Want::Run {
+        conn: number,
+        node: 0,
+    };
+    add_if(wants, conn.is_ready(), run);
+    let job = Want::Job {
+        conn: number,
+        node: 0,
+    };
+    add_if(wants, conn.ask(0).is_some(), job);
+    let write = Want::Write { conn: number };
+    add_if(wants, !conn.pending().is_empty(), write);
+    add_if(wants, conn.is_shut(), Want::Close { conn: number });
 }
 
 // The last wants, so many, come to stand at `start`.
@@ -105,7 +130,7 @@ fn settle(wants: &mut Vec<Want>, start: usize, gone: usize, added: usize)
 // Writes the wants of a connection in place of all from `start` on.
 fn rewrite_last(wants: &mut Vec<Want>, number: u32, start: usize, conn: &Conn)
     requires start { start ≤ vec_len wants.old }
-    requires room { vec_len wants.old + 4 ≤ vec_capacity wants.old }
+    requires room { vec_len wants.old + 5 ≤ vec_capacity wants.old }
     ensures items { (site : SiteParts) → wants.new.items ≡ take start wants.old.items ++ wants_at number (view_of site conn.now) }
     ensures capacity { vec_capacity wants.new ≡ vec_capacity wants.old }
 {
@@ -116,7 +141,7 @@ fn rewrite_last(wants: &mut Vec<Want>, number: u32, start: usize, conn: &Conn)
 /// Writes the wants of a connection anew, in place of the `gone` that it had. Nothing is
 /// allocated, and nothing is moved where no other wants stand behind them.
 pub(crate) fn rewrite(wants: &mut Vec<Want>, number: u32, gone: usize, conn: &Conn)
-    requires room { vec_len wants.old + 4 ≤ vec_capacity wants.old }
+    requires room { vec_len wants.old + 5 ≤ vec_capacity wants.old }
     requires splits { Splits number wants.old.items gone }
     ensures items { (site : SiteParts) (s : Splits number wants.old.items gone) → wants.new.items ≡ s.lower ++ (wants_at number (view_of site conn.now) ++ s.higher) }
     ensures capacity { vec_capacity wants.new ≡ vec_capacity wants.old }

@@ -2,3 +2,5 @@ pub mod Stores
 pub mod Children
 pub mod Ids
 pub mod Calls
+pub mod Kept
+pub mod Played

@@ -1,11 +1,11 @@
 -- What links in memory tell.
-use Rattle.std.specs.Prelude.{◌≡◌, ℕ, ◌-◌, ◌==◌, ◌≤◌, Bool, true, false, List, [], ◌∷◌, take, if◌then◌else◌}
+use Rattle.std.specs.Prelude.{◌≡◌, ◌≢◌, ℕ, ◌-◌, ◌==◌, ◌≤◌, Bool, true, false, List, [], ◌∷◌, ◌++◌, take, drop, if◌then◌else◌, ◌⊎◌}
 use Rattle.std.specs.declared.net.ip_addr.IpAddr.TheVariants.{V4}
 use Rattle.http_types.specs.declared.words.Addr.{Addr}
 use Rattle.ngx_outside.specs.Causes.{Rose}
 use Rattle.ngx_outside.specs.declared.links.Notice.{Notice}
 use Rattle.ngx_outside.specs.declared.links.Notice.TheVariants as notice
-use Rattle.ngx_outside.specs.Linked.{LinkView, Updated, Same, Noticed, Opens, got, put, set_due, set_full}
+use Rattle.ngx_outside.specs.Linked.{LinkView, Updated, Same, Noticed, Opens, got, put, set_due, set_full, set_ended}
 use Rattle.ngx_outside.specs.declared.links.Input.{Input}
 use Rattle.ngx_outside.specs.declared.links.Input.TheVariants as input
 use Rattle.ngx_outside.specs.declared.links.Output.{Output}
@@ -14,13 +14,13 @@ use Rattle.memory_outside.specs.declared.peer.Peer.{Peer}
 
 -- what a link shows
 abbrev pub view_of : Peer → LinkView
-view_of p = record { local = p.local; peer = p.peer; taken = take p.start p.input; sent = p.sent; due = p.due; full = p.full }
+view_of p = record { local = p.local; peer = p.peer; taken = take p.start p.input; sent = p.sent; due = p.due; full = p.full; ended = p.ended }
 
 -- what a read makes of a link
 abbrev pub after_read : Input → List ℕ → LinkView → LinkView
 after_read (input.Got count) buf v = got (take count buf) v
 after_read input.NotYet buf v = set_due false v
-after_read input.End buf v = set_due false v
+after_read input.End buf v = set_ended v
 after_read input.Failed buf v = set_due false v
 
 -- and a write
@@ -29,12 +29,18 @@ after_write (output.Put count) bytes v = put (take count bytes) v
 after_write output.NotYet bytes v = set_full true v
 after_write output.Failed bytes v = v
 
+-- of bytes some are put, or none where there are none
+abbrev pub PutsSome : Output → List ℕ → Type 0
+PutsSome (output.Put count) bytes = count ≡ 0 → bytes ≡ []
+PutsSome output.NotYet bytes = Unit {0}
+PutsSome output.Failed bytes = Unit {0}
+
 -- the ends of no link
 abbrev pub nowhere : Addr
 nowhere = record { ip = V4 (record { octets = 0 ∷ 0 ∷ 0 ∷ 0 ∷ [] }); port = 0 }
 
 abbrev pub unopened : LinkView
-unopened = record { local = nowhere; peer = nowhere; taken = []; sent = []; due = false; full = false }
+unopened = record { local = nowhere; peer = nowhere; taken = []; sent = []; due = false; full = false; ended = false }
 
 -- what is so of the link of an id; the first link has the id 1
 unfoldable pub at_id : {A : Type 0} → (Peer → A) → A → List Peer → ℕ → A
@@ -52,6 +58,42 @@ held_in = at_id (λ p. p.held) false
 
 abbrev pub faults_in : List Peer → ℕ → ℕ
 faults_in = at_id (λ p. p.faults) 0
+
+-- what a peer still sends, and whether it then ends
+pub record Sends : Type 0 where
+  pub coming : List ℕ
+  pub ends : Bool
+
+abbrev pub sends_of : Peer → Sends
+sends_of p = record { coming = drop p.start p.input; ends = p.ends }
+
+abbrev pub silent : Sends
+silent = record { coming = []; ends = false }
+
+abbrev pub sends_in : List Peer → ℕ → Sends
+sends_in = at_id sends_of silent
+
+-- all still send the same
+abbrev pub SendSame : (ℕ → Sends) → (ℕ → Sends) → Type 0
+SendSame old new = (c : ℕ) → new c ≡ old c
+
+-- What a read takes of what a peer sends. It answers the end only behind all of it, and that there is nothing yet only there
+-- or where the buffer is empty.
+abbrev pub Gives : Input → List ℕ → Sends → Sends → Type 0
+Gives (input.Got count) buf old new = (old.coming ≡ take count buf ++ new.coming) × (new.ends ≡ old.ends)
+Gives input.NotYet buf old new = (new ≡ old) × ((buf ≡ []) ⊎ ((old.coming ≡ []) × (old.ends ≡ false)))
+Gives input.End buf old new = (new ≡ old) × (old.coming ≡ []) × (old.ends ≡ true)
+Gives input.Failed buf old new = new ≡ old
+
+-- one peer is read
+pub record OneGives (id : ℕ) (r : Input) (buf : List ℕ) (old new : ℕ → Sends) : Type 0 where
+  pub own : Gives r buf (old id) (new id)
+  pub others : (c : ℕ) → c ≢ id → new c ≡ old c
+
+-- one peer begins to send
+pub record OneBegins (id : ℕ) (s : Sends) (old new : ℕ → Sends) : Type 0 where
+  pub own : new id ≡ s
+  pub others : (c : ℕ) → c ≢ id → new c ≡ old c
 
 -- no link has this id
 pub record IsAbsent (peers : List Peer) (id : ℕ) : Type 0 where

@@ -1,6 +1,8 @@
 -- What stands where in the files of memory.
-use Rattle.std.specs.Prelude.{◌≡◌, ℕ, nat_le, Bool, ◌&&◌, List, [], ◌∷◌, if◌then◌else◌}
+use Rattle.std.specs.Prelude.{◌≡◌, ℕ, nat_le, Bool, ◌&&◌, List, [], ◌∷◌, Option, if◌then◌else◌}
 use Rattle.std.specs.Str.{bytes_eq}
+use Rattle.ngx_outside.specs.Records.{FileAnswer}
+use Rattle.memory_outside.specs.Answered.{files_told}
 use Rattle.file_tree.specs.Tree.{Item, AFile, AFolder, ALocked, Nothing, Trees}
 use Rattle.memory_outside.specs.declared.files.StoredItem.{StoredItem}
 use Rattle.memory_outside.specs.declared.files.Stored.{Stored}
@@ -40,6 +42,10 @@ newest_of f = f.version
 
 abbrev pub file_faults_of : MemoryFiles → ℕ
 file_faults_of f = f.faults
+
+-- what was answered, as far as it is told
+abbrev pub file_answers_of : MemoryFiles → Option (List FileAnswer)
+file_answers_of f = files_told f.answers
 
 -- the calls that are to fail
 abbrev pub failing_of : MemoryFiles → List FileCall

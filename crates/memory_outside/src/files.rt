@@ -1,11 +1,13 @@
 // Files in memory.
-ghost use Rattle.std.specs.Prelude.{◌≡◌, ◌≢◌, ◌≤◌, ◌<◌, ◌+◌, ◌-◌, ◌^◌, ◌∷◌, ◌↔◌, ℕ, List, [], true, false, IsTrue, MatchOption, Err, IsOk, OnOk, OnErr, IfOk, length, take, drop};
+ghost use Rattle.std.specs.Prelude.{◌≡◌, ◌≢◌, ◌≤◌, ◌<◌, ◌+◌, ◌-◌, ◌^◌, ◌∷◌, ◌↔◌, ℕ, List, [], true, false, IsTrue, MatchOption, Some, Err, IsOk, OnOk, OnErr, IfOk, length, take, drop};
 ghost use Rattle.ngx_outside.specs.Causes.{Rose, HasCause};
+ghost use Rattle.ngx_outside.specs.Records.{Adds, ReadTold, stat_answer};
 ghost use Rattle.ngx_outside.specs.Outside.{Grow, Stats, Reads, Lists};
 ghost use Rattle.ngx_outside.specs.declared.files.FileFault.TheVariants.{Failed as ReadFailed};
 ghost use Rattle.file_tree.specs.Tree.{Nothing, AFile, AFolder, HoldsBytes, node_of};
-ghost use Rattle.memory_outside.specs.Stored.{item_in, item_of, is_at as is_stored_at, Replaces, trees_of, newest_of, file_faults_of, failing_of};
+ghost use Rattle.memory_outside.specs.Stored.{item_in, item_of, is_at as is_stored_at, Replaces, trees_of, newest_of, file_faults_of, file_answers_of, failing_of};
 
+use crate::answers::{Answers, FileTold, tell_bytes, tell_failed, tell_node};
 use crate::names::add_names;
 use byte_text::{ByteText, ByteTexts, OutOfMemory};
 use file_tree::Node;
@@ -39,7 +41,8 @@ pub enum FileCall {
     List(u64),
 }
 
-/// Files in memory, of which every version is kept. What isn't stored is missing, folders too.
+/// Files in memory, of which every version is kept. What isn't stored is missing, folders too. They tell what they
+/// answered, as long as there is memory for that.
 #[derive(Drop)]
 pub struct MemoryFiles {
     alloc: Global,
@@ -50,6 +53,7 @@ pub struct MemoryFiles {
     reads: u64,
     lists: u64,
     faults: u64,
+    answers: Answers<FileTold>,
 }
 
 // Whether it stands at a path in the tree of a number.
@@ -166,6 +170,7 @@ impl MemoryFiles {
         ensures version { newest_of result ≡ 0 }
         ensures faults { file_faults_of result ≡ 0 }
         ensures failing { failing_of result ≡ failing.items }
+        ensures answers { file_answers_of result ≡ Some [] }
     {
         MemoryFiles {
             alloc,
@@ -176,6 +181,7 @@ impl MemoryFiles {
             reads: 0,
             lists: 0,
             faults: 0,
+            answers: Answers::new(alloc),
         }
     }
 
@@ -186,6 +192,7 @@ impl MemoryFiles {
         ensures version { newest_of self.new ≡ newest_of self.old }
         ensures faults { file_faults_of self.new ≡ file_faults_of self.old }
         ensures failing { failing_of self.new ≡ failing_of self.old }
+        ensures answers { file_answers_of self.new ≡ file_answers_of self.old }
     {
         let stored = Stored { path, item, from };
         self.items.push(stored)?;
@@ -199,6 +206,7 @@ impl MemoryFiles {
         ensures version { newest_of self.new ≡ newest_of self.old }
         ensures faults { file_faults_of self.new ≡ file_faults_of self.old }
         ensures failing { failing_of self.new ≡ failing_of self.old }
+        ensures answers { file_answers_of self.new ≡ file_answers_of self.old }
     {
         let from = self.version;
         self.store(path, item, from)
@@ -214,6 +222,7 @@ impl MemoryFiles {
         ensures grow { Grow (newest_of self.old) (newest_of self.new) (trees_of self.old) (trees_of self.new) }
         ensures faults { file_faults_of self.new ≡ file_faults_of self.old }
         ensures failing { failing_of self.new ≡ failing_of self.old }
+        ensures answers { file_answers_of self.new ≡ file_answers_of self.old }
     {
         let from = self.version + 1;
         self.store(path, item, from)?;
@@ -233,6 +242,7 @@ impl MemoryFiles {
         ensures items { trees_of self.new ≡ trees_of self.old }
         ensures version { newest_of self.new ≡ newest_of self.old }
         ensures failing { failing_of self.new ≡ failing_of self.old }
+        ensures answers { file_answers_of self.new ≡ file_answers_of self.old }
         ensures sure { failing_of self.old ≡ [] → result ≡ false }
         ensures quiet { result ≡ false → file_faults_of self.new ≡ file_faults_of self.old }
         ensures rose { result ≡ true → Rose (file_faults_of self.old) (file_faults_of self.new) }
@@ -250,6 +260,7 @@ impl MemoryFiles {
         ensures items { trees_of self.new ≡ trees_of self.old }
         ensures version { newest_of self.new ≡ newest_of self.old }
         ensures failing { failing_of self.new ≡ failing_of self.old }
+        ensures answers { file_answers_of self.new ≡ file_answers_of self.old }
         ensures rose { Rose (file_faults_of self.old) (file_faults_of self.new) }
         ensures later { file_faults_of self.old ≤ file_faults_of self.new }
     {
@@ -264,6 +275,8 @@ impl Files for MemoryFiles {
 
     ghost newest = { newest_of };
 
+    ghost answers = { file_answers_of };
+
     ghost faults = { file_faults_of };
 
     fn version(&self) -> u64 {
@@ -275,6 +288,7 @@ impl Files for MemoryFiles {
         ensures same { trees_of self.new ≡ trees_of self.old }
         ensures version { newest_of self.new ≡ newest_of self.old }
         ensures failing { failing_of self.new ≡ failing_of self.old }
+        ensures answers { Adds (stat_answer result) (file_answers_of self.old) (file_answers_of self.new) }
         ensures sure { failing_of self.old ≡ [] → IsOk result }
         ensures grow { Grow (newest_of self.old) (newest_of self.new) (trees_of self.old) (trees_of self.new) }
         ensures cause { HasCause (file_faults_of self.old) (file_faults_of self.new) result (record {}) }
@@ -282,9 +296,12 @@ impl Files for MemoryFiles {
         let call = FileCall::Stat(self.stats);
         self.stats = self.stats.saturating_add(1);
         if self.fails(call) {
+            tell_failed(&mut self.answers);
             return Err(Failed);
         }
-        Ok(node_at(&self.items, path, of))
+        let node = node_at(&self.items, path, of);
+        tell_node(&mut self.answers, node);
+        Ok(node)
     }
 
     fn read(
@@ -299,6 +316,7 @@ impl Files for MemoryFiles {
         ensures same { trees_of self.new ≡ trees_of self.old }
         ensures version { newest_of self.new ≡ newest_of self.old }
         ensures failing { failing_of self.new ≡ failing_of self.old }
+        ensures answers { ReadTold out.old out.new result (file_answers_of self.old) (file_answers_of self.new) }
         ensures sure { failing_of self.old ≡ [] → result ≡ Err ReadFailed → (bytes : List ℕ) → ¬ HoldsBytes (trees_of self.old of path.now) start count bytes }
         ensures grow { Grow (newest_of self.old) (newest_of self.new) (trees_of self.old) (trees_of self.new) }
         ensures cause { HasCause (file_faults_of self.old) (file_faults_of self.new) result ReadFailed }
@@ -306,18 +324,29 @@ impl Files for MemoryFiles {
         let call = FileCall::Read(self.reads);
         self.reads = self.reads.saturating_add(1);
         if self.fails(call) {
+            tell_failed(&mut self.answers);
             return Err(FileFault::Failed);
         }
         let Some(bytes) = bytes_at(&self.items, path, of) else {
             self.count_fault();
+            tell_failed(&mut self.answers);
             return Err(FileFault::Failed);
         };
         let Some(piece) = part(bytes, start, count) else {
             self.count_fault();
+            tell_failed(&mut self.answers);
             return Err(FileFault::Failed);
         };
-        out.extend(piece)?;
-        Ok(())
+        match out.extend(piece) {
+            Ok(()) => {
+                tell_bytes(self.alloc, &mut self.answers, piece);
+                Ok(())
+            }
+            Err(OutOfMemory) => {
+                tell_failed(&mut self.answers);
+                Err(FileFault::OutOfMemory)
+            }
+        }
     }
 
     fn list(&mut self, folder: &[u8], out: &mut ByteTexts) -> Result<Listing, FileFault> {

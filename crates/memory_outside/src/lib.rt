@@ -2,6 +2,7 @@
 //! peers. Each has a list of the calls that are to fail.
 #![tactic(auto)]
 
+mod answers;
 mod clocks;
 mod files;
 mod links;

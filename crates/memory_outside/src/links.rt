@@ -1,13 +1,16 @@
 // Links to scripted peers.
-ghost use Rattle.std.specs.Prelude.{◌≡◌, ◌≢◌, ◌≤◌, ◌<◌, ◌+◌, ◌-◌, ◌^◌, ◌↔◌, ◌∷◌, ◌++◌, ℕ, List, [], MatchOption, OnOk, OnErr, true, false, length, vec_len};
-ghost use Rattle.ngx_outside.specs.Causes.{Rose};
+ghost use Rattle.std.specs.Prelude.{◌≡◌, ◌≢◌, ◌≤◌, ◌<◌, ◌+◌, ◌-◌, ◌^◌, ◌↔◌, ◌∷◌, ◌++◌, ℕ, List, [], Some, MatchOption, OnOk, OnErr, true, false, length, reverse, vec_len, if◌then◌else◌};
+ghost use Rattle.ngx_outside.specs.Causes.{HasCause, Rose};
+ghost use Rattle.ngx_outside.specs.Records.{Adds, Noticed as NoticeGiven, Read as ReadGiven, Written as WriteGiven, got_of};
 ghost use Rattle.ngx_outside.specs.Linked.{GotWithin, PutWithin, PutsNothing, HasRead, HasWritten, Marked, Same, Noticed, Opens, Unchanged, set_due, set_full, begun};
-ghost use Rattle.ngx_outside.specs.declared.links.Notice.TheVariants.{Failed as NextFailed, Ended as AllEnded};
-ghost use Rattle.ngx_outside.specs.declared.links.Input.TheVariants.{Failed as ReadFails};
+ghost use Rattle.ngx_outside.specs.declared.links.Notice.TheVariants.{Failed as NextFailed, Ended as AllEnded, Readable, Writable, Nothing};
+ghost use Rattle.ngx_outside.specs.declared.links.Input.TheVariants.{Failed as ReadFails, NotYet};
 ghost use Rattle.ngx_outside.specs.declared.links.Output.TheVariants.{Failed as WriteFails};
-ghost use Rattle.memory_outside.specs.Told.{links_of, used_of, open_of, listening_of, over_of, next_faults_of, link_faults_of};
-ghost use Rattle.memory_outside.specs.Peers.{links_in, used_in, held_in, faults_in, Changes, after_read, after_write, view_of, unopened, Reports, Heard, IsAbsent, IsAt};
+ghost use Rattle.memory_outside.specs.Told.{links_of, used_of, open_of, listening_of, over_of, sends_told, failing_calls_of, no_notices, answers_of, next_faults_of, link_faults_of};
+ghost use Rattle.memory_outside.specs.Scripted.{scripted_of, IsOpened, SendsFrom, Reported, Plays};
+ghost use Rattle.memory_outside.specs.Peers.{links_in, used_in, held_in, faults_in, Changes, after_read, after_write, view_of, unopened, Reports, Heard, IsAbsent, IsAt, SendSame, OneGives, sends_of, sends_in, PutsSome};
 
+use crate::answers::{Answers, LinkTold, tell_notice, tell_read, tell_written};
 use crate::peer::Peer;
 use byte_text::{ByteText, OutOfMemory};
 use http_types::Addr;
@@ -52,7 +55,8 @@ pub enum LinkCall {
 const LAST_ID: usize = 4294967295;
 
 /// Links to scripted peers. A notice for an id that isn't open is answered as `Nothing`. At the script's end, and once no
-/// id is left, `next` answers `Ended`. A link that isn't open gives and takes nothing.
+/// id is left, `next` answers `Ended`. A link that isn't open gives and takes nothing. It tells what it answered, as long as
+/// there is memory for that.
 #[derive(Drop)]
 pub struct MemoryLinks {
     alloc: Global,
@@ -67,6 +71,7 @@ pub struct MemoryLinks {
     reads: u64,
     writes: u64,
     faults: u64,
+    answers: Answers<LinkTold>,
 }
 
 // The place of the link of an id.
@@ -106,6 +111,8 @@ fn read_at(peers: &mut [Peer], at: usize, fails: bool, buf: &mut [u8]) -> Input
     requires { at < length peers.old }
     ensures count { GotWithin result (length buf.new) }
     ensures told { Changes (at + 1) (after_read result buf.new) peers.old peers.new }
+    ensures sends { OneGives (at + 1) result buf.new (sends_in peers.old) (sends_in peers.new) }
+    ensures sure { fails ≡ false → result ≢ ReadFails }
     ensures cause { result ≡ ReadFails → Rose (faults_in peers.old (at + 1)) (faults_in peers.new (at + 1)) }
 {
     let peer = &mut peers[at];
@@ -117,8 +124,10 @@ fn write_at(peers: &mut [Peer], at: usize, fails: bool, takes_none: bool, bytes:
     requires { at < length peers.old }
     ensures count { PutWithin result (length bytes.now) }
     ensures told { Changes (at + 1) (after_write result bytes.now) peers.old peers.new }
+    ensures sends { SendSame (sends_in peers.old) (sends_in peers.new) }
     ensures cause { result ≡ WriteFails → Rose (faults_in peers.old (at + 1)) (faults_in peers.new (at + 1)) }
     ensures nothing { PutsNothing result bytes.now (faults_in peers.old (at + 1)) (faults_in peers.new (at + 1)) }
+    ensures sure { takes_none ≡ false → PutsSome result bytes.now }
 {
     let peer = &mut peers[at];
     peer.write(fails, takes_none, bytes)
@@ -127,7 +136,8 @@ fn write_at(peers: &mut [Peer], at: usize, fails: bool, takes_none: bool, bytes:
 // Reports the link at a place readable.
 fn hear_at(peers: &mut [Peer], at: usize)
     requires { at < length peers.old }
-    ensures { Changes (at + 1) (set_due true) peers.old peers.new }
+    ensures told { Changes (at + 1) (set_due true) peers.old peers.new }
+    ensures sends { SendSame (sends_in peers.old) (sends_in peers.new) }
 {
     let peer = &mut peers[at];
     peer.hear();
@@ -136,7 +146,8 @@ fn hear_at(peers: &mut [Peer], at: usize)
 // Reports the link at a place writable.
 fn widen_at(peers: &mut [Peer], at: usize, more: usize)
     requires { at < length peers.old }
-    ensures { Changes (at + 1) (set_full false) peers.old peers.new }
+    ensures told { Changes (at + 1) (set_full false) peers.old peers.new }
+    ensures sends { SendSame (sends_in peers.old) (sends_in peers.new) }
 {
     let peer = &mut peers[at];
     peer.widen(more);
@@ -149,6 +160,7 @@ fn close_at(peers: &mut [Peer], at: usize)
     ensures used { Same (used_in peers.old) (used_in peers.new) }
     ensures held { Marked (at + 1) false (held_in peers.old) (held_in peers.new) }
     ensures later { (c : ℕ) → faults_in peers.old c ≤ faults_in peers.new c }
+    ensures sends { SendSame (sends_in peers.old) (sends_in peers.new) }
 {
     let peer = &mut peers[at];
     peer.close();
@@ -165,6 +177,7 @@ fn new_peer(
 ) -> Peer
     ensures told { view_of result ≡ begun local peer unopened }
     ensures ends { (result.local ≡ local) × (result.peer ≡ peer) }
+    ensures sends { sends_of result ≡ record { coming = input; ends = ends } }
     ensures held { result.held ≡ true }
 {
     Peer {
@@ -178,6 +191,7 @@ fn new_peer(
         held: true,
         due: false,
         full: false,
+        ended: false,
         faults: 0,
     }
 }
@@ -197,6 +211,9 @@ fn open_next(peers: &mut Vec<Peer>, faults: &mut u64, peer: Peer) -> Notice
     requires held { peer.held ≡ true }
     ensures reports { Reports result peers.old.items peers.new.items faults.old faults.new }
     ensures goes { result ≢ AllEnded }
+    ensures shows { IsOpened peer.local peer.peer result }
+    ensures sends { SendsFrom (sends_of peer) result (sends_in peers.old.items) (sends_in peers.new.items) }
+    ensures more { vec_len peers.old ≤ vec_len peers.new }
 {
     let local = peer.local;
     let end = peer.peer;
@@ -216,7 +233,9 @@ fn open_next(peers: &mut Vec<Peer>, faults: &mut u64, peer: Peer) -> Notice
 
 // Reports a link readable, where it is open.
 fn hear(peers: &mut [Peer], id: u32) -> Notice
-    ensures { Heard result peers.old peers.new }
+    ensures heard { Heard result peers.old peers.new }
+    ensures sends { SendSame (sends_in peers.old) (sends_in peers.new) }
+    ensures shows { result ≡ (if held_in peers.old id then Readable id else Nothing) }
 {
     match open_place(peers, id) {
         Some(at) => {
@@ -229,7 +248,9 @@ fn hear(peers: &mut [Peer], id: u32) -> Notice
 
 // Reports a link writable, where it is open.
 fn widen(peers: &mut [Peer], id: u32, more: usize) -> Notice
-    ensures { Heard result peers.old peers.new }
+    ensures heard { Heard result peers.old peers.new }
+    ensures sends { SendSame (sends_in peers.old) (sends_in peers.new) }
+    ensures shows { result ≡ (if held_in peers.old id then Writable id else Nothing) }
 {
     match open_place(peers, id) {
         Some(at) => {
@@ -241,6 +262,7 @@ fn widen(peers: &mut [Peer], id: u32, more: usize) -> Notice
 }
 
 // Reports the script's next notice.
+#[tactic(auto, using(crate::proofs::Played::plays_next, crate::proofs::Played::reported_next))]
 fn report(
     alloc: Global,
     script: &mut Vec<ScriptedNotice>,
@@ -251,6 +273,10 @@ fn report(
     requires { vec_len peers.old < 2 ^ 32 - 1 }
     ensures reports { Reports result peers.old.items peers.new.items faults.old faults.new }
     ensures over { (result ≡ AllEnded) ↔ (script.old.items ≡ []) }
+    ensures sure { fails ≡ false → result ≡ NextFailed → Reported (held_in peers.old.items) result (reverse script.old.items) (reverse script.new.items) (sends_in peers.old.items) (sends_in peers.new.items) }
+    ensures plays { Plays (held_in peers.old.items) result (reverse script.old.items) (reverse script.new.items) (sends_in peers.old.items) (sends_in peers.new.items) }
+    ensures stays { script.old.items ≡ [] → script.new.items ≡ [] }
+    ensures more { vec_len peers.old ≤ vec_len peers.new }
 {
     if script.is_empty() {
         return Notice::Ended;
@@ -283,11 +309,16 @@ fn report(
 impl MemoryLinks {
     /// Links on which nothing has come yet; the script's notices are reported in their order, and these calls are to
     /// fail.
+    #[tactic(auto, using(crate::proofs::Played::given_script))]
     pub fn new(alloc: Global, script: Vec<ScriptedNotice>, failing: Vec<LinkCall>) -> Self
         ensures unused { (id : ℕ) → used_of result id ≡ false }
         ensures none_open { (id : ℕ) → open_of result id ≡ false }
         ensures listening { listening_of result ≡ [] }
         ensures faults { next_faults_of result ≡ 0 }
+        ensures answers { answers_of result ≡ Some [] }
+        ensures script { scripted_of result ≡ script.items }
+        ensures over { over_of result ≡ no_notices script.items }
+        ensures failing { failing_calls_of result ≡ failing.items }
     {
         let mut script = script;
         script.reverse();
@@ -302,6 +333,7 @@ impl MemoryLinks {
             reads: 0,
             writes: 0,
             faults: 0,
+            answers: Answers::new(alloc),
         }
     }
 
@@ -373,11 +405,25 @@ impl Links for MemoryLinks {
 
     ghost over = { over_of };
 
+    ghost answers = { answers_of };
+
     ghost faults = { next_faults_of };
 
     ghost link_faults = { link_faults_of };
 
-    fn listen(&mut self, addr: Addr) -> Result<(), Failed> {
+    fn listen(&mut self, addr: Addr) -> Result<(), Failed>
+        ensures told { Unchanged (links_of self.old) (links_of self.new) }
+        ensures ids { Same (used_of self.old) (used_of self.new) × Same (open_of self.old) (open_of self.new) }
+        ensures listens { OnOk result (listening_of self.new ≡ listening_of self.old ++ addr ∷ []) }
+        ensures fails { OnErr result (listening_of self.new ≡ listening_of self.old) }
+        ensures answers { answers_of self.new ≡ answers_of self.old }
+        ensures stays_over { over_of self.old ≡ true → over_of self.new ≡ true }
+        ensures link_faults { (c : ℕ) → link_faults_of self.old c ≤ link_faults_of self.new c }
+        ensures cause { HasCause (next_faults_of self.old) (next_faults_of self.new) result (record {}) }
+        ensures failing { failing_calls_of self.new ≡ failing_calls_of self.old }
+        ensures script { scripted_of self.new ≡ scripted_of self.old }
+        ensures sends { SendSame (sends_told self.old) (sends_told self.new) }
+    {
         let call = LinkCall::Listen(self.listens);
         self.listens = self.listens.saturating_add(1);
         if self.failing.contains(&call) || self.listening.push(addr).is_err() {
@@ -387,45 +433,116 @@ impl Links for MemoryLinks {
         Ok(())
     }
 
-    fn next(&mut self, _wants: &[Want]) -> Notice {
+    fn next(&mut self, _wants: &[Want]) -> Notice
+        ensures told { Noticed result (links_of self.old) (links_of self.new) }
+        ensures ids { Opens result (used_of self.old) (used_of self.new) (open_of self.old) (open_of self.new) }
+        ensures listens { listening_of self.new ≡ listening_of self.old }
+        ensures answers { Adds (NoticeGiven result) (answers_of self.old) (answers_of self.new) }
+        ensures stays_over { over_of self.old ≡ true → over_of self.new ≡ true }
+        ensures later { next_faults_of self.old ≤ next_faults_of self.new }
+        ensures link_faults { (c : ℕ) → link_faults_of self.old c ≤ link_faults_of self.new c }
+        ensures over { (result ≡ AllEnded) ↔ (over_of self.old ≡ true) }
+        ensures cause { result ≡ NextFailed → Rose (next_faults_of self.old) (next_faults_of self.new) }
+        ensures failing { failing_calls_of self.new ≡ failing_calls_of self.old }
+        ensures sure { failing_calls_of self.old ≡ [] → result ≡ NextFailed → Reported (open_of self.old) result (scripted_of self.old) (scripted_of self.new) (sends_told self.old) (sends_told self.new) }
+        ensures script { Plays (open_of self.old) result (scripted_of self.old) (scripted_of self.new) (sends_told self.old) (sends_told self.new) }
+    {
         if self.peers.len() >= LAST_ID {
+            tell_notice(&mut self.answers, Notice::Ended);
             return Notice::Ended;
         }
         let call = LinkCall::Next(self.nexts);
         self.nexts = self.nexts.saturating_add(1);
         let fails = self.failing.contains(&call);
-        report(
+        let notice = report(
             self.alloc,
             &mut self.script,
             &mut self.peers,
             &mut self.faults,
             fails,
-        )
+        );
+        tell_notice(&mut self.answers, notice);
+        notice
     }
 
-    fn read(&mut self, id: u32, buf: &mut [u8]) -> Input {
+    fn read(&mut self, id: u32, buf: &mut [u8]) -> Input
+        ensures count { GotWithin result (length buf.new) }
+        ensures told { open_of self.old id ≡ true → HasRead id result buf.new (links_of self.old) (links_of self.new) }
+        ensures ids { Same (used_of self.old) (used_of self.new) × Same (open_of self.old) (open_of self.new) }
+        ensures listens { listening_of self.new ≡ listening_of self.old }
+        ensures answers { Adds (ReadGiven id result (got_of result buf.new)) (answers_of self.old) (answers_of self.new) }
+        ensures stays_over { over_of self.old ≡ true → over_of self.new ≡ true }
+        ensures later { next_faults_of self.old ≤ next_faults_of self.new }
+        ensures link_faults { (c : ℕ) → link_faults_of self.old c ≤ link_faults_of self.new c }
+        ensures sure { failing_calls_of self.old ≡ [] → result ≢ ReadFails }
+        ensures cause { result ≡ ReadFails → Rose (link_faults_of self.old id) (link_faults_of self.new id) }
+        ensures failing { failing_calls_of self.new ≡ failing_calls_of self.old }
+        ensures script { scripted_of self.new ≡ scripted_of self.old }
+        ensures sends { open_of self.old id ≡ true → OneGives id result buf.new (sends_told self.old) (sends_told self.new) }
+        ensures shut { open_of self.old id ≡ false → (result ≡ NotYet) × SendSame (sends_told self.old) (sends_told self.new) }
+    {
         let call = LinkCall::Read(self.reads);
         self.reads = self.reads.saturating_add(1);
         let fails = self.failing.contains(&call);
         match open_place(&self.peers, id) {
-            Some(at) => read_at(&mut self.peers, at, fails, buf),
-            None => Input::NotYet,
+            Some(at) => {
+                let input = read_at(&mut self.peers, at, fails, buf);
+                tell_read(self.alloc, &mut self.answers, id, input, buf);
+                input
+            }
+            None => {
+                tell_read(self.alloc, &mut self.answers, id, Input::NotYet, buf);
+                Input::NotYet
+            }
         }
     }
 
-    fn write(&mut self, id: u32, bytes: &[u8]) -> Output {
+    fn write(&mut self, id: u32, bytes: &[u8]) -> Output
+        ensures count { PutWithin result (length bytes.now) }
+        ensures told { open_of self.old id ≡ true → HasWritten id result bytes.now (links_of self.old) (links_of self.new) }
+        ensures ids { Same (used_of self.old) (used_of self.new) × Same (open_of self.old) (open_of self.new) }
+        ensures listens { listening_of self.new ≡ listening_of self.old }
+        ensures answers { Adds (WriteGiven id result) (answers_of self.old) (answers_of self.new) }
+        ensures stays_over { over_of self.old ≡ true → over_of self.new ≡ true }
+        ensures later { next_faults_of self.old ≤ next_faults_of self.new }
+        ensures link_faults { (c : ℕ) → link_faults_of self.old c ≤ link_faults_of self.new c }
+        ensures sure { failing_calls_of self.old ≡ [] → PutsSome result bytes.now }
+        ensures cause { result ≡ WriteFails → Rose (link_faults_of self.old id) (link_faults_of self.new id) }
+        ensures nothing { PutsNothing result bytes.now (link_faults_of self.old id) (link_faults_of self.new id) }
+        ensures failing { failing_calls_of self.new ≡ failing_calls_of self.old }
+        ensures script { scripted_of self.new ≡ scripted_of self.old }
+        ensures sends { SendSame (sends_told self.old) (sends_told self.new) }
+    {
         let call = LinkCall::Write(self.writes);
         let call_of_none = LinkCall::WriteOfNone(self.writes);
         self.writes = self.writes.saturating_add(1);
         let fails = self.failing.contains(&call);
         let takes_none = self.failing.contains(&call_of_none);
         match open_place(&self.peers, id) {
-            Some(at) => write_at(&mut self.peers, at, fails, takes_none, bytes),
-            None => Output::NotYet,
+            Some(at) => {
+                let output = write_at(&mut self.peers, at, fails, takes_none, bytes);
+                tell_written(&mut self.answers, id, output);
+                output
+            }
+            None => {
+                tell_written(&mut self.answers, id, Output::NotYet);
+                Output::NotYet
+            }
         }
     }
 
-    fn close(&mut self, id: u32) {
+    fn close(&mut self, id: u32)
+        ensures told { Unchanged (links_of self.old) (links_of self.new) }
+        ensures ids { Same (used_of self.old) (used_of self.new) × Marked id false (open_of self.old) (open_of self.new) }
+        ensures listens { listening_of self.new ≡ listening_of self.old }
+        ensures answers { answers_of self.new ≡ answers_of self.old }
+        ensures stays_over { over_of self.old ≡ true → over_of self.new ≡ true }
+        ensures later { next_faults_of self.old ≤ next_faults_of self.new }
+        ensures link_faults { (c : ℕ) → link_faults_of self.old c ≤ link_faults_of self.new c }
+        ensures failing { failing_calls_of self.new ≡ failing_calls_of self.old }
+        ensures script { scripted_of self.new ≡ scripted_of self.old }
+        ensures sends { SendSame (sends_told self.old) (sends_told self.new) }
+    {
         if let Some(at) = place(&self.peers, id) {
             close_at(&mut self.peers, at);
         }

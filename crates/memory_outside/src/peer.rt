@@ -1,17 +1,17 @@
 // One scripted peer and its link.
-ghost use Rattle.std.specs.Prelude.{◌≡◌, ◌≤◌, ◌<◌, ◌+◌, ℕ, List, min, length, take, drop, true, false};
+ghost use Rattle.std.specs.Prelude.{◌≡◌, ◌≢◌, ◌≤◌, ◌<◌, ◌+◌, ℕ, List, min, length, take, drop, true, false};
 ghost use Rattle.ngx_outside.specs.Causes.{Rose};
 ghost use Rattle.ngx_outside.specs.Linked.{GotWithin, PutWithin, PutsNothing, set_due, set_full};
 ghost use Rattle.ngx_outside.specs.declared.links.Input.TheVariants.{Failed as ReadFails};
 ghost use Rattle.ngx_outside.specs.declared.links.Output.TheVariants.{Failed as WriteFails};
-ghost use Rattle.memory_outside.specs.Peers.{view_of, after_read, after_write};
+ghost use Rattle.memory_outside.specs.Peers.{view_of, after_read, after_write, sends_of, Gives, PutsSome};
 
 use byte_text::ByteText;
 use http_types::Addr;
 use ngx_outside::{Input, Output};
 
-// A link: what its peer sends and how far it was read, whether the peer then ends, what was written and how many more
-// bytes are taken now.
+// A link: what its peer sends and how far it was read, whether the peer then ends and whether that was read, what was
+// written and how many more bytes are taken now.
 #[derive(Drop)]
 pub(crate) struct Peer {
     pub(crate) local: Addr,
@@ -24,6 +24,7 @@ pub(crate) struct Peer {
     pub(crate) held: bool,
     pub(crate) due: bool,
     pub(crate) full: bool,
+    pub(crate) ended: bool,
     pub(crate) faults: u64,
 }
 
@@ -71,6 +72,8 @@ impl Peer {
     pub(crate) fn read(&mut self, fails: bool, buf: &mut [u8]) -> Input
         ensures count { GotWithin result (length buf.new) }
         ensures told { view_of self.new ≡ after_read result buf.new (view_of self.old) }
+        ensures sends { Gives result buf.new (sends_of self.old) (sends_of self.new) }
+        ensures sure { fails ≡ false → result ≢ ReadFails }
         ensures held { self.new.held ≡ self.old.held }
         ensures later { self.old.faults ≤ self.new.faults }
         ensures cause { result ≡ ReadFails → Rose self.old.faults self.new.faults }
@@ -82,7 +85,11 @@ impl Peer {
         }
         let rest = rest_of(self.input.as_slice(), self.start);
         if rest.is_empty() {
-            return if self.ends { Input::End } else { Input::NotYet };
+            if self.ends {
+                self.ended = true;
+                return Input::End;
+            }
+            return Input::NotYet;
         }
         let count = copy_front(rest, buf);
         if count == 0 {
@@ -96,10 +103,12 @@ impl Peer {
     pub(crate) fn write(&mut self, fails: bool, takes_none: bool, bytes: &[u8]) -> Output
         ensures count { PutWithin result (length bytes.now) }
         ensures told { view_of self.new ≡ after_write result bytes.now (view_of self.old) }
+        ensures sends { sends_of self.new ≡ sends_of self.old }
         ensures held { self.new.held ≡ self.old.held }
         ensures later { self.old.faults ≤ self.new.faults }
         ensures cause { result ≡ WriteFails → Rose self.old.faults self.new.faults }
         ensures nothing { PutsNothing result bytes.now self.old.faults self.new.faults }
+        ensures sure { takes_none ≡ false → PutsSome result bytes.now }
     {
         if fails || takes_none {
             self.faults = self.faults.saturating_add(1);
@@ -128,6 +137,7 @@ impl Peer {
     /// The link is reported readable.
     pub(crate) fn hear(&mut self)
         ensures told { view_of self.new ≡ set_due true (view_of self.old) }
+        ensures sends { sends_of self.new ≡ sends_of self.old }
         ensures held { self.new.held ≡ self.old.held }
         ensures faults { self.new.faults ≡ self.old.faults }
     {
@@ -137,6 +147,7 @@ impl Peer {
     /// The link takes so many more bytes.
     pub(crate) fn widen(&mut self, more: usize)
         ensures told { view_of self.new ≡ set_full false (view_of self.old) }
+        ensures sends { sends_of self.new ≡ sends_of self.old }
         ensures held { self.new.held ≡ self.old.held }
         ensures faults { self.new.faults ≡ self.old.faults }
     {
@@ -147,6 +158,7 @@ impl Peer {
     /// The link is closed.
     pub(crate) fn close(&mut self)
         ensures told { view_of self.new ≡ view_of self.old }
+        ensures sends { sends_of self.new ≡ sends_of self.old }
         ensures held { self.new.held ≡ false }
         ensures faults { self.new.faults ≡ self.old.faults }
     {

@@ -1,8 +1,8 @@
 // A sink in memory.
-ghost use Rattle.std.specs.Prelude.{◌≡◌, ◌≤◌, ℕ, List, [], true, false, OnErr};
+ghost use Rattle.std.specs.Prelude.{◌≡◌, ◌≤◌, ◌+◌, ◌-◌, ◌^◌, ℕ, List, [], true, false, min, IsErr, OnErr};
 ghost use Rattle.ngx_outside.specs.Causes.{HasCause, Rose};
 ghost use Rattle.ngx_outside.specs.Outside.{Puts};
-ghost use Rattle.memory_outside.specs.Taken.{taken_of, put_faults_of};
+ghost use Rattle.memory_outside.specs.Taken.{taken_of, put_faults_of, put_failing_of, puts_of, is_next_failing};
 
 use byte_text::ByteText;
 use ngx_outside::{Failed, Sink};
@@ -23,6 +23,8 @@ impl MemorySink {
     pub fn new(alloc: Global, failing: Vec<u64>) -> Self
         ensures taken { taken_of result ≡ [] }
         ensures faults { put_faults_of result ≡ 0 }
+        ensures failing { put_failing_of result ≡ failing.items }
+        ensures puts { puts_of result ≡ 0 }
     {
         MemorySink {
             taken: ByteText::new(alloc),
@@ -50,6 +52,9 @@ impl MemorySink {
     fn is_failing(&mut self) -> bool
         ensures taken { self.new.taken ≡ self.old.taken }
         ensures faults { self.new.faults ≡ self.old.faults }
+        ensures failing { put_failing_of self.new ≡ put_failing_of self.old }
+        ensures puts { puts_of self.new ≡ min (puts_of self.old + 1) (2 ^ 64 - 1) }
+        ensures is { result ≡ is_next_failing self.old }
     {
         let call = self.calls;
         self.calls = self.calls.saturating_add(1);
@@ -67,6 +72,9 @@ impl Sink for MemorySink {
     fn put(&mut self, bytes: &[u8]) -> Result<(), Failed>
         ensures bytes { Puts true (taken_of self.old) (taken_of self.new) bytes.now result }
         ensures nothing { OnErr result (taken_of self.new ≡ taken_of self.old) }
+        ensures failing { put_failing_of self.new ≡ put_failing_of self.old }
+        ensures puts { puts_of self.new ≡ min (puts_of self.old + 1) (2 ^ 64 - 1) }
+        ensures listed { is_next_failing self.old ≡ true → IsErr result }
         ensures cause { HasCause (put_faults_of self.old) (put_faults_of self.new) result (record {}) }
     {
         if self.is_failing() || self.taken.extend(bytes).is_err() {

@@ -1,32 +1,37 @@
 -- How connections were answered in a run.
-use Rattle.std.proofs.Common.{◌≡◌, ℕ, Bool, true, false, List, [], ◌∷◌, ◌++◌, Option, None, Some, refl, sym, ap}
-use Rattle.std.specs.Prelude.{◌&&◌, is_none}
+use Rattle.std.proofs.Common.{◌≡◌, ◌⊎◌, inl, inr, ℕ, Bool, true, false, List, [], ◌++◌, Option, None, Some, refl, sym, ap, ◌∙◌}
+use Rattle.std.specs.Prelude.{◌&&◌, is_none, Contains}
 use Rattle.http_types.specs.declared.words.Addr.{Addr}
-use Rattle.ngx_outside.specs.Views.{ConnView, Course, Start, IsSound, is_idle, is_live, nobody}
+use Rattle.replay_text.specs.declared.parts.EventLine.{EventLine}
+use Rattle.replay_text.specs.declared.parts.EventLine.TheVariants as line
+use Rattle.ngx_outside.specs.Views.{ConnView, Course, IsSound, is_live}
 use Rattle.ngx_outside.specs.declared.event.StopCause.{StopCause}
-use Rattle.ngx_outside.specs.Runs.{Tracked, AllIsSentWhenIdle}
+use Rattle.ngx_outside.specs.Runs.{Tracked, AllIsSentWhenIdle, AllIsSentWhenShut}
 use Rattle.replay_run.specs.Told.{Told}
-use Rattle.replay_run.specs.Scene.{Lane, Stage, empty_lane}
-use Rattle.replay_run.specs.Standing.{Standing, Unopened, Opened, AllStanding}
+use Rattle.replay_run.specs.declared.lane.LinkEnds.{LinkEnds}
+use Rattle.replay_run.specs.Plays.{AreOpenedBy}
+use Rattle.replay_run.specs.Scene.{Lane, Stage}
+use Rattle.replay_run.specs.Standing.{Standing, Unopened, Opened, AllStanding, is_given}
 use Rattle.site_model.specs.declared.site.Site.{Site}
 use Rattle.connection.specs.Conn.{fresh_course}
 use Rattle.ngx_cli.specs.Running.{Answered, IsNew}
 
--- on a connection that is held, what came and what of that is tracked
+-- on a connection that is held, its ends, what came and what of that is tracked
 record Seen (site : Site) (told : Told) (v : ConnView) (lane : Lane) (sent : List ℕ) : Type 0 where
-  local : Addr
-  peer : Addr
+  ends : LinkEnds
+  opened : lane.ends ≡ Some ends
+  ended : v.ended ≡ is_given lane.tail
   came : List ℕ
   arrived : sent ≡ came ++ lane.queue
-  tracked : Tracked (fresh_course site local peer) told.trees told.newest v came lane.went
+  tracked : Tracked (fresh_course site ends.local ends.peer) told.trees told.newest v came lane.went
 
 never : (b : Bool) → b ≡ true → b ≡ false → ⊥
 never true e f = cc
 never false e f = cc
 
 seen : (site : Site) (told : Told) (v : ConnView) (lane : Lane) (sent : List ℕ) → v.held ≡ true → Standing (fresh_course site) told v lane sent → Seen site told v lane sent
-seen site told v lane sent h (Unopened n w s) = absurd (never v.held h n)
-seen site told v lane sent h (Opened local peer came n s t) = record { local = local; peer = peer; came = came; arrived = s; tracked = t }
+seen site told v lane sent h (Unopened n e g w s) = absurd (never v.held h n)
+seen site told v lane sent h (Opened ends came n o g s t) = record { ends = ends; opened = o; ended = g; came = came; arrived = s; tracked = t }
 
 live_by : (held : Bool) (cause : Option StopCause) → held ≡ true → cause ≡ None → (held && is_none cause) ≡ true
 live_by true None h c = refl
@@ -36,20 +41,32 @@ live_by false cause h c = cc
 live : (v : ConnView) → v.held ≡ true → v.cause ≡ None → is_live v ≡ true
 live v h c = live_by v.held v.cause h c
 
-pub answered : AllIsSentWhenIdle → (site : Site) (told : Told) (v : ConnView) (lane : Lane) (sent : List ℕ) → v.held ≡ true → IsSound v → Standing (fresh_course site) told v lane sent → Answered site told v lane sent
-answered sent_all site told v lane sent h sound standing =
+pub answered : AllIsSentWhenIdle → AllIsSentWhenShut → (site : Site) (told : Told) (v : ConnView) (lane : Lane) (sent : List ℕ) → v.held ≡ true → IsSound v → Standing (fresh_course site) told v lane sent → Answered site told v lane sent
+answered sent_all shut_sent_all site told v lane sent h sound standing =
     let s = seen site told v lane sent h standing in
     record {
-      local = s.local;
-      peer = s.peer;
+      ends = s.ends;
+      opened = s.opened;
       came = s.came;
       arrived = s.arrived;
       front = λ trees agree. s.tracked.front refl trees agree;
       on = λ c trees agree more later. s.tracked.on (live v h c) refl trees agree more later;
-      whole = λ i trees agree later. sent_all (fresh_course site s.local s.peer) told.trees told.newest v s.came lane.went s.tracked sound i refl trees agree later;
+      whole = λ i trees agree later. sent_all (fresh_course site s.ends.local s.ends.peer) told.trees told.newest v s.came lane.went s.tracked sound i refl trees agree later;
+      closes = λ c shut given trees agree more later.
+          shut_sent_all (fresh_course site s.ends.local s.ends.peer) told.trees told.newest v s.came lane.went s.tracked sound (live v h c) shut (s.ended ∙ given) refl trees agree more later;
     }
 
 -- before a run nothing stands on any connection
 pub begins_standing : (fresh : Addr → Addr → Course) (told : Told) (s : Stage) → IsNew s → AllStanding fresh told s (λ c. [])
-begins_standing fresh told s n =
-    λ c. Unopened (ap (λ (v : ConnView). v.held) (n.view c)) (ap (λ (l : Lane). l.went) (n.lanes c)) (sym (ap (λ (l : Lane). l.queue) (n.lanes c)))
+begins_standing fresh told s n = λ c. Unopened (ap (λ (v : ConnView). v.held) (n.view c)) (ap (λ (l : Lane). l.ends) (n.lanes c)) (ap (λ (l : Lane). is_given l.tail) (n.lanes c)) (ap (λ (l : Lane). l.went) (n.lanes c))
+    (sym (ap (λ (l : Lane). l.queue) (n.lanes c)))
+
+-- so each that was opened since was opened by a line
+opened_since : (lines : List EventLine) (old : Option LinkEnds) (c : ℕ) (ends : LinkEnds) → old ≡ None → (old ≡ Some ends) ⊎ Contains lines (line.Open c ends.local ends.peer) →
+    Contains lines (line.Open c ends.local ends.peer)
+opened_since lines old c ends none (inl kept) = cc
+opened_since lines old c ends none (inr opened) = opened
+
+pub opened_by_lines : (lines : List EventLine) (first : Stage) (new : ℕ → Lane) → IsNew first → AreOpenedBy lines first.lanes new → (c : ℕ) (ends : LinkEnds) → (new c).ends ≡ Some ends →
+    Contains lines (line.Open c ends.local ends.peer)
+opened_by_lines lines first new n opened c ends is = opened_since lines (first.lanes c).ends c ends (ap (λ (l : Lane). l.ends) (n.lanes c)) (opened c ends is)

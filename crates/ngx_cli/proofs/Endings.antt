@@ -1,5 +1,5 @@
 -- How serving ends.
-use Rattle.std.proofs.Common.{◌≡◌, inl, inr, ℕ, List, [], Ok, Err, refl}
+use Rattle.std.proofs.Common.{◌≡◌, inl, inr, ℕ, Bool, true, List, [], Ok, Err, refl}
 use Rattle.ngx_outside.specs.Causes.{Rose}
 use Rattle.ready_loop.specs.declared.service.Ending.{Ending}
 use Rattle.ready_loop.specs.declared.service.Ending.TheVariants as ending
@@ -12,8 +12,8 @@ use Rattle.site_service.specs.Serving.{Outside, Serving}
 use Rattle.ngx_cli.specs.Commands.{Output, Printed, Describes, ServeEnds, PutsFault, served_status}
 
 -- a site was served
-pub served : (over : Type 0) (o : Outside) (out : Output) (path : List ℕ) (turns : ℕ) (e : Ending) (site : Site) → Describes o path (Ok (seen site)) →
-    Serving site turns e o → Printed out [] → (e ≡ ending.Ended → over) → (e ≡ ending.ListenFault → Rose o.links_faults o.links_faults') → (e ≡ ending.NextFault → Rose o.links_faults o.links_faults') →
+pub served : (over : Bool) (o : Outside) (out : Output) (path : List ℕ) (turns : ℕ) (e : Ending) (site : Site) → Describes o path (Ok (seen site)) →
+    Serving site turns e o → Printed out [] → (e ≡ ending.Ended → over ≡ true) → (e ≡ ending.ListenFault → Rose o.links_faults o.links_faults') → (e ≡ ending.NextFault → Rose o.links_faults o.links_faults') →
     ServeEnds over o out path turns (served_status e)
 served over o out path turns ending.Ended site d s p ends listen next = (ends refl, record { site = site; described = d; serving = s; printed = p })
 served over o out path turns ending.TurnsUsed site d s p ends listen next = record { site = site; described = d; serving = s; printed = p }
@@ -21,7 +21,7 @@ served over o out path turns ending.ListenFault site d s p ends listen next = (l
 served over o out path turns ending.NextFault site d s p ends listen next = (next refl, inr (record { site = site; described = d; serving = s; printed = p }))
 
 -- the line of a fault couldn't be put
-pub unput : (over : Type 0) (o : Outside) (out : Output) (path : List ℕ) (turns : ℕ) (fault : ConfFault) (at : List ℕ) (s : Status) → PutsFault out at fault (Err s) → ServeEnds over o out path turns s
+pub unput : (over : Bool) (o : Outside) (out : Output) (path : List ℕ) (turns : ℕ) (fault : ConfFault) (at : List ℕ) (s : Status) → PutsFault out at fault (Err s) → ServeEnds over o out path turns s
 unput over o out path turns fault at status.SinkFault p = p
 unput over o out path turns fault at status.OutOfMemory p = p
 unput over o out path turns fault at status.Done p = absurd p

@@ -104,10 +104,10 @@ pub record Unread (out : Output) : Type 0 where
   pub kind : fault.kind ≡ ReadFault
   pub printed : Printed out (ended (conf_fault_line at fault))
 
--- When each status of serving comes: at 0 no notice came any more, for which `over` stands; at 9 all turns were taken; a
+-- When each status of serving comes: at 0 no notice will come any more, for which `over` stands; at 9 all turns were taken; a
 -- fault of the files while the configuration was read, of the links themselves, or of the output is counted by these.
-abbrev pub ServeEnds : (over : Type 0) → Outside → Output → (path : List ℕ) → (turns : ℕ) → Status → Type 0
-ServeEnds over o out path turns status.Done = over × Served o out path turns ending.Ended
+abbrev pub ServeEnds : (over : Bool) → Outside → Output → (path : List ℕ) → (turns : ℕ) → Status → Type 0
+ServeEnds over o out path turns status.Done = (over ≡ true) × Served o out path turns ending.Ended
 ServeEnds over o out path turns status.TurnsUsed = Served o out path turns ending.TurnsUsed
 ServeEnds over o out path turns status.ConfFault = Faulty o out path
 ServeEnds over o out path turns status.FilesFault = Rose o.files.faults o.files'.faults × Unread out
@@ -118,7 +118,7 @@ ServeEnds over o out path turns status.OutOfMemory = Printed out []
 ServeEnds over o out path turns s = ⊥
 
 -- When each status comes, by what the words ask for. Words that are no command print nothing.
-abbrev pub Ends : (over : Type 0) → Option Request → Outside → Output → Status → Type 0
+abbrev pub Ends : (over : Bool) → Option Request → Outside → Output → Status → Type 0
 Ends over None o out s = (s ≡ status.Usage) × Printed out []
 Ends over (Some (Replay path)) o out s = ReplayEnds o.files_tell (o.files.trees o.files.newest) o.files.faults o.files'.faults out path s
 Ends over (Some (Serve path turns)) o out s = ServeEnds over o out path turns s

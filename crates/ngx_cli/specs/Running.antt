@@ -1,5 +1,5 @@
 -- A run of a script, from its bytes to what is printed of it.
-use Rattle.std.specs.Prelude.{◌≡◌, ℕ, true, is_some, List, [], ◌∷◌, ◌++◌, map, Contains, None, Result, Ok, Err, if◌then◌else◌}
+use Rattle.std.specs.Prelude.{◌≡◌, ℕ, true, false, is_some, List, [], ◌∷◌, ◌++◌, map, Contains, None, Some, Result, Ok, Err, if◌then◌else◌}
 use Rattle.file_tree.specs.Tree.{Trees}
 use Rattle.ngx_outside.specs.Views.{ConnView, Start, start_of, is_idle, nobody}
 use Rattle.ngx_outside.specs.Runs.{IsPrefixOf, Agree}
@@ -7,18 +7,17 @@ use Rattle.ngx_outside.specs.declared.event.Entry.{Entry}
 use Rattle.replay_text.specs.Grammar.{script_of}
 use Rattle.replay_text.specs.declared.parts.Conf.{Conf}
 use Rattle.replay_text.specs.declared.parts.EventLine.{EventLine}
+use Rattle.replay_text.specs.declared.parts.EventLine.TheVariants as line
 use Rattle.replay_text.specs.declared.parts.TreeLine.{TreeLine}
 use Rattle.replay_text.specs.declared.parts.Script.{Script}
 use Rattle.replay_run.specs.Told.{Told, told_first, told_in}
 use Rattle.replay_run.specs.Scene.{Stage, Lane, AreHeld, empty_lane}
+use Rattle.replay_run.specs.Standing.{is_given}
 use Rattle.replay_run.specs.Plays.{Plays, sent_in}
+use Rattle.replay_run.specs.declared.lane.LinkEnds.{LinkEnds}
 use Rattle.conf_text.specs.declared.fault.ConfFault.{ConfFault}
-use Rattle.conf_text.specs.declared.directive.Directive.{Directive}
-use Rattle.conf_text.specs.Reading.{reading}
-use Rattle.conf_include.specs.Paths.{folder_of}
-use Rattle.conf_inherit.specs.Built.{built}
+use Rattle.replay_confs.specs.Confs.{conf_tree}
 use Rattle.site_model.specs.Levels.{SiteView, seen}
-use Rattle.http_types.specs.declared.words.Addr.{Addr}
 use Rattle.site_model.specs.declared.site.Site.{Site}
 use Rattle.connection.specs.Answers.{answers, service_of}
 use Rattle.connection.specs.Conn.{fresh_course}
@@ -27,26 +26,20 @@ use Rattle.report_text.specs.declared.report.ConnState.TheVariants.{Stopped, Idl
 use Rattle.report_text.specs.Report.{Report, run_text}
 use Rattle.report_text.specs.Lines.{ended}
 use Rattle.report_text.specs.Faults.{script_fault_line, conf_fault_line}
+use Rattle.ngx_cli.specs.Naming.{conf_names}
+use Rattle.ngx_cli.specs.Sites.{site_at}
 use Rattle.ngx_cli.specs.declared.script.Outcome.{Outcome}
 use Rattle.ngx_cli.specs.declared.script.Outcome.TheVariants as outcome
 
--- the path and the text of a script's main configuration
+-- the path of a script's main configuration: the first one
 abbrev pub main_path : List Conf → List ℕ
 main_path [] = []
 main_path (conf ∷ confs) = conf.path
 
-abbrev pub main_text : List Conf → List ℕ
-main_text [] = []
-main_text (conf ∷ confs) = conf.bytes
-
--- the site of a text's directives, whose relative paths start at this folder, or the first fault of either
-abbrev pub described : (folder : List ℕ) → Result (List Directive) ConfFault → Result SiteView ConfFault
-described folder (Ok directives) = built folder directives
-described folder (Err fault) = Err fault
-
--- the site of a configuration's text, by the path of its file, or the first fault
-unfoldable pub site_of : (path text : List ℕ) → Result SiteView ConfFault
-site_of path text = described (folder_of path) (reading 0 text)
+-- The configurations of a script come to this: the site of the main one, with each include replaced by those that it names,
+-- or the first fault, with the path of its configuration.
+abbrev pub Describe : List Conf → Result SiteView (ConfFault × List ℕ) → Type 0
+Describe confs outcome = site_at (conf_tree confs) (conf_names confs) (main_path confs) ≡ outcome
 
 -- before a run nothing is held and nothing waits, at moment 0 and with the first tree
 pub record IsNew (s : Stage) : Type 0 where
@@ -69,21 +62,26 @@ report_in s journals c = record {
   sent = (s.lanes c).went;
 }
 
--- On a connection with these ends some of the bytes that were sent came. For all trees that agree with what the script's files told: what was
--- emitted is the beginning of the answers to these, by the requests that were started; while no cause stops the connection,
--- what was emitted and what is still to come are the answers, however it goes on; and where it is idle, all has been emitted.
+-- A connection was opened last at these ends, and some of the bytes that were sent on it came. For all trees that agree with
+-- what the script's files told: what was emitted is the beginning of the answers that the site gives to these bytes at these
+-- ends, by the requests that were started; while no cause stops the connection, what was emitted and what is still to come
+-- are the answers, however it goes on; where it is idle, all has been emitted; and where it is to be closed before the core was
+-- told that its input has ended, that is so whatever else would come.
 pub record Answered (site : Site) (told : Told) (v : ConnView) (lane : Lane) (sent : List ℕ) : Type 0 where
-  pub local : Addr
-  pub peer : Addr
+  pub ends : LinkEnds
+  pub opened : lane.ends ≡ Some ends
   pub came : List ℕ
   pub arrived : sent ≡ came ++ lane.queue
-  pub front : (trees : Trees) → Agree told.trees told.newest trees → IsPrefixOf lane.went (answers (service_of site local peer) 0 trees came v.starts)
+  pub front : (trees : Trees) → Agree told.trees told.newest trees → IsPrefixOf lane.went (answers (service_of site ends.local ends.peer) 0 trees came v.starts)
   pub on : v.cause ≡ None → (trees : Trees) → Agree told.trees told.newest trees → (more : List ℕ) (later : List Start) →
-      answers (service_of site local peer) 0 trees (came ++ more) (v.starts ++ later) ≡ lane.went ++ v.course.bytes trees more later
-  pub whole : is_idle v ≡ true → (trees : Trees) → Agree told.trees told.newest trees → (later : List Start) → answers (service_of site local peer) 0 trees came (v.starts ++ later) ≡ lane.went
+      answers (service_of site ends.local ends.peer) 0 trees (came ++ more) (v.starts ++ later) ≡ lane.went ++ v.course.bytes trees more later
+  pub whole : is_idle v ≡ true → (trees : Trees) → Agree told.trees told.newest trees → (later : List Start) → answers (service_of site ends.local ends.peer) 0 trees came (v.starts ++ later) ≡ lane.went
+  pub closes : v.cause ≡ None → v.shut ≡ true → is_given lane.tail ≡ false → (trees : Trees) → Agree told.trees told.newest trees → (more : List ℕ) (later : List Start) →
+      answers (service_of site ends.local ends.peer) 0 trees (came ++ more) (v.starts ++ later) ≡ lane.went
 
 -- A run of a script's lines, over its tree, on a new core of a site, and the text that is printed of it: a report on each connection, by
--- number, and the counts of the lines that were skipped and refused.
+-- number, and the counts of the lines that were skipped and refused. The ends of each connection are those of a line that
+-- opens it.
 pub record Ran (site : Site) (tree : List TreeLine) (events : List EventLine) (text : List ℕ) : Type 0 where
   pub first : Stage
   pub last : Stage
@@ -95,19 +93,20 @@ pub record Ran (site : Site) (tree : List TreeLine) (events : List EventLine) (t
   pub held : AreHeld conns last.view
   pub journals : ℕ → List Entry
   pub started : (c : ℕ) → map start_of (journals c) ≡ (last.view c).starts
+  pub opened : (c : ℕ) (ends : LinkEnds) → (last.lanes c).ends ≡ Some ends → Contains events (line.Open c ends.local ends.peer)
   pub printed : text ≡ run_text (map (report_in last journals) conns) skipped refused
   pub answered : (c : ℕ) → Contains conns c → Answered site (told_in events (told_first tree)) (last.view c) (last.lanes c) (sent_in events c)
 
--- a run on the site that the text of a configuration describes
-pub record RanOn (path conf : List ℕ) (tree : List TreeLine) (events : List EventLine) (text : List ℕ) : Type 0 where
+-- a run on the site that a script's configurations describe
+pub record RanOn (script : Script) (text : List ℕ) : Type 0 where
   pub site : Site
-  pub described : site_of path conf ≡ Ok (seen site)
-  pub ran : Ran site tree events text
+  pub described : Describe script.confs (Ok (seen site))
+  pub ran : Ran site script.tree script.events text
 
--- What a script's bytes come to, and what is printed: the first fault of the script; the first fault of its configuration; or
--- a run.
+-- What a script's bytes come to, and what is printed: the first fault of the script; the first fault of its configurations;
+-- or a run.
 abbrev pub Replays : List ℕ → Outcome → List ℕ → Type 0
-Replays bytes outcome.Done text = (script : Script) × (script_of bytes ≡ Ok script) × RanOn (main_path script.confs) (main_text script.confs) script.tree script.events text
+Replays bytes outcome.Done text = (script : Script) × (script_of bytes ≡ Ok script) × RanOn script text
 Replays bytes (outcome.ScriptFault fault) text = (script_of bytes ≡ Err fault) × (text ≡ ended (script_fault_line fault))
 Replays bytes outcome.ConfFault text =
-    (script : Script) × (fault : ConfFault) × (script_of bytes ≡ Ok script) × (site_of (main_path script.confs) (main_text script.confs) ≡ Err fault) × (text ≡ ended (conf_fault_line (main_path script.confs) fault))
+    (script : Script) × (fault : ConfFault) × (at : List ℕ) × (script_of bytes ≡ Ok script) × Describe script.confs (Err (fault, at)) × (text ≡ ended (conf_fault_line at fault))

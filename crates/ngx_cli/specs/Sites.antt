@@ -35,6 +35,12 @@ Describes (Err (error.Fault placed)) outcome = outcome ≡ Err (placed.fault, pl
 Describes (Err (error.Failed placed)) outcome = Unit {0}
 Describes (Err error.OutOfMemory) outcome = Unit {0}
 
+-- what holds of a fault, if the error is one
+abbrev pub OnFault : ExpandError → (ConfFault → List ℕ → Type 0) → Type 0
+OnFault (error.Fault placed) P = P placed.fault placed.path
+OnFault (error.Failed placed) P = Unit {0}
+OnFault error.OutOfMemory P = Unit {0}
+
 -- the files are said to have failed only where their count of faults rose
 abbrev pub FailsIf : {A : Type 0} → Result A ExpandError → ℕ → ℕ → Type 0
 FailsIf (Ok site) before now = Unit {0}

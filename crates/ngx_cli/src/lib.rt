@@ -2,6 +2,7 @@
 #![tactic(auto)]
 
 mod command;
+mod laws;
 mod script;
 mod site;
 mod status;
@@ -10,8 +11,9 @@ mod turns;
 mod words;
 
 pub use command::ngx;
+pub use laws::folders_have_their_names;
 pub use script::{Outcome, replay};
-pub use site::{site_at, site_of};
+pub use site::site_at;
 pub use status::Status;
 pub use words::Command;
 

@@ -1,18 +1,23 @@
 // Runs a script.
-ghost use Rattle.std.specs.Prelude.{◌≡◌, ◌++◌, ℕ, List, Ok, Err, IfOk, OnOk, map, is_some, if◌then◌else◌};
+ghost use Rattle.std.specs.Prelude.{◌≡◌, ◌++◌, ℕ, List, Ok, Err, IfOk, IfErr, OnOk, map, is_some, if◌then◌else◌};
 ghost use Rattle.report_text.specs.declared.report.ConnState.TheVariants.{Stopped, Idle, Busy};
 ghost use Rattle.replay_run.specs.Scene.{stage, AreHeld};
 ghost use Rattle.connection_core.specs.Core.{view_at, now_at, journal_at, conns_held};
 ghost use Rattle.report_text.specs.Report.{run_text, report_of};
-ghost use Rattle.ngx_cli.specs.Running.{main_path as path_of_main, main_text as text_of_main, report_in, Ran, Replays};
+ghost use Rattle.report_text.specs.Lines.{ended};
+ghost use Rattle.report_text.specs.Faults.{conf_fault_line};
+ghost use Rattle.site_model.specs.Levels.{seen};
+ghost use Rattle.ngx_cli.specs.Sites.{OnFault};
+ghost use Rattle.ngx_cli.specs.Running.{main_path as path_of_main, Describe, report_in, Ran, Replays};
 
-use crate::site::site_of;
+use crate::site::site_at;
 use byte_text::{ByteText, OutOfMemory};
-use conf_text::ConfError;
+use conf_include::{ExpandError, PlacedFault};
 use connection_core::{Hub, cores_are_sound};
-use ngx_outside::{StopCause, all_is_sent_when_idle, tracks_begin};
+use ngx_outside::{StopCause, all_is_sent_when_idle, all_is_sent_when_shut, tracks_begin};
+use replay_confs::ConfFiles;
 use replay_run::{Counts, Player, files_of, run_lines};
-use replay_text::{Conf, EventLine, ScriptError, ScriptFault, TreeLine, read};
+use replay_text::{Conf, Confs, EventLine, ScriptError, ScriptFault, TreeLine, read};
 use report_text::{ConnReport, ConnState, conf_fault_text, conn_text, end_text, script_fault_text};
 use site_model::Site;
 use std::alloc::Global;
@@ -24,11 +29,11 @@ pub enum Outcome {
     Done,
     /// Its bytes are outside its grammar.
     ScriptFault(ScriptFault),
-    /// Its configuration has a fault.
+    /// Its configurations have a fault.
     ConfFault,
 }
 
-// The path and the text of the main configuration.
+// The path of the main configuration.
 fn main_path(confs: &[Conf]) -> &[u8]
     ensures { result.now ≡ path_of_main confs.now }
 {
@@ -38,12 +43,15 @@ fn main_path(confs: &[Conf]) -> &[u8]
     }
 }
 
-fn main_text(confs: &[Conf]) -> &[u8]
-    ensures { result.now ≡ text_of_main confs.now }
+// The site that a script's configurations describe.
+fn site_of(alloc: Global, confs: &Confs) -> Result<Site, ExpandError>
+    ensures ok { IfOk result (λ site. Describe confs.now (Ok (seen site))) }
+    ensures fault { IfErr result (λ e. OnFault e (λ fault at. Describe confs.now (Err (fault, at)))) }
 {
-    match confs {
-        [] => b"",
-        [main, ..] => main.bytes.as_slice(),
+    let mut files = ConfFiles::new(alloc, confs.as_slice());
+    match site_at(alloc, &mut files, main_path(confs.as_slice())) {
+        Ok(site) => Ok(site),
+        Err(error) => Err(error),
     }
 }
 
@@ -104,6 +112,7 @@ fn run(
 {
     tracks_begin();
     all_is_sent_when_idle();
+    all_is_sent_when_shut();
     cores_are_sound();
     let mut hub = Hub::new(alloc, site)?;
     let mut player = Player::new(alloc);
@@ -113,8 +122,16 @@ fn run(
     Ok(())
 }
 
+/// Appends the line of a fault with the path of its file.
+pub(crate) fn placed_fault_text(placed: &PlacedFault, out: &mut ByteText) -> Result<(), OutOfMemory>
+    ensures { OnOk result (out.new ≡ out.old ++ ended (conf_fault_line placed.now.path placed.now.fault)) }
+{
+    conf_fault_text(&placed.fault, placed.path.as_slice(), out)?;
+    Ok(())
+}
+
 /// Runs a script, and appends what is printed of it: what each connection came to, or the first fault of the script or of
-/// its configuration. After want of memory `out` holds some part of the text.
+/// its configurations. After want of memory `out` holds some part of the text.
 pub fn replay(alloc: Global, bytes: &[u8], out: &mut ByteText) -> Result<Outcome, OutOfMemory>
     ensures { IfOk result (λ o. (text : List ℕ) × (out.new ≡ out.old ++ text) × Replays bytes.now o text) }
 {
@@ -126,8 +143,7 @@ pub fn replay(alloc: Global, bytes: &[u8], out: &mut ByteText) -> Result<Outcome
         }
         Err(ScriptError::OutOfMemory) => return Err(OutOfMemory),
     };
-    let confs = script.confs.as_slice();
-    match site_of(alloc, main_path(confs), main_text(confs)) {
+    match site_of(alloc, &script.confs) {
         Ok(site) => {
             run(
                 alloc,
@@ -138,10 +154,13 @@ pub fn replay(alloc: Global, bytes: &[u8], out: &mut ByteText) -> Result<Outcome
             )?;
             Ok(Outcome::Done)
         }
-        Err(ConfError::Fault(fault)) => {
-            conf_fault_text(&fault, main_path(confs), out)?;
+        Err(ExpandError::Fault(placed)) => {
+            placed_fault_text(&placed, out)?;
             Ok(Outcome::ConfFault)
         }
-        Err(ConfError::OutOfMemory) => Err(OutOfMemory),
+        // A script's configurations are in memory: only a read of what they don't hold fails, and what stands there is asked
+        // before.
+        Err(ExpandError::Failed(_)) => Err(OutOfMemory),
+        Err(ExpandError::OutOfMemory) => Err(OutOfMemory),
     }
 }

@@ -1,28 +1,15 @@
 // The site of a configuration.
-ghost use Rattle.std.specs.Prelude.{◌≡◌, ◌≤◌, true, IfOk, IfErr, Ok, Err, slice_index_or, []};
-ghost use Rattle.conf_text.specs.Reading.{OnFault};
+ghost use Rattle.std.specs.Prelude.{◌≡◌, ◌≤◌, true, slice_index_or, []};
 ghost use Rattle.conf_include.specs.Listings.{Names, IsNaming};
-ghost use Rattle.ngx_cli.specs.Running.{site_of as site_described};
-ghost use Rattle.site_model.specs.Levels.{seen};
 ghost use Rattle.ngx_cli.specs.Sites.{Describes, FailsIf, site_at as site_found};
 
 use byte_text::{ByteText, ByteTexts};
 use conf_include::{ExpandError, PlacedFault, expand, folder_of};
 use conf_inherit::build;
-use conf_text::{ConfError, parse};
+use conf_text::ConfError;
 use ngx_outside::Files;
 use site_model::Site;
 use std::alloc::Global;
-
-/// The site that a configuration's text describes, by the path of its file.
-#[tactic(auto, unfolding(crate::specs::Running::site_of))]
-pub fn site_of(alloc: Global, path: &[u8], text: &[u8]) -> Result<Site, ConfError>
-    ensures ok { IfOk result (λ site. site_described path.now text.now ≡ Ok (seen site)) }
-    ensures fault { IfErr result (λ e. OnFault e (λ fault. site_described path.now text.now ≡ Err fault)) }
-{
-    let directives = parse(alloc, 0, text)?;
-    build(alloc, folder_of(path), directives.as_slice())
-}
 
 // The path of a number; no bytes where there is none.
 fn path_at(alloc: Global, paths: ByteTexts, number: u32) -> ByteText

@@ -12,6 +12,17 @@ use std::test::Fail;
 const SCRIPT: &[u8] =
     b"conf /c\nhttp { server { location / { return 200 hi; } } }\n.\ntree\n.\nevents\n";
 
+const INCLUDING: &[u8] =
+    b"conf /c\nhttp { include d/*; }\n.\nconf /d/a\nserver { location / { return 200 hi; } }\n.\ntree\n.\nevents\nopen 1 127.0.0.1:80 10.0.0.1:5000\nbytes 1 GET%20/%20HTTP/1.1%0D%0AHost:%20a%0D%0A%0D%0A\ndrain\n";
+
+const INCLUDING_A_FAULT: &[u8] =
+    b"conf /c\nhttp { include a; }\n.\nconf /a\nserver {\n serves; }\n.\ntree\n.\nevents\n";
+
+const INCLUDING_NOTHING: &[u8] = b"conf /c\nhttp {\n include a; }\n.\ntree\n.\nevents\n";
+
+const RUN: &[u8] =
+    b"conn 1 idle keep -\nlog 0 0 200 2\nsent HTTP/1.1 200 OK%0D%0AServer: nginx%0D%0ADate: Thu, 01 Jan 1970 00:00:00 GMT%0D%0AContent-Type: text/plain%0D%0AContent-Length: 2%0D%0AConnection: keep-alive%0D%0A%0D%0Ahi\nskipped 0\n";
+
 const CONF: &[u8] = b"http { include part; }";
 
 const PART: &[u8] = b"server { listen 80; location / { return 200 hi; } }";
@@ -41,6 +52,9 @@ fn files_of(alloc: Global, failing: Option<FileCall>) -> Result<MemoryFiles, Fai
     let mut files = MemoryFiles::new(alloc, calls);
     let stored = [
         (b"/s".as_slice(), SCRIPT),
+        (b"/including".as_slice(), INCLUDING),
+        (b"/fault".as_slice(), INCLUDING_A_FAULT),
+        (b"/nothing".as_slice(), INCLUDING_NOTHING),
         (b"/c".as_slice(), CONF),
         (b"/part".as_slice(), PART),
         (b"/bad".as_slice(), BAD),
@@ -223,5 +237,22 @@ fn faults_are_printed_with_their_file(rt: HostRuntime) -> Result<(), Fail> {
         shown.printed.as_slice(),
         b"fault 10 ReadFault /c:1 /part\n".as_slice()
     );
+    Ok(())
+}
+
+#[test]
+fn a_script_serves_its_includes(rt: HostRuntime) -> Result<(), Fail> {
+    let alloc = rt.alloc();
+    let cases: [(&str, u8, &[u8]); 3] = [
+        ("/including", 0, RUN),
+        ("/fault", 1, b"fault 11 Unknown /a:2 serves\n"),
+        ("/nothing", 1, b"fault 6 NotThere /c:2 /a\n"),
+    ];
+    for (script, status, printed) in cases {
+        let words = ["ngx", "replay", script];
+        let shown = run(alloc, words.as_slice(), None, None, false, false)?;
+        assert_eq!(rt; shown.status, status);
+        assert_eq!(rt; shown.printed.as_slice(), printed);
+    }
     Ok(())
 }

@@ -5,7 +5,7 @@ use Rattle.std.proofs.lemmas.List.{append-nil}
 use Rattle.file_tree.specs.Tree.{Trees}
 use Rattle.ngx_outside.specs.Outside.{Grow}
 use Rattle.ngx_outside.specs.Views.{ConnView, Course, Start, Moved, is_live, no_bytes, no_nodes, no_jobs}
-use Rattle.ngx_outside.specs.Runs.{IsPrefixOf, Agree, TracksBegin, StepsKeepTrack, StopsKeepTrack, TracksNarrow, AllIsSentWhenIdle}
+use Rattle.ngx_outside.specs.Runs.{IsPrefixOf, Agree, TracksBegin, StepsKeepTrack, StopsKeepTrack, TracksNarrow, AllIsSentWhenIdle, AllIsSentWhenShut}
 
 pub tracks_begin : TracksBegin
 tracks_begin whole told newest v f = record {
@@ -97,3 +97,8 @@ all_is_sent_when_idle whole told newest v came went t sound idle raceless trees 
     ap (λ c. whole.bytes trees c (v.starts ++ later)) (sym (append-nil came))
     ∙ t.on (first_and (is_live v) (no_bytes v.pending) (no_nodes v.ready) (no_jobs v.jobs) idle) raceless trees agree [] later
     ∙ ap (λ r. went ++ r) (sound.idle idle trees later) ∙ append-nil went
+
+pub all_is_sent_when_shut : AllIsSentWhenShut
+all_is_sent_when_shut whole told newest v came went t sound live shut unended raceless trees agree more later =
+    t.on live raceless trees agree more later
+    ∙ ap (λ r. went ++ r) (sound.closes live shut unended trees more later) ∙ append-nil went

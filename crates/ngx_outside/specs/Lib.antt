@@ -4,3 +4,4 @@ pub mod Wants
 pub mod Runs
 pub mod Outside
 pub mod Linked
+pub mod Records

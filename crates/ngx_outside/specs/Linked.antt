@@ -9,8 +9,8 @@ use Rattle.ngx_outside.specs.declared.links.Input.TheVariants as input
 use Rattle.ngx_outside.specs.declared.links.Output.{Output}
 use Rattle.ngx_outside.specs.declared.links.Output.TheVariants as output
 
--- A link: its two ends, what was read of it and written to it, whether it was reported readable and not read since, and
--- whether its last write found no room and no room was reported since.
+-- A link: its two ends, what was read of it and written to it, whether it was reported readable and not read since, whether
+-- its last write found no room and no room was reported since, and whether a read found the end of its input.
 pub record LinkView : Type 0 where
   pub local : Addr
   pub peer : Addr
@@ -18,6 +18,7 @@ pub record LinkView : Type 0 where
   pub sent : List ℕ
   pub due : Bool
   pub full : Bool
+  pub ended : Bool
 
 -- one link changes so, and no other
 pub record Updated (c : ℕ) (f : LinkView → LinkView) (old new : ℕ → LinkView) : Type 0 where
@@ -25,19 +26,22 @@ pub record Updated (c : ℕ) (f : LinkView → LinkView) (old new : ℕ → Link
   pub others : (d : ℕ) → d ≢ c → new d ≡ old d
 
 abbrev pub begun : Addr → Addr → LinkView → LinkView
-begun local peer v = record { local = local; peer = peer; taken = []; sent = []; due = false; full = false }
+begun local peer v = record { local = local; peer = peer; taken = []; sent = []; due = false; full = false; ended = false }
 
 abbrev pub set_due : Bool → LinkView → LinkView
-set_due b v = record { local = v.local; peer = v.peer; taken = v.taken; sent = v.sent; due = b; full = v.full }
+set_due b v = record { local = v.local; peer = v.peer; taken = v.taken; sent = v.sent; due = b; full = v.full; ended = v.ended }
 
 abbrev pub set_full : Bool → LinkView → LinkView
-set_full b v = record { local = v.local; peer = v.peer; taken = v.taken; sent = v.sent; due = v.due; full = b }
+set_full b v = record { local = v.local; peer = v.peer; taken = v.taken; sent = v.sent; due = v.due; full = b; ended = v.ended }
 
 abbrev pub got : List ℕ → LinkView → LinkView
-got bytes v = record { local = v.local; peer = v.peer; taken = v.taken ++ bytes; sent = v.sent; due = false; full = v.full }
+got bytes v = record { local = v.local; peer = v.peer; taken = v.taken ++ bytes; sent = v.sent; due = false; full = v.full; ended = v.ended }
 
 abbrev pub put : List ℕ → LinkView → LinkView
-put bytes v = record { local = v.local; peer = v.peer; taken = v.taken; sent = v.sent ++ bytes; due = v.due; full = v.full }
+put bytes v = record { local = v.local; peer = v.peer; taken = v.taken; sent = v.sent ++ bytes; due = v.due; full = v.full; ended = v.ended }
+
+abbrev pub set_ended : LinkView → LinkView
+set_ended v = record { local = v.local; peer = v.peer; taken = v.taken; sent = v.sent; due = false; full = v.full; ended = true }
 
 abbrev pub Unchanged : (ℕ → LinkView) → (ℕ → LinkView) → Type 0
 Unchanged old new = (c : ℕ) → new c ≡ old c
@@ -69,7 +73,7 @@ Opens n used used' is_open is_open' = Same used used' × Same is_open is_open'
 abbrev pub HasRead : ℕ → Input → List ℕ → (ℕ → LinkView) → (ℕ → LinkView) → Type 0
 HasRead id (input.Got count) buf old new = Updated id (got (take count buf)) old new
 HasRead id input.NotYet buf old new = Updated id (set_due false) old new
-HasRead id input.End buf old new = Updated id (set_due false) old new
+HasRead id input.End buf old new = Updated id set_ended old new
 HasRead id input.Failed buf old new = Updated id (set_due false) old new
 
 abbrev pub HasWritten : ℕ → Output → List ℕ → (ℕ → LinkView) → (ℕ → LinkView) → Type 0

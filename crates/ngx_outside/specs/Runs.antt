@@ -1,5 +1,5 @@
 -- What has come and gone on a connection since it was opened.
-use Rattle.std.specs.Prelude.{◌≡◌, ℕ, ◌≤◌, true, List, [], ◌++◌}
+use Rattle.std.specs.Prelude.{◌≡◌, ℕ, ◌≤◌, true, false, List, [], ◌++◌}
 use Rattle.file_tree.specs.Tree.{Trees}
 use Rattle.ngx_outside.specs.Outside.{Grow}
 use Rattle.ngx_outside.specs.Views.{ConnView, Course, Start, Ground, Holds, Fresh, Went, Stopped, is_live, is_idle, IsSound}
@@ -53,3 +53,11 @@ AllIsSentWhenIdle =
     (whole : Course) (told : Trees) (newest : ℕ) (v : ConnView) (came went : List ℕ) →
     Tracked whole told newest v came went → IsSound v → is_idle v ≡ true → whole.raceless ≡ true →
     (trees : Trees) → Agree told newest trees → (later : List Start) → whole.bytes trees came (v.starts ++ later) ≡ went
+
+-- where a live connection is to be closed, all has gone that was to come; and where its input hasn't ended, that is so
+-- whatever else would arrive
+abbrev pub AllIsSentWhenShut : Type 0
+AllIsSentWhenShut =
+    (whole : Course) (told : Trees) (newest : ℕ) (v : ConnView) (came went : List ℕ) →
+    Tracked whole told newest v came went → IsSound v → is_live v ≡ true → v.shut ≡ true → v.ended ≡ false → whole.raceless ≡ true →
+    (trees : Trees) → Agree told newest trees → (more : List ℕ) (later : List Start) → whole.bytes trees (came ++ more) (v.starts ++ later) ≡ went

@@ -36,8 +36,8 @@ pub record Job : Type 0 where
 
 -- A connection as a core shows it: whether it is held, and why it was stopped, if it was; what is to be written next; the
 -- requests that were started; what is still to come; and how many bytes it takes now, the nodes that can run and the jobs,
--- each by node number, whether its link is to be closed, whether the order of its steps can't change its bytes, and the
--- moment at which it is given up.
+-- each by node number, whether its link is to be closed, whether its input has ended, whether the order of its steps can't
+-- change its bytes, and the moment at which it is given up.
 pub record ConnView : Type 0 where
   pub held : Bool
   pub cause : Option StopCause
@@ -48,6 +48,7 @@ pub record ConnView : Type 0 where
   pub ready : List ℕ
   pub jobs : List Job
   pub shut : Bool
+  pub ended : Bool
   pub raceless : Bool
   pub deadline : Option ℕ
 
@@ -84,6 +85,7 @@ nobody =
       ready = [];
       jobs = [];
       shut = false;
+      ended = false;
       raceless = true;
       deadline = None;
     }
@@ -141,6 +143,7 @@ pub record Fresh (course : Course) (new : ConnView) : Type 0 where
   pub pending : new.pending ≡ []
   pub starts : new.starts ≡ []
   pub comes : new.course ≡ course
+  pub ended : new.ended ≡ false
   pub raceless : new.raceless ≡ course.raceless
 
 -- an event that is skipped changes nothing, and has this cause
@@ -241,6 +244,19 @@ now_after now (Tick moment) (Done taken) = record { moment = kept_moment moment;
 now_after now (Tree to) (Done taken) = record { moment = now.moment; tree = to }
 now_after now e a = now
 
+-- whether the input of a connection has ended after an event: its own end ends it, and nothing else does
+abbrev pub ended_after : Event → StepAnswer → ℕ → Bool → Bool
+ended_after (Ended conn) (Done taken) c ended = if c == conn then true else ended
+ended_after (Gone conn) (Done taken) c ended = if c == conn then false else ended
+ended_after e a c ended = ended
+
+-- bytes are taken by an arrival, and by nothing else
+abbrev pub TakesNone : Event → StepAnswer → Type 0
+TakesNone (Arrived conn bytes) a = Unit {0}
+TakesNone e (Done taken) = taken ≡ 0
+TakesNone e Skipped = Unit {0}
+TakesNone e OutOfMemory = Unit {0}
+
 -- an opening is done or refused only where a connection of this number can be opened at this end, and is skipped only
 -- where none can
 abbrev pub OpensIf : (ℕ → Addr → Bool) → Event → StepAnswer → Type 0
@@ -279,6 +295,11 @@ pub record IsSound (v : ConnView) : Type 0 where
   pub absent : v.held ≡ false → v ≡ nobody
   -- there is room for a byte where it reads
   pub roomy : (room : ℕ) → v.room ≡ Some room → 0 < room
-  -- an idle one has nothing more to come, and neither has a live one that is to be closed
+  -- none reads behind the end of its input, and an idle one that isn't to be closed reads
+  pub silent : v.ended ≡ true → v.room ≡ None
+  pub reads : is_idle v ≡ true → v.shut ≡ false → v.room ≢ None
+  -- an idle one has nothing more to come, and neither has a live one that is to be closed; where its input hasn't ended,
+  -- nothing comes whatever arrives
   pub idle : is_idle v ≡ true → (trees : Trees) (later : List Start) → v.course.bytes trees [] later ≡ []
   pub shut : is_live v ≡ true → v.shut ≡ true → (trees : Trees) (later : List Start) → v.course.bytes trees [] later ≡ []
+  pub closes : is_live v ≡ true → v.shut ≡ true → v.ended ≡ false → (trees : Trees) (more : List ℕ) (later : List Start) → v.course.bytes trees more later ≡ []

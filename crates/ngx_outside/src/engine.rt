@@ -1,9 +1,10 @@
 // A core, by what its events do.
-ghost use Rattle.std.specs.Prelude.{◌≡◌, ◌≤◌, ◌<◌, ◌^◌, ◌↔◌, ℕ, Bool, true, List, Contains, IfSome, option_copied};
+ghost use Rattle.std.specs.Prelude.{◌≡◌, ◌≤◌, ◌<◌, ◌^◌, ◌↔◌, ℕ, Bool, true, List, Option, Contains, IfSome, option_copied};
 ghost use Rattle.file_tree.specs.Tree.{tree_of};
 ghost use Rattle.std.specs.List.Sorted.{IsStrictlyIncreasing};
 ghost use Rattle.http_types.specs.declared.words.Addr.{Addr as End};
-ghost use Rattle.ngx_outside.specs.Views.{ConnView, Course, Start, Steps, OpensIf, LeftBy, CountsRefused, IsSound, now_after, ask_in};
+ghost use Rattle.ngx_outside.specs.Views.{ConnView, Course, Start, Steps, OpensIf, LeftBy, CountsRefused, TakesNone, IsSound, now_after, ended_after, ask_in};
+ghost use Rattle.ngx_outside.specs.Records.{Given, Adds, given_of};
 ghost use Rattle.ngx_outside.specs.Wants.{wants_at, wants_in};
 
 use crate::{Event, StepAnswer, Want};
@@ -36,13 +37,19 @@ pub trait EventCore {
     /// How many events other than openings were refused for want of memory.
     ghost refused: { Self → ℕ };
 
+    /// The events that were given, where that is told.
+    ghost events: { Self → Option (List Given) };
+
     /// Gives the core one event. The events Ended, Wrote, LinkFailed, JobFailed, Tick, Tree and Gone take no memory.
     fn step(&mut self, event: Event) -> StepAnswer
         ensures steps { Steps (fresh self.old) (now self.old) event.entry result (view self.old) (view self.new) }
         ensures opens { OpensIf (opens self.old) event.entry result }
+        ensures ended { (c : ℕ) → (view self.new c).ended ≡ ended_after event.entry result c (view self.old c).ended }
+        ensures taken { TakesNone event.entry result }
         ensures now { now self.new ≡ now_after (now self.old) event.entry result }
         ensures left { LeftBy (price self.old) event.entry result (left self.old) (left self.new) }
         ensures refused { CountsRefused event.entry result (refused self.old) (refused self.new) }
+        ensures events { Adds (given_of event.entry) (events self.old) (events self.new) }
         ensures steady { (fresh self.new ≡ fresh self.old) × (price self.new ≡ price self.old) };
 
     /// The bytes that are to be written next on a connection; none where it isn't held.

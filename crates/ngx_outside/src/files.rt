@@ -1,7 +1,8 @@
 // What reads files.
-ghost use Rattle.std.specs.Prelude.{◌≡◌, ◌≤◌, ℕ, Bool, true, List};
+ghost use Rattle.std.specs.Prelude.{◌≡◌, ◌≤◌, ℕ, Bool, true, List, Option};
 ghost use Rattle.file_tree.specs.Tree.{Trees};
 ghost use Rattle.ngx_outside.specs.Causes.{HasCause};
+ghost use Rattle.ngx_outside.specs.Records.{FileAnswer, Adds, ReadTold, stat_answer};
 ghost use Rattle.ngx_outside.specs.Outside.{Grow, Stats, Reads, Lists};
 ghost use Rattle.ngx_outside.specs.declared.sink.Failed.{Failed};
 ghost use Rattle.ngx_outside.specs.declared.files.FileFault.TheVariants.{OutOfMemory as NoMemory, Failed as ReadFailed};
@@ -54,6 +55,9 @@ pub trait Files {
     /// The number of the newest tree.
     ghost newest: { Self → ℕ };
 
+    /// What stats and reads answered, one after another, where that is told.
+    ghost answers: { Self → Option (List FileAnswer) };
+
     /// How often a call has failed.
     ghost faults: { Self → ℕ };
 
@@ -65,6 +69,7 @@ pub trait Files {
     fn stat(&mut self, path: &[u8], of: u64) -> Result<Node, Failed>
         requires { of ≤ newest self.old }
         ensures node { Stats (tells self.old) (trees self.old of) path.now result }
+        ensures answers { Adds (stat_answer result) (answers self.old) (answers self.new) }
         ensures tells { tells self.new ≡ tells self.old }
         ensures grow { Grow (newest self.old) (newest self.new) (trees self.old) (trees self.new) }
         ensures cause { HasCause (faults self.old) (faults self.new) result (record {}) };
@@ -81,6 +86,7 @@ pub trait Files {
     ) -> Result<(), FileFault>
         requires { of ≤ newest self.old }
         ensures bytes { Reads (tells self.old) (trees self.old of) path.now start count out.old out.new result }
+        ensures answers { ReadTold out.old out.new result (answers self.old) (answers self.new) }
         ensures tells { tells self.new ≡ tells self.old }
         ensures grow { Grow (newest self.old) (newest self.new) (trees self.old) (trees self.new) }
         ensures cause { HasCause (faults self.old) (faults self.new) result ReadFailed };
@@ -88,6 +94,7 @@ pub trait Files {
     /// Adds the names of a folder of the newest tree, in any order. After a failure some may have been added.
     fn list(&mut self, folder: &[u8], out: &mut ByteTexts) -> Result<Listing, FileFault>
         ensures names { Lists (tells self.old) (trees self.old (newest self.old)) folder.now out.old out.new result }
+        ensures answers { answers self.new ≡ answers self.old }
         ensures tells { tells self.new ≡ tells self.old }
         ensures grow { Grow (newest self.old) (newest self.new) (trees self.old) (trees self.new) }
         ensures cause { HasCause (faults self.old) (faults self.new) result ReadFailed };

@@ -1,5 +1,5 @@
 // Laws of what comes and goes on a connection, which the drivers of a core rest on.
-ghost use Rattle.ngx_outside.specs.Runs.{TracksBegin, StepsKeepTrack, StopsKeepTrack, TracksNarrow, AllIsSentWhenIdle};
+ghost use Rattle.ngx_outside.specs.Runs.{TracksBegin, StepsKeepTrack, StopsKeepTrack, TracksNarrow, AllIsSentWhenIdle, AllIsSentWhenShut};
 
 /// A connection that is opened is tracked, with nothing come and gone.
 pub fn tracks_begin()
@@ -24,4 +24,9 @@ pub fn tracks_narrow()
 /// On an idle connection all has gone that was to come.
 pub fn all_is_sent_when_idle()
     ensures { AllIsSentWhenIdle }
+{}
+
+/// On a connection that is to be closed before the end of its input all has gone that was to come, whatever else would arrive.
+pub fn all_is_sent_when_shut()
+    ensures { AllIsSentWhenShut }
 {}

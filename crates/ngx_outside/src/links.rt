@@ -1,7 +1,8 @@
 // The links to peers, and the clock.
-ghost use Rattle.std.specs.Prelude.{◌≡◌, ◌≤◌, ◌∷◌, ◌++◌, ◌↔◌, ℕ, Bool, List, [], true, false, length, OnOk, OnErr};
+ghost use Rattle.std.specs.Prelude.{◌≡◌, ◌≤◌, ◌∷◌, ◌++◌, ◌↔◌, ℕ, Bool, List, [], Option, true, false, length, OnOk, OnErr};
 ghost use Rattle.http_types.specs.declared.words.Addr.{Addr as End};
 ghost use Rattle.ngx_outside.specs.Causes.{Rose, HasCause};
+ghost use Rattle.ngx_outside.specs.Records.{LinkAnswer, Noticed as NoticeGiven, Read as ReadGiven, Written as WriteGiven, Adds, got_of};
 ghost use Rattle.ngx_outside.specs.Linked.{LinkView, Noticed, Opens, Marked, Same, HasRead, HasWritten, GotWithin, PutWithin, PutsNothing, Unchanged};
 ghost use Rattle.ngx_outside.specs.declared.links.Notice.TheVariants.{Failed as NextFailed, Ended as AllEnded};
 ghost use Rattle.ngx_outside.specs.declared.links.Input.TheVariants.{Failed as ReadFails};
@@ -61,8 +62,11 @@ pub trait Links {
 
     ghost listening: { Self → List End };
 
-    /// Whether no notice will come any more.
+    /// Whether no notice will come any more; it stays so.
     ghost over: { Self → Bool };
+
+    /// What notices, reads and writes answered, one after another, where that is told.
+    ghost answers: { Self → Option (List LinkAnswer) };
 
     /// How often listen or next failed, and how often the link of an id.
     ghost faults: { Self → ℕ };
@@ -76,6 +80,8 @@ pub trait Links {
         ensures listens { OnOk result (listening self.new ≡ listening self.old ++ addr ∷ []) }
         ensures fails { OnErr result (listening self.new ≡ listening self.old) }
         ensures tells { tells self.new ≡ tells self.old }
+        ensures answers { answers self.new ≡ answers self.old }
+        ensures stays_over { over self.old ≡ true → over self.new ≡ true }
         ensures link_faults { (id : ℕ) → link_faults self.old id ≤ link_faults self.new id }
         ensures cause { HasCause (faults self.old) (faults self.new) result (record {}) };
 
@@ -85,6 +91,8 @@ pub trait Links {
         ensures ids { Opens result (used self.old) (used self.new) (is_open self.old) (is_open self.new) }
         ensures listens { listening self.new ≡ listening self.old }
         ensures tells { tells self.new ≡ tells self.old }
+        ensures answers { Adds (NoticeGiven result) (answers self.old) (answers self.new) }
+        ensures stays_over { over self.old ≡ true → over self.new ≡ true }
         ensures over { (result ≡ AllEnded) ↔ (over self.old ≡ true) }
         ensures later { faults self.old ≤ faults self.new }
         ensures link_faults { (id : ℕ) → link_faults self.old id ≤ link_faults self.new id }
@@ -97,6 +105,8 @@ pub trait Links {
         ensures ids { Same (used self.old) (used self.new) × Same (is_open self.old) (is_open self.new) }
         ensures listens { listening self.new ≡ listening self.old }
         ensures tells { tells self.new ≡ tells self.old }
+        ensures answers { Adds (ReadGiven id result (got_of result buf.new)) (answers self.old) (answers self.new) }
+        ensures stays_over { over self.old ≡ true → over self.new ≡ true }
         ensures later { faults self.old ≤ faults self.new }
         ensures link_faults { (c : ℕ) → link_faults self.old c ≤ link_faults self.new c }
         ensures cause { result ≡ ReadFails → Rose (link_faults self.old id) (link_faults self.new id) };
@@ -108,6 +118,8 @@ pub trait Links {
         ensures ids { Same (used self.old) (used self.new) × Same (is_open self.old) (is_open self.new) }
         ensures listens { listening self.new ≡ listening self.old }
         ensures tells { tells self.new ≡ tells self.old }
+        ensures answers { Adds (WriteGiven id result) (answers self.old) (answers self.new) }
+        ensures stays_over { over self.old ≡ true → over self.new ≡ true }
         ensures later { faults self.old ≤ faults self.new }
         ensures link_faults { (c : ℕ) → link_faults self.old c ≤ link_faults self.new c }
         ensures cause { result ≡ WriteFails → Rose (link_faults self.old id) (link_faults self.new id) }
@@ -119,6 +131,8 @@ pub trait Links {
         ensures ids { Same (used self.old) (used self.new) × Marked id false (is_open self.old) (is_open self.new) }
         ensures listens { listening self.new ≡ listening self.old }
         ensures tells { tells self.new ≡ tells self.old }
+        ensures answers { answers self.new ≡ answers self.old }
+        ensures stays_over { over self.old ≡ true → over self.new ≡ true }
         ensures later { faults self.old ≤ faults self.new }
         ensures link_faults { (c : ℕ) → link_faults self.old c ≤ link_faults self.new c };
 }

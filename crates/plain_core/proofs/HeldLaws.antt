@@ -1,6 +1,6 @@
 -- The connection under its number, and nobody elsewhere.
 use Rattle.std.proofs.Common.{◌≡◌, ◌≢◌, ℕ, ◌<◌, min, Bool, true, false, ◌&&◌, eqb, cond, List, [], ◌∷◌, ◌++◌, length, refl, sym, ap, subst, ◌∙◌, arith}
-use Rattle.std.specs.Prelude.{None, Some, not, map}
+use Rattle.std.specs.Prelude.{Option, None, Some, not, map}
 use Rattle.std.proofs.lemmas.Bool.Decides.{nat_tests}
 use Rattle.std.proofs.lemmas.List.{append-nil}
 use Rattle.file_tree.specs.Tree.{is_fitting}
@@ -159,6 +159,20 @@ shut_tests true true false q = (refl, refl)
 shut_tests true false h q = cc
 shut_tests false o h q = cc
 
+abbrev reading_room : Bool → Option ℕ
+reading_room e = cond e None (Some 4096)
+
+-- an idle connection that isn't to be closed reads
+reading : (e o h : Bool) → (o ≡ true) × (h ≡ false) → (e && (o && not h)) ≡ false → reading_room e ≢ None
+reading e true false q s = elim e as (λ t. (t && true) ≡ false → reading_room t ≢ None) [ true ↦ (λ n. cc) | false ↦ (λ n k. cc) ] s
+reading e true true q s = cc
+reading e false h q s = cc
+
+-- none is closed before the end of its input
+unended : (e o h : Bool) → (e && (o && not h)) ≡ true → e ≡ false → ⊥
+unended true o h s n = cc
+unended false o h s n = cc
+
 room_is : (ended : Bool) (room : ℕ) → cond ended None (Some 4096) ≡ Some room → 0 < room
 room_is true room e = cc
 room_is false room e = let is : 4096 ≡ room = cc in omega arith
@@ -174,8 +188,11 @@ sound_at reply input output life.Absent journal ended due = record {
   stopped = λ cause h e. cc;
   absent = λ h. refl;
   roomy = λ room e. cc;
+  silent = λ h. refl;
+  reads = λ h. cc;
   idle = λ h trees later. cc;
   shut = λ h s trees later. cc;
+  closes = λ h. cc;
 }
 sound_at reply input output (life.Stopped cause) journal ended due = record {
   unsent = λ h. refl;
@@ -186,8 +203,11 @@ sound_at reply input output (life.Stopped cause) journal ended due = record {
   stopped = λ cause h e. refl;
   absent = λ h. cc;
   roomy = λ room e. cc;
+  silent = λ h. refl;
+  reads = λ h. cc;
   idle = λ h trees later. cc;
   shut = λ h s trees later. cc;
+  closes = λ h. cc;
 }
 sound_at reply input output life.Live journal ended due = record {
   unsent = λ h. cc;
@@ -198,8 +218,11 @@ sound_at reply input output life.Live journal ended due = record {
   stopped = λ cause h e. cc;
   absent = λ h. cc;
   roomy = λ room e. room_is ended room e;
+  silent = λ e. ap reading_room e;
+  reads = λ h s. reading ended (no_bytes output) (has_line input) (idle_tests (no_bytes output) (has_line input) h) s;
   idle = λ h trees later. quiet_bytes reply input output later (idle_tests (no_bytes output) (has_line input) h);
   shut = λ h s trees later. quiet_bytes reply input output later (shut_tests ended (no_bytes output) (has_line input) s);
+  closes = λ h s e. absurd (unended ended (no_bytes output) (has_line input) s e);
 }
 
 sound_nobody : IsSound nobody

@@ -54,6 +54,16 @@ LeftBegun price (Done taken) old new = new ≤ old + price
 LeftBegun price Skipped old new = new ≡ old
 LeftBegun price OutOfMemory old new = new ≡ old
 
+-- the input of each connection has ended where it had before
+abbrev pub KeepsEnds : (ℕ → ConnView) → (ℕ → ConnView) → Type 0
+KeepsEnds old new = (c : ℕ) → (new c).ended ≡ (old c).ended
+
+-- an event that is done says so of the input of its connection, and nothing of another's
+abbrev pub Ending : ℕ → Bool → StepAnswer → (ℕ → ConnView) → (ℕ → ConnView) → Type 0
+Ending conn ended (Done taken) old new = (c : ℕ) → (new c).ended ≡ (if c == conn then ended else (old c).ended)
+Ending conn ended Skipped old new = KeepsEnds old new
+Ending conn ended OutOfMemory old new = KeepsEnds old new
+
 -- a refused event is counted, and no other
 abbrev pub RefusedBy : StepAnswer → ℕ → ℕ → Type 0
 RefusedBy (Done taken) old new = new ≡ old

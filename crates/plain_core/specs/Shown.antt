@@ -49,6 +49,7 @@ shown_at reply (life.Stopped cause) input output journal ended due =
       ready = [];
       jobs = [];
       shut = true;
+      ended = ended;
       raceless = true;
       deadline = None;
     }
@@ -63,12 +64,29 @@ shown_at reply life.Live input output journal ended due =
       ready = if no_bytes output && has_line input then 0 ∷ [] else [];
       jobs = [];
       shut = is_over input output ended;
+      ended = ended;
       raceless = true;
       deadline = Some due;
     }
 
 abbrev pub shown : Conn → ConnView
 shown c = shown_at c.reply c.life c.input c.output c.journal.items c.ended c.due
+
+-- its input has ended where it had before
+abbrev pub KeepsEnd : ConnView → ConnView → Type 0
+KeepsEnd old new = new.ended ≡ old.ended
+
+-- it ends by an event that is done
+abbrev pub EndsBy : StepAnswer → ConnView → ConnView → Type 0
+EndsBy (Done taken) old new = new.ended ≡ true
+EndsBy Skipped old new = new.ended ≡ old.ended
+EndsBy OutOfMemory old new = ⊥
+
+-- no bytes are taken
+abbrev pub TakesNo : StepAnswer → Type 0
+TakesNo (Done taken) = taken ≡ 0
+TakesNo Skipped = Unit {0}
+TakesNo OutOfMemory = Unit {0}
 
 abbrev pub is_shut_at : Life → List ℕ → List ℕ → Bool → Bool
 is_shut_at life.Absent input output ended = false

@@ -2,7 +2,7 @@
 ghost use Rattle.std.specs.Prelude.{◌≡◌, ◌≤◌, ◌<◌, ◌+◌, ◌*◌, ◌++◌, ◌∷◌, ℕ, List, [], true, false, length, drop, map, OnOk, OnErr};
 ghost use Rattle.ngx_outside.specs.Views.{Start, start_of, Fresh, Ticked, Stopped};
 ghost use Rattle.plain_core.specs.Lines.{has_line, course_of};
-ghost use Rattle.plain_core.specs.Shown.{shown, work_of, price_of, is_live_at, is_absent_at, is_quiet_at, reads_at, can_run_at, is_shut_at, Arrives, Ends, Writes, Fails, Runs, Goes, LeftTaken, LeftLower, LeftKept};
+ghost use Rattle.plain_core.specs.Shown.{shown, work_of, price_of, is_live_at, is_absent_at, is_quiet_at, reads_at, can_run_at, is_shut_at, Arrives, Ends, Writes, Fails, Runs, Goes, LeftTaken, LeftLower, LeftKept, KeepsEnd, EndsBy, TakesNo};
 
 use crate::lines::line_size;
 use byte_text::{ByteQueue, ByteText, OutOfMemory};
@@ -121,6 +121,7 @@ impl Conn {
     fn stop(&mut self, cause: StopCause)
         requires { is_live_at self.old.life ≡ true }
         ensures stopped { Stopped cause (shown self.old) (shown self.new) [] }
+        ensures ended { KeepsEnd (shown self.old) (shown self.new) }
         ensures left { work_of self.new ≡ 1 }
         ensures reply { self.new.reply ≡ self.old.reply }
     {
@@ -145,6 +146,7 @@ impl Conn {
 
     pub(crate) fn arrive(&mut self, bytes: &[u8], moment: u64) -> StepAnswer
         ensures steps { (now : Start) → Arrives now bytes.now result (shown self.old) (shown self.new) }
+        ensures ended { KeepsEnd (shown self.old) (shown self.new) }
         ensures left { LeftTaken (price_of self.old.reply) result (work_of self.old) (work_of self.new) }
         ensures reply { self.new.reply ≡ self.old.reply }
     {
@@ -169,6 +171,8 @@ impl Conn {
 
     pub(crate) fn end(&mut self) -> StepAnswer
         ensures steps { Ends result (shown self.old) (shown self.new) }
+        ensures ended { EndsBy result (shown self.old) (shown self.new) }
+        ensures taken { TakesNo result }
         ensures left { LeftKept result (work_of self.old) (work_of self.new) }
         ensures reply { self.new.reply ≡ self.old.reply }
     {
@@ -181,6 +185,8 @@ impl Conn {
 
     pub(crate) fn wrote(&mut self, count: usize, moment: u64) -> StepAnswer
         ensures steps { Writes count result (shown self.old) (shown self.new) }
+        ensures ended { KeepsEnd (shown self.old) (shown self.new) }
+        ensures taken { TakesNo result }
         ensures left { LeftLower result (work_of self.old) (work_of self.new) }
         ensures reply { self.new.reply ≡ self.old.reply }
     {
@@ -197,6 +203,8 @@ impl Conn {
 
     pub(crate) fn fail(&mut self) -> StepAnswer
         ensures steps { Fails result (shown self.old) (shown self.new) }
+        ensures ended { KeepsEnd (shown self.old) (shown self.new) }
+        ensures taken { TakesNo result }
         ensures left { LeftLower result (work_of self.old) (work_of self.new) }
         ensures reply { self.new.reply ≡ self.old.reply }
     {
@@ -212,6 +220,7 @@ impl Conn {
         requires size { size ≤ length self.old.input }
         requires some { 0 < size }
         ensures life { self.new.life ≡ self.old.life }
+        ensures ended { self.new.ended ≡ self.old.ended }
         ensures starts { OnOk result (map start_of self.new.journal.items ≡ map start_of self.old.journal.items ++ start_of now ∷ []) }
         ensures input { OnOk result (self.new.input ≡ drop size self.old.input) }
         ensures output { OnOk result (self.new.output ≡ self.old.output ++ self.old.reply) }
@@ -226,6 +235,8 @@ impl Conn {
 
     pub(crate) fn run(&mut self, node: u32, now: Entry) -> StepAnswer
         ensures steps { Runs (start_of now) node result (shown self.old) (shown self.new) }
+        ensures ended { KeepsEnd (shown self.old) (shown self.new) }
+        ensures taken { TakesNo result }
         ensures left { LeftLower result (work_of self.old) (work_of self.new) }
         ensures reply { self.new.reply ≡ self.old.reply }
     {
@@ -249,6 +260,7 @@ impl Conn {
 
     pub(crate) fn go(&mut self) -> StepAnswer
         ensures steps { Goes result (shown self.old) (shown self.new) }
+        ensures taken { TakesNo result }
         ensures left { LeftLower result (work_of self.old) (work_of self.new) }
         ensures reply { self.new.reply ≡ self.old.reply }
     {
@@ -262,6 +274,7 @@ impl Conn {
     /// The clock tells a moment.
     pub(crate) fn tick(&mut self, now: u64)
         ensures ticked { Ticked now (shown self.old) (shown self.new) }
+        ensures ended { KeepsEnd (shown self.old) (shown self.new) }
         ensures left { work_of self.new ≤ work_of self.old }
         ensures reply { self.new.reply ≡ self.old.reply }
     {

@@ -75,6 +75,7 @@ impl PlainCore {
 }
 
 impl EventCore for PlainCore {
+    ghost use Rattle.std.specs.Prelude.{None};
     ghost use Rattle.plain_core.specs.Core.{view_at, conns_held, fresh_at, opens_at, now_at, left_at, price_now, refused_at};
 
     ghost view = { view_at };
@@ -92,6 +93,8 @@ impl EventCore for PlainCore {
     ghost price = { price_now };
 
     ghost refused = { refused_at };
+
+    ghost events = { λ core. None };
 
     fn step(&mut self, event: Event) -> StepAnswer {
         let answer = self.state.happen(event);

@@ -1,10 +1,10 @@
 // The connection under its number, the clock and the tree.
 ghost use Rattle.std.specs.Prelude.{◌≡◌, ◌≤◌, ◌<◌, ℕ, Bool, true, false, [], List};
-ghost use Rattle.ngx_outside.specs.Views.{Steps, OpensIf, LeftBy, CountsRefused, OneSteps, Ticked, now_after, kept_moment};
+ghost use Rattle.ngx_outside.specs.Views.{Steps, OpensIf, LeftBy, CountsRefused, OneSteps, Ticked, TakesNone, now_after, kept_moment, ended_after};
 ghost use Rattle.ngx_outside.specs.declared.event.StepAnswer.TheVariants.{Skipped};
 ghost use Rattle.plain_core.specs.Lines.{course_of};
-ghost use Rattle.plain_core.specs.Shown.{Arrives, Ends, Writes, Fails, Runs, Goes, LeftTaken, LeftLower, LeftKept, is_absent_at};
-ghost use Rattle.plain_core.specs.Held.{view_of, now_of, fresh_of, opens_of, left_of, price_at, refused_of, Begins, LeftBegun, RefusedBy};
+ghost use Rattle.plain_core.specs.Shown.{Arrives, Ends, Writes, Fails, Runs, Goes, LeftTaken, LeftLower, LeftKept, TakesNo, is_absent_at};
+ghost use Rattle.plain_core.specs.Held.{view_of, now_of, fresh_of, opens_of, left_of, price_at, refused_of, Begins, LeftBegun, RefusedBy, KeepsEnds, Ending};
 
 use crate::conn::Conn;
 use ngx_outside::{Entry, Event, StepAnswer};
@@ -35,6 +35,8 @@ fn count(refused: &mut u64, answer: StepAnswer)
 impl State {
     fn opened(&mut self, conn: u32) -> StepAnswer
         ensures steps { OneSteps conn (Begins (course_of self.old.conn.reply [] []) result) (view_of self.old) (view_of self.new) }
+        ensures ended { KeepsEnds (view_of self.old) (view_of self.new) }
+        ensures taken { TakesNo result }
         ensures opens { result ≡ Skipped → is_absent_at self.old.conn.life ≡ false }
         ensures done { (result ≡ Skipped → ⊥) → is_absent_at self.old.conn.life ≡ true }
         ensures left { LeftBegun (price_at self.old) result (left_of self.old) (left_of self.new) }
@@ -52,6 +54,7 @@ impl State {
 
     fn arrived(&mut self, conn: u32, bytes: &[u8]) -> StepAnswer
         ensures steps { OneSteps conn (Arrives (now_of self.old) bytes.now result) (view_of self.old) (view_of self.new) }
+        ensures ended { KeepsEnds (view_of self.old) (view_of self.new) }
         ensures left { LeftTaken (price_at self.old) result (left_of self.old) (left_of self.new) }
         ensures now { now_of self.new ≡ now_of self.old }
         ensures reply { self.new.conn.reply ≡ self.old.conn.reply }
@@ -67,6 +70,8 @@ impl State {
 
     fn ended(&mut self, conn: u32) -> StepAnswer
         ensures steps { OneSteps conn (Ends result) (view_of self.old) (view_of self.new) }
+        ensures ended { Ending conn true result (view_of self.old) (view_of self.new) }
+        ensures taken { TakesNo result }
         ensures left { LeftKept result (left_of self.old) (left_of self.new) }
         ensures now { now_of self.new ≡ now_of self.old }
         ensures reply { self.new.conn.reply ≡ self.old.conn.reply }
@@ -80,6 +85,8 @@ impl State {
 
     fn wrote(&mut self, conn: u32, count: usize) -> StepAnswer
         ensures steps { OneSteps conn (Writes count result) (view_of self.old) (view_of self.new) }
+        ensures ended { KeepsEnds (view_of self.old) (view_of self.new) }
+        ensures taken { TakesNo result }
         ensures left { LeftLower result (left_of self.old) (left_of self.new) }
         ensures now { now_of self.new ≡ now_of self.old }
         ensures reply { self.new.conn.reply ≡ self.old.conn.reply }
@@ -93,6 +100,8 @@ impl State {
 
     fn failed(&mut self, conn: u32) -> StepAnswer
         ensures steps { OneSteps conn (Fails result) (view_of self.old) (view_of self.new) }
+        ensures ended { KeepsEnds (view_of self.old) (view_of self.new) }
+        ensures taken { TakesNo result }
         ensures left { LeftLower result (left_of self.old) (left_of self.new) }
         ensures now { now_of self.new ≡ now_of self.old }
         ensures reply { self.new.conn.reply ≡ self.old.conn.reply }
@@ -106,6 +115,8 @@ impl State {
 
     fn runs(&mut self, conn: u32, node: u32) -> StepAnswer
         ensures steps { OneSteps conn (Runs (now_of self.old) node result) (view_of self.old) (view_of self.new) }
+        ensures ended { KeepsEnds (view_of self.old) (view_of self.new) }
+        ensures taken { TakesNo result }
         ensures left { LeftLower result (left_of self.old) (left_of self.new) }
         ensures now { now_of self.new ≡ now_of self.old }
         ensures reply { self.new.conn.reply ≡ self.old.conn.reply }
@@ -126,6 +137,8 @@ impl State {
 
     fn gone(&mut self, conn: u32) -> StepAnswer
         ensures steps { OneSteps conn (Goes result) (view_of self.old) (view_of self.new) }
+        ensures ended { Ending conn false result (view_of self.old) (view_of self.new) }
+        ensures taken { TakesNo result }
         ensures left { LeftLower result (left_of self.old) (left_of self.new) }
         ensures now { now_of self.new ≡ now_of self.old }
         ensures reply { self.new.conn.reply ≡ self.old.conn.reply }
@@ -139,6 +152,7 @@ impl State {
 
     fn ticked(&mut self, now: u64)
         ensures steps { (c : ℕ) → Ticked (kept_moment now) (view_of self.old c) (view_of self.new c) }
+        ensures ended { KeepsEnds (view_of self.old) (view_of self.new) }
         ensures left { left_of self.new ≤ left_of self.old }
         ensures now { (self.new.moment ≡ kept_moment now) × (self.new.tree ≡ self.old.tree) }
         ensures reply { self.new.conn.reply ≡ self.old.conn.reply }
@@ -153,6 +167,8 @@ impl State {
     pub(crate) fn happen(&mut self, event: Event) -> StepAnswer
         ensures steps { Steps (fresh_of self.old) (now_of self.old) event.entry result (view_of self.old) (view_of self.new) }
         ensures opens { OpensIf (opens_of self.old) event.entry result }
+        ensures ended { (c : ℕ) → (view_of self.new c).ended ≡ ended_after event.entry result c (view_of self.old c).ended }
+        ensures taken { TakesNone event.entry result }
         ensures now { now_of self.new ≡ now_after (now_of self.old) event.entry result }
         ensures left { LeftBy (price_at self.old) event.entry result (left_of self.old) (left_of self.new) }
         ensures refused { CountsRefused event.entry result (refused_of self.old) (refused_of self.new) }

@@ -74,28 +74,38 @@ agree_narrow old new g trees a = record {
   same = λ of within path. a.same of (let r : old.newest ≤ new.newest = g.trees.rises in omega arith) path ∙ g.trees.same of within path;
 }
 
+-- a connection and its link go on so that the connection's input has ended only where a read of the link found that
+abbrev pub EndsOn : ConnView → ConnView → LinkView → LinkView → Type 0
+EndsOn v v' l l' = (v.ended ≡ true → l.ended ≡ true) → v'.ended ≡ true → l'.ended ≡ true
+
+pub ends_same : (v v' : ConnView) (l l' : LinkView) → v'.ended ≡ v.ended → l'.ended ≡ l.ended → EndsOn v v' l l'
+ends_same v v' l l' ev el h is = el ∙ h (sym ev ∙ is)
+
 -- an account stays while the files tell more trees, and counts rise
-pub account_stays : {L F R L' F' R' : Type 0} (whole : Course) (files files' : FilesSeen) (clock : ClockSeen) (v : ConnView) (came went : List ℕ) → (L → L') → (F → F') → (R → R') → Grown files files' →
-    Account L F R whole files clock v came went → Account L' F' R' whole files' clock v came went
-account_stays whole files files' clock v came went l f r g a = record {
+pub account_stays : {L F R L' F' R' : Type 0} (whole : Course) (files files' : FilesSeen) (clock : ClockSeen) (v : ConnView) (came went : List ℕ) (found_end : Bool) → (L → L') → (F → F') → (R → R') → Grown files files' →
+    Account L F R whole files clock v came went found_end → Account L' F' R' whole files' clock v came went found_end
+account_stays whole files files' clock v came went found_end l f r g a = record {
   tracked = tracks_narrow whole files.trees files'.trees files.newest files'.newest v came went g.trees a.tracked;
   cause = λ cause is. behind l f r (λ heavy raceless trees agree. heavy raceless trees (agree_narrow files files' g trees agree)) cause (a.cause cause is);
   dated = a.dated;
+  ends = a.ends;
 }
 
 -- it goes on with an event
-pub account_passed : {L F R L' F' R' : Type 0} (whole : Course) (files : FilesSeen) (clock : ClockSeen) (now : Start) (ground : Ground) (v v' : ConnView) (came went came' went' : List ℕ) → (L' → L) → (F' → F) → (R' → R) →
-    (v.raceless ≡ true → (trees : Trees) → Agree files.trees files.newest trees → Holds ground trees) → (clock.tells ≡ true → now.moment ≡ last_moment clock.told) →
-    Passed now ground L' F' R' v v' came' went' → Account L F R whole files clock v came went → Account L F R whole files clock v' (came ++ came') (went ++ went')
-account_passed whole files clock now ground v v' came went came' went' l f r holds moment (Goes started is w) a = record {
+pub account_passed : {L F R L' F' R' : Type 0} (whole : Course) (files : FilesSeen) (clock : ClockSeen) (now : Start) (ground : Ground) (v v' : ConnView) (came went came' went' : List ℕ) (found found' : Bool) → (L' → L) → (F' → F) → (R' → R) →
+    (v.raceless ≡ true → (trees : Trees) → Agree files.trees files.newest trees → Holds ground trees) → (clock.tells ≡ true → now.moment ≡ last_moment clock.told) → ((v.ended ≡ true → found ≡ true) → v'.ended ≡ true → found' ≡ true) →
+    Passed now ground L' F' R' v v' came' went' → Account L F R whole files clock v came went found → Account L F R whole files clock v' (came ++ came') (went ++ went') found'
+account_passed whole files clock now ground v v' came went came' went' found found' l f r holds moment ends (Goes started is w) a = record {
   tracked = steps_keep_track whole files.trees files.newest ground v v' came went came' went' started holds a.tracked w;
   cause = λ cause e. caused v' cause w.after e;
   dated = λ t. subst (IsDated clock.told) (sym w.moved.starts) (dated_on clock.told v.starts started now (moment t) is (a.dated t));
+  ends = ends a.ends;
 }
-account_passed {L = L} {F = F} {R = R} whole files clock now ground v v' came went came' went' l f r holds moment (Stops why started is b none s) a = record {
+account_passed {L = L} {F = F} {R = R} whole files clock now ground v v' came went came' went' found found' l f r holds moment ends (Stops why started is b none s) a = record {
   tracked = subst (λ x. Tracked whole files.trees files.newest v' (came ++ came') x) (sym (ap (λ x. went ++ x) none ∙ append-nil went)) (stops_keep_track whole files.trees files.newest why v v' came went came' started a.tracked s);
   cause = λ cause e. subst (Behind L F R (WasHeavy whole files v' (came ++ came'))) (same (sym s.why ∙ e)) (behind l f r heavy why b);
   dated = λ t. subst (IsDated clock.told) (sym s.starts) (dated_on clock.told v.starts started now (moment t) is (a.dated t));
+  ends = ends a.ends;
 }
   where
     same : {x y : StopCause} → Some x ≡ Some y → x ≡ y
@@ -107,11 +117,12 @@ account_passed {L = L} {F = F} {R = R} whole files clock now ground v v' came we
         ∙ a.tracked.heavy s.before raceless trees agree came' started (ap (λ x. v.course.heavy trees came' x) (sym (append-nil started)) ∙ h (a.tracked.raceless ∙ raceless) trees came' [])
 
 -- and begins with an opening
-pub account_begins : {L F R : Type 0} (whole : Course) (files : FilesSeen) (clock : ClockSeen) (v : ConnView) → Fresh whole v → (clock.tells ≡ true → IsDated clock.told v.starts) → Account L F R whole files clock v [] []
+pub account_begins : {L F R : Type 0} (whole : Course) (files : FilesSeen) (clock : ClockSeen) (v : ConnView) → Fresh whole v → (clock.tells ≡ true → IsDated clock.told v.starts) → Account L F R whole files clock v [] [] false
 account_begins whole files clock v fresh dated = record {
   tracked = tracks_begin whole files.trees files.newest v fresh;
   cause = λ cause e. caused v cause fresh.live e;
   dated = dated;
+  ends = λ is. absurd (let e : true ≡ false = sym is ∙ fresh.ended in cc);
 }
 
 was_live : {now : Start} {ground : Ground} {L F R : Type 0} {v v' : ConnView} {came went : List ℕ} → Passed now ground L F R v v' came went → is_live v ≡ true
@@ -128,40 +139,42 @@ unheld v f live = let h = live_held v live in absurd (let e : true ≡ false = s
 -- A connection whose link is is_open stands so after an event.
 pub stands_passed : {L F R L' F' R' : Type 0} (whole : Addr → Addr → Course) (files : FilesSeen) (clock : ClockSeen) (now : Start) (ground : Ground) (v v' : ConnView) (l l' : LinkView) (used used' is_open is_open' : Bool) (came went : List ℕ) → (L' → L) → (F' → F) → (R' → R) →
     (v.raceless ≡ true → (trees : Trees) → Agree files.trees files.newest trees → Holds ground trees) → (clock.tells ≡ true → now.moment ≡ last_moment clock.told) → is_open' ≡ is_open →
-    l'.local ≡ l.local → l'.peer ≡ l.peer → l'.taken ≡ l.taken ++ came → l'.sent ≡ l.sent ++ went →
+    l'.local ≡ l.local → l'.peer ≡ l.peer → l'.taken ≡ l.taken ++ came → l'.sent ≡ l.sent ++ went → EndsOn v v' l l' →
     Passed now ground L' F' R' v v' came went → Stands L F R whole files clock v l used is_open → Stands L F R whole files clock v' l' used' is_open'
-stands_passed {L = L} {F = F} {R = R} whole files clock now ground v v' l l' used used' is_open is_open' came went fl ff fr holds moment same local peer taken sent p (Open held o a) =
+stands_passed {L = L} {F = F} {R = R} whole files clock now ground v v' l l' used used' is_open is_open' came went fl ff fr holds moment same local peer taken sent ends p (Open held o a) =
     Open (held_on p) (same ∙ o)
-    (subst (λ x. Account L F R (whole x l'.peer) files clock v' l'.taken l'.sent) (sym local)
-    (subst (λ x. Account L F R (whole l.local x) files clock v' l'.taken l'.sent) (sym peer)
-    (subst (λ x. Account L F R (whole l.local l.peer) files clock v' x l'.sent) (sym taken)
-    (subst (λ x. Account L F R (whole l.local l.peer) files clock v' (l.taken ++ came) x) (sym sent)
-    (account_passed (whole l.local l.peer) files clock now ground v v' l.taken l.sent came went fl ff fr holds moment p a)))))
-stands_passed whole files clock now ground v v' l l' used used' is_open is_open' came went fl ff fr holds moment same local peer taken sent p (Unused held o u) = unheld v held (was_live p)
-stands_passed whole files clock now ground v v' l l' used used' is_open is_open' came went fl ff fr holds moment same local peer taken sent p (TurnedAway held o t s) = unheld v held (was_live p)
-stands_passed whole files clock now ground v v' l l' used used' is_open is_open' came went fl ff fr holds moment same local peer taken sent p (Closed last held o sound shut a) = unheld v held (was_live p)
+    (subst (λ x. Account L F R (whole x l'.peer) files clock v' l'.taken l'.sent l'.ended) (sym local)
+    (subst (λ x. Account L F R (whole l.local x) files clock v' l'.taken l'.sent l'.ended) (sym peer)
+    (subst (λ x. Account L F R (whole l.local l.peer) files clock v' x l'.sent l'.ended) (sym taken)
+    (subst (λ x. Account L F R (whole l.local l.peer) files clock v' (l.taken ++ came) x l'.ended) (sym sent)
+    (account_passed (whole l.local l.peer) files clock now ground v v' l.taken l.sent came went l.ended l'.ended fl ff fr holds moment ends p a)))))
+stands_passed whole files clock now ground v v' l l' used used' is_open is_open' came went fl ff fr holds moment same local peer taken sent ends p (Unused held o u) = unheld v held (was_live p)
+stands_passed whole files clock now ground v v' l l' used used' is_open is_open' came went fl ff fr holds moment same local peer taken sent ends p (TurnedAway held o t s) = unheld v held (was_live p)
+stands_passed whole files clock now ground v v' l l' used used' is_open is_open' came went fl ff fr holds moment same local peer taken sent ends p (Closed last held o sound shut a) = unheld v held (was_live p)
 
 -- it stays while neither it nor its link changes but in what is due and full
 pub stands_stays : {L F R L' F' R' : Type 0} (whole : Addr → Addr → Course) (files files' : FilesSeen) (clock : ClockSeen) (v v' : ConnView) (l l' : LinkView) (used used' is_open is_open' : Bool) → (L → L') → (F → F') → (R → R') → Grown files files' →
-    v' ≡ v → l'.local ≡ l.local → l'.peer ≡ l.peer → l'.taken ≡ l.taken → l'.sent ≡ l.sent → used' ≡ used → is_open' ≡ is_open →
+    v' ≡ v → l'.local ≡ l.local → l'.peer ≡ l.peer → l'.taken ≡ l.taken → l'.sent ≡ l.sent → l'.ended ≡ l.ended → used' ≡ used → is_open' ≡ is_open →
     Stands L F R whole files clock v l used is_open → Stands L' F' R' whole files' clock v' l' used' is_open'
-stands_stays whole files files' clock v v' l l' used used' is_open is_open' fl ff fr g ev local peer taken sent eu eo (Unused held o u) = Unused (ap (λ (x : ConnView). x.held) ev ∙ held) (eo ∙ o) (eu ∙ u)
-stands_stays whole files files' clock v v' l l' used used' is_open is_open' fl ff fr g ev local peer taken sent eu eo (TurnedAway held o t s) = TurnedAway (ap (λ (x : ConnView). x.held) ev ∙ held) (eo ∙ o) (taken ∙ t) (sent ∙ s)
-stands_stays {L' = L'} {F' = F'} {R' = R'} whole files files' clock v v' l l' used used' is_open is_open' fl ff fr g ev local peer taken sent eu eo (Open held o a) =
+stands_stays whole files files' clock v v' l l' used used' is_open is_open' fl ff fr g ev local peer taken sent ended eu eo (Unused held o u) = Unused (ap (λ (x : ConnView). x.held) ev ∙ held) (eo ∙ o) (eu ∙ u)
+stands_stays whole files files' clock v v' l l' used used' is_open is_open' fl ff fr g ev local peer taken sent ended eu eo (TurnedAway held o t s) = TurnedAway (ap (λ (x : ConnView). x.held) ev ∙ held) (eo ∙ o) (taken ∙ t) (sent ∙ s)
+stands_stays {L' = L'} {F' = F'} {R' = R'} whole files files' clock v v' l l' used used' is_open is_open' fl ff fr g ev local peer taken sent ended eu eo (Open held o a) =
     Open (ap (λ (x : ConnView). x.held) ev ∙ held) (eo ∙ o)
-    (subst (λ x. Account L' F' R' (whole l'.local l'.peer) files' clock x l'.taken l'.sent) (sym ev)
-    (subst (λ x. Account L' F' R' (whole x l'.peer) files' clock v l'.taken l'.sent) (sym local)
-    (subst (λ x. Account L' F' R' (whole l.local x) files' clock v l'.taken l'.sent) (sym peer)
-    (subst (λ x. Account L' F' R' (whole l.local l.peer) files' clock v x l'.sent) (sym taken)
-    (subst (λ x. Account L' F' R' (whole l.local l.peer) files' clock v l.taken x) (sym sent)
-    (account_stays (whole l.local l.peer) files files' clock v l.taken l.sent fl ff fr g a))))))
-stands_stays {L' = L'} {F' = F'} {R' = R'} whole files files' clock v v' l l' used used' is_open is_open' fl ff fr g ev local peer taken sent eu eo (Closed last held o sound shut a) =
+    (subst (λ x. Account L' F' R' (whole l'.local l'.peer) files' clock x l'.taken l'.sent l'.ended) (sym ev)
+    (subst (λ x. Account L' F' R' (whole x l'.peer) files' clock v l'.taken l'.sent l'.ended) (sym local)
+    (subst (λ x. Account L' F' R' (whole l.local x) files' clock v l'.taken l'.sent l'.ended) (sym peer)
+    (subst (λ x. Account L' F' R' (whole l.local l.peer) files' clock v x l'.sent l'.ended) (sym taken)
+    (subst (λ x. Account L' F' R' (whole l.local l.peer) files' clock v l.taken x l'.ended) (sym sent)
+    (subst (λ x. Account L' F' R' (whole l.local l.peer) files' clock v l.taken l.sent x) (sym ended)
+    (account_stays (whole l.local l.peer) files files' clock v l.taken l.sent l.ended fl ff fr g a)))))))
+stands_stays {L' = L'} {F' = F'} {R' = R'} whole files files' clock v v' l l' used used' is_open is_open' fl ff fr g ev local peer taken sent ended eu eo (Closed last held o sound shut a) =
     Closed last (ap (λ (x : ConnView). x.held) ev ∙ held) (eo ∙ o) sound shut
-    (subst (λ x. Account L' F' R' (whole x l'.peer) files' clock last l'.taken l'.sent) (sym local)
-    (subst (λ x. Account L' F' R' (whole l.local x) files' clock last l'.taken l'.sent) (sym peer)
-    (subst (λ x. Account L' F' R' (whole l.local l.peer) files' clock last x l'.sent) (sym taken)
-    (subst (λ x. Account L' F' R' (whole l.local l.peer) files' clock last l.taken x) (sym sent)
-    (account_stays (whole l.local l.peer) files files' clock last l.taken l.sent fl ff fr g a)))))
+    (subst (λ x. Account L' F' R' (whole x l'.peer) files' clock last l'.taken l'.sent l'.ended) (sym local)
+    (subst (λ x. Account L' F' R' (whole l.local x) files' clock last l'.taken l'.sent l'.ended) (sym peer)
+    (subst (λ x. Account L' F' R' (whole l.local l.peer) files' clock last x l'.sent l'.ended) (sym taken)
+    (subst (λ x. Account L' F' R' (whole l.local l.peer) files' clock last l.taken x l'.ended) (sym sent)
+    (subst (λ x. Account L' F' R' (whole l.local l.peer) files' clock last l.taken l.sent x) (sym ended)
+    (account_stays (whole l.local l.peer) files files' clock last l.taken l.sent l.ended fl ff fr g a))))))
 
 -- it is closed
 pub stands_closed : {L F R : Type 0} (whole : Addr → Addr → Course) (files : FilesSeen) (clock : ClockSeen) (v v' : ConnView) (l : LinkView) (used used' is_open is_open' : Bool) → is_open ≡ true → is_open' ≡ false → v'.held ≡ false → IsSound v → v.shut ≡ true →

@@ -13,7 +13,7 @@ use Rattle.ready_loop.specs.Seen.{Begun, CoreSeen, LinksSeen, FilesSeen, ClockSe
 use Rattle.ngx_outside.specs.declared.event.StopCause.TheVariants as stop
 use Rattle.ready_loop.specs.Passing.{Passed, Stops, Counts}
 use Rattle.ready_loop.specs.Standing.{Marks, Account, Stands, Unused, TurnedAway, Open, Closed, Kept}
-use Rattle.ready_loop.proofs.AccountLemmas.{stands_passed, stands_stays, stands_closed, account_begins, dated_later, last_moment-append, live_held}
+use Rattle.ready_loop.proofs.AccountLemmas.{EndsOn, ends_same, stands_passed, stands_stays, stands_closed, account_begins, dated_later, last_moment-append, live_held}
 
 -- counts that rose stay risen
 pub rose_on : (m x y : ℕ) → x ≤ y → Rose m x → Rose m y
@@ -59,7 +59,7 @@ stays_at : (marks : Marks) (whole : ℕ → Addr → Addr → Course) (core core
 stays_at marks whole core core' links links' files files' clock c counts lf grown v l u o s =
     stands_stays (whole c) files files' clock (core.view c) (core'.view c) (links.link c) (links'.link c) (links.used c) (links'.used c) (links.is_open c) (links'.is_open c)
     (rose_on (marks.link c) (links.faults c) (links'.faults c) lf) (rose_on marks.files files.faults files'.faults grown.faults) (rose_counts marks.refused core.refused core'.refused counts) grown
-    v (ap (λ (x : LinkView). x.local) l) (ap (λ (x : LinkView). x.peer) l) (ap (λ (x : LinkView). x.taken) l) (ap (λ (x : LinkView). x.sent) l) u o s
+    v (ap (λ (x : LinkView). x.local) l) (ap (λ (x : LinkView). x.peer) l) (ap (λ (x : LinkView). x.taken) l) (ap (λ (x : LinkView). x.sent) l) (ap (λ (x : LinkView). x.ended) l) u o s
 
 -- all is kept, where it is at the connection itself
 pub kept_step : (marks : Marks) (whole : ℕ → Addr → Addr → Course) (core core' : CoreSeen) (links links' : LinksSeen) (files files' : FilesSeen) (clock : ClockSeen) (c : ℕ) →
@@ -84,7 +84,7 @@ lifted : (marks : Marks) (whole : ℕ → Addr → Addr → Course) (core core' 
 lifted marks whole core core' links links' files files' clock c s k =
     stands_stays (whole c) files files' clock (core.view c) (core.view c) (links.link c) (links.link c) (links.used c) (links.used c) (links.is_open c) (links.is_open c)
     (rose_on (marks.link c) (links.faults c) (links'.faults c) (s.faults c)) (rose_on marks.files files.faults files'.faults s.store.faults) (rose_counts marks.refused core.refused core'.refused s.counts) s.store
-    refl refl refl refl refl refl refl (k.all c)
+    refl refl refl refl refl refl refl refl (k.all c)
 
 -- an event of the core, with the bytes that came of the link and went to it
 pub kept_passed : {L' F' R' : Type 0} (marks : Marks) (whole : ℕ → Addr → Addr → Course) (core core' : CoreSeen) (links links' : LinksSeen) (files files' : FilesSeen) (clock : ClockSeen) (c : ℕ) (ground : Ground) (came went : List ℕ) →
@@ -93,23 +93,24 @@ pub kept_passed : {L' F' R' : Type 0} (marks : Marks) (whole : ℕ → Addr → 
     (L' → Rose (links.faults c) (links'.faults c)) → (F' → Rose files.faults files'.faults) → (R' → Rose core.refused core'.refused) →
     links'.is_open c ≡ links.is_open c →
     (links'.link c).local ≡ (links.link c).local → (links'.link c).peer ≡ (links.link c).peer → (links'.link c).taken ≡ (links.link c).taken ++ came → (links'.link c).sent ≡ (links.link c).sent ++ went →
+    EndsOn (core.view c) (core'.view c) (links.link c) (links'.link c) →
     Passed core.now ground L' F' R' (core.view c) (core'.view c) came went → Kept marks whole core links files clock → Kept marks whole core' links' files' clock
-kept_passed marks whole core core' links links' files files' clock c ground came went s holds fl ff fr same local peer taken sent p =
+kept_passed marks whole core core' links links' files files' clock c ground came went s holds fl ff fr same local peer taken sent ends p =
     kept_step marks whole core core' links links' files files' clock c s
     (λ k. stands_passed (whole c) files' clock core.now ground (core.view c) (core'.view c) (links.link c) (links'.link c) (links.used c) (links'.used c) (links.is_open c) (links'.is_open c) came went
     (λ x. rose_after (marks.link c) (links.faults c) (links'.faults c) (k.link_marks c) (fl x)) (λ x. rose_after marks.files files.faults files'.faults k.file_marks (ff x)) (λ x. rose_marked marks.refused core.refused core'.refused k.refused_marks (fr x))
-    holds k.now same local peer taken sent p (lifted marks whole core core' links links' files files' clock c s k))
+    holds k.now same local peer taken sent ends p (lifted marks whole core core' links links' files files' clock c s k))
 
 -- nothing but what is due and full
 pub kept_same : (marks : Marks) (whole : ℕ → Addr → Addr → Course) (core core' : CoreSeen) (links links' : LinksSeen) (files files' : FilesSeen) (clock : ClockSeen) (c : ℕ) →
     Steps c core core' links links' files files' → core'.view c ≡ core.view c → links'.is_open c ≡ links.is_open c →
-    (links'.link c).local ≡ (links.link c).local → (links'.link c).peer ≡ (links.link c).peer → (links'.link c).taken ≡ (links.link c).taken → (links'.link c).sent ≡ (links.link c).sent →
+    (links'.link c).local ≡ (links.link c).local → (links'.link c).peer ≡ (links.link c).peer → (links'.link c).taken ≡ (links.link c).taken → (links'.link c).sent ≡ (links.link c).sent → (links'.link c).ended ≡ (links.link c).ended →
     Kept marks whole core links files clock → Kept marks whole core' links' files' clock
-kept_same marks whole core core' links links' files files' clock c s v same local peer taken sent =
+kept_same marks whole core core' links links' files files' clock c s v same local peer taken sent ended =
     kept_step marks whole core core' links links' files files' clock c s
     (λ k. stands_stays (whole c) files files' clock (core.view c) (core'.view c) (links.link c) (links'.link c) (links.used c) (links'.used c) (links.is_open c) (links'.is_open c)
     (rose_on (marks.link c) (links.faults c) (links'.faults c) (s.faults c)) (rose_on marks.files files.faults files'.faults s.store.faults) (rose_counts marks.refused core.refused core'.refused s.counts) s.store
-    v local peer taken sent (s.used c) same (k.all c))
+    v local peer taken sent ended (s.used c) same (k.all c))
 
 -- a link and its connection are closed
 pub kept_closed : (marks : Marks) (whole : ℕ → Addr → Addr → Course) (core core' : CoreSeen) (links links' : LinksSeen) (files files' : FilesSeen) (clock : ClockSeen) (c : ℕ) →
@@ -166,7 +167,7 @@ kept_opened marks whole core core' before links files clock id local peer o told
     own k =
         let begun_so : Fresh (whole id local peer) (core'.view id) = subst (λ (f : Addr → Addr → Course). Fresh (f local peer) (core'.view id)) (sym (k.fresh id o.unused)) begins in
         Open (live_held (core'.view id) begins.live) o.opened.own
-        (subst (λ (l : LinkView). Account L F R (whole id l.local l.peer) files clock (core'.view id) l.taken l.sent) (sym o.linked.own)
+        (subst (λ (l : LinkView). Account L F R (whole id l.local l.peer) files clock (core'.view id) l.taken l.sent l.ended) (sym o.linked.own)
         (account_begins (whole id local peer) files clock (core'.view id) begun_so at_last))
 
 pub kept_turned_away : (marks : Marks) (whole : ℕ → Addr → Addr → Course) (core core' : CoreSeen) (before mid links' : LinksSeen) (files : FilesSeen) (clock : ClockSeen) (id : ℕ) (local peer : Addr) →
@@ -178,25 +179,26 @@ kept_turned_away marks whole core core' before mid links' files clock id local p
     (λ k. TurnedAway unheld shut (ap (λ (l : LinkView). l.taken) (links id ∙ o.linked.own)) (ap (λ (l : LinkView). l.sent) (links id ∙ o.linked.own)))
 
 -- the clock tells a moment
-account_told : {L F R : Type 0} (whole : Course) (files : FilesSeen) (clock clock' : ClockSeen) (v : ConnView) (came went : List ℕ) (moment : ℕ) → clock'.tells ≡ clock.tells → (clock.tells ≡ true → clock'.told ≡ clock.told ++ moment ∷ []) →
-    Account L F R whole files clock v came went → Account L F R whole files clock' v came went
-account_told whole files clock clock' v came went moment same told a = record {
+account_told : {L F R : Type 0} (whole : Course) (files : FilesSeen) (clock clock' : ClockSeen) (v : ConnView) (came went : List ℕ) (found_end : Bool) (moment : ℕ) → clock'.tells ≡ clock.tells → (clock.tells ≡ true → clock'.told ≡ clock.told ++ moment ∷ []) →
+    Account L F R whole files clock v came went found_end → Account L F R whole files clock' v came went found_end
+account_told whole files clock clock' v came went found_end moment same told a = record {
   tracked = a.tracked;
   cause = a.cause;
   dated = λ t. (let t' : clock.tells ≡ true = sym same ∙ t in subst (λ x. IsDated x v.starts) (sym (told t')) (dated_later clock.told moment v.starts (a.dated t')));
+  ends = a.ends;
 }
 
 stands_told : {L F R : Type 0} (whole : Addr → Addr → Course) (files : FilesSeen) (clock clock' : ClockSeen) (v : ConnView) (l : LinkView) (used is_open : Bool) (moment : ℕ) → clock'.tells ≡ clock.tells → (clock.tells ≡ true → clock'.told ≡ clock.told ++ moment ∷ []) →
     Stands L F R whole files clock v l used is_open → Stands L F R whole files clock' v l used is_open
 stands_told whole files clock clock' v l used is_open moment same told (Unused held o u) = Unused held o u
 stands_told whole files clock clock' v l used is_open moment same told (TurnedAway held o t s) = TurnedAway held o t s
-stands_told whole files clock clock' v l used is_open moment same told (Open held o a) = Open held o (account_told (whole l.local l.peer) files clock clock' v l.taken l.sent moment same told a)
-stands_told whole files clock clock' v l used is_open moment same told (Closed last held o sound shut a) = Closed last held o sound shut (account_told (whole l.local l.peer) files clock clock' last l.taken l.sent moment same told a)
+stands_told whole files clock clock' v l used is_open moment same told (Open held o a) = Open held o (account_told (whole l.local l.peer) files clock clock' v l.taken l.sent l.ended moment same told a)
+stands_told whole files clock clock' v l used is_open moment same told (Closed last held o sound shut a) = Closed last held o sound shut (account_told (whole l.local l.peer) files clock clock' last l.taken l.sent l.ended moment same told a)
 
 pub kept_ticked : (marks : Marks) (whole : ℕ → Addr → Addr → Course) (core core' : CoreSeen) (links : LinksSeen) (files : FilesSeen) (clock clock' : ClockSeen) (moment : ℕ) →
-    ((c : ℕ) → Ticked (kept_moment moment) (core.view c) (core'.view c)) → core'.fresh ≡ core.fresh → core'.now.moment ≡ kept_moment moment → core'.refused ≡ core.refused →
+    ((c : ℕ) → Ticked (kept_moment moment) (core.view c) (core'.view c)) → core'.fresh ≡ core.fresh → core'.now.moment ≡ kept_moment moment → core'.refused ≡ core.refused → ((c : ℕ) → (core'.view c).ended ≡ (core.view c).ended) →
     clock'.tells ≡ clock.tells → (clock.tells ≡ true → clock'.told ≡ clock.told ++ moment ∷ []) → Kept marks whole core links files clock → Kept marks whole core' links files clock'
-kept_ticked marks whole core core' links files clock clock' moment ticked fresh now refused same told k = record {
+kept_ticked marks whole core core' links files clock clock' moment ticked fresh now refused ended same told k = record {
   fresh = λ d unused. k.fresh d unused ∙ sym fresh;
   link_marks = k.link_marks;
   file_marks = k.file_marks;
@@ -211,13 +213,13 @@ kept_ticked marks whole core core' links files clock clock' moment ticked fresh 
     counted : (d : ℕ) → Stands (Rose (marks.link d) (links.faults d)) (Rose marks.files files.faults) (Rose marks.refused core'.refused) (whole d) files clock (core.view d) (links.link d) (links.used d) (links.is_open d)
     counted d =
         stands_stays (whole d) files files clock (core.view d) (core.view d) (links.link d) (links.link d) (links.used d) (links.used d) (links.is_open d) (links.is_open d)
-        (λ x. x) (λ x. x) (rose_counts marks.refused core.refused core'.refused (inl refused)) (grown_same files) refl refl refl refl refl refl refl (k.all d)
+        (λ x. x) (λ x. x) (rose_counts marks.refused core.refused core'.refused (inl refused)) (grown_same files) refl refl refl refl refl refl refl refl (k.all d)
 
     go : (d : ℕ) → Ticked (kept_moment moment) (core.view d) (core'.view d) → Stands (Rose (marks.link d) (links.faults d)) (Rose marks.files files.faults) (Rose marks.refused core'.refused) (whole d) files clock' (core.view d) (links.link d) (links.used d) (links.is_open d) →
         StandsAt marks whole core' links files clock' d
     go d (GivesUp due is before s) st =
         stands_passed (whole d) files clock' core'.now Always (core.view d) (core'.view d) (links.link d) (links.link d) (links.used d) (links.used d) (links.is_open d) (links.is_open d) [] []
-        (λ x. x) (λ x. x) (λ x. x) (λ raceless trees agree. tt) at_last refl refl refl (sym (append-nil (links.link d).taken)) (sym (append-nil (links.link d).sent))
+        (λ x. x) (λ x. x) (λ x. x) (λ raceless trees agree. tt) at_last refl refl refl (sym (append-nil (links.link d).taken)) (sym (append-nil (links.link d).sent)) (ends_same (core.view d) (core'.view d) (links.link d) (links.link d) (ended d) refl)
         (Stops (stop.Deadline due (kept_moment moment)) [] (inl refl) before refl s) st
     go d (Waits not same') st =
         subst (λ v. Stands (Rose (marks.link d) (links.faults d)) (Rose marks.files files.faults) (Rose marks.refused core'.refused) (whole d) files clock' v (links.link d) (links.used d) (links.is_open d)) (sym same') st

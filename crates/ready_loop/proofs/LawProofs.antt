@@ -1,5 +1,5 @@
 -- What the account of a connection comes to.
-use Rattle.std.proofs.Common.{◌≡◌, ℕ, Bool, true, false, ◌&&◌, List, [], ◌∷◌, ◌++◌, refl, sym, ap, ◌∙◌, subst}
+use Rattle.std.proofs.Common.{◌≡◌, ℕ, Bool, true, false, ◌&&◌, List, [], ◌∷◌, ◌++◌, None, refl, sym, ap, ◌∙◌, subst}
 use Rattle.std.proofs.Common.{arith}
 use Rattle.ready_loop.specs.Standing.{Unused}
 use Rattle.std.specs.Prelude.{is_none}
@@ -7,8 +7,9 @@ use Rattle.std.specs.List.{All, Contains}
 use Rattle.std.proofs.lemmas.List.{append-nil}
 use Rattle.std.proofs.lemmas.List.Elements.{All-nil, All-push, All-weaker, Contains-append_left, Contains-append_right, Contains-push}
 use Rattle.ngx_outside.specs.Views.{ConnView, Start, IsSound, is_live, kept_moment}
+use Rattle.ngx_outside.proofs.Tracks.{all_is_sent_when_shut}
 use Rattle.ready_loop.specs.Seen.{Dated, Begun, Later, Started}
-use Rattle.ready_loop.specs.Laws.{ClosedUnstoppedSentAll, KeptBegins, MomentsWereTold}
+use Rattle.ready_loop.specs.Laws.{ClosedUnendedSentAll, ClosedUnstoppedSentAll, KeptBegins, MomentsWereTold}
 
 pub begins : KeptBegins
 begins core links files clock unheld shut unused now = record {
@@ -28,10 +29,22 @@ held_shut v sound shut = go v.held refl
     go true e = e
     go false e = absurd (let f : false ≡ true = ap (λ (x : ConnView). x.shut) (sym (sound.absent e)) ∙ shut in cc)
 
+-- one that is to be closed and wasn't stopped is live
+unstopped_live : (v : ConnView) → IsSound v → v.shut ≡ true → v.cause ≡ None → is_live v ≡ true
+unstopped_live v sound shut unstopped = ap (λ h. h && is_none v.cause) (held_shut v sound shut) ∙ ap (λ c. true && is_none c) unstopped
+
 pub closed_sent_all : ClosedUnstoppedSentAll
-closed_sent_all whole files clock last came went a sound shut unstopped raceless trees agree later =
-    let live : is_live last ≡ true = ap (λ h. h && is_none last.cause) (held_shut last sound shut) ∙ ap (λ c. true && is_none c) unstopped in
+closed_sent_all whole files clock last came went found_end a sound shut unstopped raceless trees agree later =
+    let live : is_live last ≡ true = unstopped_live last sound shut unstopped in
     ap (λ c. whole.bytes trees c (last.starts ++ later)) (sym (append-nil came)) ∙ a.tracked.on live raceless trees agree [] later ∙ ap (λ r. went ++ r) (sound.shut live shut trees later) ∙ append-nil went
+
+pub closed_unended_sent_all : ClosedUnendedSentAll
+closed_unended_sent_all whole files clock last came went a sound shut unstopped raceless trees agree more later =
+    all_is_sent_when_shut whole files.trees files.newest last came went a.tracked sound (unstopped_live last sound shut unstopped) shut (unended last.ended a.ends) raceless trees agree more later
+  where
+    unended : (t : Bool) → (t ≡ true → false ≡ true) → t ≡ false
+    unended true h = absurd (let e : false ≡ true = h refl in cc)
+    unended false h = refl
 
 IsTold : List ℕ → Start → Type 0
 IsTold told s = (moment : ℕ) × Contains told moment × (s.moment ≡ kept_moment moment)

@@ -4,4 +4,5 @@ pub mod KeptLemmas
 pub mod JobLemmas
 pub mod WantLemmas
 pub mod RestLemmas
+pub mod BesideLemmas
 pub mod LawProofs

@@ -3,4 +3,5 @@ pub mod Seen
 pub mod Passing
 pub mod Standing
 pub mod Turns
+pub mod Tellings
 pub mod Laws

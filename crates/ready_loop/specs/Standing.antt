@@ -21,22 +21,23 @@ abbrev pub WasHeavy : Course → FilesSeen → ConnView → List ℕ → Type 0
 WasHeavy whole files v came = whole.raceless ≡ true → (trees : Trees) → Agree files.trees files.newest trees → whole.heavy trees came v.starts ≡ true
 
 -- A connection, on which `whole` was to come at its opening, and its link, of which these bytes came and to which those
--- went. They are tracked; where it was stopped, something stands behind the cause; and its requests started at moments that
--- the clock told.
-pub record Account (link_rose files_rose refused_rose : Type 0) (whole : Course) (files : FilesSeen) (clock : ClockSeen) (v : ConnView) (came went : List ℕ) : Type 0 where
+-- went, and of which a read found the end of the input or not. They are tracked; where it was stopped, something stands
+-- behind the cause; its requests started at moments that the clock told; and its input ended only where a read found that.
+pub record Account (link_rose files_rose refused_rose : Type 0) (whole : Course) (files : FilesSeen) (clock : ClockSeen) (v : ConnView) (came went : List ℕ) (found_end : Bool) : Type 0 where
   pub tracked : Tracked whole files.trees files.newest v came went
   pub cause : (cause : StopCause) → v.cause ≡ Some cause → Behind link_rose files_rose refused_rose (WasHeavy whole files v came) cause
   pub dated : clock.tells ≡ true → IsDated clock.told v.starts
+  pub ends : v.ended ≡ true → found_end ≡ true
 
 -- An id was never reported; or its connection was refused and its link closed at once; or the core holds its connection,
 -- and its link is open; or both are closed, and the connection was as it was last, when its link was to be closed.
 pub data Stands (link_rose files_rose refused_rose : Type 0) (whole : Addr → Addr → Course) (files : FilesSeen) (clock : ClockSeen) (v : ConnView) (l : LinkView) (used is_open : Bool) : Type 0 where
   Unused : v.held ≡ false → is_open ≡ false → used ≡ false → Stands link_rose files_rose refused_rose whole files clock v l used is_open
   TurnedAway : v.held ≡ false → is_open ≡ false → l.taken ≡ [] → l.sent ≡ [] → Stands link_rose files_rose refused_rose whole files clock v l used is_open
-  Open : v.held ≡ true → is_open ≡ true → Account link_rose files_rose refused_rose (whole l.local l.peer) files clock v l.taken l.sent →
+  Open : v.held ≡ true → is_open ≡ true → Account link_rose files_rose refused_rose (whole l.local l.peer) files clock v l.taken l.sent l.ended →
       Stands link_rose files_rose refused_rose whole files clock v l used is_open
   Closed : (last : ConnView) → v.held ≡ false → is_open ≡ false → IsSound last → last.shut ≡ true →
-      Account link_rose files_rose refused_rose (whole l.local l.peer) files clock last l.taken l.sent →
+      Account link_rose files_rose refused_rose (whole l.local l.peer) files clock last l.taken l.sent l.ended →
       Stands link_rose files_rose refused_rose whole files clock v l used is_open
 
 -- All stand so, with the counts at the marks or above, and requests start at the moment that the clock told last. On a

@@ -1,5 +1,5 @@
 // Serves connections one after another, and remembers which links are still to be read.
-ghost use Rattle.std.specs.Prelude.{◌≡◌, ◌≢◌, ◌≤◌, ◌⊎◌, ◌||◌, ℕ, [], true, false, List, All, OnOk, nat_eq};
+ghost use Rattle.std.specs.Prelude.{◌≡◌, ◌≢◌, ◌≤◌, ◌⊎◌, ◌||◌, ℕ, [], true, false, List, All, OnOk, nat_eq, Option};
 ghost use Rattle.std.specs.List.{list_any};
 ghost use Rattle.http_types.specs.declared.words.Addr.{Addr as End};
 ghost use Rattle.ngx_outside.specs.Views.{Course};
@@ -7,6 +7,7 @@ ghost use Rattle.ready_loop.specs.Ids.{has};
 ghost use Rattle.ready_loop.specs.Seen.{Elsewhere, ClockSeen, core_seen, links_seen, files_seen};
 ghost use Rattle.ready_loop.specs.Standing.{Marks, Kept, IsMatched};
 ghost use Rattle.ready_loop.specs.Turns.{AtRest, IsHeard, IsHeardBut, conn_of as conn_in};
+ghost use Rattle.ready_loop.specs.Tellings.{StandBeside};
 
 use crate::drain::{Buffers, drain};
 use crate::ids::Ids;
@@ -56,8 +57,10 @@ pub fn serve_one<E: EventCore, F: Files, L: Links>(
     ensures matched { OnOk result (IsMatched (E.view core.new) (L.is_open links.new)) }
     ensures heard { L.tells links.old ≡ true → IsHeardBut conn due (L.is_open links.old) (L.link links.old) memory.old.unread → OnOk result (IsHeard (L.is_open links.new) (L.link links.new) memory.new.unread) }
     ensures rests { OnOk result ((E.view core.new conn).held ≡ true → AtRest ((L.tells links.old ≡ true) × IsHeardBut conn due (L.is_open links.old) (L.link links.old) memory.old.unread) (L.tells links.old ≡ true) (E.view core.new conn) (L.link links.new conn)) }
+    ensures beside { OnOk result ((clock : Option (List ℕ)) → StandBeside (E.events core.old) (E.events core.new) (L.answers links.old) (L.answers links.new) (F.answers files.old) (F.answers files.new) clock clock) }
     ensures steady { (E.fresh core.new ≡ E.fresh core.old) × (E.price core.new ≡ E.price core.old) × (E.now core.new ≡ E.now core.old) }
     ensures later { L.faults links.old ≤ L.faults links.new }
+    ensures stays_over { L.over links.old ≡ true → L.over links.new ≡ true }
     ensures tells { (L.tells links.new ≡ L.tells links.old) × (L.listening links.new ≡ L.listening links.old) × (F.tells files.new ≡ F.tells files.old) }
     ensures grown { F.newest files.old ≤ F.newest files.new }
 {
@@ -134,8 +137,10 @@ pub fn serve_all<E: EventCore, F: Files, L: Links>(
     ensures matched { OnOk result (IsMatched (E.view core.new) (L.is_open links.new)) }
     ensures heard { L.tells links.old ≡ true → IsHeard (L.is_open links.old) (L.link links.old) memory.old.unread → OnOk result (IsHeard (L.is_open links.new) (L.link links.new) memory.new.unread) }
     ensures rests { OnOk result ((c : ℕ) → (E.view core.new c).held ≡ true → AtRest ((L.tells links.old ≡ true) × IsHeard (L.is_open links.old) (L.link links.old) memory.old.unread) (L.tells links.old ≡ true) (E.view core.new c) (L.link links.new c)) }
+    ensures beside { OnOk result ((clock : Option (List ℕ)) → StandBeside (E.events core.old) (E.events core.new) (L.answers links.old) (L.answers links.new) (F.answers files.old) (F.answers files.new) clock clock) }
     ensures steady { OnOk result ((E.fresh core.new ≡ E.fresh core.old) × (E.price core.new ≡ E.price core.old) × (E.now core.new ≡ E.now core.old)) }
     ensures later { OnOk result (L.faults links.old ≤ L.faults links.new) }
+    ensures stays_over { OnOk result (L.over links.old ≡ true → L.over links.new ≡ true) }
     ensures tells { OnOk result ((L.tells links.new ≡ L.tells links.old) × (L.listening links.new ≡ L.listening links.old) × (F.tells files.new ≡ F.tells files.old)) }
     ensures grown { OnOk result (F.newest files.old ≤ F.newest files.new) }
 {

@@ -1,10 +1,11 @@
 // Serves the wants of a connection.
-ghost use Rattle.std.specs.Prelude.{◌≡◌, ◌≢◌, ◌+◌, ◌*◌, ◌<◌, ◌≤◌, ℕ, [], true, false, List, All, Contains, IfSome, IfNone, OnOk, IfOk, vec_len};
+ghost use Rattle.std.specs.Prelude.{◌≡◌, ◌≢◌, ◌+◌, ◌*◌, ◌<◌, ◌≤◌, ℕ, [], true, false, List, All, Contains, IfSome, IfNone, OnOk, IfOk, vec_len, Option};
 ghost use Rattle.http_types.specs.declared.words.Addr.{Addr as End};
 ghost use Rattle.ngx_outside.specs.Views.{Course, IsSound};
 ghost use Rattle.ready_loop.specs.Seen.{Elsewhere, ClockSeen, core_seen, links_seen, files_seen};
 ghost use Rattle.ready_loop.specs.Standing.{Marks, Kept};
 ghost use Rattle.ready_loop.specs.Turns.{IsRested, IsWanted, doable, work};
+ghost use Rattle.ready_loop.specs.Tellings.{StandBeside};
 
 use crate::jobs::{job_one, run_one};
 use crate::links::{close_one, read_one, write_one};
@@ -74,8 +75,10 @@ fn serve_want<E: EventCore, F: Files, L: Links>(
     ensures due { L.tells links.old ≡ true → (L.is_open links.old conn ≡ true → (L.link links.old conn).due ≡ true → ready.due ≡ true) → IfOk result (λ r. L.is_open links.new conn ≡ true → (L.link links.new conn).due ≡ true → r.due ≡ true) }
     ensures full { L.tells links.old ≡ true → (ready.full ≡ true → (L.link links.old conn).full ≡ true) → IfOk result (λ r. r.full ≡ true → (L.link links.new conn).full ≡ true) }
     ensures falls { IfOk result (λ r. work (E.price core.old) (vec_len buffers.old.input) r.due r.full (E.left core.new) < work (E.price core.old) (vec_len buffers.old.input) ready.due ready.full (E.left core.old)) }
+    ensures beside { OnOk result ((clock : Option (List ℕ)) → StandBeside (E.events core.old) (E.events core.new) (L.answers links.old) (L.answers links.new) (F.answers files.old) (F.answers files.new) clock clock) }
     ensures steady { (E.fresh core.new ≡ E.fresh core.old) × (E.price core.new ≡ E.price core.old) × (E.now core.new ≡ E.now core.old) }
     ensures later { L.faults links.old ≤ L.faults links.new }
+    ensures stays_over { L.over links.old ≡ true → L.over links.new ≡ true }
     ensures tells { (L.tells links.new ≡ L.tells links.old) × (L.listening links.new ≡ L.listening links.old) × (F.tells files.new ≡ F.tells files.old) }
     ensures grown { F.newest files.old ≤ F.newest files.new }
     ensures size { vec_len buffers.new.input ≡ vec_len buffers.old.input }
@@ -129,8 +132,10 @@ pub fn drain<E: EventCore, F: Files, L: Links>(
     ensures matched { OnOk result ((E.view core.new conn).held ≡ L.is_open links.new conn) }
     ensures rests { IfOk result (λ due'. IsRested (L.tells links.old ≡ true) due' conn (E.view core.new conn) (L.link links.new conn)) }
     ensures due { L.tells links.old ≡ true → (L.is_open links.old conn ≡ true → (L.link links.old conn).due ≡ true → due ≡ true) → IfOk result (λ due'. L.is_open links.new conn ≡ true → (L.link links.new conn).due ≡ true → due' ≡ true) }
+    ensures beside { OnOk result ((clock : Option (List ℕ)) → StandBeside (E.events core.old) (E.events core.new) (L.answers links.old) (L.answers links.new) (F.answers files.old) (F.answers files.new) clock clock) }
     ensures steady { (E.fresh core.new ≡ E.fresh core.old) × (E.price core.new ≡ E.price core.old) × (E.now core.new ≡ E.now core.old) }
     ensures later { L.faults links.old ≤ L.faults links.new }
+    ensures stays_over { L.over links.old ≡ true → L.over links.new ≡ true }
     ensures tells { (L.tells links.new ≡ L.tells links.old) × (L.listening links.new ≡ L.listening links.old) × (F.tells files.new ≡ F.tells files.old) }
     ensures grown { F.newest files.old ≤ F.newest files.new }
 {

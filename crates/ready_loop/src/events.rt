@@ -6,6 +6,7 @@ ghost use Rattle.ngx_outside.specs.Causes.{Rose};
 ghost use Rattle.ngx_outside.specs.Views.{Always, Answers, Raceless, Fresh, Ticked, is_live, ask_in, kept_moment, nobody};
 ghost use Rattle.ready_loop.specs.Seen.{Elsewhere};
 ghost use Rattle.ready_loop.specs.Passing.{Passed, Counts};
+ghost use Rattle.ngx_outside.specs.Records.{Adds, Opened as OpenedGiven, Arrived as ArrivedGiven, Ended as EndedGiven, Wrote as WroteGiven, LinkFailed as LinkFailedGiven, Answered as AnsweredGiven, Run as RunGiven, Tick as TickGiven, Tree as TreeGiven, Gone as GoneGiven, Failed as FailedFile, answer_of};
 
 use file_tree::JobAnswer;
 use http_types::Addr;
@@ -17,8 +18,10 @@ pub fn arrived<E: EventCore>(core: &mut E, conn: u32, room: usize, bytes: &[u8])
     requires within { length bytes.now ≤ room }
     requires some { 0 < length bytes.now }
     ensures passed { Passed (E.now core.old) Always ⊥ ⊥ (Rose (E.refused core.old) (E.refused core.new)) (E.view core.old conn) (E.view core.new conn) bytes.now [] }
+    ensures ended { (E.view core.new conn).ended ≡ (E.view core.old conn).ended }
     ensures others { Elsewhere conn (E.view core.old) (E.view core.new) }
     ensures left { E.left core.new < E.left core.old + E.price core.old * length bytes.now + 1 }
+    ensures given { Adds (ArrivedGiven conn bytes.now) (E.events core.old) (E.events core.new) }
     ensures steady { (E.fresh core.new ≡ E.fresh core.old) × (E.price core.new ≡ E.price core.old) × (E.now core.new ≡ E.now core.old) }
     ensures counts { Counts (E.refused core.old) (E.refused core.new) }
 {
@@ -32,6 +35,7 @@ pub fn ended<E: EventCore>(core: &mut E, conn: u32)
     ensures others { Elsewhere conn (E.view core.old) (E.view core.new) }
     ensures left { E.left core.new < E.left core.old + 1 }
     ensures unread { (E.view core.new conn).room ≡ None }
+    ensures given { Adds (EndedGiven conn) (E.events core.old) (E.events core.new) }
     ensures steady { (E.fresh core.new ≡ E.fresh core.old) × (E.price core.new ≡ E.price core.old) × (E.now core.new ≡ E.now core.old) }
     ensures counts { Counts (E.refused core.old) (E.refused core.new) }
 {
@@ -43,8 +47,10 @@ pub fn wrote<E: EventCore>(core: &mut E, conn: u32, count: usize)
     requires some { 0 < count }
     requires within { count ≤ length (E.view core.old conn).pending }
     ensures passed { Passed (E.now core.old) Always ⊥ ⊥ ⊥ (E.view core.old conn) (E.view core.new conn) [] (take count (E.view core.old conn).pending) }
+    ensures ended { (E.view core.new conn).ended ≡ (E.view core.old conn).ended }
     ensures others { Elsewhere conn (E.view core.old) (E.view core.new) }
     ensures left { E.left core.new < E.left core.old }
+    ensures given { Adds (WroteGiven conn count) (E.events core.old) (E.events core.new) }
     ensures steady { (E.fresh core.new ≡ E.fresh core.old) × (E.price core.new ≡ E.price core.old) × (E.now core.new ≡ E.now core.old) }
     ensures counts { Counts (E.refused core.old) (E.refused core.new) }
 {
@@ -55,9 +61,11 @@ pub fn wrote<E: EventCore>(core: &mut E, conn: u32, count: usize)
 pub fn link_failed<E: EventCore>(core: &mut E, conn: u32)
     requires live { is_live (E.view core.old conn) ≡ true }
     ensures passed { Passed (E.now core.old) Always (Unit {0}) ⊥ ⊥ (E.view core.old conn) (E.view core.new conn) [] [] }
+    ensures ended { (E.view core.new conn).ended ≡ (E.view core.old conn).ended }
     ensures others { Elsewhere conn (E.view core.old) (E.view core.new) }
     ensures left { E.left core.new < E.left core.old }
     ensures stopped { is_live (E.view core.new conn) ≡ false }
+    ensures given { Adds (LinkFailedGiven conn) (E.events core.old) (E.events core.new) }
     ensures steady { (E.fresh core.new ≡ E.fresh core.old) × (E.price core.new ≡ E.price core.old) × (E.now core.new ≡ E.now core.old) }
     ensures counts { Counts (E.refused core.old) (E.refused core.new) }
 {
@@ -69,8 +77,10 @@ pub fn file_done<E: EventCore>(core: &mut E, conn: u32, node: u32, answer: JobAn
     requires waits { ask_in (E.view core.old conn).jobs node ≢ None }
     requires fits { (ask : Ask) → ask_in (E.view core.old conn).jobs node ≡ Some ask → is_fitting ask answer ≡ true }
     ensures passed { (ask : Ask) → ask_in (E.view core.old conn).jobs node ≡ Some ask → Passed (E.now core.old) (Answers ask answer.entry) ⊥ ⊥ (Rose (E.refused core.old) (E.refused core.new)) (E.view core.old conn) (E.view core.new conn) [] [] }
+    ensures ended { (E.view core.new conn).ended ≡ (E.view core.old conn).ended }
     ensures others { Elsewhere conn (E.view core.old) (E.view core.new) }
     ensures left { E.left core.new < E.left core.old }
+    ensures given { Adds (AnsweredGiven conn node (answer_of answer.entry)) (E.events core.old) (E.events core.new) }
     ensures steady { (E.fresh core.new ≡ E.fresh core.old) × (E.price core.new ≡ E.price core.old) × (E.now core.new ≡ E.now core.old) }
     ensures counts { Counts (E.refused core.old) (E.refused core.new) }
 {
@@ -81,8 +91,10 @@ pub fn file_done<E: EventCore>(core: &mut E, conn: u32, node: u32, answer: JobAn
 pub fn job_failed<E: EventCore>(core: &mut E, conn: u32, node: u32)
     requires waits { ask_in (E.view core.old conn).jobs node ≢ None }
     ensures passed { Passed (E.now core.old) Always ⊥ (Unit {0}) ⊥ (E.view core.old conn) (E.view core.new conn) [] [] }
+    ensures ended { (E.view core.new conn).ended ≡ (E.view core.old conn).ended }
     ensures others { Elsewhere conn (E.view core.old) (E.view core.new) }
     ensures left { E.left core.new < E.left core.old }
+    ensures given { Adds (AnsweredGiven conn node FailedFile) (E.events core.old) (E.events core.new) }
     ensures steady { (E.fresh core.new ≡ E.fresh core.old) × (E.price core.new ≡ E.price core.old) × (E.now core.new ≡ E.now core.old) }
     ensures counts { Counts (E.refused core.old) (E.refused core.new) }
 {
@@ -93,8 +105,10 @@ pub fn job_failed<E: EventCore>(core: &mut E, conn: u32, node: u32)
 pub fn ran<E: EventCore>(core: &mut E, conn: u32, node: u32)
     requires ready { Contains (E.view core.old conn).ready node }
     ensures passed { Passed (E.now core.old) (Raceless (E.view core.old conn).raceless) ⊥ ⊥ (Rose (E.refused core.old) (E.refused core.new)) (E.view core.old conn) (E.view core.new conn) [] [] }
+    ensures ended { (E.view core.new conn).ended ≡ (E.view core.old conn).ended }
     ensures others { Elsewhere conn (E.view core.old) (E.view core.new) }
     ensures left { E.left core.new < E.left core.old }
+    ensures given { Adds (RunGiven conn node) (E.events core.old) (E.events core.new) }
     ensures steady { (E.fresh core.new ≡ E.fresh core.old) × (E.price core.new ≡ E.price core.old) × (E.now core.new ≡ E.now core.old) }
     ensures counts { Counts (E.refused core.old) (E.refused core.new) }
 {
@@ -107,6 +121,7 @@ pub fn gone<E: EventCore>(core: &mut E, conn: u32)
     ensures passed { (E.view core.new conn) ≡ nobody }
     ensures others { Elsewhere conn (E.view core.old) (E.view core.new) }
     ensures left { E.left core.new < E.left core.old }
+    ensures given { Adds (GoneGiven conn) (E.events core.old) (E.events core.new) }
     ensures steady { (E.fresh core.new ≡ E.fresh core.old) × (E.price core.new ≡ E.price core.old) × (E.now core.new ≡ E.now core.old) }
     ensures counts { Counts (E.refused core.old) (E.refused core.new) }
 {
@@ -118,6 +133,7 @@ pub fn opened<E: EventCore>(core: &mut E, conn: u32, local: Addr, peer: Addr) ->
     ensures fresh { result ≡ true → Fresh (E.fresh core.old local peer) (E.view core.new conn) }
     ensures same { result ≡ false → E.view core.new conn ≡ E.view core.old conn }
     ensures others { Elsewhere conn (E.view core.old) (E.view core.new) }
+    ensures given { Adds (OpenedGiven conn local peer) (E.events core.old) (E.events core.new) }
     ensures steady { (E.fresh core.new ≡ E.fresh core.old) × (E.price core.new ≡ E.price core.old) × (E.now core.new ≡ E.now core.old) }
     ensures refused { E.refused core.new ≡ E.refused core.old }
 {
@@ -132,8 +148,10 @@ pub fn opened<E: EventCore>(core: &mut E, conn: u32, local: Addr, peer: Addr) ->
 /// The clock tells a moment.
 pub fn ticked<E: EventCore>(core: &mut E, moment: u64)
     ensures ticked { (c : ℕ) → Ticked (kept_moment moment) (E.view core.old c) (E.view core.new c) }
+    ensures ended { (c : ℕ) → (E.view core.new c).ended ≡ (E.view core.old c).ended }
     ensures moment { (E.now core.new).moment ≡ kept_moment moment }
     ensures tree { (E.now core.new).tree ≡ (E.now core.old).tree }
+    ensures given { Adds (TickGiven moment) (E.events core.old) (E.events core.new) }
     ensures steady { (E.fresh core.new ≡ E.fresh core.old) × (E.price core.new ≡ E.price core.old) }
     ensures refused { E.refused core.new ≡ E.refused core.old }
 {
@@ -151,6 +169,7 @@ pub fn tree_told<E: EventCore>(core: &mut E, to: u64)
     ensures views { (c : ℕ) → E.view core.new c ≡ E.view core.old c }
     ensures moment { (E.now core.new).moment ≡ (E.now core.old).moment }
     ensures tree { (E.now core.new).tree ≡ to }
+    ensures given { Adds (TreeGiven to) (E.events core.old) (E.events core.new) }
     ensures steady { (E.fresh core.new ≡ E.fresh core.old) × (E.price core.new ≡ E.price core.old) }
     ensures refused { E.refused core.new ≡ E.refused core.old }
 {

@@ -1,5 +1,5 @@
 // Takes a notice of the links.
-ghost use Rattle.std.specs.Prelude.{◌≡◌, ◌≢◌, ◌≤◌, ℕ, [], true, false, List};
+ghost use Rattle.std.specs.Prelude.{◌≡◌, ◌≢◌, ◌≤◌, ℕ, [], true, false, List, Option};
 ghost use Rattle.http_types.specs.declared.words.Addr.{Addr as End};
 ghost use Rattle.ngx_outside.specs.Causes.{Rose};
 ghost use Rattle.ngx_outside.specs.Linked.{Unchanged};
@@ -8,6 +8,8 @@ ghost use Rattle.ready_loop.specs.declared.ids.Ids.{Ids};
 ghost use Rattle.ready_loop.specs.Seen.{Elsewhere, LinksSeen, FilesSeen, ClockSeen, HasTold, OpenedAt, core_seen, links_seen};
 ghost use Rattle.ready_loop.specs.Standing.{Marks, Kept, IsMatched};
 ghost use Rattle.ready_loop.specs.Turns.{ChangedAs, HeardAs, IsHeard};
+ghost use Rattle.ngx_outside.specs.Records.{Adds, FileAnswer, Opened as OpenedGiven};
+ghost use Rattle.ready_loop.specs.Tellings.{StandBeside};
 
 use crate::events::opened;
 use http_types::Addr;
@@ -32,8 +34,11 @@ fn open_link<E: EventCore, L: Links>(core: &mut E, links: &mut L, id: u32, local
     ensures links { L.tells links.old ≡ true → Unchanged (L.link links.old) (L.link links.new) }
     ensures opens { Elsewhere id (L.is_open links.old) (L.is_open links.new) }
     ensures matched { (E.view core.new id).held ≡ L.is_open links.new id }
+    ensures given { Adds (OpenedGiven id local peer) (E.events core.old) (E.events core.new) }
+    ensures answers { L.answers links.new ≡ L.answers links.old }
     ensures steady { (E.fresh core.new ≡ E.fresh core.old) × (E.price core.new ≡ E.price core.old) × (E.now core.new ≡ E.now core.old) }
     ensures later { L.faults links.old ≤ L.faults links.new }
+    ensures stays_over { L.over links.old ≡ true → L.over links.new ≡ true }
     ensures tells { (L.tells links.new ≡ L.tells links.old) × (L.listening links.new ≡ L.listening links.old) }
 {
     if !opened(core, id, local, peer) {
@@ -49,10 +54,12 @@ pub fn hear<E: EventCore, L: Links>(core: &mut E, links: &mut L) -> Heard
     ensures heard { L.tells links.old ≡ true → (unread : Ids) → IsHeard (L.is_open links.old) (L.link links.old) unread → HeardAs result (L.is_open links.new) (L.link links.new) unread }
     ensures views { ChangedAs result (E.view core.old) (E.view core.new) }
     ensures links { L.tells links.old ≡ true → ChangedAs result (L.link links.old) (L.link links.new) }
-    ensures ended { result ≡ Heard.Ended → L.over links.old ≡ true }
+    ensures ended { result ≡ Heard.Ended → L.over links.new ≡ true }
     ensures failed { result ≡ Heard.Failed → Rose (L.faults links.old) (L.faults links.new) }
+    ensures beside { (files : Option (List FileAnswer)) (clock : Option (List ℕ)) → StandBeside (E.events core.old) (E.events core.new) (L.answers links.old) (L.answers links.new) files files clock clock }
     ensures steady { (E.fresh core.new ≡ E.fresh core.old) × (E.price core.new ≡ E.price core.old) × (E.now core.new ≡ E.now core.old) }
     ensures later { L.faults links.old ≤ L.faults links.new }
+    ensures stays_over { L.over links.old ≡ true → L.over links.new ≡ true }
     ensures tells { (L.tells links.new ≡ L.tells links.old) × (L.listening links.new ≡ L.listening links.old) }
 {
     let notice = links.next(core.wants());

@@ -1,5 +1,5 @@
 // Runs nodes, and answers their jobs from the files.
-ghost use Rattle.std.specs.Prelude.{◌≡◌, ◌≢◌, ◌+◌, ◌*◌, ◌<◌, ◌≤◌, ℕ, [], true, false, length, take, Some, None, List, Contains, OnOk, IfOk, IsErrOf};
+ghost use Rattle.std.specs.Prelude.{◌≡◌, ◌≢◌, ◌+◌, ◌*◌, ◌<◌, ◌≤◌, ℕ, [], true, false, length, take, Some, None, List, Contains, OnOk, IfOk, IsErrOf, Option, OnErr};
 ghost use Rattle.file_tree.specs.Tree.{tree_of};
 ghost use Rattle.http_types.specs.declared.words.Addr.{Addr as End};
 ghost use Rattle.ngx_outside.specs.Causes.{Rose};
@@ -8,6 +8,8 @@ ghost use Rattle.ngx_outside.specs.declared.files.FileFault.TheVariants.{Failed 
 ghost use Rattle.ready_loop.specs.Seen.{Elsewhere, LinksSeen, FilesSeen, ClockSeen, Grown, core_seen, files_seen};
 ghost use Rattle.ready_loop.specs.Standing.{Marks, Kept};
 ghost use Rattle.ready_loop.specs.Turns.{Gives};
+ghost use Rattle.ngx_outside.specs.Records.{Adds, FileAnswer, LinkAnswer, Failed as FailedFile};
+ghost use Rattle.ready_loop.specs.Tellings.{StandBeside, answer_found};
 
 use crate::events::{file_done, job_failed, ran};
 use byte_text::{ByteText, OutOfMemory};
@@ -18,6 +20,7 @@ use ngx_outside::{EventCore, FileFault, Files};
 pub fn run_one<E: EventCore>(core: &mut E, conn: u32, node: u32)
     requires ready { Contains (E.view core.old conn).ready node }
     ensures kept { (marks : Marks) (whole : ℕ → End → End → Course) (links : LinksSeen) (files : FilesSeen) (clock : ClockSeen) → Kept marks whole (core_seen (E.view core.old) (E.fresh core.old) (E.now core.old) (E.refused core.old)) links files clock → Kept marks whole (core_seen (E.view core.new) (E.fresh core.new) (E.now core.new) (E.refused core.new)) links files clock }
+    ensures beside { (links : Option (List LinkAnswer)) (files : Option (List FileAnswer)) (clock : Option (List ℕ)) → StandBeside (E.events core.old) (E.events core.new) links links files files clock clock }
     ensures views { Elsewhere conn (E.view core.old) (E.view core.new) }
     ensures held { (E.view core.new conn).held ≡ true }
     ensures falls { E.left core.new < E.left core.old }
@@ -38,6 +41,8 @@ fn find<F: Files>(files: &mut F, ask: &Ask, block: &mut ByteText) -> Result<Foun
     requires { tree_of ask.now ≤ F.newest files.old }
     ensures gives { IfOk result (λ found. Gives (F.tells files.old) (F.trees files.old) ask.now found block.new) }
     ensures cause { IsErrOf result ReadFailed → Rose (F.faults files.old) (F.faults files.new) }
+    ensures answers { IfOk result (λ found. Adds (answer_found found block.new) (F.answers files.old) (F.answers files.new)) }
+    ensures failed { OnErr result (Adds FailedFile (F.answers files.old) (F.answers files.new)) }
     ensures grown { Grown (files_seen (F.trees files.old) (F.newest files.old) (F.faults files.old)) (files_seen (F.trees files.new) (F.newest files.new) (F.faults files.new)) }
     ensures tells { F.tells files.new ≡ F.tells files.old }
 {
@@ -70,6 +75,7 @@ pub fn job_one<E: EventCore, F: Files>(
     requires waits { ask_in (E.view core.old conn).jobs node ≢ None }
     requires known { (E.now core.old).tree ≤ F.newest files.old }
     ensures kept { OnOk result (F.tells files.old ≡ true → (marks : Marks) (whole : ℕ → End → End → Course) (links : LinksSeen) (clock : ClockSeen) → Kept marks whole (core_seen (E.view core.old) (E.fresh core.old) (E.now core.old) (E.refused core.old)) links (files_seen (F.trees files.old) (F.newest files.old) (F.faults files.old)) clock → Kept marks whole (core_seen (E.view core.new) (E.fresh core.new) (E.now core.new) (E.refused core.new)) links (files_seen (F.trees files.new) (F.newest files.new) (F.faults files.new)) clock) }
+    ensures beside { OnOk result ((links : Option (List LinkAnswer)) (clock : Option (List ℕ)) → StandBeside (E.events core.old) (E.events core.new) links links (F.answers files.old) (F.answers files.new) clock clock) }
     ensures views { Elsewhere conn (E.view core.old) (E.view core.new) }
     ensures held { OnOk result ((E.view core.new conn).held ≡ true) }
     ensures falls { OnOk result (E.left core.new < E.left core.old) }

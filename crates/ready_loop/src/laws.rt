@@ -1,5 +1,5 @@
 // What the account of a connection comes to.
-ghost use Rattle.ready_loop.specs.Laws.{ClosedUnstoppedSentAll, KeptBegins, MomentsWereTold};
+ghost use Rattle.ready_loop.specs.Laws.{ClosedUnendedSentAll, ClosedUnstoppedSentAll, KeptBegins, MomentsWereTold};
 
 /// A loop's account begins where no link was reported yet and no connection is held: on each that is opened the core says
 /// what is to come.
@@ -10,6 +10,12 @@ pub fn kept_begins()
 /// Once a connection is closed without having been stopped, what was sent is all that was to come, whatever starts later.
 pub fn closed_unstopped_sent_all()
     ensures { ClosedUnstoppedSentAll }
+{}
+
+/// Once a connection is closed without having been stopped, and no read found the end of its link's input, what was sent is
+/// all that was to come, whatever else would have arrived.
+pub fn closed_unended_sent_all()
+    ensures { ClosedUnendedSentAll }
 {}
 
 /// Each request of a connection started at a moment that the clock told.

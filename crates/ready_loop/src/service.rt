@@ -7,6 +7,7 @@ ghost use Rattle.ngx_outside.specs.Views.{Course};
 ghost use Rattle.ready_loop.specs.Seen.{core_seen, links_seen, files_seen, clock_seen};
 ghost use Rattle.ready_loop.specs.Standing.{Marks, Kept, IsMatched};
 ghost use Rattle.ready_loop.specs.Turns.{AtRest, DueHasWants, IsHeard, TurnsTaken};
+ghost use Rattle.ready_loop.specs.Tellings.{StandBeside, moments_told};
 
 use crate::conns::{Memory, remember_all, serve_all};
 use crate::drain::Buffers;
@@ -40,8 +41,10 @@ fn listen_all<L: Links>(links: &mut L, addrs: &[Addr]) -> bool
     ensures ids { Same (L.used links.old) (L.used links.new) × Same (L.is_open links.old) (L.is_open links.new) }
     ensures listens { result ≡ true → L.listening links.new ≡ L.listening links.old ++ addrs.now }
     ensures tells { L.tells links.new ≡ L.tells links.old }
+    ensures answers { L.answers links.new ≡ L.answers links.old }
     ensures link_faults { (id : ℕ) → L.link_faults links.old id ≤ L.link_faults links.new id }
     ensures later { L.faults links.old ≤ L.faults links.new }
+    ensures stays_over { L.over links.old ≡ true → L.over links.new ≡ true }
     ensures cause { result ≡ false → Rose (L.faults links.old) (L.faults links.new) }
 {
     for addr in addrs {
@@ -71,11 +74,13 @@ fn take_turns<E: EventCore, F: Files, L: Links, C: Clock>(
     ensures known { OnOk result ((E.now core.new).tree ≤ F.newest files.new) }
     ensures turns { IfOk result (λ e. C.tells clock.old ≡ true → TurnsTaken e turns (length (C.told clock.old)) (length (C.told clock.new))) }
     ensures listened { IfOk result (λ e. e ≢ Ending.ListenFault) }
-    ensures ended { result ≡ Ok Ending.Ended → (mid : L) × (L.over mid ≡ true) }
+    ensures ended { result ≡ Ok Ending.Ended → L.over links.new ≡ true }
     ensures failed { result ≡ Ok Ending.NextFault → Rose (L.faults links.old) (L.faults links.new) }
+    ensures beside { OnOk result (StandBeside (E.events core.old) (E.events core.new) (L.answers links.old) (L.answers links.new) (F.answers files.old) (F.answers files.new) (moments_told (C.tells clock.old) (C.told clock.old)) (moments_told (C.tells clock.new) (C.told clock.new))) }
     ensures steady { OnOk result ((E.fresh core.new ≡ E.fresh core.old) × (E.price core.new ≡ E.price core.old)) }
     ensures grown { OnOk result (F.newest files.old ≤ F.newest files.new) }
     ensures later { OnOk result (L.faults links.old ≤ L.faults links.new) }
+    ensures stays_over { OnOk result (L.over links.old ≡ true → L.over links.new ≡ true) }
     ensures tells { OnOk result (((L.tells links.new ≡ L.tells links.old) × (L.listening links.new ≡ L.listening links.old) × (F.tells files.new ≡ F.tells files.old)) × (C.tells clock.new ≡ C.tells clock.old)) }
 {
     let mut last = None;
@@ -109,11 +114,13 @@ fn serve_turns<E: EventCore, F: Files, L: Links, C: Clock>(
     ensures known { OnOk result ((E.now core.new).tree ≤ F.newest files.new) }
     ensures turns { IfOk result (λ e. C.tells clock.old ≡ true → TurnsTaken e turns (length (C.told clock.old)) (length (C.told clock.new))) }
     ensures listened { IfOk result (λ e. e ≢ Ending.ListenFault) }
-    ensures ended { result ≡ Ok Ending.Ended → (mid : L) × (L.over mid ≡ true) }
+    ensures ended { result ≡ Ok Ending.Ended → L.over links.new ≡ true }
     ensures failed { result ≡ Ok Ending.NextFault → Rose (L.faults links.old) (L.faults links.new) }
+    ensures beside { OnOk result (StandBeside (E.events core.old) (E.events core.new) (L.answers links.old) (L.answers links.new) (F.answers files.old) (F.answers files.new) (moments_told (C.tells clock.old) (C.told clock.old)) (moments_told (C.tells clock.new) (C.told clock.new))) }
     ensures steady { OnOk result ((E.fresh core.new ≡ E.fresh core.old) × (E.price core.new ≡ E.price core.old)) }
     ensures grown { OnOk result (F.newest files.old ≤ F.newest files.new) }
     ensures later { OnOk result (L.faults links.old ≤ L.faults links.new) }
+    ensures stays_over { OnOk result (L.over links.old ≡ true → L.over links.new ≡ true) }
     ensures tells { OnOk result (((L.tells links.new ≡ L.tells links.old) × (L.listening links.new ≡ L.listening links.old) × (F.tells files.new ≡ F.tells files.old)) × (C.tells clock.new ≡ C.tells clock.old)) }
 {
     let mut memory = Memory {
@@ -159,6 +166,9 @@ pub fn serve<E: EventCore, F: Files, L: Links, C: Clock>(
         Kept marks whole (core_seen (E.view core.new) (E.fresh core.new) (E.now core.new) (E.refused core.new)) (links_seen (L.link links.new) (L.used links.new) (L.is_open links.new) (L.link_faults links.new)) (files_seen (F.trees files.new) (F.newest files.new) (F.faults files.new)) (clock_seen (C.tells clock.new) (C.told clock.new))) }
     ensures matched { OnOk result (IsMatched (E.view core.new) (L.is_open links.new)) }
 
+    // What links and files answered and what the clock told, the core was given, each in its order: as far as it is told.
+    ensures beside { OnOk result (StandBeside (E.events core.old) (E.events core.new) (L.answers links.old) (L.answers links.new) (F.answers files.old) (F.answers files.new) (moments_told (C.tells clock.old) (C.told clock.old)) (moments_told (C.tells clock.new) (C.told clock.new))) }
+
     // Nothing is left to do. Of a link that was due at the start that is said where its connection had a want then.
     ensures rests { IfOk result (λ e. e ≢ Ending.ListenFault → (c : ℕ) → (E.view core.new c).held ≡ true →
         AtRest ((L.tells links.old ≡ true) × DueHasWants (L.is_open links.old) (L.link links.old) (E.view core.old))
@@ -167,7 +177,7 @@ pub fn serve<E: EventCore, F: Files, L: Links, C: Clock>(
     // How it ends. Each turn reads the clock once.
     ensures turns { IfOk result (λ e. C.tells clock.old ≡ true → TurnsTaken e turns (length (C.told clock.old)) (length (C.told clock.new))) }
     ensures listens { IfOk result (λ e. e ≢ Ending.ListenFault → L.listening links.new ≡ L.listening links.old ++ addrs.now) }
-    ensures ended { result ≡ Ok Ending.Ended → (mid : L) × (L.over mid ≡ true) }
+    ensures ended { result ≡ Ok Ending.Ended → L.over links.new ≡ true }
     ensures listen_fault { result ≡ Ok Ending.ListenFault → Rose (L.faults links.old) (L.faults links.new) }
     ensures next_fault { result ≡ Ok Ending.NextFault → Rose (L.faults links.old) (L.faults links.new) }
 

@@ -1,11 +1,13 @@
 // Tells a core the clock's moment and the number of the newest tree.
-ghost use Rattle.std.specs.Prelude.{◌≡◌, ◌≤◌, ◌++◌, ◌∷◌, ℕ, [], true, false, IfSome, Some, None};
+ghost use Rattle.std.specs.Prelude.{◌≡◌, ◌≤◌, ◌++◌, ◌∷◌, ℕ, [], true, false, IfSome, Some, None, Option, List};
 ghost use Rattle.http_types.specs.declared.words.Addr.{Addr as End};
 ghost use Rattle.ngx_outside.specs.Views.{Course, Ticked, kept_moment};
 ghost use Rattle.ready_loop.specs.Seen.{FilesSeen, LinksSeen, clock_seen, core_seen};
 ghost use Rattle.ready_loop.specs.Standing.{Kept, Marks};
 ghost use Rattle.ready_loop.specs.Turns.{WasTold};
 ghost use Rattle.ready_loop.specs.declared.ticks.Told.{Told};
+ghost use Rattle.ngx_outside.specs.Records.{FileAnswer, LinkAnswer};
+ghost use Rattle.ready_loop.specs.Tellings.{StandBeside, moments_told};
 
 use crate::events::{ticked, tree_told};
 use ngx_outside::{Clock, EventCore, Files};
@@ -18,6 +20,7 @@ fn tell_tree<E: EventCore, F: Files>(core: &mut E, files: &F, tree: Option<u64>)
     ensures moment { (E.now core.new).moment ≡ (E.now core.old).moment }
     ensures tree { (E.now core.new).tree ≡ F.newest files.now }
     ensures told { result ≡ F.newest files.now }
+    ensures beside { (links : Option (List LinkAnswer)) (files : Option (List FileAnswer)) (clock : Option (List ℕ)) → StandBeside (E.events core.old) (E.events core.new) links links files files clock clock }
     ensures steady { (E.fresh core.new ≡ E.fresh core.old) × (E.price core.new ≡ E.price core.old) }
     ensures refused { E.refused core.new ≡ E.refused core.old }
 {
@@ -59,6 +62,7 @@ pub fn tick<E: EventCore, F: Files, C: Clock>(
     ensures tree { ((E.now core.new).tree ≡ F.newest files.now) × (result.tree ≡ F.newest files.now) }
     ensures moments { C.tells clock.old ≡ true → C.told clock.new ≡ C.told clock.old ++ result.moment ∷ [] }
     ensures tells { C.tells clock.new ≡ C.tells clock.old }
+    ensures beside { (links : Option (List LinkAnswer)) (files : Option (List FileAnswer)) → StandBeside (E.events core.old) (E.events core.new) links links files files (moments_told (C.tells clock.old) (C.told clock.old)) (moments_told (C.tells clock.new) (C.told clock.new)) }
     ensures steady { (E.fresh core.new ≡ E.fresh core.old) × (E.price core.new ≡ E.price core.old) }
 {
     let moment = clock.now();

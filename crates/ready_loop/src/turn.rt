@@ -1,11 +1,12 @@
 // Takes a turn.
-ghost use Rattle.std.specs.Prelude.{◌≡◌, ◌≤◌, ◌+◌, ℕ, true, false, Bool, List, length, OnOk, IfOk, IfSome, Some};
+ghost use Rattle.std.specs.Prelude.{◌≡◌, ◌≤◌, ◌+◌, ℕ, true, false, Bool, List, length, OnOk, IfOk, IfSome, Some, Option};
 ghost use Rattle.http_types.specs.declared.words.Addr.{Addr as End};
 ghost use Rattle.ngx_outside.specs.Causes.{Rose};
 ghost use Rattle.ngx_outside.specs.Views.{Course};
 ghost use Rattle.ready_loop.specs.Seen.{ClockSeen, clock_seen, core_seen, files_seen, links_seen};
 ghost use Rattle.ready_loop.specs.Standing.{IsMatched, Kept, Marks};
 ghost use Rattle.ready_loop.specs.Turns.{AllRest, HeardAs, IsHeard, RestsBut, WasTold};
+ghost use Rattle.ready_loop.specs.Tellings.{StandBeside, moments_told};
 
 use crate::conns::{Memory, serve_all, serve_one};
 use crate::hear::{Heard, hear};
@@ -28,8 +29,10 @@ fn serve_late<E: EventCore, F: Files, L: Links>(
     ensures matched { OnOk result (IsMatched (E.view core.new) (L.is_open links.new)) }
     ensures heard { L.tells links.old ≡ true → IsHeard (L.is_open links.old) (L.link links.old) memory.old.unread → OnOk result (IsHeard (L.is_open links.new) (L.link links.new) memory.new.unread) }
     ensures rests { (h : Bool) → (h ≡ true → (L.tells links.old ≡ true) × IsHeard (L.is_open links.old) (L.link links.old) memory.old.unread) → AllRest (h ≡ true) (L.tells links.old ≡ true) (Unit {0}) (E.view core.old) (L.link links.old) → OnOk result (AllRest (h ≡ true) (L.tells links.old ≡ true) (is_late ≡ false) (E.view core.new) (L.link links.new)) }
+    ensures beside { OnOk result ((clock : Option (List ℕ)) → StandBeside (E.events core.old) (E.events core.new) (L.answers links.old) (L.answers links.new) (F.answers files.old) (F.answers files.new) clock clock) }
     ensures steady { OnOk result ((E.fresh core.new ≡ E.fresh core.old) × (E.price core.new ≡ E.price core.old) × (E.now core.new ≡ E.now core.old)) }
     ensures later { OnOk result (L.faults links.old ≤ L.faults links.new) }
+    ensures stays_over { OnOk result (L.over links.old ≡ true → L.over links.new ≡ true) }
     ensures tells { OnOk result ((L.tells links.new ≡ L.tells links.old) × (L.listening links.new ≡ L.listening links.old) × (F.tells files.new ≡ F.tells files.old)) }
     ensures grown { OnOk result (F.newest files.old ≤ F.newest files.new) }
 {
@@ -53,8 +56,10 @@ fn serve_heard<E: EventCore, F: Files, L: Links>(
     ensures matched { OnOk result (IsMatched (E.view core.new) (L.is_open links.new)) }
     ensures heard { L.tells links.old ≡ true → HeardAs heard (L.is_open links.old) (L.link links.old) memory.old.unread → OnOk result (IsHeard (L.is_open links.new) (L.link links.new) memory.new.unread) }
     ensures rests { (h up : Bool) → (h ≡ true → (L.tells links.old ≡ true) × HeardAs heard (L.is_open links.old) (L.link links.old) memory.old.unread) → RestsBut heard (h ≡ true) (L.tells links.old ≡ true) (up ≡ true) (E.view core.old) (L.link links.old) → OnOk result (AllRest (h ≡ true) (L.tells links.old ≡ true) (up ≡ true) (E.view core.new) (L.link links.new)) }
+    ensures beside { OnOk result ((clock : Option (List ℕ)) → StandBeside (E.events core.old) (E.events core.new) (L.answers links.old) (L.answers links.new) (F.answers files.old) (F.answers files.new) clock clock) }
     ensures steady { OnOk result ((E.fresh core.new ≡ E.fresh core.old) × (E.price core.new ≡ E.price core.old) × (E.now core.new ≡ E.now core.old)) }
     ensures later { OnOk result (L.faults links.old ≤ L.faults links.new) }
+    ensures stays_over { OnOk result (L.over links.old ≡ true → L.over links.new ≡ true) }
     ensures tells { OnOk result ((L.tells links.new ≡ L.tells links.old) × (L.listening links.new ≡ L.listening links.old) × (F.tells files.new ≡ F.tells files.old)) }
     ensures grown { OnOk result (F.newest files.old ≤ F.newest files.new) }
 {
@@ -92,12 +97,14 @@ pub fn take_turn<E: EventCore, F: Files, L: Links, C: Clock>(
     ensures heard { L.tells links.old ≡ true → IsHeard (L.is_open links.old) (L.link links.old) memory.old.unread → OnOk result (IsHeard (L.is_open links.new) (L.link links.new) memory.new.unread) }
     ensures rests { (h : Bool) → (h ≡ true → (L.tells links.old ≡ true) × IsHeard (L.is_open links.old) (L.link links.old) memory.old.unread) → AllRest (h ≡ true) (L.tells links.old ≡ true) (Unit {0}) (E.view core.old) (L.link links.old) → IfOk result (λ t. AllRest (h ≡ true) (L.tells links.old ≡ true) (WasTold last t.told.moment) (E.view core.new) (L.link links.new)) }
     ensures known { IfOk result (λ t. ((E.now core.new).tree ≡ t.told.tree) × ((E.now core.new).tree ≤ F.newest files.new)) }
-    ensures ended { IfOk result (λ t. t.heard ≡ Heard.Ended → (mid : L) × (L.over mid ≡ true)) }
+    ensures ended { IfOk result (λ t. t.heard ≡ Heard.Ended → L.over links.new ≡ true) }
     ensures failed { IfOk result (λ t. t.heard ≡ Heard.Failed → Rose (L.faults links.old) (L.faults links.new)) }
     ensures moments { OnOk result (C.tells clock.old ≡ true → length (C.told clock.new) ≡ length (C.told clock.old) + 1) }
+    ensures beside { OnOk result (StandBeside (E.events core.old) (E.events core.new) (L.answers links.old) (L.answers links.new) (F.answers files.old) (F.answers files.new) (moments_told (C.tells clock.old) (C.told clock.old)) (moments_told (C.tells clock.new) (C.told clock.new))) }
     ensures steady { OnOk result ((E.fresh core.new ≡ E.fresh core.old) × (E.price core.new ≡ E.price core.old)) }
     ensures grown { OnOk result (F.newest files.old ≤ F.newest files.new) }
     ensures later { OnOk result (L.faults links.old ≤ L.faults links.new) }
+    ensures stays_over { OnOk result (L.over links.old ≡ true → L.over links.new ≡ true) }
     ensures tells { OnOk result (((L.tells links.new ≡ L.tells links.old) × (L.listening links.new ≡ L.listening links.old) × (F.tells files.new ≡ F.tells files.old)) × (C.tells clock.new ≡ C.tells clock.old)) }
 {
     let told = tick(core, files, clock, last);

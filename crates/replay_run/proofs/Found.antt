@@ -1,7 +1,7 @@
 -- What the files found is an answer to the job, and answering it lowers the work that is left.
-use Rattle.std.proofs.Common.{◌≡◌, ◌≢◌, ℕ, ◌<◌, ◌≤◌, ◌==◌, Bool, true, false, List, length, Option, None, Some, refl, sym, ap, ◌∙◌, subst, arith, Bor}
+use Rattle.std.proofs.Common.{◌≡◌, ℕ, ◌<◌, Bool, true, false, List, length, None, Some, refl, sym, ap, ◌∙◌, subst, arith, Bor}
 use Rattle.std.proofs.lemmas.Bool.Decides.{nat_tests}
-use Rattle.file_tree.specs.Tree.{Item, Trees, HoldsBytes, IsFrom, node_of, tree_of, is_fitting}
+use Rattle.file_tree.specs.Tree.{Trees, HoldsBytes, IsFrom, is_fitting}
 use Rattle.file_tree.specs.declared.job.Ask.{Ask}
 use Rattle.file_tree.specs.declared.job.Ask.TheVariants as ask
 use Rattle.file_tree.specs.declared.job.Node.{Node}
@@ -11,7 +11,6 @@ use Rattle.ngx_outside.specs.Views.{ConnView, Course, Start, StepsOwn, LeftBy, a
 use Rattle.ngx_outside.specs.declared.event.Event.TheVariants as ev
 use Rattle.ngx_outside.specs.declared.event.StepAnswer.{StepAnswer}
 use Rattle.ngx_outside.specs.declared.event.StepAnswer.TheVariants.{Done, Skipped, OutOfMemory}
-use Rattle.replay_run.specs.declared.jobs.Found.{Found}
 use Rattle.replay_run.specs.declared.jobs.Found.TheVariants as found
 use Rattle.replay_run.specs.Scene.{IsFound}
 

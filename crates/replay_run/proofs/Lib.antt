@@ -7,3 +7,4 @@ pub mod Stands
 pub mod LineStands
 pub mod Numbers
 pub mod PlaysLaws
+pub mod Openings

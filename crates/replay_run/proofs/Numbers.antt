@@ -1,15 +1,15 @@
 -- Which lines change the number of the tree.
-use Rattle.std.proofs.Common.{◌≡◌, ℕ, List, refl, sym, ap, ◌∙◌}
+use Rattle.std.proofs.Common.{◌≡◌, ℕ, List, ◌∙◌}
 use Rattle.http_types.specs.declared.words.Addr.{Addr}
-use Rattle.ngx_outside.specs.Views.{ConnView, Course, Start, Steps}
+use Rattle.ngx_outside.specs.Views.{ConnView, Course, Start}
 use Rattle.ngx_outside.specs.declared.event.Event.{Event}
 use Rattle.ngx_outside.specs.declared.event.Event.TheVariants as ev
 use Rattle.ngx_outside.specs.declared.event.StepAnswer.{StepAnswer}
-use Rattle.ngx_outside.specs.declared.event.StepAnswer.TheVariants.{Done, Skipped, OutOfMemory}
 use Rattle.ngx_outside.specs.declared.event.Want.{Want}
 use Rattle.ngx_outside.specs.declared.event.Want.TheVariants as want
+use Rattle.replay_run.specs.declared.lane.LinkEnds.{LinkEnds}
 use Rattle.replay_run.specs.Told.{Told}
-use Rattle.replay_run.specs.Scene.{Lane, Stage, Gives, IsArrival, Offers, EndsIfDue, Ends, Waits, Plain, SendsLine, EndsLine, WritesLine, Reads, Offered, Ending, Serves, AnswersJob, Answers, Fails, Unasked}
+use Rattle.replay_run.specs.Scene.{Lane, Stage, Gives, IsArrival, Offers, EndsIfDue, Ends, Waits, OpensLine, SendsLine, Reads, Offered, Ending, Serves, AnswersJob, Answers, Fails, Unasked}
 
 pub offers_now : (fresh : Addr → Addr → Course) (c : ℕ) (queue : List ℕ) (a : StepAnswer) (view : ℕ → ConnView) (now : Start) (view' : ℕ → ConnView) (now' : Start) → Offers fresh c queue a view now view' now' → now' ≡ now
 offers_now fresh c queue a view now view' now' o = go o.event o.arrival o.gives
@@ -30,6 +30,9 @@ offers_now fresh c queue a view now view' now' o = go o.event o.arrival o.gives
 pub ends_now : (fresh : Addr → Addr → Course) (c : ℕ) (l l' : Lane) (a : StepAnswer) (view : ℕ → ConnView) (now : Start) (view' : ℕ → ConnView) (now' : Start) → EndsIfDue fresh c l l' a view now view' now' → now' ≡ now
 ends_now fresh c l l' a view now view' now' (Ends is g e) = g.moment
 ends_now fresh c l l' a view now view' now' (Waits is none v n e) = n
+
+pub opens_now : (fresh : Addr → Addr → Course) (c : ℕ) (ends : LinkEnds) (a : StepAnswer) (old new : Stage) → OpensLine fresh c ends a old new → new.now ≡ old.now
+opens_now fresh c ends a old new s = s.does.gives.moment
 
 pub sends_now : (fresh : Addr → Addr → Course) (c : ℕ) (bytes : List ℕ) (a : StepAnswer) (old new : Stage) → SendsLine fresh c bytes a old new → new.now ≡ old.now
 sends_now fresh c bytes a old new s =

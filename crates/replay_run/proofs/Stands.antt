@@ -1,14 +1,14 @@
 -- Each event keeps account of what came and went on each connection.
-use Rattle.std.proofs.Common.{◌≡◌, ◌≢◌, ℕ, ◌+◌, ◌<◌, ◌≤◌, Bool, true, false, ◌&&◌, ◌⊎◌, inl, inr, List, [], ◌∷◌, ◌++◌, length, take, drop, Option, None, Some, refl, sym, ap, ◌∙◌, subst, append_assoc, arith}
+use Rattle.std.proofs.Common.{◌≡◌, ℕ, ◌≤◌, Bool, true, false, ◌&&◌, List, [], ◌++◌, take, Some, refl, sym, ap, ◌∙◌, subst, append_assoc}
 use Rattle.std.specs.Prelude.{is_none}
-use Rattle.std.proofs.lemmas.List.{append-nil, take-append-drop}
-use Rattle.file_tree.specs.Tree.{Item, Trees, HoldsBytes, IsFrom, node_of, tree_of, is_fitting}
+use Rattle.std.proofs.lemmas.List.{append-nil}
+use Rattle.file_tree.specs.Tree.{Item, Trees, HoldsBytes, IsFrom, node_of, tree_of}
 use Rattle.file_tree.specs.declared.job.Ask.{Ask}
 use Rattle.file_tree.specs.declared.job.Ask.TheVariants as ask
 use Rattle.file_tree.specs.declared.job.JobAnswer.{JobAnswer}
 use Rattle.file_tree.specs.declared.job.JobAnswer.TheVariants as answer
 use Rattle.http_types.specs.declared.words.Addr.{Addr}
-use Rattle.ngx_outside.specs.Views.{ConnView, Course, Start, Ground, Holds, Fresh, Went, Stopped, Ran, Goes, Halts, Refused, Ticked, GivesUp, Waits, StepsOwn, Steps, OneSteps, IsStart, is_live, kept_moment, ask_in}
+use Rattle.ngx_outside.specs.Views.{ConnView, Course, Start, Ground, Holds, Went, Stopped, Ran, Goes, Halts, Refused, Ticked, GivesUp, Waits, StepsOwn, is_live, ask_in}
 use Rattle.ngx_outside.specs.Views.Ground.{Always, Answers, Raceless}
 use Rattle.ngx_outside.specs.Runs.{Tracked, Agree}
 use Rattle.ngx_outside.specs.declared.event.Event.{Event}
@@ -17,10 +17,10 @@ use Rattle.ngx_outside.specs.declared.event.StepAnswer.{StepAnswer}
 use Rattle.ngx_outside.specs.declared.event.StepAnswer.TheVariants.{Done, Skipped, OutOfMemory}
 use Rattle.ngx_outside.specs.declared.event.StopCause.{StopCause}
 use Rattle.ngx_outside.proofs.Tracks.{tracks_begin, steps_keep_track, stops_keep_track}
-use Rattle.replay_run.specs.declared.lane.InputEnd.{InputEnd}
+use Rattle.replay_run.specs.declared.lane.LinkEnds.{LinkEnds}
 use Rattle.replay_run.specs.Told.{Told}
-use Rattle.replay_run.specs.Scene.{Lane, Gives, IsArrival, Offers, EndsIfDue, Ends, Waits as EndWaits, taken_of, offered_lane, ended_lane, written_lane, written_of}
-use Rattle.replay_run.specs.Standing.{Standing, Unopened, Opened}
+use Rattle.replay_run.specs.Scene.{Lane, IsArrival, taken_of, opened_lane, written_of}
+use Rattle.replay_run.specs.Standing.{Standing, Unopened, Opened, is_given}
 
 -- what a step does to a connection: it goes on, is stopped, or stays as it is
 pub data Passed (told : Told) (old new : ConnView) (came went : List ℕ) : Type 0 where
@@ -36,7 +36,7 @@ and_held v h = first v.held (is_none v.cause) h
     first false true h = cc
     first false false h = cc
 
-unheld : {A : Type 0} (v : ConnView) → v.held ≡ false → is_live v ≡ true → A
+pub unheld : {A : Type 0} (v : ConnView) → v.held ≡ false → is_live v ≡ true → A
 unheld v f live = let h = and_held v live in absurd (let e : true ≡ false = sym h ∙ f in cc)
 
 section_tracked : (whole : Course) (told : Told) (old new : ConnView) (came went came' went' : List ℕ) → Passed told old new came' went' → Tracked whole told.trees told.newest old came went → Tracked whole told.trees told.newest new (came ++ came') (went ++ went')
@@ -62,14 +62,21 @@ passed_unheld {old = old} (Moves ground started holds w) h = unheld old h w.befo
 passed_unheld {old = old} (Stops cause started e f s) h = unheld old h s.before
 passed_unheld (Stays e f same) h = (e, f, same)
 
-pub standing : (fresh : Addr → Addr → Course) (told : Told) (old new : ConnView) (lane lane' : Lane) (sent came went : List ℕ) → Passed told old new came went → lane.queue ≡ came ++ lane'.queue → lane'.went ≡ lane.went ++ went →
+-- how a step that doesn't end the input leaves it
+abbrev pub KeepsEnd : ConnView → ConnView → Lane → Lane → Type 0
+KeepsEnd old new lane lane' = (old.ended ≡ is_given lane.tail → new.ended ≡ is_given lane'.tail) × (old.held ≡ false → is_given lane.tail ≡ false → is_given lane'.tail ≡ false)
+
+pub keeps_end : (old new : ConnView) (lane lane' : Lane) → new.ended ≡ old.ended → lane'.tail ≡ lane.tail → KeepsEnd old new lane lane'
+keeps_end old new lane lane' e f = (λ is. e ∙ is ∙ sym (ap is_given f), λ unheld none. ap is_given f ∙ none)
+
+pub standing : (fresh : Addr → Addr → Course) (told : Told) (old new : ConnView) (lane lane' : Lane) (sent came went : List ℕ) → Passed told old new came went → KeepsEnd old new lane lane' → lane'.ends ≡ lane.ends → lane.queue ≡ came ++ lane'.queue → lane'.went ≡ lane.went ++ went →
     Standing fresh told old lane sent → Standing fresh told new lane' sent
-standing fresh told old new lane lane' sent came went p q w (Unopened h e s) =
-    let n = passed_unheld p h in
-    Unopened (ap (λ (v : ConnView). v.held) n.2 ∙ h) (w ∙ ap (λ x. lane.went ++ x) n.1 ∙ append-nil lane.went ∙ e) (s ∙ q ∙ ap (λ x. x ++ lane'.queue) n.0)
-standing fresh told old new lane lane' sent came went p q w (Opened local peer before h s t) =
-    Opened local peer (before ++ came) (passed_held p h) (s ∙ ap (λ x. before ++ x) q ∙ sym (append_assoc before came lane'.queue))
-    (subst (λ x. Tracked (fresh local peer) told.trees told.newest new (before ++ came) x) (sym w) (section_tracked (fresh local peer) told old new before lane.went came went p t))
+standing fresh told old new lane lane' sent came went p k n q w (Unopened h e g none s) =
+    let u = passed_unheld p h in
+    Unopened (ap (λ (v : ConnView). v.held) u.2 ∙ h) (n ∙ e) (k.1 h g) (w ∙ ap (λ x. lane.went ++ x) u.1 ∙ append-nil lane.went ∙ none) (s ∙ q ∙ ap (λ x. x ++ lane'.queue) u.0)
+standing fresh told old new lane lane' sent came went p k n q w (Opened ends before h e g s t) =
+    Opened ends (before ++ came) (passed_held p h) (n ∙ e) (k.0 g) (s ∙ ap (λ x. before ++ x) q ∙ sym (append_assoc before came lane'.queue))
+    (subst (λ x. Tracked (fresh ends.local ends.peer) told.trees told.newest new (before ++ came) x) (sym w) (section_tracked (fresh ends.local ends.peer) told old new before lane.went came went p t))
 
 refused_stops : {told : Told} {now : Start} {old new : ConnView} → Refused now old new → Passed told old new [] []
 refused_stops r = Stops _ r.0 refl refl r.2
@@ -135,10 +142,10 @@ ticked_passed now old new (GivesUp due is before s) = Stops _ [] refl refl s
 ticked_passed now old new (Waits not same) = Stays refl refl same
 
 -- a connection that is opened
-pub standing_opened : (fresh : Addr → Addr → Course) (told : Told) (now : Start) (conn : ℕ) (local peer : Addr) (a : StepAnswer) (old new : ConnView) (lane : Lane) (sent : List ℕ) →
-    StepsOwn (fresh local peer) now (ev.Opened conn local peer) a old new → Standing fresh told old lane sent → Standing fresh told new lane sent
-standing_opened fresh told now conn local peer (Done taken) old new lane sent s (Unopened h e q) =
-    Opened local peer [] (and_held new s.1.live) q (subst (λ x. Tracked (fresh local peer) told.trees told.newest new [] x) (sym e) (tracks_begin (fresh local peer) told.trees told.newest new s.1))
-standing_opened fresh told now conn local peer (Done taken) old new lane sent s (Opened l p came h q t) = absurd (let f : true ≡ false = sym h ∙ s.0 in cc)
-standing_opened fresh told now conn local peer Skipped old new lane sent s st = subst (λ v. Standing fresh told v lane sent) (sym s) st
-standing_opened fresh told now conn local peer OutOfMemory old new lane sent s st = subst (λ v. Standing fresh told v lane sent) (sym s) st
+pub standing_opened : (fresh : Addr → Addr → Course) (told : Told) (now : Start) (conn : ℕ) (ends : LinkEnds) (a : StepAnswer) (old new : ConnView) (lane : Lane) (sent : List ℕ) →
+    StepsOwn (fresh ends.local ends.peer) now (ev.Opened conn ends.local ends.peer) a old new → Standing fresh told old lane sent → Standing fresh told new (opened_lane lane ends a) sent
+standing_opened fresh told now conn ends (Done taken) old new lane sent s (Unopened h none g e q) =
+    Opened ends [] (and_held new s.1.live) refl (s.1.ended ∙ sym g) q (subst (λ x. Tracked (fresh ends.local ends.peer) told.trees told.newest new [] x) (sym e) (tracks_begin (fresh ends.local ends.peer) told.trees told.newest new s.1))
+standing_opened fresh told now conn ends (Done taken) old new lane sent s (Opened before came h e g q t) = absurd (let f : true ≡ false = sym h ∙ s.0 in cc)
+standing_opened fresh told now conn ends Skipped old new lane sent s st = standing fresh told old new lane (opened_lane lane ends Skipped) sent [] [] (Stays refl refl s) (keeps_end old new lane (opened_lane lane ends Skipped) (ap (λ (v : ConnView). v.ended) s) refl) refl refl (sym (append-nil lane.went)) st
+standing_opened fresh told now conn ends OutOfMemory old new lane sent s st = standing fresh told old new lane (opened_lane lane ends OutOfMemory) sent [] [] (Stays refl refl s) (keeps_end old new lane (opened_lane lane ends OutOfMemory) (ap (λ (v : ConnView). v.ended) s) refl) refl refl (sym (append-nil lane.went)) st

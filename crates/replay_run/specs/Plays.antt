@@ -1,5 +1,5 @@
 -- What the lines of a script do, one after another.
-use Rattle.std.specs.Prelude.{◌≡◌, ℕ, ◌==◌, List, [], ◌∷◌, ◌++◌, if◌then◌else◌}
+use Rattle.std.specs.Prelude.{◌≡◌, ℕ, ◌==◌, List, [], ◌∷◌, ◌++◌, Contains, Some, ◌⊎◌, if◌then◌else◌}
 use Rattle.http_types.specs.declared.words.Addr.{Addr}
 use Rattle.ngx_outside.specs.Views.{Course}
 use Rattle.ngx_outside.specs.declared.event.Event.TheVariants as ev
@@ -7,8 +7,9 @@ use Rattle.ngx_outside.specs.declared.event.StepAnswer.{StepAnswer}
 use Rattle.ngx_outside.specs.declared.event.StepAnswer.TheVariants.{Done, Skipped, OutOfMemory}
 use Rattle.replay_text.specs.declared.parts.EventLine.{EventLine}
 use Rattle.replay_text.specs.declared.parts.EventLine.TheVariants as line
+use Rattle.replay_run.specs.declared.lane.LinkEnds.{LinkEnds}
 use Rattle.replay_run.specs.Told.{Told, told_after, next_number}
-use Rattle.replay_run.specs.Scene.{Stage, Plain, SendsLine, EndsLine, WritesLine, JobLine, Drains}
+use Rattle.replay_run.specs.Scene.{Lane, Stage, Plain, OpensLine, SendsLine, EndsLine, WritesLine, JobLine, Drains}
 
 -- the files' newest tree has the next number from now on
 abbrev pub ChangesTree : (Addr → Addr → Course) → Told → StepAnswer → Stage → Stage → Type 0
@@ -16,7 +17,7 @@ ChangesTree fresh told a old new = Plain fresh (ev.Tree (next_number told.newest
 
 -- What a line does, where the files tell so, and what became of its step.
 abbrev pub LineDoes : (Addr → Addr → Course) → Told → EventLine → StepAnswer → Stage → Stage → Type 0
-LineDoes fresh told (line.Open conn local peer) a old new = Plain fresh (ev.Opened conn local peer) a old new
+LineDoes fresh told (line.Open conn local peer) a old new = OpensLine fresh conn (record { local = local; peer = peer }) a old new
 LineDoes fresh told (line.Bytes conn bytes) a old new = SendsLine fresh conn bytes a old new
 LineDoes fresh told (line.End conn) a old new = EndsLine fresh conn a old new
 LineDoes fresh told (line.Room conn count) a old new = WritesLine fresh conn count a old new
@@ -54,3 +55,7 @@ sent_by l c = []
 abbrev pub sent_in : List EventLine → ℕ → List ℕ
 sent_in [] c = []
 sent_in (l ∷ lines) c = sent_by l c ++ sent_in lines c
+
+-- the ends of each connection are those that it had before, or those of a line that opens it
+abbrev pub AreOpenedBy : List EventLine → (ℕ → Lane) → (ℕ → Lane) → Type 0
+AreOpenedBy lines old new = (c : ℕ) (ends : LinkEnds) → (new c).ends ≡ Some ends → ((old c).ends ≡ Some ends) ⊎ Contains lines (line.Open c ends.local ends.peer)

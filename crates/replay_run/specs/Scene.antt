@@ -8,10 +8,10 @@ use Rattle.file_tree.specs.Tree.{Trees, HoldsBytes, IsFrom, node_of, tree_of}
 use Rattle.file_tree.specs.declared.job.Ask.{Ask}
 use Rattle.file_tree.specs.declared.job.Ask.TheVariants as ask
 use Rattle.file_tree.specs.declared.job.JobAnswer.{JobAnswer}
-use Rattle.ngx_outside.specs.Views.{ConnView, Course, Start, Steps, now_after, no_bytes, ask_in}
+use Rattle.ngx_outside.specs.Views.{ConnView, Course, Start, Steps, now_after, ended_after, no_bytes, ask_in}
 use Rattle.ngx_outside.specs.Wants.{wants_in}
 use Rattle.ngx_outside.specs.declared.event.Event.{Event}
-use Rattle.ngx_outside.specs.declared.event.Event.TheVariants.{Arrived, Ended, Wrote, FileDone, JobFailed, Run}
+use Rattle.ngx_outside.specs.declared.event.Event.TheVariants.{Opened, Arrived, Ended, Wrote, FileDone, JobFailed, Run}
 use Rattle.ngx_outside.specs.declared.event.StepAnswer.{StepAnswer}
 use Rattle.ngx_outside.specs.declared.event.StepAnswer.TheVariants.{Done, Skipped, OutOfMemory}
 use Rattle.ngx_outside.specs.declared.event.Want.{Want}
@@ -22,18 +22,21 @@ use Rattle.replay_run.specs.declared.jobs.Found.TheVariants as found
 use Rattle.replay_run.specs.declared.lane.InputEnd.{InputEnd}
 use Rattle.replay_run.specs.declared.lane.InputEnd.TheVariants as input
 use Rattle.replay_run.specs.declared.lane.Lane.{Lane as LaneOf}
+use Rattle.replay_run.specs.declared.lane.LinkEnds.{LinkEnds}
 
--- what a script keeps of a connection: the bytes that wait to arrive, how they end, and what was emitted on it
+-- what a script keeps of a connection: the bytes that wait to arrive, how they end, what was emitted on it, and the ends of its
+-- last opening that was done
 pub record Lane : Type 0 where
   pub queue : List ℕ
   pub tail : InputEnd
   pub went : List ℕ
+  pub ends : Option LinkEnds
 
 abbrev pub empty_lane : Lane
-empty_lane = record { queue = []; tail = input.Open; went = [] }
+empty_lane = record { queue = []; tail = input.Open; went = []; ends = None }
 
 abbrev pub shown_lane : LaneOf → Lane
-shown_lane l = record { queue = l.queue; tail = l.tail; went = l.emitted }
+shown_lane l = record { queue = l.queue; tail = l.tail; went = l.emitted; ends = l.ends }
 
 -- the lane of a connection
 abbrev pub lane_in : List LaneOf → ℕ → Lane
@@ -53,6 +56,7 @@ stage view now lanes = record { view = view; now = now; lanes = lane_in lanes }
 pub record Gives (fresh : Addr → Addr → Course) (e : Event) (a : StepAnswer) (view : ℕ → ConnView) (now : Start) (view' : ℕ → ConnView) (now' : Start) : Type 0 where
   pub steps : Steps fresh now e a view view'
   pub moment : now' ≡ now_after now e a
+  pub ended : (c : ℕ) → (view' c).ended ≡ ended_after e a c (view c).ended
 
 -- one lane becomes this, and no other changes
 pub record OneLane (c : ℕ) (lane : Lane) (old new : ℕ → Lane) : Type 0 where
@@ -79,7 +83,7 @@ pub record Offers (fresh : Addr → Addr → Course) (c : ℕ) (queue : List ℕ
   pub gives : Gives fresh event a view now view' now'
 
 abbrev pub offered_lane : Lane → StepAnswer → Lane
-offered_lane l a = record { queue = drop (taken_of a) l.queue; tail = l.tail; went = l.went }
+offered_lane l a = record { queue = drop (taken_of a) l.queue; tail = l.tail; went = l.went; ends = l.ends }
 
 -- whether a lane's input ends now
 abbrev pub is_ending : Lane → Bool
@@ -96,7 +100,7 @@ tail_after Skipped tail = tail
 tail_after OutOfMemory tail = tail
 
 abbrev pub ended_lane : Lane → StepAnswer → Lane
-ended_lane l a = record { queue = l.queue; tail = tail_after a l.tail; went = l.went }
+ended_lane l a = record { queue = l.queue; tail = tail_after a l.tail; went = l.went; ends = l.ends }
 
 -- the core is told that a lane's input ends, where it does
 pub data EndsIfDue (fresh : Addr → Addr → Course) (c : ℕ) (lane lane' : Lane) (a : StepAnswer) (view : ℕ → ConnView) (now : Start) (view' : ℕ → ConnView) (now' : Start) : Type 0 where
@@ -116,7 +120,7 @@ written_of Skipped count pending = []
 written_of OutOfMemory count pending = []
 
 abbrev pub written_lane : Lane → StepAnswer → ℕ → List ℕ → Lane
-written_lane l a count pending = record { queue = l.queue; tail = l.tail; went = l.went ++ written_of a count pending }
+written_lane l a count pending = record { queue = l.queue; tail = l.tail; went = l.went ++ written_of a count pending; ends = l.ends }
 
 -- An event that touches no lane.
 pub record Plain (fresh : Addr → Addr → Course) (e : Event) (a : StepAnswer) (old new : Stage) : Type 0 where
@@ -129,8 +133,21 @@ pub record OnLane (c : ℕ) (Does : Lane → Lane → Type 0) (old new : ℕ →
   pub does : Does (old c) last
   pub lanes : OneLane c last old new
 
+-- A connection is opened at these ends, which its lane keeps where that is done.
+abbrev pub ends_after : LinkEnds → StepAnswer → Option LinkEnds → Option LinkEnds
+ends_after ends (Done taken) kept = Some ends
+ends_after ends Skipped kept = kept
+ends_after ends OutOfMemory kept = kept
+
+abbrev pub opened_lane : Lane → LinkEnds → StepAnswer → Lane
+opened_lane l ends a = record { queue = l.queue; tail = l.tail; went = l.went; ends = ends_after ends a l.ends }
+
+pub record Opens (fresh : Addr → Addr → Course) (c : ℕ) (ends : LinkEnds) (a : StepAnswer) (view : ℕ → ConnView) (now : Start) (view' : ℕ → ConnView) (now' : Start) (lane lane' : Lane) : Type 0 where
+  pub gives : Gives fresh (Opened c ends.local ends.peer) a view now view' now'
+  pub keeps : lane' ≡ opened_lane lane ends a
+
 abbrev pub longer_lane : Lane → List ℕ → Lane
-longer_lane l bytes = record { queue = l.queue ++ bytes; tail = l.tail; went = l.went }
+longer_lane l bytes = record { queue = l.queue ++ bytes; tail = l.tail; went = l.went; ends = l.ends }
 
 -- Bytes are put behind those that wait, and all are offered; then the input ends where it is due.
 pub record Sends (fresh : Addr → Addr → Course) (c : ℕ) (bytes : List ℕ) (a : StepAnswer) (view : ℕ → ConnView) (now : Start) (view' : ℕ → ConnView) (now' : Start) (lane lane' : Lane) : Type 0 where
@@ -148,7 +165,7 @@ due_after input.Due = input.Due
 due_after input.Given = input.Given
 
 abbrev pub due_lane : Lane → Lane
-due_lane l = record { queue = l.queue; tail = due_after l.tail; went = l.went }
+due_lane l = record { queue = l.queue; tail = due_after l.tail; went = l.went; ends = l.ends }
 
 -- At most so many of the pending bytes are written.
 pub record Writes (fresh : Addr → Addr → Course) (c most : ℕ) (a : StepAnswer) (view : ℕ → ConnView) (now : Start) (view' : ℕ → ConnView) (now' : Start) (lane lane' : Lane) : Type 0 where
@@ -162,7 +179,11 @@ pub data Reads (fresh : Addr → Addr → Course) (c : ℕ) (a : StepAnswer) (vi
   Offered : no_bytes lane.queue ≡ false → Offers fresh c lane.queue a view now view' now' → lane' ≡ offered_lane lane a → Reads fresh c a view now view' now' lane lane'
   Ending : no_bytes lane.queue ≡ true → EndsIfDue fresh c lane lane' a view now view' now' → Reads fresh c a view now view' now' lane lane'
 
--- What a line does, from stage to stage: bytes are sent, the input ends as soon as nothing waits, bytes are written.
+-- What a line does, from stage to stage: a connection is opened, bytes are sent, the input ends as soon as nothing waits, bytes
+-- are written.
+abbrev pub OpensLine : (Addr → Addr → Course) → ℕ → LinkEnds → StepAnswer → Stage → Stage → Type 0
+OpensLine fresh c ends a old new = OnLane c (Opens fresh c ends a old.view old.now new.view new.now) old.lanes new.lanes
+
 abbrev pub SendsLine : (Addr → Addr → Course) → ℕ → List ℕ → StepAnswer → Stage → Stage → Type 0
 SendsLine fresh c bytes a old new = OnLane c (Sends fresh c bytes a old.view old.now new.view new.now) old.lanes new.lanes
 

@@ -1,5 +1,5 @@
 -- What the files of a script tell: the first tree is that of its tree lines, and each line that changes it makes one more.
-use Rattle.std.specs.Prelude.{◌≡◌, ℕ, ◌+◌, ◌-◌, ◌^◌, ◌&&◌, min, max, nat_le, nat_lt, bytes_eq, List, [], ◌∷◌, if◌then◌else◌}
+use Rattle.std.specs.Prelude.{ℕ, ◌+◌, ◌-◌, ◌^◌, ◌&&◌, min, max, nat_le, nat_lt, bytes_eq, List, [], ◌∷◌, if◌then◌else◌}
 use Rattle.file_tree.specs.Tree.{Item, AFile, AFolder, ALocked, Nothing, Tree, Trees}
 use Rattle.memory_outside.specs.declared.files.MemoryFiles.{MemoryFiles}
 use Rattle.memory_outside.specs.Stored.{trees_of, newest_of}

@@ -9,7 +9,7 @@ mod player;
 mod serve;
 mod tree;
 
-pub use lane::{InputEnd, Lane};
+pub use lane::{InputEnd, Lane, LinkEnds};
 pub use lines::{Counts, run_lines};
 pub use player::Player;
 pub use tree::files_of;

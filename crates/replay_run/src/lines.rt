@@ -1,13 +1,17 @@
 // Runs the lines of a script on a core.
 ghost use Rattle.std.specs.Prelude.{◌≡◌, ◌++◌, ℕ, List, [], OnOk, IfOk};
+ghost use Rattle.http_types.specs.declared.words.Addr.{Addr as End};
+ghost use Rattle.ngx_outside.specs.Views.{OpensIf};
+ghost use Rattle.ngx_outside.specs.declared.event.Event.TheVariants.{Opened};
+ghost use Rattle.replay_text.specs.declared.parts.EventLine.TheVariants.{Open as OpenLine};
 ghost use Rattle.memory_outside.specs.Stored.{newest_of, failing_of, item_of as stored_item};
 ghost use Rattle.replay_run.specs.Told.{told_of, told_after, told_in, told_next, next_number};
-ghost use Rattle.replay_run.specs.Scene.{stage};
+ghost use Rattle.replay_run.specs.Scene.{stage, lane_in};
 ghost use Rattle.replay_run.specs.Standing.{AllStanding};
-ghost use Rattle.replay_run.specs.Plays.{LineDoes, ChangesTree, Plays, skipped_after, refused_after, sent_in};
+ghost use Rattle.replay_run.specs.Plays.{LineDoes, ChangesTree, Plays, skipped_after, refused_after, sent_in, AreOpenedBy};
 
-use crate::Player;
 use crate::tree::{change, item_in, path_in};
+use crate::{LinkEnds, Player};
 use byte_text::OutOfMemory;
 use memory_outside::{MemoryFiles, StoredItem};
 use ngx_outside::{Event, EventCore, Files, StepAnswer};
@@ -58,20 +62,21 @@ fn run_line<E: EventCore>(
     requires newest { newest_of files.old ≡ (E.now core.old).tree }
     requires sure { failing_of files.old ≡ [] }
     ensures does { IfOk result (λ a. LineDoes (E.fresh core.old) (told_of files.old) line.now a (stage (E.view core.old) (E.now core.old) player.old.lanes.items) (stage (E.view core.new) (E.now core.new) player.new.lanes.items)) }
+    ensures opens { (conn : ℕ) (local peer : End) → line.now ≡ OpenLine conn local peer → IfOk result (λ a. OpensIf (E.opens core.old) (Opened conn local peer) a) }
     ensures told { OnOk result (told_of files.new ≡ told_after line.now (told_of files.old)) }
     ensures sure { OnOk result (failing_of files.new ≡ []) }
     ensures newest { OnOk result (newest_of files.new ≡ (E.now core.new).tree) }
     ensures steady { OnOk result (E.fresh core.new ≡ E.fresh core.old) }
 {
     match line {
-        EventLine::Open { conn, local, peer } => Ok(player.give(
+        EventLine::Open { conn, local, peer } => player.open(
             core,
-            Event::Opened {
-                conn: *conn,
+            *conn,
+            LinkEnds {
                 local: *local,
                 peer: *peer,
             },
-        )),
+        ),
         EventLine::Bytes { conn, bytes } => player.send(core, *conn, bytes.as_slice()),
         EventLine::End { conn } => player.close(core, *conn),
         EventLine::Room { conn, count } => player.write(core, *conn, *count),
@@ -134,7 +139,7 @@ fn count(counts: Counts, answer: StepAnswer) -> Counts
 ///
 /// What came and went on each connection stays accounted for: of the bytes that the lines send on it some have come and the
 /// others wait, and for all trees that agree with what the files tell what was emitted since its opening is the beginning of
-/// what was to come.
+/// what was to come, by the ends of its last opening that was done; these are the ends of a line that opens it.
 pub fn run_lines<E: EventCore>(
     player: &mut Player,
     core: &mut E,
@@ -145,6 +150,7 @@ pub fn run_lines<E: EventCore>(
     requires sure { failing_of files.old ≡ [] }
     ensures plays { IfOk result (λ counts. Plays (E.fresh core.old) lines.now (told_of files.old) (stage (E.view core.old) (E.now core.old) player.old.lanes.items) 0 0 (stage (E.view core.new) (E.now core.new) player.new.lanes.items) counts.skipped counts.refused) }
     ensures told { OnOk result (told_of files.new ≡ told_in lines.now (told_of files.old)) }
+    ensures opened { OnOk result (AreOpenedBy lines.now (lane_in player.old.lanes.items) (lane_in player.new.lanes.items)) }
     ensures stands { OnOk result ((sent : ℕ → List ℕ) → AllStanding (E.fresh core.old) (told_of files.old) (stage (E.view core.old) (E.now core.old) player.old.lanes.items) sent → AllStanding (E.fresh core.old) (told_in lines.now (told_of files.old)) (stage (E.view core.new) (E.now core.new) player.new.lanes.items) (λ c. sent c ++ sent_in lines.now c)) }
 {
     let mut counts = Counts {

@@ -1,14 +1,14 @@
 // Runs lines on a core.
 ghost use Rattle.std.specs.Prelude.{◌≡◌, ◌<◌, ◌≤◌, ◌+◌, ◌*◌, ◌∷◌, ◌++◌, ◌≢◌, ℕ, [], Some, None, true, false, min, length, take, MatchOption, OnOk, IfOk, IfSome, IfNone, sum_by, Contains};
-ghost use Rattle.ngx_outside.specs.Views.{no_bytes, ask_in};
+ghost use Rattle.ngx_outside.specs.Views.{no_bytes, ask_in, OpensIf};
 ghost use Rattle.memory_outside.specs.Stored.{newest_of, failing_of};
 ghost use Rattle.replay_run.specs.Told.{told_of};
 ghost use Rattle.ngx_outside.specs.declared.event.Event.TheVariants.{Opened, JobFailed, Run, Tick, Tree};
-ghost use Rattle.replay_run.specs.Scene.{Stage, stage, lane_in, has_lane, LaneAt, SameLanes, OnLane, Plain, Gives, Sends, EndsIfDue, Writes, Reads, shown_lane, due_lane, empty_lane, either as either_of, is_read, is_served, first_served, Serves, Drains, Drained, SendsLine, EndsLine, WritesLine, JobLine, IsWanted, work, work_of};
+ghost use Rattle.replay_run.specs.Scene.{Stage, stage, lane_in, has_lane, LaneAt, SameLanes, OnLane, Plain, Gives, OpensLine, Sends, EndsIfDue, Writes, Reads, shown_lane, due_lane, empty_lane, either as either_of, is_read, is_served, first_served, Serves, Drains, Drained, SendsLine, EndsLine, WritesLine, JobLine, IsWanted, work, work_of};
 
 use crate::jobs::answer_job;
-use crate::serve::{end_if_due, offer, write as write_on};
-use crate::{InputEnd, Lane};
+use crate::serve::{end_if_due, offer, open as open_on, write as write_on};
+use crate::{InputEnd, Lane, LinkEnds};
 use byte_text::{ByteText, OutOfMemory};
 use http_types::Addr;
 use memory_outside::MemoryFiles;
@@ -196,6 +196,23 @@ impl Player {
         ensures steady { (E.fresh core.new ≡ E.fresh core.old) × (E.price core.new ≡ E.price core.old) }
     {
         core.step(event)
+    }
+
+    /// Opens a connection at these ends, which are kept where that is done. It is skipped only where the core opens none there.
+    pub fn open<E: EventCore>(
+        &mut self,
+        core: &mut E,
+        conn: u32,
+        ends: LinkEnds,
+    ) -> Result<StepAnswer, OutOfMemory>
+        ensures opens { IfOk result (λ a. OpensLine (E.fresh core.old) conn ends a (stage (E.view core.old) (E.now core.old) self.old.lanes.items) (stage (E.view core.new) (E.now core.new) self.new.lanes.items)) }
+        ensures why { IfOk result (λ a. OpensIf (E.opens core.old) (Opened conn ends.local ends.peer) a) }
+        ensures steady { OnOk result ((E.fresh core.new ≡ E.fresh core.old) × (E.price core.new ≡ E.price core.old)) }
+    {
+        let at = place_or_add(self.alloc, &mut self.lanes, conn)?;
+        let lane = &mut self.lanes[at];
+        let answer = open_on(core, lane, ends);
+        Ok(answer)
     }
 
     /// Puts bytes behind those that wait on a connection, and offers it all; its input ends then where that is due.

@@ -1,12 +1,32 @@
 // The events of one connection, and what they leave of its lane.
 ghost use Rattle.std.specs.Prelude.{◌≡◌, ◌<◌, ◌≤◌, ◌+◌, ◌*◌, ℕ, [], Some, true, false, min, length, take, ◌++◌, OnOk, IfOk};
-ghost use Rattle.ngx_outside.specs.Views.{no_bytes};
-ghost use Rattle.ngx_outside.specs.declared.event.Event.TheVariants.{Ended, Wrote};
-ghost use Rattle.replay_run.specs.Scene.{Gives, Offers, EndsIfDue, shown_lane, offered_lane, written_lane, is_ending, work_of};
+ghost use Rattle.ngx_outside.specs.Views.{no_bytes, OpensIf};
+ghost use Rattle.ngx_outside.specs.declared.event.Event.TheVariants.{Opened, Ended, Wrote};
+ghost use Rattle.replay_run.specs.Scene.{Gives, Opens, Offers, EndsIfDue, shown_lane, offered_lane, written_lane, is_ending, work_of};
 
-use crate::{InputEnd, Lane};
+use crate::{InputEnd, Lane, LinkEnds};
 use byte_text::OutOfMemory;
 use ngx_outside::{Event, EventCore, StepAnswer};
+
+/// Opens the connection at these ends, and keeps them where that is done. It is skipped only where the core opens none there.
+pub fn open<E: EventCore>(core: &mut E, lane: &mut Lane, ends: LinkEnds) -> StepAnswer
+    ensures opens { Opens (E.fresh core.old) lane.old.conn ends result (E.view core.old) (E.now core.old) (E.view core.new) (E.now core.new) (shown_lane lane.old) (shown_lane lane.new) }
+    ensures why { OpensIf (E.opens core.old) (Opened lane.old.conn ends.local ends.peer) result }
+    ensures conn { lane.new.conn ≡ lane.old.conn }
+    ensures steady { (E.fresh core.new ≡ E.fresh core.old) × (E.price core.new ≡ E.price core.old) }
+{
+    let answer = core.step(Event::Opened {
+        conn: lane.conn,
+        local: ends.local,
+        peer: ends.peer,
+    });
+    match answer {
+        StepAnswer::Done { taken: _ } => lane.ends = Some(ends),
+        StepAnswer::Skipped => {}
+        StepAnswer::OutOfMemory => {}
+    }
+    answer
+}
 
 /// Offers all that waits to the connection, and drops what it takes.
 pub fn offer<E: EventCore>(core: &mut E, lane: &mut Lane) -> StepAnswer
@@ -62,7 +82,7 @@ pub fn end_if_due<E: EventCore>(core: &mut E, lane: &mut Lane) -> StepAnswer
 fn keep_front<E: EventCore>(core: &E, lane: &mut Lane, most: u64) -> Result<usize, OutOfMemory>
     ensures count { IfOk result (λ count. count ≡ min most (length (E.view core.now lane.old.conn).pending)) }
     ensures kept { IfOk result (λ count. lane.new.emitted ≡ lane.old.emitted ++ take count (E.view core.now lane.old.conn).pending) }
-    ensures same { (lane.new.conn ≡ lane.old.conn) × (lane.new.queue ≡ lane.old.queue) × (lane.new.tail ≡ lane.old.tail) }
+    ensures same { (lane.new.conn ≡ lane.old.conn) × (lane.new.queue ≡ lane.old.queue) × (lane.new.tail ≡ lane.old.tail) × (lane.new.ends ≡ lane.old.ends) }
 {
     let pending = core.pending(lane.conn);
     let count = if most < pending.len() as u64 {

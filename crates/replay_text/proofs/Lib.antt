@@ -1,11 +1,1 @@
-pub mod LineLaws
-pub mod NumberLaws
-pub mod EscapeLaws
-pub mod AddrLaws
-pub mod TermLaws
-pub mod SumLaws
 pub mod SectionLaws
-pub mod PrintLaws
-pub mod PrintedAddrs
-pub mod PrintedEntries
-pub mod PrintedScripts

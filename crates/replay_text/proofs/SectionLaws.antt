@@ -1,15 +1,16 @@
 -- The sections of a script, a line at a time, as loops read them.
 use Rattle.std.proofs.Common.{◌≡◌, ℕ, suc, ◌+◌, ◌<◌, ◌≤◌, Bool, true, false, cond, List, [], ◌∷◌, ◌++◌, length, Option, Some, None, Result, Ok, Err, refl, sym, ap, ◌∙◌, append_assoc, append-nil, arith, subst}
-use Rattle.replay_text.specs.declared.faults.FaultKind.TheVariants.{Section}
-use Rattle.replay_text.specs.declared.faults.LineError.TheVariants as lines
+use Rattle.replay_words.specs.declared.faults.FaultKind.TheVariants.{Section}
+use Rattle.replay_words.specs.declared.faults.LineError.TheVariants as lines
 use Rattle.replay_text.specs.declared.faults.ScriptFault.{ScriptFault}
 use Rattle.replay_text.specs.declared.faults.ScriptError.{ScriptError}
 use Rattle.replay_text.specs.declared.faults.ScriptError.TheVariants as script
 use Rattle.replay_text.specs.declared.parts.Conf.{Conf}
 use Rattle.replay_text.specs.declared.parts.TreeLine.{TreeLine}
 use Rattle.replay_text.specs.declared.parts.EventLine.{EventLine}
-use Rattle.replay_text.specs.Faults.{◌>>=◌, Fails, fault, at_line, script_error}
-use Rattle.replay_text.specs.Words.{is_dot}
+use Rattle.replay_words.specs.Faults.{◌>>=◌}
+use Rattle.replay_text.specs.Faults.{Fails, fault, at_line, script_error}
+use Rattle.replay_words.specs.Words.{is_dot}
 use Rattle.replay_text.specs.Grammar.{Place, place, is_passed, head_of, raw_text, confs_of, behind_dot, line_in_tree, tree_of, events_head, behind_events, line_in_events, events_of}
 use Rattle.replay_text.specs.Steps.{raw_at, with_raw, with_tree, with_events}
 

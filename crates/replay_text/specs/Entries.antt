@@ -1,19 +1,19 @@
 -- The lines of the tree and of the events.
 use Rattle.std.specs.Prelude.{ℕ, ◌+◌, List, [], ◌∷◌, length, Bool, true, false, Result, Ok, Err, if◌then◌else◌}
-use Rattle.replay_text.specs.declared.faults.FaultKind.{FaultKind}
-use Rattle.replay_text.specs.declared.faults.FaultKind.TheVariants.{Word}
-use Rattle.replay_text.specs.declared.words.Keyword.{Keyword}
-use Rattle.replay_text.specs.declared.words.Keyword.TheVariants as keywords
+use Rattle.replay_words.specs.declared.faults.FaultKind.{FaultKind}
+use Rattle.replay_words.specs.declared.faults.FaultKind.TheVariants.{Word}
+use Rattle.replay_words.specs.declared.words.Keyword.{Keyword}
+use Rattle.replay_words.specs.declared.words.Keyword.TheVariants as keywords
 use Rattle.replay_text.specs.declared.parts.TreeLine.{TreeLine}
 use Rattle.replay_text.specs.declared.parts.TreeLine.TheVariants as trees
 use Rattle.replay_text.specs.declared.parts.EventLine.{EventLine}
 use Rattle.replay_text.specs.declared.parts.EventLine.TheVariants as events
-use Rattle.replay_text.specs.Faults.{◌>>=◌}
-use Rattle.replay_text.specs.Words.{keyword_of, is_fail, no_word, one_word, first_word}
-use Rattle.replay_text.specs.Numbers.{number, most_id, most_room, last_second}
-use Rattle.replay_text.specs.Escapes.{unescaped, path_word}
-use Rattle.replay_text.specs.Sums.{Term, sum_of, counts_of, bytes_within}
-use Rattle.replay_text.specs.Addrs.{addr_of}
+use Rattle.replay_words.specs.Faults.{◌>>=◌}
+use Rattle.replay_words.specs.Words.{keyword_of, is_fail, no_word, one_word, first_word}
+use Rattle.replay_words.specs.Numbers.{number, most_id, most_room, last_second}
+use Rattle.replay_words.specs.Escapes.{unescaped, path_word}
+use Rattle.replay_words.specs.Sums.{Term, sum_of, counts_of, bytes_within}
+use Rattle.replay_words.specs.Addrs.{addr_of}
 
 -- Each line is read in the order of its faults: its words, then its numbers, then its escapes. A line gives its value,
 -- and how many bytes the sums of the script have up to its end.

@@ -1,16 +1,17 @@
 -- The grammar of a script, line by line.
 use Rattle.std.specs.Prelude.{ℕ, ◌+◌, List, [], ◌∷◌, ◌++◌, ◌==◌, Bool, true, false, ◌||◌, Option, Some, None, Result, Ok, Err, if◌then◌else◌}
 use Rattle.std.specs.List.{list_any}
-use Rattle.replay_text.specs.declared.faults.FaultKind.{FaultKind}
-use Rattle.replay_text.specs.declared.faults.FaultKind.TheVariants.{Section, Word}
+use Rattle.replay_words.specs.declared.faults.FaultKind.{FaultKind}
+use Rattle.replay_words.specs.declared.faults.FaultKind.TheVariants.{Section, Word}
 use Rattle.replay_text.specs.declared.faults.ScriptFault.{ScriptFault}
 use Rattle.replay_text.specs.declared.parts.Conf.{Conf}
 use Rattle.replay_text.specs.declared.parts.TreeLine.{TreeLine}
 use Rattle.replay_text.specs.declared.parts.EventLine.{EventLine}
 use Rattle.replay_text.specs.declared.parts.Script.{Script}
-use Rattle.replay_text.specs.Faults.{◌>>=◌, at_line, ends_at}
-use Rattle.replay_text.specs.Lines.{lines_of, pieces_of, front_of}
-use Rattle.replay_text.specs.Words.{words_of, same, keyword_of, first_word, is_conf, is_tree, is_events, is_dot}
+use Rattle.replay_words.specs.Faults.{◌>>=◌}
+use Rattle.replay_text.specs.Faults.{at_line, ends_at}
+use Rattle.replay_words.specs.Lines.{lines_of, pieces_of, front_of}
+use Rattle.replay_words.specs.Words.{words_of, same, keyword_of, first_word, is_conf, is_tree, is_events, is_dot}
 use Rattle.replay_text.specs.Entries.{path_line, tree_line, event_line}
 
 -- an empty line or a comment, which is passed over outside the configuration texts

@@ -1,11 +1,4 @@
 pub mod Faults
-pub mod Lines
-pub mod Words
-pub mod Numbers
-pub mod Escapes
-pub mod Sums
-pub mod Addrs
 pub mod Entries
 pub mod Grammar
 pub mod Steps
-pub mod Printed

@@ -1,18 +1,17 @@
 // The lines of the tree and of the events.
 ghost use Rattle.std.specs.Prelude.{◌≡◌, ◌≤◌, IfOk, Result};
-ghost use Rattle.replay_text.specs.Faults.{LineGives};
-ghost use Rattle.replay_text.specs.Sums.{most_bytes};
-ghost use Rattle.replay_text.specs.Steps.{term_views};
+ghost use Rattle.replay_words.specs.Faults.{LineGives};
+ghost use Rattle.replay_words.specs.Sums.{most_bytes};
+ghost use Rattle.replay_words.specs.Steps.{term_views};
 ghost use Rattle.replay_text.specs.Entries.{file_line, path_line, tree_line, open_line, some_term, some_byte, bytes_line, end_line, room_line, node_line, fails_of, answer_line, run_line, tick_line, drain_line, change_line, tree_event, alone, event_line};
 
-use crate::addrs::addr_of;
-use crate::escapes::{path_word, unescaped};
-use crate::faults::LineError;
-use crate::numbers::{id_of, moment_of, room_of};
-use crate::sums::{TermWords, bytes_within, counts_of, sum_of};
-use crate::words::{Keyword, Words, first_word, is_fail, keyword_of, next_word, no_word, one_word};
-use crate::{EventLine, FaultKind, TreeLine};
+use crate::{EventLine, TreeLine};
 use byte_text::ByteText;
+use replay_words::{
+    FaultKind, Keyword, LineError, TermWords, Words, addr_of, bytes_within, counts_of, first_word,
+    id_of, is_fail, keyword_of, moment_of, next_word, no_word, one_word, path_word, room_of,
+    sum_of, unescaped,
+};
 use std::alloc::Global;
 
 /// `file PATH DATE BYTES`, behind the first word.

@@ -1,18 +1,17 @@
 // The lines that begin and end sections, and the lines within.
 ghost use Rattle.std.specs.Prelude.{◌≡◌, ◌≤◌, IfOk};
-ghost use Rattle.replay_text.specs.Faults.{LineGives};
-ghost use Rattle.replay_text.specs.Lines.{pieces_of};
-ghost use Rattle.replay_text.specs.Sums.{most_bytes};
+ghost use Rattle.replay_words.specs.Faults.{LineGives};
+ghost use Rattle.replay_words.specs.Lines.{pieces_of};
+ghost use Rattle.replay_words.specs.Sums.{most_bytes};
 ghost use Rattle.replay_text.specs.Grammar.{is_passed, is_path_among, conf_line, tree_head, head_of, is_section_in_tree, is_section_in_events, line_in_tree, line_in_events, events_head};
 
 use crate::entries::{event_line, path_line, tree_line};
-use crate::faults::LineError;
-use crate::words::{
-    Words, first_word, front, is_conf, is_events, is_tree, keyword_of, next_word, pieces_of,
-    words_of,
-};
-use crate::{Conf, EventLine, FaultKind, TreeLine};
+use crate::{Conf, EventLine, TreeLine};
 use byte_text::ByteText;
+use replay_words::{
+    FaultKind, LineError, Words, first_word, front, is_conf, is_events, is_tree, keyword_of,
+    next_word, pieces_of, words_of,
+};
 use std::alloc::Global;
 
 /// Whether a line is empty or a comment.

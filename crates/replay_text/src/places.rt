@@ -1,9 +1,9 @@
 // Where reading goes on in a text of lines.
 ghost use Rattle.std.specs.Prelude.{◌≡◌, ◌+◌, ◌<◌, ◌^◌, [], ◌∷◌, length, MatchOption};
-ghost use Rattle.replay_text.specs.Lines.{lines_of};
+ghost use Rattle.replay_words.specs.Lines.{lines_of};
 ghost use Rattle.replay_text.specs.Grammar.{Place, place};
 
-use crate::cuts::next_line;
+use replay_words::next_line;
 use std::marker::Model;
 
 /// The number of the next line, from 1, and the lines from there.

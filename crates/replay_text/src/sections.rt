@@ -3,16 +3,13 @@ ghost use Rattle.std.specs.Prelude.{◌≡◌, ◌≤◌, [], IfOk};
 ghost use Rattle.replay_text.specs.Faults.{Gives, script_error, at_line};
 ghost use Rattle.replay_text.specs.Grammar.{head_of, line_in_tree, events_head, line_in_events, confs_of, tree_of, behind_events, events_of};
 ghost use Rattle.replay_text.specs.Steps.{raw_at};
-ghost use Rattle.replay_text.specs.Sums.{most_bytes};
+ghost use Rattle.replay_words.specs.Sums.{most_bytes};
 
-use crate::faults::LineError;
 use crate::heads::{events_head, head_of, is_passed, line_in_events, line_in_tree};
 use crate::places::Spot;
-use crate::words::is_dot;
-use crate::{
-    Conf, Confs, EventLine, EventLines, FaultKind, ScriptError, ScriptFault, TreeLine, TreeLines,
-};
+use crate::{Conf, Confs, EventLine, EventLines, ScriptError, ScriptFault, TreeLine, TreeLines};
 use byte_text::ByteText;
+use replay_words::{FaultKind, LineError, is_dot};
 use std::alloc::Global;
 
 /// A fault of a line, with the line's number.

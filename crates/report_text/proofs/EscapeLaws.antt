@@ -8,9 +8,8 @@ use Rattle.std.proofs.lemmas.Bool.Decides.{nat_tests}
 use Rattle.std.proofs.lemmas.List.{take_more, drop_more, take_all, get_or-drop}
 use Rattle.std.proofs.lemmas.List.Folds.{list_all-append}
 use Rattle.percent_encoding.specs.Percent.{percent_encode_byte}
-use Rattle.replay_text.specs.declared.faults.FaultKind.TheVariants.{Escape}
-use Rattle.replay_text.specs.Escapes.{is_hex, with_byte, unescaped}
-use Rattle.replay_text.specs.Printed.{AreBytes}
+use Rattle.replay_words.specs.declared.faults.FaultKind.TheVariants.{Escape}
+use Rattle.replay_words.specs.Escapes.{is_hex, with_byte, unescaped, AreBytes}
 use Rattle.report_text.specs.Escapes.{is_plain, escaped_byte, escaped}
 use Rattle.report_text.specs.Laws.{is_printable}
 

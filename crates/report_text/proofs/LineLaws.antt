@@ -4,7 +4,7 @@ use Rattle.std.specs.List.{list_all}
 use Rattle.std.proofs.lemmas.Bool.{and_parts}
 use Rattle.std.proofs.lemmas.List.{drop_more, drop_all}
 use Rattle.std.proofs.lemmas.Grind.{flat_map-append}
-use Rattle.replay_text.specs.Lines.{begun, lines_of}
+use Rattle.replay_words.specs.Lines.{begun, lines_of}
 use Rattle.report_text.specs.Lines.{ended, lines_text}
 use Rattle.report_text.specs.Report.{Report, conn_line, log_line, sent_line, conn_lines, conn_text}
 

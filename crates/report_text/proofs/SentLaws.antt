@@ -9,10 +9,9 @@ use Rattle.std.proofs.lemmas.List.Folds.{list_all-append}
 use Rattle.ngx_outside.specs.declared.event.Entry.{Entry}
 use Rattle.ngx_outside.specs.declared.event.StopCause.{StopCause}
 use Rattle.ngx_outside.specs.declared.event.StopCause.TheVariants.{LinkFault, FileFault, Memory, SubLimit, Deadline}
-use Rattle.replay_text.specs.Escapes.{unescaped}
-use Rattle.replay_text.specs.Lines.{lines_of}
-use Rattle.replay_text.specs.Words.{is_dash}
-use Rattle.replay_text.specs.Printed.{AreBytes}
+use Rattle.replay_words.specs.Escapes.{unescaped, AreBytes}
+use Rattle.replay_words.specs.Lines.{lines_of}
+use Rattle.replay_words.specs.Words.{is_dash}
 use Rattle.report_text.specs.declared.report.ConnState.{ConnState}
 use Rattle.report_text.specs.declared.report.ConnState.TheVariants.{Stopped, Idle, Busy}
 use Rattle.report_text.specs.Escapes.{escaped}

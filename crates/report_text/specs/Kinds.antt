@@ -1,7 +1,7 @@
 -- The kinds of faults, each by its number and its name.
 use Rattle.std.specs.Prelude.{ℕ, List, codes}
-use Rattle.replay_text.specs.declared.faults.FaultKind.{FaultKind}
-use Rattle.replay_text.specs.declared.faults.FaultKind.TheVariants as script
+use Rattle.replay_words.specs.declared.faults.FaultKind.{FaultKind}
+use Rattle.replay_words.specs.declared.faults.FaultKind.TheVariants as script
 use Rattle.conf_text.specs.declared.fault.FaultKind.{FaultKind as ConfKind}
 use Rattle.conf_text.specs.declared.fault.FaultKind.TheVariants as conf
 

@@ -1,11 +1,10 @@
 -- What a reader of the printed text finds in it.
 use Rattle.std.specs.Prelude.{◌≡◌, ◌≢◌, ℕ, Bool, true, ◌&&◌, nat_le, nat_eq, List, [], ◌∷◌, map, drop, codes, Option, Some, None, Result, Ok, if◌then◌else◌}
 use Rattle.std.specs.List.{list_all, filter_map, starts_with, AllByRecursion}
-use Rattle.replay_text.specs.declared.faults.FaultKind.{FaultKind}
-use Rattle.replay_text.specs.Escapes.{unescaped}
-use Rattle.replay_text.specs.Lines.{lines_of}
-use Rattle.replay_text.specs.Words.{is_dash}
-use Rattle.replay_text.specs.Printed.{AreBytes}
+use Rattle.replay_words.specs.declared.faults.FaultKind.{FaultKind}
+use Rattle.replay_words.specs.Escapes.{unescaped, AreBytes}
+use Rattle.replay_words.specs.Lines.{lines_of}
+use Rattle.replay_words.specs.Words.{is_dash}
 use Rattle.report_text.specs.Escapes.{escaped}
 use Rattle.report_text.specs.Report.{Report, run_text}
 

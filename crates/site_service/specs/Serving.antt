@@ -46,20 +46,31 @@ AllIsSent site o id starts =
     (trees : Trees) → SayAsTold o trees → (later : List Start) →
     answers (service_at site o id) 0 trees (o.links'.link id).taken (starts ++ later) ≡ (o.links'.link id).sent
 
+-- What was sent on a link is all the answers to what was taken of it, whatever else would have arrived and whatever requests
+-- start later.
+abbrev pub NothingWasMissed : Site → Outside → ℕ → List Start → Type 0
+NothingWasMissed site o id starts =
+    (trees : Trees) → SayAsTold o trees → (more : List ℕ) (later : List Start) →
+    answers (service_at site o id) 0 trees ((o.links'.link id).taken ++ more) (starts ++ later) ≡ (o.links'.link id).sent
+
 -- too many subrequests were foreseen when the connection of a link was opened
 abbrev pub WasForeseen : Site → Outside → ℕ → List Start → Type 0
 WasForeseen site o id starts = (trees : Trees) → SayAsTold o trees → (fresh_course site (o.links'.link id).local (o.links'.link id).peer).heavy trees (o.links'.link id).taken starts ≡ true
 
 -- A link that was served, where `last` is what its connection showed last. What was sent is the beginning of the answers to
 -- what was taken, by the requests that were started. Where no cause stopped the connection it is all of them, once the link
--- is closed, and also at rest, unless the link is full. Where one did, this stands behind it: a fault of the link or of the
--- files, an event refused for want of memory, too many subrequests, or a moment that had come. The requests started at
--- moments that the clock told, in their order. And at rest nothing is left to do.
+-- is closed, and also at rest, unless the link is full. A link is closed without a cause only where a read found the end of
+-- its input, or where nothing that could still arrive would have been answered. Where a cause stopped the connection, this
+-- stands behind it: a fault of the link or of the files, an event refused for want of memory, too many subrequests, or a
+-- moment that had come. The requests started at moments that the clock told, in their order. And at rest nothing is left to
+-- do: where no cause stopped the connection, a link that was reported readable was read, unless it is full.
 pub record LinkServed (site : Site) (o : Outside) (rests : Type 0) (refused : ℕ) (id : ℕ) : Type 0 where
   pub last : ConnView
   pub front : (trees : Trees) → SayAsTold o trees → IsPrefixOf (o.links'.link id).sent (answers (service_at site o id) 0 trees (o.links'.link id).taken last.starts)
   pub closed : last.cause ≡ None → o.links'.is_open id ≡ false → AllIsSent site o id last.starts
+  pub unended : last.cause ≡ None → o.links'.is_open id ≡ false → (o.links'.link id).ended ≡ false → NothingWasMissed site o id last.starts
   pub rested : last.cause ≡ None → o.links'.is_open id ≡ true → rests → (o.links'.link id).full ≡ false → AllIsSent site o id last.starts
+  pub read : last.cause ≡ None → o.links'.is_open id ≡ true → rests → (o.links'.link id).full ≡ false → (o.links'.link id).due ≡ false
   pub stopped : (cause : StopCause) → last.cause ≡ Some cause →
       Behind (Rose (o.links.faults id) (o.links'.faults id)) (Rose o.files.faults o.files'.faults) (Rose 0 refused) (WasForeseen site o id last.starts) cause
   pub dated : o.clock'.tells ≡ true → IsDated o.clock'.told last.starts

@@ -1,5 +1,5 @@
 // Links over sockets, whose readiness `mio` tells.
-ghost use Rattle.std.specs.Prelude.{◌≡◌, ◌++◌, ◌∷◌, ◌≤◌, ℕ, [], false, true, length, ◌<◌, IfOk, IfSome, IfNone, OnErr, OnOk};
+ghost use Rattle.std.specs.Prelude.{◌≡◌, ◌++◌, ◌∷◌, ◌≤◌, ℕ, [], None, false, true, length, ◌<◌, IfOk, IfSome, IfNone, OnErr, OnOk};
 ghost use Rattle.http_types.specs.declared.words.Addr.{Addr as End};
 ghost use Rattle.ngx_outside.specs.Causes.{Rose};
 ghost use Rattle.ngx_outside.specs.declared.links.Notice.TheVariants.{Failed as NextFailed};
@@ -302,6 +302,8 @@ impl<R: Net> Links for SocketLinks<'_, R> {
     ghost listening = { λ s. s.listening.items };
 
     ghost over = { λ s. false };
+
+    ghost answers = { λ s. None };
 
     ghost faults = { λ s. s.faults };
 

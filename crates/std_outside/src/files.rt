@@ -166,7 +166,7 @@ fn list_folder<R: Host + AllocGlobal + Clone + Drop>(
 }
 
 impl<R: Host + AllocGlobal + Clone + Drop> Files for HostFiles<R> {
-    ghost use Rattle.std.specs.Prelude.{false};
+    ghost use Rattle.std.specs.Prelude.{false, None};
     ghost use Rattle.file_tree.specs.Tree.{Nothing};
 
     ghost tells = { λ _. false };
@@ -174,6 +174,8 @@ impl<R: Host + AllocGlobal + Clone + Drop> Files for HostFiles<R> {
     ghost trees = { λ _ _ _. Nothing };
 
     ghost newest = { λ _. 0 };
+
+    ghost answers = { λ _. None };
 
     ghost faults = { λ f. f.faults };
 

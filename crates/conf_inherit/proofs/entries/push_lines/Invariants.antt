@@ -1,5 +1,5 @@
 use Rattle.std.proofs.Common.{◌≡◌, ◌++◌, length}
-use Rattle.conf_inherit.specs.Forest.{forest_of, roots}
+use Rattle.conf_block.specs.Forest.{forest_of, roots}
 use Rattle.conf_inherit.specs.Values.{lines_entries}
 use Rattle.conf_inherit.proofs.entries.push_lines.Given as goal
 

@@ -1,6 +1,6 @@
 use Rattle.std.proofs.Common.{sym, ◌∙◌}
-use Rattle.conf_inherit.specs.Values.{block_with}
-use Rattle.conf_inherit.specs.Forest.{forest_of}
+use Rattle.conf_block.specs.Blocks.{block_with}
+use Rattle.conf_block.specs.Forest.{forest_of}
 use Rattle.conf_inherit.proofs.EntriesLaws.{blocks-more, blocks-end}
 use Rattle.conf_inherit.proofs.entries.stated_entries.Goals as goal
 

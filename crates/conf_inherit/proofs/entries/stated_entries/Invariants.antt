@@ -1,7 +1,8 @@
 use Rattle.std.proofs.Common.{◌≡◌, ◌++◌, length}
 use Rattle.std.specs.Prelude.{codes}
-use Rattle.conf_inherit.specs.Forest.{forest_of}
-use Rattle.conf_inherit.specs.Values.{all_entries, blocks_of}
+use Rattle.conf_block.specs.Forest.{forest_of}
+use Rattle.conf_inherit.specs.Values.{all_entries}
+use Rattle.conf_block.specs.Blocks.{blocks_of}
 use Rattle.conf_inherit.proofs.entries.stated_entries.Given as goal
 
 -- the entries so far, and those of the blocks that are left

@@ -1,7 +1,7 @@
 use Rattle.std.proofs.Common.{ap, ◌∙◌}
 use Rattle.std.specs.List.{slice_get}
-use Rattle.conf_inherit.specs.Forest.{forest_of}
-use Rattle.conf_inherit.specs.Locations.{text_in}
+use Rattle.conf_block.specs.Forest.{forest_of}
+use Rattle.conf_block.specs.Locations.{text_in}
 use Rattle.conf_inherit.specs.Values.{stated, over}
 use Rattle.conf_inherit.specs.Pools.{values_by}
 use Rattle.conf_inherit.proofs.SiteLaws.{location-shown}

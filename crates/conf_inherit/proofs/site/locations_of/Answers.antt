@@ -1,6 +1,6 @@
 use Rattle.std.proofs.Common.{rules}
-use Rattle.conf_inherit.specs.Forest.{forest_of}
-use Rattle.conf_inherit.specs.Values.{block_with}
+use Rattle.conf_block.specs.Forest.{forest_of}
+use Rattle.conf_block.specs.Blocks.{block_with}
 use Rattle.conf_inherit.proofs.SiteLaws.{so-far-begin, so-far-more, so-far-end}
 use Rattle.conf_inherit.proofs.site.locations_of.Goals as goal
 

@@ -1,8 +1,8 @@
 use Rattle.std.proofs.Common.{length}
 use Rattle.std.specs.Prelude.{codes}
 use Rattle.site_model.specs.Levels.{server_seen}
-use Rattle.conf_inherit.specs.Forest.{forest_of}
-use Rattle.conf_inherit.specs.Values.{blocks_of}
+use Rattle.conf_block.specs.Forest.{forest_of}
+use Rattle.conf_block.specs.Blocks.{blocks_of}
 use Rattle.conf_inherit.specs.Pools.{values_by, server_in}
 use Rattle.conf_inherit.proofs.SiteLaws.{SoFar}
 use Rattle.conf_inherit.proofs.site.servers_of.Given as goal

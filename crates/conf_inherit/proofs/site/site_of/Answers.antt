@@ -1,7 +1,7 @@
 use Rattle.std.proofs.Common.{[], Some, sym, ap, ◌∙◌}
 use Rattle.std.specs.List.{slice_get}
 use Rattle.site_model.specs.declared.site.Site.{Site}
-use Rattle.conf_inherit.specs.Forest.{forest_of}
+use Rattle.conf_block.specs.Forest.{forest_of}
 use Rattle.conf_inherit.specs.Values.{Values, stated, over}
 use Rattle.conf_inherit.specs.Pools.{values_by}
 use Rattle.conf_inherit.proofs.BuiltLaws.{site-shown}

@@ -1,18 +1,26 @@
-use Rattle.std.proofs.Common.{◌≡◌, Some, None, refl, sym, ap, ◌∙◌, ◌&&◌}
+use Rattle.std.proofs.Common.{◌≡◌, Some, None, false, sym, ap, ◌∙◌, ◌&&◌}
+use Rattle.ngx_outside.specs.Views.{Start}
+use Rattle.file_tree.specs.Tree.{Trees}
 use Rattle.site_model.specs.Levels.{server_seen}
-use Rattle.connection.specs.declared.respond.Sent.{Sent}
-use Rattle.connection.specs.Answers.{server_of}
-use Rattle.connection.proofs.Replies.{map_ok, moved, responds, no_reply, no_stay}
+use Rattle.phase_engine.specs.Outcomes.{page_reply}
+use Rattle.connection.specs.Flow.{is_head}
+use Rattle.connection.specs.Answers.{server_of, reply_in, stays_in}
+use Rattle.connection.proofs.Replies.{each_meets, each_responds, no_reply, no_stay}
 use Rattle.connection.proofs.respond.put_answer.Goals as goal
 
 pub returns-in-Some-clause-put : goal.returns-in-Some-clause-put
-returns-in-Some-clause-put c = λ trees service start es et.
+returns-in-Some-clause-put c = λ service start es et.
     let e : Some (server_seen c.args.site.now c.in-Some.server.now) ≡ server_of service = c.in-Some.ensures ∙ ap server_of (sym es) in
-    map_ok _ _ _ (λ (sent : Sent) p. responds service trees start c.args.count c.args.head.now _ sent.keep _ _ e p) (c.put_served.ensures.puts service start es et)
+    each_responds c.put_served.result service start c.args.count c.args.head.now _ c.args.out.now c.put_served.new.out e (c.put_served.ensures.meets service start es et)
 
 pub returns-in-None-clause-put : goal.returns-in-None-clause-put
-returns-in-None-clause-put c = λ trees service start es et.
+returns-in-None-clause-put c = λ service start es et.
+    let head = c.args.head.now in
     let e : None ≡ server_of service = c.in-None.ensures ∙ ap server_of (sym es) in
-    map_ok _ _ _ (λ (sent : Sent) p. responds service trees start c.args.count c.args.head.now None sent.keep _ _ e
-    (moved _ _ start _ _ _ _ sent.keep _ _ (no_reply service start c.args.head.now) c.is_head.ensures (no_stay c.args.count c.args.head.now c.args.head.now.keep) p))
-    (c.put_error.ensures.puts start (ap (λ s. s.moment) et))
+    each_responds c.at_once.result service start c.args.count head None c.args.out.now c.put_error.new.out e
+    (each_meets c.at_once.result (page_reply 404) (λ (trees : Trees). reply_in service (trees start.tree) start head None) start c.is_head.result (is_head head.method) false (head.keep && stays_in c.args.count head None) c.args.out.now c.put_error.new.out
+    (λ trees. no_reply service (trees start.tree) start head) c.is_head.ensures (no_stay c.args.count head head.keep)
+    (c.at_once.ensures.meets (page_reply 404) start c.is_head.result false c.args.out.now c.put_error.new.out (c.put_error.ensures.puts start (ap (λ (s : Start). s.moment) et))))
+
+pub returns-in-None-clause-fits : goal.returns-in-None-clause-fits
+returns-in-None-clause-fits c = c.at_once.ensures.fits _ _ _ c.put_error.ensures.fits

@@ -1,13 +1,13 @@
-use Rattle.std.proofs.Common.{◌≡◌, refl, sym, ap, ◌∙◌}
+use Rattle.std.proofs.Common.{◌≡◌, refl, ap, ◌∙◌}
 use Rattle.site_model.specs.Levels.{level_seen, server_seen}
 use Rattle.site_model.specs.Search.{level_for}
 use Rattle.phase_engine.specs.Asking.{level_asked}
-use Rattle.connection.proofs.Replies.{moved, served_reply, served_stays}
+use Rattle.connection.proofs.Replies.{meets_moved, served_reply, served_stays}
 use Rattle.connection.proofs.respond.put_served.Goals as goal
 
-pub returns-clause-puts : goal.returns-clause-puts
+pub returns-clause-meets : goal.returns-clause-meets
 unfolding level_asked
-returns-clause-puts c = λ service start es et.
+returns-clause-meets c = λ service start es et trees.
     let site = c.args.site.now in
     let server = c.args.server.now in
     let head = c.args.head.now in
@@ -15,5 +15,5 @@ returns-clause-puts c = λ service start es et.
     let target = c.in_ok-target.target in
     let el : level_seen site level ≡ level_asked (server_seen site server) head =
     ap (level_seen site) c.level-level.ensures ∙ c.find.ensures ∙ ap (level_for (server_seen site server)) (c.as_slice.ensures ∙ ap (λ t. t.path) c.in_ok-target.ensures) in
-    let e = served_reply c.replies_are.ensures site server head c.args.meeting level target _ service start es et el c.in_ok-target.ensures c.in_ok-outcome.ensures in
-    moved _ _ start _ _ _ _ c.in_ok-sent.sent.keep _ _ e refl (c.may_stay-stays.ensures site ∙ served_stays site server head level c.args.count el) (c.in_ok-sent.ensures.puts start (ap (λ s. s.moment) et))
+    let e = served_reply c.replies_are.ensures site server head c.args.meeting level target _ service (trees start.tree) start es et el c.in_ok-target.ensures c.in_ok-outcome.ensures in
+    meets_moved _ _ start _ _ _ _ _ _ _ e refl (c.may_stay-stays.ensures site ∙ served_stays site server head level c.args.count el) (c.in_ok-answered.ensures.meets start et trees)

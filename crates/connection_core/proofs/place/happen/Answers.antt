@@ -27,3 +27,13 @@ pub returns-in-Run : goal.returns-in-Run
 returns-in-Run c = λ h.
     let now : Start = record { moment = c.args.moment; tree = c.args.tree } in
     subst (λ e. StepsConn c.args.site.now now e c.runs.result c.args.conn.now c.runs.new.self) (sym c.in-Run.is) (c.runs.ensures _)
+
+pub returns-in-FileDone : goal.returns-in-FileDone
+returns-in-FileDone c = λ h.
+    let now : Start = record { moment = c.args.moment; tree = c.args.tree } in
+    subst (λ e. StepsConn c.args.site.now now e c.file_done.result c.args.conn.now c.file_done.new.self) (sym c.in-FileDone.is) (c.file_done.ensures c.args.site.now now _)
+
+pub returns-in-JobFailed : goal.returns-in-JobFailed
+returns-in-JobFailed c = λ h.
+    let now : Start = record { moment = c.args.moment; tree = c.args.tree } in
+    subst (λ e. StepsConn c.args.site.now now e c.job_failed.result c.args.conn.now c.job_failed.new.self) (sym c.in-JobFailed.is) (c.job_failed.ensures c.args.site.now now _)

@@ -1,4 +1,5 @@
 use Rattle.memory_outside.proofs.Ids.{closes_at}
+use Rattle.memory_outside.proofs.Played.{send_same_set}
 use Rattle.memory_outside.proofs.links.close_at.Goals as goal
 
 pub returns-clause-told : goal.returns-clause-told
@@ -16,3 +17,6 @@ returns-clause-held c =
 pub returns-clause-later : goal.returns-clause-later
 returns-clause-later c =
     (closes_at c.args.peers.now c.args.at c.close.new.self c.index-peers-at.result c.requires c.close.ensures.told c.close.ensures.held c.close.ensures.faults).later
+
+pub returns-clause-sends : goal.returns-clause-sends
+returns-clause-sends c = send_same_set c.args.peers.now c.args.at c.close.new.self c.index-peers-at.result c.requires c.close.ensures.sends

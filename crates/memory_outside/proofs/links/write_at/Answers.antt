@@ -1,5 +1,6 @@
 use Rattle.memory_outside.specs.Peers.{after_write}
 use Rattle.memory_outside.proofs.Ids.{changes_set, rose_at, puts_at}
+use Rattle.memory_outside.proofs.Played.{send_same_set}
 use Rattle.memory_outside.proofs.links.write_at.Goals as goal
 
 pub returns-clause-told : goal.returns-clause-told
@@ -13,3 +14,6 @@ returns-clause-cause c = λ e. rose_at c.args.peers.now c.args.at c.write.new.se
 pub returns-clause-nothing : goal.returns-clause-nothing
 returns-clause-nothing c =
     puts_at c.args.peers.now c.args.at c.write.new.self c.index-peers-at.result c.write.result c.args.bytes.now c.requires c.write.ensures.nothing
+
+pub returns-clause-sends : goal.returns-clause-sends
+returns-clause-sends c = send_same_set c.args.peers.now c.args.at c.write.new.self c.index-peers-at.result c.requires c.write.ensures.sends

@@ -1,4 +1,4 @@
-use Rattle.std.proofs.Common.{◌≡◌, Bool, true, Ok, ap, sym, subst, arith}
+use Rattle.std.proofs.Common.{◌≡◌, Bool, Ok, ap, sym, subst, arith}
 use Rattle.std.proofs.lemmas.List.{append-nil}
 use Rattle.ready_loop.specs.Seen.{FilesSeen, links_seen, files_seen, clock_seen}
 use Rattle.site_service.specs.Serving.{Outside, Serving}
@@ -35,10 +35,11 @@ returns-in-Ok-serve_site g c =
     } in
     let o : Outside = record (mid (f.tells c.args.files.now)) { files = earlier } in
     let out : Output = record { tells = u.tells c.args.out.now; written = u.written c.args.out.now; written' = u.written c.args.out.now; faults = u.faults c.args.out.now; faults' = u.faults c.args.out.now } in
+    let over : Bool = k.over c.serve_site.new.links in
     let described : Describes o path (Ok (seen site)) = λ tells same names naming.
     a.exact tells (let n : f.newest c.site_at.new.files ≡ f.newest c.args.files.now = omega (arith, a.newest, s.newest, same) in n) names naming in
     let serving : Serving site c.args.turns e o =
     c.files_may_fail_before.ensures site c.args.turns e (mid (f.tells c.args.files.now)) earlier a.later (subst (λ b. Serving site c.args.turns e (mid b)) a.tells s.serving) in
-    subst (ServeEnds ((x : g.row.L.Denot) × (k.over x ≡ true)) o out path c.args.turns) (sym c.served_status.ensures)
-    (served ((x : g.row.L.Denot) × (k.over x ≡ true)) o out path c.args.turns e site described serving (λ tells. sym (append-nil (u.written c.args.out.now)))
+    subst (ServeEnds over o out path c.args.turns) (sym c.served_status.ensures)
+    (served over o out path c.args.turns e site described serving (λ tells. sym (append-nil (u.written c.args.out.now)))
     (λ is. s.ended (ap Ok is)) (λ is. s.listen_fault (ap Ok is)) (λ is. s.next_fault (ap Ok is)))

@@ -1,7 +1,6 @@
-use Rattle.std.proofs.Common.{◌≡◌, ℕ, List, [], refl, sym, ap, ◌∙◌, subst}
+use Rattle.std.proofs.Common.{◌≡◌, [], refl, sym, ap, ◌∙◌, subst}
 use Rattle.std.specs.Prelude.{map}
-use Rattle.ngx_outside.specs.Views.{Course, Start}
-use Rattle.http_types.specs.declared.words.Addr.{Addr}
+use Rattle.ngx_outside.specs.Views.{Start}
 use Rattle.connection.specs.Conn.{fresh_course}
 use Rattle.replay_run.specs.Told.{Told, told_of, told_first, told_in}
 use Rattle.replay_run.specs.Scene.{Stage, stage}
@@ -10,7 +9,7 @@ use Rattle.replay_run.specs.Standing.{AllStanding}
 use Rattle.connection_core.specs.Core.{view_at, now_at, fresh_at, journal_at, conns_held}
 use Rattle.report_text.specs.Report.{run_text}
 use Rattle.ngx_cli.specs.Running.{IsNew, report_in}
-use Rattle.ngx_cli.proofs.Answering.{answered, begins_standing}
+use Rattle.ngx_cli.proofs.Answering.{answered, begins_standing, opened_by_lines}
 use Rattle.ngx_cli.proofs.script.run.Goals as goal
 
 pub returns : goal.returns
@@ -39,8 +38,9 @@ returns c =
         held = c.put_run.ensures.held;
         journals = journal_at end;
         started = λ q. (c.cores_are_sound.ensures end q).started;
+        opened = opened_by_lines events first last.lanes new c.in_ok-counts.ensures.opened;
         printed = refl;
-        answered = λ q among. answered c.all_is_sent_when_idle.ensures site (told_in events (told_first c.args.tree.now)) (last.view q) (last.lanes q) (sent_in events q) ((c.put_run.ensures.held.held q).0 among) (c.cores_are_sound.ensures end q).sound
+        answered = λ q among. answered c.all_is_sent_when_idle.ensures c.all_is_sent_when_shut.ensures site (told_in events (told_first c.args.tree.now)) (last.view q) (last.lanes q) (sent_in events q) ((c.put_run.ensures.held.held q).0 among) (c.cores_are_sound.ensures end q).sound
             (subst (λ t. AllStanding (fresh_course site) (told_in events t) last (λ k. sent_in events k)) told
             (subst (λ f. AllStanding f (told_in events (told_of files)) last (λ k. sent_in events k)) c.in_ok-hub.ensures.fresh (c.in_ok-counts.ensures.stands (λ k. []) (begins_standing (fresh_at hub) (told_of files) first new))) q);
       },

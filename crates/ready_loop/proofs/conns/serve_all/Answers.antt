@@ -5,6 +5,7 @@ use Rattle.std.proofs.lemmas.List.{take_all}
 use Rattle.ngx_outside.specs.Views.{Start}
 use Rattle.ready_loop.specs.Turns.{IsHeard, IsHeardBut, conn_of}
 use Rattle.ready_loop.proofs.RestLemmas.{rest_served, rest_listed, apart_at, heard_all}
+use Rattle.ready_loop.proofs.BesideLemmas.{stand_then}
 use Rattle.ready_loop.proofs.conns.serve_all.Goals as goal
 
 pub loop-conn-preserved : goal.loop-conn-preserved
@@ -24,6 +25,7 @@ loop-conn-preserved g c =
           conns c.loop-conn.conn-index (e.view c.loop-conn.core) (e.view c.serve_one.new.core) (k.link c.loop-conn.links) (k.link c.serve_one.new.links) c.loop-conn-test.true
           (λ h. (i.tells ∙ h.0, heard_all conn (k.is_open c.loop-conn.links) (k.link c.loop-conn.links) c.loop-conn.memory.unread (i.heard h.0 h.1))) (λ h. h.0) (λ t. i.tells ∙ t) s.views s.links s.rests i.rested;
       same = λ d none. s.views d (apart_at d conns c.loop-conn.conn-index c.loop-conn-test.true none) ∙ i.same d none;
+      beside = λ clock. stand_then (i.beside clock) (s.beside clock);
       fresh = s.steady.0 ∙ i.fresh;
       price = s.steady.1 ∙ i.price;
       now = s.steady.2 ∙ i.now;
@@ -31,6 +33,7 @@ loop-conn-preserved g c =
       listens = s.tells.1 ∙ i.listens;
       files = s.tells.2 ∙ i.files;
       later = (let a = i.later in let b = s.later in omega (arith, a, b));
+      over = λ o. s.stays_over (i.over o);
       grown = (let a = i.grown in let b = s.grown in omega (arith, a, b));
       known = (let a = i.known in let b = s.grown in let q : (e.now c.serve_one.new.core).tree ≡ (e.now c.loop-conn.core).tree = ap (λ (x : Start). x.tree) s.steady.2 in omega (arith, a, b, q));
     }

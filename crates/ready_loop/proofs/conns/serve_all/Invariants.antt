@@ -1,4 +1,4 @@
-use Rattle.std.proofs.Common.{◌≡◌, ◌≤◌, ℕ, true, false, take}
+use Rattle.std.proofs.Common.{List, Option, ◌≡◌, ◌≤◌, ℕ, true, false, take}
 use Rattle.std.specs.Prelude.{nat_eq}
 use Rattle.std.specs.List.{list_any}
 use Rattle.http_types.specs.declared.words.Addr.{Addr as End}
@@ -6,6 +6,7 @@ use Rattle.ngx_outside.specs.Views.{Course}
 use Rattle.ready_loop.specs.Seen.{ClockSeen, core_seen, links_seen, files_seen}
 use Rattle.ready_loop.specs.Standing.{Marks, Kept, IsMatched}
 use Rattle.ready_loop.specs.Turns.{AtRest, IsHeard}
+use Rattle.ready_loop.specs.Tellings.{StandBeside}
 use Rattle.ready_loop.proofs.conns.serve_all.Given as goal
 
 abbrev pub invariant-loop-conn : goal.invariant-loop-conn
@@ -19,6 +20,7 @@ invariant-loop-conn g l =
       heard : k.tells l.fn.links ≡ true → IsHeard (k.is_open l.fn.links) (k.link l.fn.links) l.fn.memory.unread → IsHeard (k.is_open l.links) (k.link l.links) l.memory.unread;
       rested : (c : ℕ) → list_any (nat_eq c) (take l.conn-index l.conn-items) ≡ true → (e.view l.core c).held ≡ true → AtRest ((k.tells l.fn.links ≡ true) × IsHeard (k.is_open l.fn.links) (k.link l.fn.links) l.fn.memory.unread) (k.tells l.fn.links ≡ true) (e.view l.core c) (k.link l.links c);
       same : (c : ℕ) → list_any (nat_eq c) l.conn-items ≡ false → e.view l.core c ≡ e.view l.fn.core c;
+      beside : (clock : Option (List ℕ)) → StandBeside (e.events l.fn.core) (e.events l.core) (k.answers l.fn.links) (k.answers l.links) (f.answers l.fn.files) (f.answers l.files) clock clock;
       fresh : e.fresh l.core ≡ e.fresh l.fn.core;
       price : e.price l.core ≡ e.price l.fn.core;
       now : e.now l.core ≡ e.now l.fn.core;
@@ -26,6 +28,7 @@ invariant-loop-conn g l =
       listens : k.listening l.links ≡ k.listening l.fn.links;
       files : f.tells l.files ≡ f.tells l.fn.files;
       later : k.faults l.fn.links ≤ k.faults l.links;
+      over : k.over l.fn.links ≡ true → k.over l.links ≡ true;
       grown : f.newest l.fn.files ≤ f.newest l.files;
       known : (e.now l.core).tree ≤ f.newest l.files;
     }

@@ -1,8 +1,9 @@
-use Rattle.std.proofs.Common.{◌≡◌, ◌∙◌, false, ap, subst, arith}
+use Rattle.std.proofs.Common.{◌≡◌, ◌∙◌, true, false, refl, ap, subst, arith}
 use Rattle.std.specs.List.{All}
 use Rattle.ngx_outside.specs.Views.{Start}
 use Rattle.ready_loop.specs.Turns.{doable}
 use Rattle.ready_loop.proofs.WantLemmas.{is_wanted}
+use Rattle.ready_loop.proofs.BesideLemmas.{stand_none, stand_then}
 use Rattle.ready_loop.proofs.drain.drain.Goals as goal
 
 pub serve_want-requires-clause-wanted : goal.serve_want-requires-clause-wanted
@@ -20,6 +21,7 @@ loop-want-preserved g c =
       matched = s.matched;
       due = λ tl due. s.due (i.tells ∙ tl) (i.due tl due);
       full = λ tl. s.full (i.tells ∙ tl) (i.full tl);
+      beside = λ clock. stand_then (i.beside clock) (s.beside clock);
       fresh = s.steady.0 ∙ i.fresh;
       price = s.steady.1 ∙ i.price;
       now = s.steady.2 ∙ i.now;
@@ -27,6 +29,7 @@ loop-want-preserved g c =
       listens = s.tells.1 ∙ i.listens;
       files = s.tells.2 ∙ i.files;
       later = (let a = i.later in let b = s.later in omega (arith, a, b));
+      over = λ o. s.stays_over (i.over o);
       grown = (let a = i.grown in let b = s.grown in omega (arith, a, b));
       known = (let a = i.known in let b = s.grown in let e : (g.E.EventCore.now c.serve_want.new.core).tree ≡ (g.E.EventCore.now c.loop-want.core).tree = ap (λ (x : Start). x.tree) s.steady.2 in omega (arith, a, b, e));
     }
@@ -36,4 +39,26 @@ returns-clause-rests g c = record {
   full = c.loop-want.ready.full;
   told = c.loop-want.invariant.full;
   none = subst (All (λ w. doable c.loop-want.ready.due c.loop-want.ready.full w ≡ false)) c.wants_of.ensures.wants c.in_default.ensures.none;
+}
+
+pub loop-want-init : goal.loop-want-init
+loop-want-init g c = record {
+  kept = λ tl tf marks whole clock k. k;
+  views = λ d ne. refl;
+  links = λ tl d ne. refl;
+  opens = λ d ne. refl;
+  matched = c.requires.matched;
+  due = λ tl due. due;
+  full = λ tl is. absurd (let q : false ≡ true = is in cc);
+  beside = stand_none (g.E.EventCore.events c.args.core.now) (g.L.Links.answers c.args.links.now) (g.F.Files.answers c.args.files.now);
+  fresh = refl;
+  price = refl;
+  now = refl;
+  tells = refl;
+  listens = refl;
+  files = refl;
+  later = omega arith;
+  over = λ o. o;
+  grown = omega arith;
+  known = c.requires.known;
 }

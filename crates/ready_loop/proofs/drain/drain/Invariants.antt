@@ -1,9 +1,10 @@
-use Rattle.std.proofs.Common.{◌≡◌, ◌≤◌, ℕ, true, vec_len}
+use Rattle.std.proofs.Common.{List, Option, ◌≡◌, ◌≤◌, ℕ, true, vec_len}
 use Rattle.http_types.specs.declared.words.Addr.{Addr as End}
 use Rattle.ngx_outside.specs.Views.{Course}
 use Rattle.ready_loop.specs.Seen.{Elsewhere, ClockSeen, core_seen, links_seen, files_seen}
 use Rattle.ready_loop.specs.Standing.{Marks, Kept}
 use Rattle.ready_loop.specs.Turns.{work}
+use Rattle.ready_loop.specs.Tellings.{StandBeside}
 use Rattle.ready_loop.proofs.drain.drain.Given as goal
 
 abbrev pub invariant-loop-want : goal.invariant-loop-want
@@ -19,6 +20,7 @@ invariant-loop-want g l =
       matched : (e.view l.core l.conn).held ≡ k.is_open l.links l.conn;
       due : k.tells l.fn.links ≡ true → (k.is_open l.fn.links l.conn ≡ true → (k.link l.fn.links l.conn).due ≡ true → l.due ≡ true) → k.is_open l.links l.conn ≡ true → (k.link l.links l.conn).due ≡ true → l.ready.due ≡ true;
       full : k.tells l.fn.links ≡ true → l.ready.full ≡ true → (k.link l.links l.conn).full ≡ true;
+      beside : (clock : Option (List ℕ)) → StandBeside (e.events l.fn.core) (e.events l.core) (k.answers l.fn.links) (k.answers l.links) (f.answers l.fn.files) (f.answers l.files) clock clock;
       fresh : e.fresh l.core ≡ e.fresh l.fn.core;
       price : e.price l.core ≡ e.price l.fn.core;
       now : e.now l.core ≡ e.now l.fn.core;
@@ -26,6 +28,7 @@ invariant-loop-want g l =
       listens : k.listening l.links ≡ k.listening l.fn.links;
       files : f.tells l.files ≡ f.tells l.fn.files;
       later : k.faults l.fn.links ≤ k.faults l.links;
+      over : k.over l.fn.links ≡ true → k.over l.links ≡ true;
       grown : f.newest l.fn.files ≤ f.newest l.files;
       known : (e.now l.core).tree ≤ f.newest l.files;
     }

@@ -30,3 +30,18 @@ returns-in-Close-clause-kept g c = λ tl tf marks whole clock.
     let l = g.L.Links in
     let f = g.F.Files in
     c.close_one.ensures.kept tl marks whole (files_seen (f.trees c.args.files.now) (f.newest c.args.files.now) (f.faults c.args.files.now)) clock
+
+pub returns-in-Read-clause-beside : goal.returns-in-Read-clause-beside
+returns-in-Read-clause-beside g c = λ clock. c.read_one.ensures.beside (g.F.Files.answers c.args.files.now) clock
+
+pub returns-in-Run-clause-beside : goal.returns-in-Run-clause-beside
+returns-in-Run-clause-beside g c = λ clock. c.run_one.ensures.beside (g.L.Links.answers c.args.links.now) (g.F.Files.answers c.args.files.now) clock
+
+pub returns-in_ok-job_one-in-Job-clause-beside : goal.returns-in_ok-job_one-in-Job-clause-beside
+returns-in_ok-job_one-in-Job-clause-beside g c = λ clock. c.in_ok-job_one-in-Job.ensures.beside (g.L.Links.answers c.args.links.now) clock
+
+pub returns-in-Write-clause-beside : goal.returns-in-Write-clause-beside
+returns-in-Write-clause-beside g c = λ clock. c.write_one-full.ensures.beside (g.F.Files.answers c.args.files.now) clock
+
+pub returns-in-Close-clause-beside : goal.returns-in-Close-clause-beside
+returns-in-Close-clause-beside g c = λ clock. c.close_one.ensures.beside (g.F.Files.answers c.args.files.now) clock

@@ -6,6 +6,7 @@ use Rattle.ngx_outside.specs.Views.{ask_in}
 use Rattle.ngx_outside.specs.Views.Ground.{Always, Answers}
 use Rattle.ready_loop.specs.Seen.{core_seen, files_seen}
 use Rattle.ready_loop.specs.Turns.{Gives}
+use Rattle.ready_loop.proofs.AccountLemmas.{ends_same}
 use Rattle.ready_loop.proofs.KeptLemmas.{kept_passed}
 use Rattle.ready_loop.proofs.JobLemmas.{node_from, block_from}
 use Rattle.ready_loop.proofs.jobs.job_one.Goals as goal
@@ -19,7 +20,8 @@ returns-in-Ok-Node-clause-kept g c = λ tells marks whole links clock.
     let within : tree_of ask ≤ f.newest c.args.files.now = (let k = c.in-Some.ensures.known in let r = c.requires.known in omega (arith, k, r)) in
     kept_passed marks whole (core_seen (e.view c.args.core.now) (e.fresh c.args.core.now) (e.now c.args.core.now) (e.refused c.args.core.now)) (core_seen (e.view c.file_done.new.core) (e.fresh c.file_done.new.core) (e.now c.file_done.new.core) (e.refused c.file_done.new.core)) links links (files_seen (f.trees c.args.files.now) (f.newest c.args.files.now) (f.faults c.args.files.now)) (files_seen (f.trees c.find.new.files) (f.newest c.find.new.files) (f.faults c.find.new.files)) clock c.args.conn (Answers ask (answer.Stat c.in-Ok-Node.node_there)) [] []
     (record { fresh = c.file_done.ensures.steady.0; now = c.file_done.ensures.steady.2; counts = c.file_done.ensures.counts; views = c.file_done.ensures.others; wires = λ d ne. refl; used = λ d. refl; opens = λ d ne. refl; faults = λ d. omega arith; store = c.find.ensures.grown })
-    (λ raceless trees agree. node_from (f.tells c.args.files.now) (files_seen (f.trees c.args.files.now) (f.newest c.args.files.now) (f.faults c.args.files.now)) (files_seen (f.trees c.find.new.files) (f.newest c.find.new.files) (f.faults c.find.new.files)) trees ask c.in-Ok-Node.node_there c.find.new.block tells c.find.ensures.grown agree within (subst (λ k. Gives (f.tells c.args.files.now) (f.trees c.args.files.now) ask k c.find.new.block) c.in-Ok-Node.field-0-is c.in-Ok-Node.ensures.gives)) (λ x. absurd x) (λ x. absurd x) (λ x. x) refl refl refl (sym (append-nil (links.link c.args.conn).taken)) (sym (append-nil (links.link c.args.conn).sent)) (c.file_done.ensures.passed ask waits)
+    (λ raceless trees agree. node_from (f.tells c.args.files.now) (files_seen (f.trees c.args.files.now) (f.newest c.args.files.now) (f.faults c.args.files.now)) (files_seen (f.trees c.find.new.files) (f.newest c.find.new.files) (f.faults c.find.new.files)) trees ask c.in-Ok-Node.node_there c.find.new.block tells c.find.ensures.grown agree within (subst (λ k. Gives (f.tells c.args.files.now) (f.trees c.args.files.now) ask k c.find.new.block) c.in-Ok-Node.field-0-is c.in-Ok-Node.ensures.gives)) (λ x. absurd x) (λ x. absurd x) (λ x. x) refl refl refl (sym (append-nil (links.link c.args.conn).taken)) (sym (append-nil (links.link c.args.conn).sent))
+    (ends_same (e.view c.args.core.now c.args.conn) (e.view c.file_done.new.core c.args.conn) (links.link c.args.conn) (links.link c.args.conn) c.file_done.ensures.ended refl) (c.file_done.ensures.passed ask waits)
 
 pub returns-in-Ok-Block-clause-kept : goal.returns-in-Ok-Block-clause-kept
 returns-in-Ok-Block-clause-kept g c = λ tells marks whole links clock.
@@ -30,7 +32,8 @@ returns-in-Ok-Block-clause-kept g c = λ tells marks whole links clock.
     let within : tree_of ask ≤ f.newest c.args.files.now = (let k = c.in-Some.ensures.known in let r = c.requires.known in omega (arith, k, r)) in
     kept_passed marks whole (core_seen (e.view c.args.core.now) (e.fresh c.args.core.now) (e.now c.args.core.now) (e.refused c.args.core.now)) (core_seen (e.view c.file_done-in-Ok-Block.new.core) (e.fresh c.file_done-in-Ok-Block.new.core) (e.now c.file_done-in-Ok-Block.new.core) (e.refused c.file_done-in-Ok-Block.new.core)) links links (files_seen (f.trees c.args.files.now) (f.newest c.args.files.now) (f.faults c.args.files.now)) (files_seen (f.trees c.find.new.files) (f.newest c.find.new.files) (f.faults c.find.new.files)) clock c.args.conn (Answers ask (answer.Read c.as_slice.result)) [] []
     (record { fresh = c.file_done-in-Ok-Block.ensures.steady.0; now = c.file_done-in-Ok-Block.ensures.steady.2; counts = c.file_done-in-Ok-Block.ensures.counts; views = c.file_done-in-Ok-Block.ensures.others; wires = λ d ne. refl; used = λ d. refl; opens = λ d ne. refl; faults = λ d. omega arith; store = c.find.ensures.grown })
-    (λ raceless trees agree. block_from (f.tells c.args.files.now) (files_seen (f.trees c.args.files.now) (f.newest c.args.files.now) (f.faults c.args.files.now)) (files_seen (f.trees c.find.new.files) (f.newest c.find.new.files) (f.faults c.find.new.files)) trees ask (answer.Read c.as_slice.result) c.find.new.block tells c.find.ensures.grown agree within c.as_slice.ensures (subst (λ k. Gives (f.tells c.args.files.now) (f.trees c.args.files.now) ask k c.find.new.block) c.in-Ok-Block.field-0-is c.in-Ok-Block.ensures.gives)) (λ x. absurd x) (λ x. absurd x) (λ x. x) refl refl refl (sym (append-nil (links.link c.args.conn).taken)) (sym (append-nil (links.link c.args.conn).sent)) (c.file_done-in-Ok-Block.ensures.passed ask waits)
+    (λ raceless trees agree. block_from (f.tells c.args.files.now) (files_seen (f.trees c.args.files.now) (f.newest c.args.files.now) (f.faults c.args.files.now)) (files_seen (f.trees c.find.new.files) (f.newest c.find.new.files) (f.faults c.find.new.files)) trees ask (answer.Read c.as_slice.result) c.find.new.block tells c.find.ensures.grown agree within c.as_slice.ensures (subst (λ k. Gives (f.tells c.args.files.now) (f.trees c.args.files.now) ask k c.find.new.block) c.in-Ok-Block.field-0-is c.in-Ok-Block.ensures.gives)) (λ x. absurd x) (λ x. absurd x) (λ x. x) refl refl refl (sym (append-nil (links.link c.args.conn).taken)) (sym (append-nil (links.link c.args.conn).sent))
+    (ends_same (e.view c.args.core.now c.args.conn) (e.view c.file_done-in-Ok-Block.new.core c.args.conn) (links.link c.args.conn) (links.link c.args.conn) c.file_done-in-Ok-Block.ensures.ended refl) (c.file_done-in-Ok-Block.ensures.passed ask waits)
 
 pub returns-in-Err-Failed-clause-kept : goal.returns-in-Err-Failed-clause-kept
 returns-in-Err-Failed-clause-kept g c = λ tells marks whole links clock.
@@ -41,4 +44,5 @@ returns-in-Err-Failed-clause-kept g c = λ tells marks whole links clock.
     let within : tree_of ask ≤ f.newest c.args.files.now = (let k = c.in-Some.ensures.known in let r = c.requires.known in omega (arith, k, r)) in
     kept_passed marks whole (core_seen (e.view c.args.core.now) (e.fresh c.args.core.now) (e.now c.args.core.now) (e.refused c.args.core.now)) (core_seen (e.view c.job_failed.new.core) (e.fresh c.job_failed.new.core) (e.now c.job_failed.new.core) (e.refused c.job_failed.new.core)) links links (files_seen (f.trees c.args.files.now) (f.newest c.args.files.now) (f.faults c.args.files.now)) (files_seen (f.trees c.find.new.files) (f.newest c.find.new.files) (f.faults c.find.new.files)) clock c.args.conn Always [] []
     (record { fresh = c.job_failed.ensures.steady.0; now = c.job_failed.ensures.steady.2; counts = c.job_failed.ensures.counts; views = c.job_failed.ensures.others; wires = λ d ne. refl; used = λ d. refl; opens = λ d ne. refl; faults = λ d. omega arith; store = c.find.ensures.grown })
-    (λ raceless trees agree. tt) (λ x. absurd x) (λ x. c.in-Err-Failed.ensures.cause (ap Err c.in-Err-Failed.field-0-is)) (λ x. absurd x) refl refl refl (sym (append-nil (links.link c.args.conn).taken)) (sym (append-nil (links.link c.args.conn).sent)) c.job_failed.ensures.passed
+    (λ raceless trees agree. tt) (λ x. absurd x) (λ x. c.in-Err-Failed.ensures.cause (ap Err c.in-Err-Failed.field-0-is)) (λ x. absurd x) refl refl refl (sym (append-nil (links.link c.args.conn).taken)) (sym (append-nil (links.link c.args.conn).sent))
+    (ends_same (e.view c.args.core.now c.args.conn) (e.view c.job_failed.new.core c.args.conn) (links.link c.args.conn) (links.link c.args.conn) c.job_failed.ensures.ended refl) c.job_failed.ensures.passed

@@ -10,7 +10,9 @@ invariant-loop-addr g l =
       used : Same (k.used l.fn.links) (k.used l.links);
       opens : Same (k.is_open l.fn.links) (k.is_open l.links);
       listens : k.listening l.links ≡ k.listening l.fn.links ++ take l.addr-index l.addrs;
+      answers : k.answers l.links ≡ k.answers l.fn.links;
       tells : k.tells l.links ≡ k.tells l.fn.links;
       link_faults : (id : ℕ) → k.link_faults l.fn.links id ≤ k.link_faults l.links id;
       later : k.faults l.fn.links ≤ k.faults l.links;
+      over : k.over l.fn.links ≡ true → k.over l.links ≡ true;
     }

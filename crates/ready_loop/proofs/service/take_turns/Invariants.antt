@@ -5,6 +5,7 @@ use Rattle.ngx_outside.specs.Views.{Course}
 use Rattle.ready_loop.specs.Seen.{core_seen, links_seen, files_seen, clock_seen}
 use Rattle.ready_loop.specs.Standing.{Marks, Kept, IsMatched}
 use Rattle.ready_loop.specs.Turns.{IsHeard}
+use Rattle.ready_loop.specs.Tellings.{StandBeside, moments_told}
 use Rattle.ready_loop.proofs.service.take_turns.Given as goal
 
 abbrev pub invariant-loop-turn : goal.invariant-loop-turn
@@ -19,6 +20,7 @@ invariant-loop-turn g l =
       heard : k.tells l.fn.links ≡ true → IsHeard (k.is_open l.fn.links) (k.link l.fn.links) l.fn.memory.unread → IsHeard (k.is_open l.links) (k.link l.links) l.memory.unread;
       known : (e.now l.core).tree ≤ f.newest l.files;
       last : IfSome l.last (λ to. (e.now l.core).tree ≡ to.tree);
+      beside : StandBeside (e.events l.fn.core) (e.events l.core) (k.answers l.fn.links) (k.answers l.links) (f.answers l.fn.files) (f.answers l.files) (moments_told (t.tells l.fn.clock) (t.told l.fn.clock)) (moments_told (t.tells l.clock) (t.told l.clock));
       fresh : e.fresh l.core ≡ e.fresh l.fn.core;
       price : e.price l.core ≡ e.price l.fn.core;
       tells : k.tells l.links ≡ k.tells l.fn.links;
@@ -28,4 +30,5 @@ invariant-loop-turn g l =
       moments : t.tells l.fn.clock ≡ true → length (t.told l.clock) ≡ length (t.told l.fn.clock) + l._turn;
       grown : f.newest l.fn.files ≤ f.newest l.files;
       later : k.faults l.fn.links ≤ k.faults l.links;
+      over : k.over l.fn.links ≡ true → k.over l.links ≡ true;
     }

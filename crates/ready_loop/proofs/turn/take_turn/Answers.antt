@@ -3,6 +3,8 @@ use Rattle.ngx_outside.specs.Views.{kept_moment}
 use Rattle.ready_loop.specs.Seen.{links_seen, files_seen, clock_seen, HasTold}
 use Rattle.ready_loop.specs.Turns.{WasTold}
 use Rattle.ready_loop.proofs.RestLemmas.{rests_ticked, rests_heard, rests_told, not_true}
+use Rattle.ready_loop.specs.Tellings.{moments_told}
+use Rattle.ready_loop.proofs.BesideLemmas.{stand_then}
 use Rattle.ready_loop.proofs.turn.take_turn.Goals as goal
 
 pub returns-clause-kept : goal.returns-clause-kept
@@ -33,3 +35,13 @@ returns-clause-rests g c = λ h known all.
     (rests_heard c.hear-heard.result (h ≡ true) (k.tells c.args.links.now ≡ true) (k.tells c.hear-heard.new.links ≡ true) (not c.is_late.result ≡ true) (e.view c.serve_late.new.core) (e.view c.hear-heard.new.core) (k.link c.serve_late.new.links) (k.link c.hear-heard.new.links)
     (λ t. (known t).0) (λ t. sym back ∙ t) d.views (λ t. d.links (b.tells.0 ∙ t))
     (rests_told (h ≡ true) (k.tells c.args.links.now ≡ true) (k.tells c.args.links.now ≡ true) (c.is_late.result ≡ false) (not c.is_late.result ≡ true) (e.view c.serve_late.new.core) (k.link c.serve_late.new.links) (λ t. t) (λ m. ap not m) (b.rests h known (rests_ticked (h ≡ true) (k.tells c.args.links.now ≡ true) (kept_moment c.tick-told.result.moment) (e.view c.args.core.now) (e.view c.tick-told.new.core) (k.link c.args.links.now) a.ticked all)))))
+
+pub returns-clause-beside : goal.returns-clause-beside
+returns-clause-beside g c =
+    let k = g.L.Links in
+    let f = g.F.Files in
+    let t = g.C.Clock in
+    let clock = moments_told (t.tells c.tick-told.new.clock) (t.told c.tick-told.new.clock) in
+    stand_then (c.tick-told.ensures.beside (k.answers c.args.links.now) (f.answers c.args.files.now))
+    (stand_then (c.in_ok-serve_late.ensures.beside clock)
+    (stand_then (c.hear-heard.ensures.beside (f.answers c.serve_late.new.files) clock) (c.in_ok-serve_heard.ensures.beside clock)))

@@ -1,4 +1,4 @@
-use Rattle.std.proofs.Common.{◌≡◌, subst}
+use Rattle.std.proofs.Common.{subst}
 use Rattle.file_tree.specs.declared.job.JobAnswer.TheVariants as answer
 use Rattle.ngx_outside.specs.Views.{nobody}
 use Rattle.replay_run.specs.Scene.{IsFound, Answers, Fails}
@@ -8,7 +8,7 @@ use Rattle.replay_run.proofs.jobs.give_found.Goals as goal
 pub returns-in-Stands-clause-answers : goal.returns-in-Stands-clause-answers
 returns-in-Stands-clause-answers g c = λ told a waits known f.
     Answers a (answer.Stat c.in-Stands.stands) waits known (stands_from told.trees a c.in-Stands.stands c.args.block.now (subst (λ x. IsFound told.trees a x c.args.block.now) c.in-Stands.is f))
-    (record { steps = c.step.ensures.steps; moment = c.step.ensures.now })
+    (record { steps = c.step.ensures.steps; moment = c.step.ensures.now; ended = c.step.ensures.ended })
 
 pub returns-in-Stands-clause-falls : goal.returns-in-Stands-clause-falls
 returns-in-Stands-clause-falls g c = λ told a waits f.
@@ -19,7 +19,7 @@ returns-in-Stands-clause-falls g c = λ told a waits f.
 pub returns-in-Block-clause-answers : goal.returns-in-Block-clause-answers
 returns-in-Block-clause-answers g c = λ told a waits known f.
     Answers a (answer.Read c.as_slice.result) waits known (block_from told.trees a c.as_slice.result c.args.block.now c.as_slice.ensures (subst (λ x. IsFound told.trees a x c.args.block.now) c.in-Block.is f))
-    (record { steps = c.step-in-Block.ensures.steps; moment = c.step-in-Block.ensures.now })
+    (record { steps = c.step-in-Block.ensures.steps; moment = c.step-in-Block.ensures.now; ended = c.step-in-Block.ensures.ended })
 
 pub returns-in-Block-clause-falls : goal.returns-in-Block-clause-falls
 returns-in-Block-clause-falls g c = λ told a waits f.
@@ -30,4 +30,4 @@ returns-in-Block-clause-falls g c = λ told a waits f.
 pub returns-in-Nothing-clause-answers : goal.returns-in-Nothing-clause-answers
 returns-in-Nothing-clause-answers g c = λ told a waits known f.
     Fails a waits (nothing_from told.trees a c.args.block.now (subst (λ x. IsFound told.trees a x c.args.block.now) c.in-Nothing.is f))
-    (record { steps = c.step-in-Nothing.ensures.steps; moment = c.step-in-Nothing.ensures.now })
+    (record { steps = c.step-in-Nothing.ensures.steps; moment = c.step-in-Nothing.ensures.now; ended = c.step-in-Nothing.ensures.ended })

@@ -1,10 +1,11 @@
-use Rattle.std.proofs.Common.{refl, sym, ap, ◌∙◌, subst, length, arith}
+use Rattle.std.proofs.Common.{refl, ap, ◌∙◌, subst, arith}
 use Rattle.std.proofs.lemmas.List.{take_all}
 use Rattle.replay_run.specs.Told.{told_of, told_in}
 use Rattle.replay_run.specs.Scene.{stage}
 use Rattle.replay_run.specs.Plays.{LineDoes, Plays, Over}
 use Rattle.replay_run.proofs.PlaysLaws.{plays_on, told_on}
 use Rattle.replay_run.proofs.LineStands.{plays_stand}
+use Rattle.replay_run.proofs.Openings.{plays_open}
 use Rattle.replay_run.proofs.lines.run_lines.Goals as goal
 
 pub loop-line-init : goal.loop-line-init
@@ -44,3 +45,11 @@ returns-clause-stands g c = λ sent all.
     plays_stand (g.E.EventCore.fresh c.args.core.now) (told_of c.args.files.now) c.args.lines.now
     (stage (g.E.EventCore.view c.args.core.now) (g.E.EventCore.now c.args.core.now) c.args.player.now.lanes.items)
     (stage (g.E.EventCore.view c.loop-line.core) (g.E.EventCore.now c.loop-line.core) c.loop-line.player.lanes.items) 0 0 c.loop-line.counts.skipped c.loop-line.counts.refused sent plays all
+
+pub returns-clause-opened : goal.returns-clause-opened
+returns-clause-opened g c =
+    let plays = subst (λ xs. Plays (g.E.EventCore.fresh c.args.core.now) xs (told_of c.args.files.now) (stage (g.E.EventCore.view c.args.core.now) (g.E.EventCore.now c.args.core.now) c.args.player.now.lanes.items) 0 0 (stage (g.E.EventCore.view c.loop-line.core) (g.E.EventCore.now c.loop-line.core) c.loop-line.player.lanes.items) c.loop-line.counts.skipped c.loop-line.counts.refused)
+    (take_all c.loop-line.line-index c.args.lines.now (omega (arith, c.loop-line-test.false))) c.loop-line.invariant.plays in
+    plays_open (g.E.EventCore.fresh c.args.core.now) (told_of c.args.files.now) c.args.lines.now
+    (stage (g.E.EventCore.view c.args.core.now) (g.E.EventCore.now c.args.core.now) c.args.player.now.lanes.items)
+    (stage (g.E.EventCore.view c.loop-line.core) (g.E.EventCore.now c.loop-line.core) c.loop-line.player.lanes.items) 0 0 c.loop-line.counts.skipped c.loop-line.counts.refused plays

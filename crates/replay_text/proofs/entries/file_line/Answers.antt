@@ -1,5 +1,5 @@
 use Rattle.std.proofs.Common.{arith}
-use Rattle.replay_text.specs.Sums.{most_bytes}
+use Rattle.replay_words.specs.Sums.{most_bytes}
 use Rattle.replay_text.proofs.entries.file_line.Goals as goal
 
 pub overflow_add-used : goal.overflow_add-used

@@ -1,6 +1,6 @@
 use Rattle.std.proofs.Common.{◌≡◌, ◌≤◌, length}
 use Rattle.replay_text.specs.Grammar.{tree_of}
-use Rattle.replay_text.specs.Sums.{most_bytes}
+use Rattle.replay_words.specs.Sums.{most_bytes}
 use Rattle.replay_text.specs.Steps.{with_tree}
 use Rattle.replay_text.proofs.sections.tree_of.Given as goal
 

@@ -1,14 +1,12 @@
-use Rattle.std.proofs.Common.{◌≡◌, ◌≢◌, ℕ, true, false, List, [], ◌++◌, length, flat_map, refl, sym, ap, ◌∙◌, subst, arith}
-use Rattle.http_types.specs.declared.words.Addr.{Addr}
+use Rattle.std.proofs.Common.{◌≡◌, ◌≢◌, ℕ, true, false, List, [], ◌++◌, flat_map, sym, ap, ◌∙◌, subst, arith}
 use Rattle.ngx_outside.specs.Causes.{Rose}
-use Rattle.ngx_outside.specs.Views.{ConnView, Start, Course}
+use Rattle.ngx_outside.specs.Views.{ConnView, Start}
 use Rattle.ready_loop.specs.Seen.{CoreSeen, LinksSeen, FilesSeen, ClockSeen, core_seen, links_seen, files_seen, clock_seen, last_moment}
 use Rattle.ready_loop.specs.Standing.{Marks, Kept, Stands}
-use Rattle.ready_loop.specs.Turns.{AtRest, DueHasWants}
+use Rattle.ready_loop.specs.Turns.{DueHasWants}
 use Rattle.ready_loop.specs.declared.service.Ending.TheVariants as ending
-use Rattle.connection.specs.Conn.{fresh_course}
 use Rattle.connection_core.specs.Core.{view_at, now_at, fresh_at, refused_at}
-use Rattle.site_service.specs.Serving.{Outside, Serving, Became}
+use Rattle.site_service.specs.Serving.{Outside}
 use Rattle.site_service.proofs.Becoming.{became, at_rest, never, listened}
 use Rattle.site_service.proofs.service.serve_site.Goals as goal
 
@@ -61,7 +59,7 @@ returns-clause-serving g c =
       refused = refused_at end;
       links = λ tl tf id used.
           let kept = s.kept tl tf marks (λ id. fresh_at hub) begins in
-          became c.all_is_sent_when_idle.ensures c.closed_unstopped_sent_all.ensures site o (c.in_ok-ending.ending ≢ ending.ListenFault) core.refused (refused_at end) id (view_at end id)
+          became c.all_is_sent_when_idle.ensures c.closed_unstopped_sent_all.ensures c.closed_unended_sent_all.ensures site o (c.in_ok-ending.ending ≢ ending.ListenFault) core.refused (refused_at end) id (view_at end id)
           (c.cores_are_sound.ensures end id).sound
           (λ ne held. at_rest ((k.tells c.args.links.now ≡ true) × DueHasWants (k.is_open c.args.links.now) (k.link c.args.links.now) (view_at hub)) (k.tells c.args.links.now ≡ true) (view_at end id) (k.link c.serve.new.links id)
           (tl, λ d was due. never (k.is_open c.args.links.now d) was (c.requires.links d).1) tl (s.rests ne id held))

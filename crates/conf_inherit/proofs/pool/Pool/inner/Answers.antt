@@ -1,6 +1,6 @@
-use Rattle.std.proofs.Common.{Some, sym, ap, ◌∙◌, rules}
+use Rattle.std.proofs.Common.{Some, sym, ap, ◌∙◌}
 use Rattle.std.specs.List.{slice_get}
-use Rattle.conf_inherit.specs.Forest.{forest_of}
+use Rattle.conf_block.specs.Forest.{forest_of}
 use Rattle.conf_inherit.specs.Values.{Values}
 use Rattle.conf_inherit.specs.Pools.{values_by}
 use Rattle.conf_inherit.proofs.SiteLaws.{types-around}

@@ -1,9 +1,10 @@
-use Rattle.std.proofs.Common.{ℕ, sym, ap, ◌∙◌, subst}
-use Rattle.ngx_outside.specs.Views.{Start, Steps, OpensIf, CountsRefused, now_after, nobody}
+use Rattle.std.proofs.Common.{◌≡◌, ℕ, sym, ap, ◌∙◌, subst, arith}
+use Rattle.ngx_outside.specs.Views.{Start, Steps, OpensIf, CountsRefused, TakesNone, now_after, ended_after, nobody}
 use Rattle.ngx_outside.specs.declared.event.StepAnswer.TheVariants.{Done}
 use Rattle.connection_core.specs.Core.{view_at, fresh_at, now_at, opens_at}
 use Rattle.connection_core.specs.Table.{view_in}
-use Rattle.connection_core.proofs.Steps.{kept_is, waits_in, gone_counts}
+use Rattle.connection_core.proofs.Ends.{known_later}
+use Rattle.connection_core.proofs.Steps.{kept_is, waits_in, gone_counts, ended_opened, ended_gone}
 use Rattle.connection_core.proofs.hub.HubEventCore.step.Goals as goal
 
 pub returns-in-Opened-clause-steps : goal.returns-in-Opened-clause-steps
@@ -16,6 +17,26 @@ pub returns-in-Opened-clause-opens : goal.returns-in-Opened-clause-opens
 returns-in-Opened-clause-opens c =
     let h = c.args.self.now in
     subst (λ e. OpensIf (opens_at h) e c.open.result) (sym c.in-Opened.is) c.open.ensures.opens
+
+pub returns-in-Opened-clause-ended : goal.returns-in-Opened-clause-ended
+returns-in-Opened-clause-ended c =
+    let h = c.args.self.now in
+    let n = c.open.new.self in
+    subst (λ e. (q : ℕ) → (view_in n.site n.ids.items n.conns.items q).ended ≡ ended_after e c.open.result q (view_at h q).ended) (sym c.in-Opened.is)
+    (ended_opened _ (now_at h) c.in-Opened.conn c.in-Opened.local c.in-Opened.peer c.open.result (view_at h) (view_in n.site n.ids.items n.conns.items) (λ q. (c.cores_are_sound.ensures h q).sound) (c.open.ensures.steps (now_at h)))
+
+pub returns-in-Opened-clause-taken : goal.returns-in-Opened-clause-taken
+returns-in-Opened-clause-taken c = subst (λ e. TakesNone e c.open.result) (sym c.in-Opened.is) c.open.ensures.taken
+
+pub returns-in-Gone-clause-ended : goal.returns-in-Gone-clause-ended
+returns-in-Gone-clause-ended c =
+    let h = c.args.self.now in
+    let n = c.close.new.self in
+    subst (λ e. (q : ℕ) → (view_in n.site n.ids.items n.conns.items q).ended ≡ ended_after e c.close.result q (view_at h q).ended) (sym c.in-Gone.is)
+    (ended_gone nobody.course (now_at h) c.in-Gone.conn c.close.result (view_at h) (view_in n.site n.ids.items n.conns.items) (c.close.ensures.steps (now_at h)))
+
+pub returns-in-Gone-clause-taken : goal.returns-in-Gone-clause-taken
+returns-in-Gone-clause-taken c = subst (λ e. TakesNone e c.close.result) (sym c.in-Gone.is) c.close.ensures.taken
 
 pub returns-in-Tick-clause-steps : goal.returns-in-Tick-clause-steps
 returns-in-Tick-clause-steps c =
@@ -38,3 +59,18 @@ returns-in-Gone-clause-refused c =
     let h = c.args.self.now in
     let n = c.close.new.self in
     subst (λ e. CountsRefused e c.close.result h.refused h.refused) (sym c.in-Gone.is) (gone_counts nobody.course (now_at h) c.in-Gone.conn c.close.result h.refused (view_at h) (view_in n.site n.ids.items n.conns.items) (c.close.ensures.steps (now_at h)))
+
+pub invariant_of-self : goal.invariant_of-self
+invariant_of-self c =
+    let h = c.args.self.now in
+    record { known = c.open.ensures.known h.tree h.known }
+
+pub invariant_of-self-in-Tree : goal.invariant_of-self-in-Tree
+invariant_of-self-in-Tree c =
+    let h = c.args.self.now in
+    record { known = known_later h.tree c.in-Tree.to h.table.conns.items (omega (arith, c.if-to-self.false)) h.known }
+
+pub invariant_of-self-in-Gone : goal.invariant_of-self-in-Gone
+invariant_of-self-in-Gone c =
+    let h = c.args.self.now in
+    record { known = c.close.ensures.known h.tree h.known }

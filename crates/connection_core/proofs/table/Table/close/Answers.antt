@@ -3,7 +3,7 @@ use Rattle.ngx_outside.specs.Wants.{wants_at}
 use Rattle.ngx_outside.specs.Views.{ConnView}
 use Rattle.connection.specs.Conn.{view_of}
 use Rattle.connection_core.proofs.Held.{seat_at, seen, unseen, here_is, splits_of, stands_in, belongs_in}
-use Rattle.connection_core.proofs.Ends.{cut_rising, cut_told, cut_steps, keeps_open}
+use Rattle.connection_core.proofs.Ends.{cut_rising, cut_told, cut_steps, cut_known, keeps_open}
 use Rattle.connection_core.proofs.table.Table.close.Goals as goal
 
 pub returns-then-not-is_shut-clause-steps : goal.returns-then-not-is_shut-clause-steps
@@ -54,3 +54,11 @@ returns-in-Err-clause-steps c = λ now.
     let t = c.args.self.now in
     keeps_open t.site c.args.conn t.ids.items t.conns.items now
     (ap (λ (v : ConnView). v.shut) (unseen t.site c.args.conn c.in-Err.field-0 t.ids.items t.conns.items (belongs_in c.args.conn c.in-Err.field-0 c.as_slice.result.now t.ids.items c.as_slice.ensures.value c.in-Err.ensures)))
+
+pub returns-else-not-is_shut-clause-known : goal.returns-else-not-is_shut-clause-known
+returns-else-not-is_shut-clause-known c = λ tree known.
+    let t = c.args.self.now in
+    let even : length t.conns.items ≡ length t.ids.items = omega (arith, t.paired, t.ids.ok.0, t.conns.ok.0) in
+    let stands = stands_in c.args.conn c.in-Ok.at c.as_slice.result.now t.ids.items c.as_slice.ensures.value c.in-Ok.ensures in
+    let s = seat_at t.site c.args.conn c.in-Ok.at t.ids.items t.conns.items t.wants.items stands even t.told in
+    cut_known tree t.site c.args.conn c.in-Ok.at t.ids.items t.conns.items c.remove-in-Ok-2.new.self.items t.wants.items s c.remove-in-Ok-2.ensures.items known

@@ -1,7 +1,9 @@
-use Rattle.std.proofs.Common.{◌≡◌, length, sym, ap, ◌∙◌, arith}
+use Rattle.std.proofs.Common.{◌≡◌, ◌≤◌, length, subst, sym, ap, ◌∙◌, arith}
 use Rattle.connection.specs.declared.conn.Conn.{Conn}
 use Rattle.connection.specs.Conn.{view_of}
 use Rattle.connection_core.proofs.Held.{seat_at, seen, unseen, here_is, journal_seen, journal_unseen, stands_in, belongs_in}
+use Rattle.connection.specs.Conn.{asked_of}
+use Rattle.connection_core.proofs.Ends.{known_at}
 use Rattle.connection_core.proofs.table.Table.get.Goals as goal
 
 pub returns-in-Ok-clause-view : goal.returns-in-Ok-clause-view
@@ -29,3 +31,10 @@ pub returns-in-Err-clause-journal : goal.returns-in-Err-clause-journal
 returns-in-Err-clause-journal c =
     let t = c.args.self.now in
     journal_unseen c.args.conn c.in-Err.field-0 t.ids.items t.conns.items (belongs_in c.args.conn c.in-Err.field-0 c.as_slice.result.now t.ids.items c.as_slice.ensures.value c.in-Err.ensures)
+
+pub returns-in-Ok-clause-known : goal.returns-in-Ok-clause-known
+returns-in-Ok-clause-known c = λ tree known.
+    let t = c.args.self.now in
+    let even : length t.conns.items ≡ length t.ids.items = omega (arith, t.paired, t.ids.ok.0, t.conns.ok.0) in
+    let s = seat_at t.site c.args.conn c.in-Ok.at t.ids.items t.conns.items t.wants.items (stands_in c.args.conn c.in-Ok.at c.as_slice.result.now t.ids.items c.as_slice.ensures.value c.in-Ok.ensures) even t.told in
+    subst (λ x. asked_of x ≤ tree) (sym (here_is t.site c.args.conn c.in-Ok.at t.conns.items t.wants.items s.placed c.index.result.now c.index.ensures)) (known_at tree t.site c.args.conn c.in-Ok.at t.ids.items t.conns.items t.wants.items s known)

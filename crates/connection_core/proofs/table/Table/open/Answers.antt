@@ -6,7 +6,7 @@ use Rattle.ngx_outside.specs.declared.event.StepAnswer.TheVariants.{Done}
 use Rattle.connection.specs.Conn.{fresh_course}
 use Rattle.connection_core.specs.Table.{view_in}
 use Rattle.connection_core.proofs.Held.{stands_in, belongs_in}
-use Rattle.connection_core.proofs.Ends.{gap_at, put_steps, put_left, opens_full, opens_deaf, opens_held, opens_free}
+use Rattle.connection_core.proofs.Ends.{gap_at, put_steps, put_left, put_known, opens_full, opens_deaf, opens_held, opens_free}
 use Rattle.connection_core.proofs.table.Table.open.Goals as goal
 use Rattle.connection_core.proofs.table.Table.open.Goals.{then-len-ge-MOST-via-then-len-ge-MOST, then-len-ge-MOST-via-else-len-ge-MOST+then-not-is_listening}
 
@@ -52,3 +52,12 @@ pub returns-in-Err-make-clause-opens : goal.returns-in-Err-make-clause-opens
 returns-in-Err-make-clause-opens c =
     let t = c.args.self.now in
     opens_free t.site t.ids.items c.args.conn c.in-Err.at c.args.local (belongs_in c.args.conn c.in-Err.at c.as_slice.result.now t.ids.items c.as_slice.ensures.value c.in-Err.ensures) (omega (arith, c.if-len-ge-MOST.false, c.len.ensures, t.ids.ok.0)) (sym c.is_listening.ensures ∙ c.if-not-is_listening.false)
+
+pub returns-in-Ok-make-clause-known : goal.returns-in-Ok-make-clause-known
+returns-in-Ok-make-clause-known c = λ tree known.
+    let t = c.args.self.now in
+    let n = c.put.new.self in
+    let even : length t.conns.items ≡ length t.ids.items = omega (arith, t.paired, t.ids.ok.0, t.conns.ok.0) in
+    let g = gap_at c.args.conn c.in-Err.at t.ids.items t.conns.items (belongs_in c.args.conn c.in-Err.at c.as_slice.result.now t.ids.items c.as_slice.ensures.value c.in-Err.ensures) even in
+    let conns : n.conns.items ≡ insert t.conns.items c.in-Err.at c.in-Ok-make.fresh = c.put.ensures.conns ∙ ap (λ l. insert l c.in-Err.at c.in-Ok-make.fresh) c.make.ensures.conns in
+    put_known tree c.args.conn c.in-Err.at t.ids.items t.conns.items n.conns.items c.in-Ok-make.fresh g conns c.in-Ok-make.ensures.asked known

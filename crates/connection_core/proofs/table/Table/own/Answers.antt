@@ -1,8 +1,10 @@
 use Rattle.std.proofs.Common.{◌≡◌, ◌≤◌, ◌*◌, length, subst, sym, ◌∙◌, arith}
 use Rattle.ngx_outside.specs.Views.{Start, nobody}
 use Rattle.connection.specs.Conn.{StepsConn}
-use Rattle.connection_core.proofs.Held.{seat_at, one_steps, told_after, left_after, none_steps, stands_in, belongs_in}
-use Rattle.connection_core.proofs.Ends.{few_wants}
+use Rattle.connection_core.proofs.Held.{seat_at, one_steps, one_ended, told_after, left_after, none_steps, stands_in, belongs_in}
+use Rattle.connection_core.specs.Table.{view_in}
+use Rattle.connection_core.proofs.Ends.{few_wants, own_known}
+use Rattle.connection_core.proofs.Steps.{skips_ended}
 use Rattle.connection_core.proofs.table.Table.own.Goals as goal
 
 pub happen_at-requires-clause-placed : goal.happen_at-requires-clause-placed
@@ -14,7 +16,7 @@ happen_at-requires-clause-placed c =
 pub happen_at-requires-clause-room : goal.happen_at-requires-clause-room
 happen_at-requires-clause-room c =
     let t = c.args.self.now in
-    let few : length t.wants.items ≤ 4 * length t.ids.items = subst (λ l. length l ≤ 4 * length t.ids.items) (sym t.told) (few_wants t.site t.ids.items t.conns.items) in
+    let few : length t.wants.items ≤ 5 * length t.ids.items = subst (λ l. length l ≤ 5 * length t.ids.items) (sym t.told) (few_wants t.site t.ids.items t.conns.items) in
     omega (arith, few, t.roomy, t.ids.ok.0, t.wants.ok.0)
 
 pub invariant_of-self : goal.invariant_of-self
@@ -46,8 +48,36 @@ returns-in-Ok-clause-left c =
     let now : Start = record { moment = c.args.moment; tree = c.args.tree } in
     left_after t.site c.args.conn c.in-Ok.at t.ids.items t.conns.items c.happen_at.new.conns.items t.wants.items c.happen_at.new.wants.items now c.args.event c.happen_at.result s c.requires.own (c.happen_at.ensures.replaced c.requires.own s.placed)
 
+pub returns-in-Ok-clause-ended : goal.returns-in-Ok-clause-ended
+returns-in-Ok-clause-ended c =
+    let t = c.args.self.now in
+    let even : length t.conns.items ≡ length t.ids.items = omega (arith, t.paired, t.ids.ok.0, t.conns.ok.0) in
+    let s = seat_at t.site c.args.conn c.in-Ok.at t.ids.items t.conns.items t.wants.items (stands_in c.args.conn c.in-Ok.at c.as_slice.result.now t.ids.items c.as_slice.ensures.value c.in-Ok.ensures) even t.told in
+    let now : Start = record { moment = c.args.moment; tree = c.args.tree } in
+    one_ended t.site c.args.conn c.in-Ok.at t.ids.items t.conns.items c.happen_at.new.conns.items t.wants.items c.happen_at.new.wants.items now c.args.event c.happen_at.result s (c.happen_at.ensures.replaced c.requires.own s.placed)
+
+pub returns-in-Ok-clause-taken : goal.returns-in-Ok-clause-taken
+returns-in-Ok-clause-taken c =
+    let t = c.args.self.now in
+    let even : length t.conns.items ≡ length t.ids.items = omega (arith, t.paired, t.ids.ok.0, t.conns.ok.0) in
+    let s = seat_at t.site c.args.conn c.in-Ok.at t.ids.items t.conns.items t.wants.items (stands_in c.args.conn c.in-Ok.at c.as_slice.result.now t.ids.items c.as_slice.ensures.value c.in-Ok.ensures) even t.told in
+    (c.happen_at.ensures.replaced c.requires.own s.placed).does.taken
+
 pub returns-in-Err-clause-steps : goal.returns-in-Err-clause-steps
 returns-in-Err-clause-steps c =
     let t = c.args.self.now in
     let now : Start = record { moment = c.args.moment; tree = c.args.tree } in
     none_steps t.site c.args.conn c.in-Err.field-0 t.ids.items t.conns.items now c.args.event nobody.course c.requires.own (belongs_in c.args.conn c.in-Err.field-0 c.as_slice.result.now t.ids.items c.as_slice.ensures.value c.in-Err.ensures)
+
+pub returns-in-Err-clause-ended : goal.returns-in-Err-clause-ended
+returns-in-Err-clause-ended c =
+    let t = c.args.self.now in
+    skips_ended c.args.event (view_in t.site t.ids.items t.conns.items c.args.conn).ended
+
+pub returns-in-Ok-clause-known : goal.returns-in-Ok-clause-known
+returns-in-Ok-clause-known c = λ known.
+    let t = c.args.self.now in
+    let even : length t.conns.items ≡ length t.ids.items = omega (arith, t.paired, t.ids.ok.0, t.conns.ok.0) in
+    let s = seat_at t.site c.args.conn c.in-Ok.at t.ids.items t.conns.items t.wants.items (stands_in c.args.conn c.in-Ok.at c.as_slice.result.now t.ids.items c.as_slice.ensures.value c.in-Ok.ensures) even t.told in
+    let now : Start = record { moment = c.args.moment; tree = c.args.tree } in
+    own_known t.site c.args.conn c.in-Ok.at t.conns.items c.happen_at.new.conns.items t.wants.items c.happen_at.new.wants.items now c.args.event c.happen_at.result s.placed (c.happen_at.ensures.replaced c.requires.own s.placed) known

@@ -5,7 +5,7 @@ use Rattle.connection_core.proofs.table.Table.put.Goals as goal
 pub rewrite-requires-clause-room : goal.rewrite-requires-clause-room
 rewrite-requires-clause-room c =
     let t = c.args.self.now in
-    let few : length t.wants.items ≤ 4 * length t.ids.items = subst (λ l. length l ≤ 4 * length t.ids.items) (sym t.told) (few_wants t.site t.ids.items t.conns.items) in
+    let few : length t.wants.items ≤ 5 * length t.ids.items = subst (λ l. length l ≤ 5 * length t.ids.items) (sym t.told) (few_wants t.site t.ids.items t.conns.items) in
     omega (arith, few, c.requires.wants_room, t.ids.ok.0, t.wants.ok.0)
 
 pub rewrite-requires-clause-splits : goal.rewrite-requires-clause-splits

@@ -1,0 +1,2 @@
+pub mod ForestLaws
+pub mod LevelLaws

@@ -1,0 +1,78 @@
+-- The directives that have a part in the reading of the others, or a value today.
+use Rattle.std.specs.Prelude.{ℕ, List, [], ◌∷◌, Bool, true, false, ◌==◌, codes, bytes_eq, if◌then◌else◌}
+use Rattle.conf_table.specs.declared.rule.Place.{Place}
+use Rattle.conf_table.specs.declared.rule.Place.TheVariants as places
+use Rattle.conf_text.specs.declared.directive.Directive.{Directive}
+use Rattle.conf_block.specs.declared.role.Role.{Role}
+use Rattle.conf_block.specs.declared.role.Role.TheVariants as roles
+use Rattle.conf_block.specs.declared.role.Content.{Content}
+use Rattle.conf_block.specs.declared.role.Content.TheVariants.{Directives, Closed, Lines}
+
+-- a word by which a location is named: one that begins with `@`
+abbrev pub is_named : List ℕ → Bool
+is_named [] = false
+is_named (b ∷ bs) = b == 64
+
+unfoldable pub role_of : List ℕ → Role
+role_of name =
+    if bytes_eq name (codes "http") then roles.Http
+    else (if bytes_eq name (codes "events") then roles.Events
+    else (if bytes_eq name (codes "server") then roles.Server
+    else (if bytes_eq name (codes "location") then roles.Location
+    else (if bytes_eq name (codes "if") then roles.If
+    else (if bytes_eq name (codes "types") then roles.Types
+    else (if bytes_eq name (codes "listen") then roles.Listen
+    else (if bytes_eq name (codes "return") then roles.Return
+    else (if bytes_eq name (codes "root") then roles.Root
+    else (if bytes_eq name (codes "alias") then roles.Alias
+    else (if bytes_eq name (codes "default_type") then roles.DefaultType
+    else (if bytes_eq name (codes "keepalive_requests") then roles.Requests
+    else (if bytes_eq name (codes "keepalive_timeout") then roles.Idle
+    else (if bytes_eq name (codes "set") then roles.Set
+    else (if bytes_eq name (codes "auth_request_set") then roles.Set
+    else roles.Other))))))))))))))
+
+-- the place in the block of an `if` that stands here
+abbrev pub place_in_if : Place → Place
+place_in_if places.Top = places.ServerIf
+place_in_if places.Events = places.ServerIf
+place_in_if places.Http = places.ServerIf
+place_in_if places.Server = places.ServerIf
+place_in_if places.Location = places.LocationIf
+place_in_if places.ServerIf = places.ServerIf
+place_in_if places.LocationIf = places.LocationIf
+
+-- A location with `=` or of a name holds no location.
+abbrev pub is_closed : List (List ℕ) → Bool
+is_closed [] = false
+is_closed (word ∷ []) = is_named word
+is_closed (modifier ∷ word ∷ words) = bytes_eq modifier (codes "=")
+
+-- What the block of a directive that stands here holds: directives in a place of their own, or the lines of `types`. Those
+-- that have no block leave the place as it is.
+abbrev pub content_of : Role → Place → List (List ℕ) → Content
+content_of roles.Http here args = Directives places.Http
+content_of roles.Events here args = Directives places.Events
+content_of roles.Server here args = Directives places.Server
+content_of roles.Location here args = if is_closed args then Closed else Directives places.Location
+content_of roles.If here args = Directives (place_in_if here)
+content_of roles.Types here args = Lines
+content_of _ here args = Directives here
+
+-- the place of directives that stand among these
+abbrev pub place_of : Content → Place
+place_of (Directives here) = here
+place_of Closed = places.Location
+place_of Lines = places.Location
+
+-- the directives of a level, and not the lines of `types`
+abbrev pub are_directives : Content → Bool
+are_directives (Directives here) = true
+are_directives Closed = true
+are_directives Lines = false
+
+-- what the block of a directive holds that stands among these
+unfoldable pub content_inside : Content → Directive → Content
+content_inside (Directives here) d = content_of (role_of d.name) here d.args
+content_inside Closed d = content_of (role_of d.name) places.Location d.args
+content_inside Lines d = Lines

@@ -1,0 +1,138 @@
+// The words of `location`.
+ghost use Rattle.std.specs.Prelude.{◌≡◌, ◌||◌, false, bytes_eq, option_map};
+ghost use Rattle.conf_block.specs.Locations.{kind_by, key_with, key_of, has_modifier, has_name, is_plain, is_location, is_misplaced, text_in};
+
+use crate::role::{Content, Role, is_named};
+use byte_text::ByteText;
+use conf_table::Place;
+
+/// What a location is like: with a prefix, exact, or of a name.
+#[derive(Clone, Copy)]
+pub enum Kind {
+    Prefix,
+    Exact,
+    Named,
+}
+
+/// What a location is found by, where none like it may stand beside it in its level.
+#[derive(Clone, Copy)]
+pub struct Key<'a> {
+    pub kind: Kind,
+    pub text: &'a [u8],
+}
+
+fn kind_by(modifier: &[u8]) -> Option<Kind>
+    ensures { result ≡ kind_by modifier.now }
+{
+    if modifier == b"=".as_slice() {
+        Some(Kind::Exact)
+    } else if modifier == b"^~".as_slice() {
+        Some(Kind::Prefix)
+    } else {
+        None
+    }
+}
+
+fn key_with(kind: Option<Kind>, text: &[u8]) -> Option<Key<'_>>
+    ensures { option_map (λ k. (k.kind, k.text.now)) result ≡ key_with kind text.now }
+{
+    match kind {
+        None => None,
+        Some(kind) => Some(Key { kind, text }),
+    }
+}
+
+/// What a location of these words is found by (nginx's documentation, `location`); one with a regular expression may stand
+/// again.
+#[tactic(auto, unfolding(crate::specs::Locations::key_of))]
+pub fn key_of(words: &[ByteText]) -> Option<Key<'_>>
+    ensures { option_map (λ k. (k.kind, k.text.now)) result ≡ key_of words.now }
+{
+    match words {
+        [word] => {
+            let text = word.as_slice();
+            if is_named(text) {
+                Some(Key {
+                    kind: Kind::Named,
+                    text,
+                })
+            } else {
+                Some(Key {
+                    kind: Kind::Prefix,
+                    text,
+                })
+            }
+        }
+        [modifier, word] => key_with(kind_by(modifier.as_slice()), word.as_slice()),
+        _ => None,
+    }
+}
+
+/// Whether the words are one alone, or a text behind a modifier: `=`, `^~`, `~` or `~*` (nginx's documentation, `location`).
+#[tactic(auto, unfolding(crate::specs::Locations::has_modifier))]
+pub fn has_modifier(words: &[ByteText]) -> bool
+    ensures { result ≡ has_modifier words.now }
+{
+    match words {
+        [] => false,
+        [_] => true,
+        [modifier, ..] => {
+            let modifier = modifier.as_slice();
+            modifier == b"=".as_slice()
+                || modifier == b"^~".as_slice()
+                || modifier == b"~".as_slice()
+                || modifier == b"~*".as_slice()
+        }
+    }
+}
+
+fn has_name(words: &[ByteText]) -> bool
+    ensures { result ≡ has_name words.now }
+{
+    match words {
+        [word] => is_named(word.as_slice()),
+        _ => false,
+    }
+}
+
+/// Whether the one word is a prefix.
+pub fn is_plain(words: &[ByteText]) -> bool
+    ensures { result ≡ is_plain words.now }
+{
+    match words {
+        [word] => !is_named(word.as_slice()),
+        _ => false,
+    }
+}
+
+fn is_location(place: Place) -> bool
+    ensures { result ≡ is_location place }
+{
+    match place {
+        Place::Location => true,
+        _ => false,
+    }
+}
+
+/// Whether a directive is a location that may not stand here, though others may: one of a name in another, or any in one with
+/// `=` or of a name.
+pub fn is_misplaced(here: Content, role: Role, words: &[ByteText]) -> bool
+    ensures { result ≡ is_misplaced here role words.now }
+{
+    match (here, role) {
+        (Content::Closed, Role::Location) => true,
+        (Content::Directives(place), Role::Location) => is_location(place) && has_name(words),
+        _ => false,
+    }
+}
+
+/// The text of a location.
+pub fn text_in(words: &[ByteText]) -> &[u8]
+    ensures { result.now ≡ text_in words.now }
+{
+    match words {
+        [] => b"",
+        [word] => word.as_slice(),
+        [_, word, ..] => word.as_slice(),
+    }
+}

@@ -1,0 +1,166 @@
+// The directives that have a part in the reading of the others, or a value today.
+ghost use Rattle.std.specs.Prelude.{◌≡◌};
+ghost use Rattle.conf_block.specs.Roles.{role_of, place_in_if, is_named, is_closed, content_of, place_of, are_directives, content_inside};
+
+use byte_text::ByteText;
+use conf_table::Place;
+use conf_text::Directive;
+
+/// What a directive is by its name.
+#[derive(Clone, Copy, PartialEq, Eq)]
+pub enum Role {
+    Http,
+    Events,
+    Server,
+    Location,
+    If,
+    Types,
+    Listen,
+    Return,
+    Root,
+    Alias,
+    DefaultType,
+    Requests,
+    Idle,
+    Set,
+    Other,
+}
+
+/// What a block holds.
+#[derive(Clone, Copy)]
+pub enum Content {
+    /// Directives that stand in this place.
+    Directives(Place),
+    /// Directives of a location in which no location may stand.
+    Closed,
+    /// The lines of `types`.
+    Lines,
+}
+
+/// What a directive of this name is.
+#[tactic(auto, unfolding(crate::specs::Roles::role_of))]
+pub fn role_of(name: &[u8]) -> Role
+    ensures { result ≡ role_of name.now }
+{
+    if name == b"http".as_slice() {
+        Role::Http
+    } else if name == b"events".as_slice() {
+        Role::Events
+    } else if name == b"server".as_slice() {
+        Role::Server
+    } else if name == b"location".as_slice() {
+        Role::Location
+    } else if name == b"if".as_slice() {
+        Role::If
+    } else if name == b"types".as_slice() {
+        Role::Types
+    } else if name == b"listen".as_slice() {
+        Role::Listen
+    } else if name == b"return".as_slice() {
+        Role::Return
+    } else if name == b"root".as_slice() {
+        Role::Root
+    } else if name == b"alias".as_slice() {
+        Role::Alias
+    } else if name == b"default_type".as_slice() {
+        Role::DefaultType
+    } else if name == b"keepalive_requests".as_slice() {
+        Role::Requests
+    } else if name == b"keepalive_timeout".as_slice() {
+        Role::Idle
+    } else if name == b"set".as_slice() {
+        Role::Set
+    } else if name == b"auth_request_set".as_slice() {
+        Role::Set
+    } else {
+        Role::Other
+    }
+}
+
+fn place_in_if(here: Place) -> Place
+    ensures { result ≡ place_in_if here }
+{
+    match here {
+        Place::Location => Place::LocationIf,
+        Place::LocationIf => Place::LocationIf,
+        Place::Top | Place::Events | Place::Http | Place::Server | Place::ServerIf => {
+            Place::ServerIf
+        }
+    }
+}
+
+/// Whether a location is named by this word: one that begins with `@`.
+pub fn is_named(word: &[u8]) -> bool
+    ensures { result ≡ is_named word.now }
+{
+    match word {
+        [] => false,
+        [first, ..] => *first == b'@',
+    }
+}
+
+/// Whether a location of these words holds no location: one with `=` or of a name.
+fn is_closed(words: &[ByteText]) -> bool
+    ensures { result ≡ is_closed words.now }
+{
+    match words {
+        [] => false,
+        [word] => is_named(word.as_slice()),
+        [modifier, ..] => modifier.as_slice() == b"=".as_slice(),
+    }
+}
+
+/// What the block of a directive that stands here holds.
+fn content_of(role: Role, here: Place, words: &[ByteText]) -> Content
+    ensures { result ≡ content_of role here words.now }
+{
+    match role {
+        Role::Http => Content::Directives(Place::Http),
+        Role::Events => Content::Directives(Place::Events),
+        Role::Server => Content::Directives(Place::Server),
+        Role::Location => {
+            if is_closed(words) {
+                Content::Closed
+            } else {
+                Content::Directives(Place::Location)
+            }
+        }
+        Role::If => Content::Directives(place_in_if(here)),
+        Role::Types => Content::Lines,
+        _ => Content::Directives(here),
+    }
+}
+
+/// The place of directives that stand among these.
+pub fn place_of(here: Content) -> Place
+    ensures { result ≡ place_of here }
+{
+    match here {
+        Content::Directives(place) => place,
+        Content::Closed | Content::Lines => Place::Location,
+    }
+}
+
+/// The directives of a level, and not the lines of `types`.
+pub fn are_directives(here: Content) -> bool
+    ensures { result ≡ are_directives here }
+{
+    match here {
+        Content::Directives(_) | Content::Closed => true,
+        Content::Lines => false,
+    }
+}
+
+/// What the block of a directive holds that stands among these: directives, or lines of `types`.
+#[tactic(auto, unfolding(crate::specs::Roles::content_inside))]
+pub fn content_inside(here: Content, directive: &Directive) -> Content
+    ensures { result ≡ content_inside here directive.now }
+{
+    let role = role_of(directive.name.as_slice());
+    let words = directive.args.as_slice();
+    match here {
+        Content::Directives(place) => content_of(role, place, words),
+        Content::Closed => content_of(role, Place::Location, words),
+        Content::Lines => Content::Lines,
+    }
+}

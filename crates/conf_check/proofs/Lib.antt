@@ -1,0 +1,7 @@
+pub mod EndsLaws
+pub mod FaultLaws
+pub mod BeforeLaws
+pub mod CheckLaws
+pub mod ServedLaws
+pub mod NamesLaws
+pub mod AcceptedLaws

@@ -1,0 +1,10 @@
+pub mod Gives
+pub mod Ends
+pub mod Keys
+pub mod LocationSet
+pub mod Faults
+pub mod Before
+pub mod Names
+pub mod Checked
+pub mod Served
+pub mod Accepted

@@ -1,0 +1,43 @@
+-- The variables that a configuration sets (nginx's `set` and `auth_request_set`).
+use Rattle.std.specs.Prelude.{ℕ, List, [], ◌∷◌, Bool, false, ◌&&◌, ◌||◌, ◌==◌, Option, None, Some, bytes_eq, if◌then◌else◌}
+use Rattle.std.specs.List.{list_all}
+use Rattle.ngx_variables.specs.Grammar.{is_name_byte, lowercase}
+use Rattle.conf_text.specs.declared.directive.Directive.{Directive}
+use Rattle.conf_block.specs.declared.role.Role.{Role}
+use Rattle.conf_block.specs.declared.role.Role.TheVariants as roles
+use Rattle.conf_block.specs.declared.role.Content.{Content}
+use Rattle.conf_block.specs.Forest.{Forest, End, Branch}
+use Rattle.conf_block.specs.Roles.{role_of, content_inside, are_directives}
+
+-- bytes of a name, at least one
+abbrev pub is_name : List ℕ → Bool
+is_name [] = false
+is_name (b ∷ bs) = list_all is_name_byte (b ∷ bs)
+
+-- the variable of a word `$NAME`, in lower case
+unfoldable pub variable_in : List ℕ → Option (List ℕ)
+variable_in [] = None
+variable_in (b ∷ bs) = if (b == 36) && is_name bs then Some (lowercase bs) else None
+
+abbrev pub first_variable : List (List ℕ) → Option (List ℕ)
+first_variable [] = None
+first_variable (word ∷ words) = variable_in word
+
+abbrev pub set_with : Role → Directive → Option (List ℕ)
+set_with roles.Set d = if d.block then None else first_variable d.args
+set_with _ d = None
+
+-- the variable that a directive sets that stands among these
+abbrev pub set_by : Content → Directive → Option (List ℕ)
+set_by here d = if are_directives here then set_with (role_of d.name) d else None
+
+-- a name, or none
+abbrev pub is_it : Option (List ℕ) → List ℕ → Bool
+is_it None name = false
+is_it (Some other) name = bytes_eq name other
+
+-- one of the directives sets the variable, wherever it stands
+unfoldable pub is_set_in : Content → Forest → List ℕ → Bool
+is_set_in here End name = false
+is_set_in here (Branch d block beside) name =
+    is_it (set_by here d) name || (is_set_in (content_inside here d) block name || is_set_in here beside name)

@@ -1,0 +1,99 @@
+// The first fault of a configuration.
+ghost use Rattle.std.specs.Prelude.{◌≡◌, Err, OnOk, IfOk, IfErr};
+ghost use Rattle.conf_text.specs.Reading.{OnFault};
+ghost use Rattle.conf_values.specs.TextSet.{holds};
+ghost use Rattle.conf_block.specs.Forest.{forest_of};
+ghost use Rattle.conf_check.specs.Gives.{sound, Gives};
+ghost use Rattle.conf_check.specs.Names.{is_set_in};
+ghost use Rattle.conf_check.specs.Accepted.{some_server, no_fault, all_served, accepted};
+
+use crate::ends::Ends;
+use crate::levels::check_level;
+use crate::names::add_names;
+use crate::served::check_served;
+use byte_text::OutOfMemory;
+use conf_block::{Content, has_named, http_in};
+use conf_table::Place;
+use conf_text::{ConfError, ConfFault, Directive, FaultKind};
+use conf_values::TextSet;
+use std::alloc::Global;
+
+/// A server stands in `http`.
+fn some_server(http: &[Directive]) -> Result<(), ConfError>
+    ensures { Gives (λ x. x) result (some_server (forest_of http.now)) }
+{
+    if has_named(http, b"server") {
+        return Ok(());
+    }
+    Err(ConfError::Fault(ConfFault {
+        kind: FaultKind::NoServer,
+        file: 0,
+        line: 1,
+        word: None,
+    }))
+}
+
+/// The names of the variables that some directive sets.
+fn names_in(alloc: Global, directives: &[Directive]) -> Result<TextSet, OutOfMemory>
+    ensures { IfOk result (λ names. holds names.keys ≡ is_set_in (Content.Directives Place.Top) (forest_of directives.now)) }
+{
+    let mut names = TextSet::new(alloc);
+    add_names(
+        alloc,
+        Content::Directives(Place::Top),
+        directives,
+        &mut names,
+    )?;
+    Ok(names)
+}
+
+/// The first fault of the directives alone, in the order of the text.
+fn check_all(alloc: Global, directives: &[Directive]) -> Result<(), ConfError>
+    ensures { Gives (λ x. x) result (no_fault (forest_of directives.now)) }
+{
+    let known = names_in(alloc, directives)?;
+    let mut marked = Ends::new(alloc);
+    check_level(
+        alloc,
+        &known,
+        &mut marked,
+        Content::Directives(Place::Top),
+        directives,
+    )
+}
+
+/// The first directive that isn't served, in the order of the text.
+fn serve_all(alloc: Global, directives: &[Directive]) -> Result<(), ConfError>
+    ensures { Gives (λ x. x) result (all_served (forest_of directives.now)) }
+{
+    let mut taken = Ends::new(alloc);
+    check_served(
+        alloc,
+        &mut taken,
+        Content::Directives(Place::Top),
+        directives,
+    )
+}
+
+/// Looks for the first fault of a configuration, whose files are put in their places (nginx's documentation, "Core
+/// functionality" and "Module ngx_http_core_module"). The main file's number is 0. Without a fault it can be served.
+///
+/// Today servers are served, each on addresses that no server before listens on, with locations of plain prefixes, what
+/// `return` answers in either that doesn't redirect, where files stand, of which types they are and how long a connection
+/// is kept, and what is accepted without effect.
+///
+/// # Errors
+///
+/// `Fault` for the first fault in the order of the text, where at one directive come an unknown name, a place where it
+/// may not stand, a wrong number of words or a block, a second one where one alone may stand, and a wrong value; then
+/// `NoServer`, at the beginning of the main file; and last, as of an unknown name, the first directive that is not
+/// served yet. And `OutOfMemory`.
+pub fn check(alloc: Global, directives: &[Directive]) -> Result<(), ConfError>
+    ensures ok { OnOk result (accepted directives.now ≡ sound) }
+    ensures fault { IfErr result (λ e. OnFault e (λ fault. accepted directives.now ≡ Err fault)) }
+{
+    check_all(alloc, directives)?;
+    some_server(http_in(directives))?;
+    serve_all(alloc, directives)?;
+    Ok(())
+}

@@ -1,0 +1,16 @@
+//! The first fault of a configuration, in the order of its text.
+#![tactic(auto)]
+
+mod before;
+mod ends;
+mod fault;
+mod first;
+mod levels;
+mod locations;
+mod names;
+mod served;
+
+pub use first::check;
+
+#[cfg(test)]
+mod tests;

@@ -1,5 +1,0 @@
-use Rattle.conf_inherit.proofs.ForestLaws.{first-forest}
-use Rattle.conf_inherit.proofs.branch.blocks_stand_behind.Goals as goal
-
-pub returns : goal.returns
-returns c = first-forest

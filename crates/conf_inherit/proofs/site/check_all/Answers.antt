@@ -1,5 +1,0 @@
-use Rattle.conf_inherit.proofs.BuiltLaws.{no_fault-gives}
-use Rattle.conf_inherit.proofs.site.check_all.Goals as goal
-
-pub returns : goal.returns
-returns c = no_fault-gives _ _ _ _ _ c.in_ok-known.ensures c.new-marked.ensures c.check_level.ensures

@@ -1,0 +1,41 @@
+-- Answers that are kept.
+use Rattle.std.proofs.Common.{◌≡◌, Bool, true, false, List, [], ◌∷◌, ◌++◌, refl, sym, ap, subst, ◌∙◌}
+use Rattle.std.specs.Prelude.{ℕ, map, Option}
+use Rattle.std.proofs.lemmas.List.{map-append, append_cancel_left}
+use Rattle.ngx_outside.specs.Records.{Adds, LinkAnswer, FileAnswer, Held}
+use Rattle.memory_outside.specs.declared.answers.LinkTold.{LinkTold}
+use Rattle.memory_outside.specs.declared.answers.FileTold.{FileTold}
+use Rattle.memory_outside.specs.Answered.{told_by, link_answer, file_answer}
+
+-- one answer more
+added : {A B : Type 0} (f : A → B) (a : A) (whole whole' : Bool) (kept kept' : List A) →
+    (whole' ≡ true → (whole ≡ true) × (kept' ≡ kept ++ a ∷ [])) → Adds (f a) (told_by f whole kept) (told_by f whole' kept')
+added f a whole false kept kept' h = λ later e. cc
+added {A} {B} f a whole true kept kept' h = λ later e.
+    let is : map f kept' ≡ later = cc in
+    (map f kept, ap (λ w. told_by f w kept) (h refl).0, sym is ∙ ap (map f) (h refl).1 ∙ map-append f kept (a ∷ []))
+
+pub link_added : (a : LinkTold) (b : LinkAnswer) (whole whole' : Bool) (kept kept' : List LinkTold) → b ≡ link_answer a →
+    (whole' ≡ true → (whole ≡ true) × (kept' ≡ kept ++ a ∷ [])) → Adds b (told_by link_answer whole kept) (told_by link_answer whole' kept')
+link_added a b whole whole' kept kept' e h =
+    subst (λ (c : LinkAnswer). Adds c (told_by link_answer whole kept) (told_by link_answer whole' kept')) (sym e) (added link_answer a whole whole' kept kept' h)
+
+pub file_added : (a : FileTold) (b : FileAnswer) (whole whole' : Bool) (kept kept' : List FileTold) → b ≡ file_answer a →
+    (whole' ≡ true → (whole ≡ true) × (kept' ≡ kept ++ a ∷ [])) → Adds b (told_by file_answer whole kept) (told_by file_answer whole' kept')
+file_added a b whole whole' kept kept' e h =
+    subst (λ (c : FileAnswer). Adds c (told_by file_answer whole kept) (told_by file_answer whole' kept')) (sym e) (added file_answer a whole whole' kept kept' h)
+
+-- nothing is told any more
+pub links_stopped : (b : LinkAnswer) (old : Option (List LinkAnswer)) (whole : Bool) (kept : List LinkTold) → whole ≡ false → Adds b old (told_by link_answer whole kept)
+links_stopped b old false kept e = λ later n. cc
+links_stopped b old true kept e = cc
+
+pub files_stopped : (b : FileAnswer) (old : Option (List FileAnswer)) (whole : Bool) (kept : List FileTold) → whole ≡ false → Adds b old (told_by file_answer whole kept)
+files_stopped b old false kept e = λ later n. cc
+files_stopped b old true kept e = cc
+
+-- what a read added is what was kept of it
+pub read_kept : (old new piece : List ℕ) (before after : Option (List FileAnswer)) → new ≡ old ++ piece → Adds (Held piece) before after →
+    (added : List ℕ) → new ≡ old ++ added → Adds (Held added) before after
+read_kept old new piece before after e a added h =
+    subst (λ (p : List ℕ). Adds (Held p) before after) (append_cancel_left old piece added (sym e ∙ h)) a

@@ -1,0 +1,4 @@
+pub mod PrintLaws
+pub mod PrintedAddrs
+pub mod PrintedEntries
+pub mod PrintedScripts

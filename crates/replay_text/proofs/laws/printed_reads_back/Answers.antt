@@ -1,5 +1,0 @@
-use Rattle.replay_text.proofs.PrintedScripts.{script_read}
-use Rattle.replay_text.proofs.laws.printed_reads_back.Goals as goal
-
-pub returns : goal.returns
-returns c = script_read

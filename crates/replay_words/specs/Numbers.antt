@@ -1,0 +1,40 @@
+-- Numbers in a script.
+use Rattle.std.specs.Prelude.{ℕ, ◌+◌, ◌*◌, ◌-◌, List, [], ◌∷◌, length, ◌==◌, Bool, false, ◌&&◌, ◌||◌, not, nat_le, Result, Ok, Err, if◌then◌else◌}
+use Rattle.std.specs.List.{list_all}
+use Rattle.replay_words.specs.declared.faults.FaultKind.{FaultKind}
+use Rattle.replay_words.specs.declared.faults.FaultKind.TheVariants.{Number}
+
+-- `0` to `9`
+abbrev pub is_decimal : ℕ → Bool
+is_decimal b = nat_le 48 b && nat_le b 57
+
+-- one decimal digit or more, the first of several not `0`
+abbrev pub is_numeral : List ℕ → Bool
+is_numeral [] = false
+is_numeral (b ∷ bs) = list_all is_decimal (b ∷ bs) && (not (b == 48) || length bs == 0)
+
+-- the number that these digits write behind those of n
+abbrev pub value_behind : ℕ → List ℕ → ℕ
+value_behind n [] = n
+value_behind n (b ∷ bs) = value_behind (n * 10 + (b - 48)) bs
+
+-- the number that a word writes, of at most this value
+unfoldable pub number : ℕ → List ℕ → Result ℕ FaultKind
+number most word =
+    if is_numeral word && nat_le (value_behind 0 word) most then Ok (value_behind 0 word) else Err Number
+
+-- the greatest number of a connection or a node
+unfoldable pub most_id : ℕ
+most_id = 4294967295
+
+-- the greatest number of bytes that can be sent
+unfoldable pub most_room : ℕ
+most_room = 18446744073709551615
+
+-- the greatest number of times that a term stands for
+unfoldable pub most_times : ℕ
+most_times = 16777216
+
+-- the last second of the year 9999, from 1970
+unfoldable pub last_second : ℕ
+last_second = 253402300799
