@@ -1,5 +1,5 @@
 -- Requests that seek a file go on.
-use Rattle.std.proofs.Common.{◌≡◌, ℕ, ◌+◌, ◌-◌, ◌≤◌, min, Bool, true, false, not, ◌&&◌, ◌||◌, cond, eqb, List, [], ◌++◌, length, take, drop, None, Some, refl, sym, ap, ◌∙◌, subst, append_assoc, length-drop, arith, Bor}
+use Rattle.std.proofs.Common.{◌≡◌, ℕ, ◌+◌, ◌-◌, ◌≤◌, min, Bool, true, false, not, ◌&&◌, ◌||◌, cond, eqb, List, [], ◌∷◌, ◌++◌, length, take, drop, None, Some, refl, sym, ap, ◌∙◌, subst, append_assoc, length-drop, arith, Bor}
 use Rattle.std.specs.Prelude.{nat_le}
 use Rattle.std.proofs.lemmas.List.{append-nil, drop-drop}
 use Rattle.std.proofs.lemmas.Bool.Decides.{nat_tests}
@@ -22,7 +22,8 @@ use Rattle.connection.specs.declared.flow.Stage.{Stage}
 use Rattle.connection.specs.declared.flow.Stage.TheVariants.{Asked, Told, Reading, Came}
 use Rattle.connection.specs.declared.flow.Flow.{Flow}
 use Rattle.connection.specs.Padded.{padded}
-use Rattle.connection.specs.Flow.{response, reply_head, is_head, file_reply, content_reply, sought_reply, flow_rest, wish_rest, closes_behind, start_of_wish, told_item, stage_fits, is_block, placed_most, block_most}
+use Rattle.ngx_outside.specs.Views.{Log}
+use Rattle.connection.specs.Flow.{response, log_in, reply_head, is_head, file_reply, content_reply, sought_reply, flow_rest, wish_rest, closes_behind, start_of_wish, told_item, stage_fits, is_block, placed_most, block_most}
 use Rattle.connection.specs.Answers.{Puts}
 use Rattle.connection.specs.Steps.{GoesOn}
 use Rattle.connection.proofs.Padding.{padded_length, padded_split, padded_within, padded_whole, padded_none}
@@ -38,13 +39,14 @@ told_same ALocked node e = ap (λ n. told_item n ALocked) e
 told_same Nothing node e = ap (λ n. told_item n Nothing) e
 
 pub asked_goes : (trees : Trees) (wish : Wish) (job : Ask) (stage : Stage) (len : ℕ) (node : Node) (given : JobAnswer) (out : List ℕ) (closing : Bool) → stage ≡ Asked → given ≡ answer.Stat node → IsFrom trees job given →
-    GoesOn trees (Some (flow_at wish job stage len)) (Some (flow_at wish job (Told node) len)) out out closing closing
+    GoesOn trees (Some (flow_at wish job stage len)) (Some (flow_at wish job (Told node) len)) out out closing closing None
 asked_goes trees wish (ask.Stat path of) stage len node given out closing es eg from =
     let same = told_same (trees of path) node (subst (λ a. IsFrom trees (ask.Stat path of) a) eg from) in
-    subst (λ s. GoesOn trees (Some (flow_at wish (ask.Stat path of) s len)) (Some (flow_at wish (ask.Stat path of) (Told node) len)) out out closing closing) (sym es)
+    subst (λ s. GoesOn trees (Some (flow_at wish (ask.Stat path of) s len)) (Some (flow_at wish (ask.Stat path of) (Told node) len)) out out closing closing None) (sym es)
     (record {
       bytes = ap (λ i. out ++ (wish_rest wish i).bytes) same;
       closes = ap (λ i. closes_behind (wish_rest wish i) closing) same;
+      logged = ap (λ i. (wish_rest wish i).logs) same;
     })
 asked_goes trees wish (ask.Read path start count of) stage len node given out closing es eg from = absurd (subst (λ a. IsFrom trees (ask.Read path start count of) a) eg from)
 
@@ -106,28 +108,29 @@ came_rest Nothing len left start count bytes b n h = absurd h
 
 pub reading_goes : (trees : Trees) (wish : Wish) (job : Ask) (stage : Stage) (len left placed size : ℕ) (bytes : Bor (List ℕ)) (given : JobAnswer) (out out' : List ℕ) (closing : Bool) →
     stage ≡ Reading left → given ≡ answer.Read bytes → out' ≡ out ++ bytes.now → stage_fits len job stage size ≡ true → is_fitting job given ≡ true → IsFrom trees job given →
-    GoesOn trees (Some (flow_at wish job stage len)) (Some (flow_at wish job (Came (left - length bytes.now) placed) len)) out out' closing closing
+    GoesOn trees (Some (flow_at wish job stage len)) (Some (flow_at wish job (Came (left - length bytes.now) placed) len)) out out' closing closing None
 reading_goes trees wish (ask.Read path start count of) stage len left placed size bytes given out out' closing es eg eo fits fitting from =
     let job : Ask = ask.Read path start count of in
     let item = trees of path in
     let b = block_of len left size start count of path (subst (λ s. stage_fits len job s size ≡ true) es fits) in
     let n = same_number (length bytes.now) count (subst (λ a. is_fitting job a ≡ true) eg fitting) in
-    subst (λ s. GoesOn trees (Some (flow_at wish job s len)) (Some (flow_at wish job (Came (left - length bytes.now) placed) len)) out out' closing closing) (sym es)
+    subst (λ s. GoesOn trees (Some (flow_at wish job s len)) (Some (flow_at wish job (Came (left - length bytes.now) placed) len)) out out' closing closing None) (sym es)
     (record {
       bytes =
           ap (λ o. o ++ padded (left - length bytes.now) (drop (len - (left - length bytes.now)) (text_of item))) eo
           ∙ append_assoc out bytes.now (padded (left - length bytes.now) (drop (len - (left - length bytes.now)) (text_of item)))
           ∙ ap (λ x. out ++ x) (came_rest item len left start count bytes.now b n (subst (λ a. IsFrom trees job a) eg from));
       closes = refl;
+      logged = refl;
     })
 reading_goes trees wish (ask.Stat path of) stage len left placed size bytes given out out' closing es eg eo fits fitting from = absurd (subst (λ a. IsFrom trees (ask.Stat path of) a) eg from)
 
 -- all of a file is placed
-pub sent_goes : (trees : Trees) (wish : Wish) (job : Ask) (len left placed : ℕ) (out : List ℕ) (closing : Bool) → left ≡ 0 → GoesOn trees (Some (flow_at wish job (Came left placed) len)) None out out closing closing
+pub sent_goes : (trees : Trees) (wish : Wish) (job : Ask) (len left placed : ℕ) (out : List ℕ) (closing : Bool) → left ≡ 0 → GoesOn trees (Some (flow_at wish job (Came left placed) len)) None out out closing closing (Some (200, len))
 sent_goes trees wish (ask.Stat path of) len left placed out closing e =
-    record { bytes = ap (λ x. out ++ x) (sym (ap (λ n. padded n (drop (len - n) (text_of (trees of path)))) e ∙ padded_none (drop (len - 0) (text_of (trees of path))))); closes = refl }
+    record { bytes = ap (λ x. out ++ x) (sym (ap (λ n. padded n (drop (len - n) (text_of (trees of path)))) e ∙ padded_none (drop (len - 0) (text_of (trees of path))))); closes = refl; logged = refl }
 sent_goes trees wish (ask.Read path start count of) len left placed out closing e =
-    record { bytes = ap (λ x. out ++ x) (sym (ap (λ n. padded n (drop (len - n) (text_of (trees of path)))) e ∙ padded_none (drop (len - 0) (text_of (trees of path))))); closes = refl }
+    record { bytes = ap (λ x. out ++ x) (sym (ap (λ n. padded n (drop (len - n) (text_of (trees of path)))) e ∙ padded_none (drop (len - 0) (text_of (trees of path))))); closes = refl; logged = refl }
 
 -- what is told of an item stands there
 told_node : (node : Node) (item : Item) → node_of (told_item node item) ≡ node
@@ -174,19 +177,21 @@ kept_or false true stays e = ap (λ b. cond b false true) e
 kept_or true false stays e = ap (λ b. cond b true true) e
 kept_or false false stays e = ap (λ b. cond b false true) e
 
-pub refused_goes : (trees : Trees) (wish : Wish) (job : Ask) (node : Node) (len code : ℕ) (keep : Bool) (out out' : List ℕ) (closing closing' : Bool) → Refused code ≡ told_of node wish.method →
-    Puts (page_reply code) (start_of_wish wish) (is_head wish.method) wish.stays keep out out' → closing' ≡ (closing || not keep) → GoesOn trees (Some (flow_at wish job (Told node) len)) None out out' closing closing'
-refused_goes trees wish (ask.Stat path of) node len code keep out out' closing closing' e p c =
+pub refused_goes : (trees : Trees) (wish : Wish) (job : Ask) (node : Node) (len code : ℕ) (keep : Bool) (log : Log) (out out' : List ℕ) (closing closing' : Bool) → Refused code ≡ told_of node wish.method →
+    Puts (page_reply code) (start_of_wish wish) (is_head wish.method) wish.stays keep log out out' → closing' ≡ (closing || not keep) → GoesOn trees (Some (flow_at wish job (Told node) len)) None out out' closing closing' (Some log)
+refused_goes trees wish (ask.Stat path of) node len code keep log out out' closing closing' e p c =
     let r = refused_reply wish.kind node (trees of path) wish.method code e in
     record {
       bytes = append-nil out' ∙ p.put ∙ ap (λ (x : Reply). out ++ response x (start_of_wish wish) (is_head wish.method) (wish.stays && not x.closes)) (sym r);
       closes = c ∙ kept_or closing keep (wish.stays && not (page_reply code).closes) p.kept ∙ ap (λ (x : Reply). cond (wish.stays && not x.closes) closing true) (sym r);
+      logged = ap (λ l. l ∷ []) p.logged ∙ ap (λ (x : Reply). log_in x (is_head wish.method) ∷ []) (sym r);
     }
-refused_goes trees wish (ask.Read path start count of) node len code keep out out' closing closing' e p c =
+refused_goes trees wish (ask.Read path start count of) node len code keep log out out' closing closing' e p c =
     let r = refused_reply wish.kind node (trees of path) wish.method code e in
     record {
       bytes = append-nil out' ∙ p.put ∙ ap (λ (x : Reply). out ++ response x (start_of_wish wish) (is_head wish.method) (wish.stays && not x.closes)) (sym r);
       closes = c ∙ kept_or closing keep (wish.stays && not (page_reply code).closes) p.kept ∙ ap (λ (x : Reply). cond (wish.stays && not x.closes) closing true) (sym r);
+      logged = ap (λ l. l ∷ []) p.logged ∙ ap (λ (x : Reply). log_in x (is_head wish.method) ∷ []) (sym r);
     }
 
 -- a file's head, and its bytes behind it where they are sent
@@ -215,17 +220,31 @@ told_closes wish node item len date closing closing' e c =
     let r = sent_reply wish.kind node item wish.method len date e in
     c ∙ kept_or closing wish.stays (wish.stays && not (file_reply wish.kind (padded len (text_of item)) date).closes) (sym (open_reply wish.kind (padded len (text_of item)) date wish.stays)) ∙ ap (λ (x : Reply). cond (wish.stays && not x.closes) closing true) (sym r)
 
+-- what is logged of it
+file_log : (wish : Wish) (node : Node) (item : Item) (len date size : ℕ) (no_body : Bool) → Sends len date ≡ told_of node wish.method → is_head wish.method ≡ no_body → size ≡ cond no_body 0 len →
+    Path (List Log) ((200, size) ∷ []) (wish_rest wish (told_item node item)).logs
+unfolding file_reply
+file_log wish node item len date size no_body e m s =
+    ap (λ n. (200, n) ∷ []) s ∙ by no_body ∙ ap (λ b. log_in (file_reply wish.kind (padded len (text_of item)) date) b ∷ []) (sym m)
+    ∙ ap (λ (x : Reply). log_in x (is_head wish.method) ∷ []) (sym (sent_reply wish.kind node item wish.method len date e))
+  where
+    by : (b : Bool) → Path (List Log) ((200, cond b 0 len) ∷ []) (log_in (file_reply wish.kind (padded len (text_of item)) date) b ∷ [])
+    by true = refl
+    by false = ap (λ n. (200, n) ∷ []) (sym (padded_length len (text_of item)))
+
 -- only its head is sent
 pub head_goes : (trees : Trees) (wish : Wish) (job : Ask) (node : Node) (l len date : ℕ) (out out' : List ℕ) (closing closing' : Bool) → Sends len date ≡ told_of node wish.method →
     ((bytes : List ℕ) → length bytes ≡ len → out' ≡ out ++ head_of (reply_head (file_reply wish.kind bytes date) (start_of_wish wish) wish.stays)) → is_head wish.method ≡ true → closing' ≡ (closing || not wish.stays) →
-    GoesOn trees (Some (flow_at wish job (Told node) l)) None out out' closing closing'
+    GoesOn trees (Some (flow_at wish job (Told node) l)) None out out' closing closing' (Some (200, 0))
 head_goes trees wish (ask.Stat path of) node l len date out out' closing closing' e h m c = record {
   bytes = told_file wish node (trees of path) len date out out' [] e h (sym (ap (λ t. cond t [] (padded len (text_of (trees of path)))) m));
   closes = told_closes wish node (trees of path) len date closing closing' e c;
+  logged = file_log wish node (trees of path) len date 0 true e m refl;
 }
 head_goes trees wish (ask.Read path start count of) node l len date out out' closing closing' e h m c = record {
   bytes = told_file wish node (trees of path) len date out out' [] e h (sym (ap (λ t. cond t [] (padded len (text_of (trees of path)))) m));
   closes = told_closes wish node (trees of path) len date closing closing' e c;
+  logged = file_log wish node (trees of path) len date 0 true e m refl;
 }
 
 none_gone : (len : ℕ) (bytes : List ℕ) → drop (len - len) bytes ≡ bytes
@@ -238,12 +257,13 @@ item_of_asked trees (ask.Read path start count of) = trees of path
 -- its bytes are to come
 pub file_goes : (trees : Trees) (wish : Wish) (job job' : Ask) (item : Item) (node : Node) (l len date : ℕ) (out out' : List ℕ) (closing closing' : Bool) → Sends len date ≡ told_of node wish.method →
     ((bytes : List ℕ) → length bytes ≡ len → out' ≡ out ++ head_of (reply_head (file_reply wish.kind bytes date) (start_of_wish wish) wish.stays)) → is_head wish.method ≡ false → closing' ≡ (closing || not wish.stays) →
-    (flow_rest (Some (flow_at wish job (Told node) l)) trees ≡ wish_rest wish (told_item node item)) → (flow_rest (Some (flow_at wish job' (Reading len) len)) trees ≡ record { bytes = padded len (drop (len - len) (text_of item)); stays = true }) →
-    GoesOn trees (Some (flow_at wish job (Told node) l)) (Some (flow_at wish job' (Reading len) len)) out out' closing closing'
+    (flow_rest (Some (flow_at wish job (Told node) l)) trees ≡ wish_rest wish (told_item node item)) → (flow_rest (Some (flow_at wish job' (Reading len) len)) trees ≡ record { bytes = padded len (drop (len - len) (text_of item)); stays = true; logs = (200, len) ∷ [] }) →
+    GoesOn trees (Some (flow_at wish job (Told node) l)) (Some (flow_at wish job' (Reading len) len)) out out' closing closing' None
 file_goes trees wish job job' item node l len date out out' closing closing' e h m c was is = record {
   bytes =
       ap (λ r. out' ++ r.bytes) is
       ∙ told_file wish node item len date out out' (padded len (drop (len - len) (text_of item))) e h (ap (padded len) (none_gone len (text_of item)) ∙ sym (ap (λ t. cond t [] (padded len (text_of item))) m))
       ∙ ap (λ r. out ++ r.bytes) (sym was);
   closes = ap (λ r. closes_behind r closing') is ∙ told_closes wish node item len date closing closing' e c ∙ ap (λ r. closes_behind r closing) (sym was);
+  logged = ap (λ r. r.logs) is ∙ file_log wish node item len date len false e m refl ∙ ap (λ r. r.logs) (sym was);
 }

@@ -1,11 +1,11 @@
 -- The steps of a connection, by its parts.
 use Rattle.std.proofs.Common.{◌≡◌, ℕ, ◌+◌, ◌-◌, ◌*◌, ◌<◌, ◌≤◌, min, Bool, true, false, ◌&&◌, cond, eqb, List, [], ◌∷◌, ◌++◌, length, take, drop, map, Option, None, Some, inl, inr, refl, sym, ap, ◌∙◌, subst, append_assoc, length-append, length-drop, arith, suc, zero, set, get_or}
-use Rattle.std.specs.Prelude.{nat_le, nat_lt, is_some, ◌==◌}
+use Rattle.std.specs.Prelude.{nat_le, nat_lt, not, is_some, ◌==◌}
 use Rattle.std.specs.List.{Contains}
 use Rattle.std.proofs.lemmas.List.{append-nil, take-append-drop, map-append, drop-append-le, length-take}
 use Rattle.std.proofs.lemmas.Bool.Decides.{nat_tests}
 use Rattle.file_tree.specs.Tree.{Trees}
-use Rattle.ngx_outside.specs.Views.{Start, start_of, Ground, Holds, Went, Ran, Goes, Refused, is_live, ask_in}
+use Rattle.ngx_outside.specs.Views.{Start, start_of, Log, log_of, Logged, Ground, Holds, Went, Ran, Goes, Refused, is_live, ask_in}
 use Rattle.ngx_outside.specs.Views.Ground.{Always}
 use Rattle.ngx_outside.specs.declared.event.Entry.{Entry}
 use Rattle.ngx_outside.specs.declared.event.StopCause.{StopCause}
@@ -22,15 +22,25 @@ use Rattle.body_frame.specs.declared.state.BodyState.{BodyState}
 use Rattle.connection.specs.declared.flow.Flow.{Flow}
 use Rattle.connection.specs.declared.flow.Stage.{Stage}
 use Rattle.connection.specs.declared.flow.Stage.TheVariants.{Asked, Told, Reading, Came}
-use Rattle.connection.specs.Flow.{Rest, flow_rest, closes_behind, response, is_head, shown_of, shown_by, shown_most, placed_most, kept_most, stage_fits, flow_fits, stage_written, flow_written, flow_left, flow_most, tree_asked, jobs_of, waits}
-use Rattle.connection.specs.Answers.{Service, answers, first_answer, behind_body, reply_at, keeps}
-use Rattle.connection.specs.Steps.{begins, rest_of, past_body, Drops, RanOne, GoesOn, FitsNew}
-use Rattle.connection.specs.Conn.{view_at, bytes_at, left_at, room_at, starts_at, pending_at, weight, price}
+use Rattle.connection.specs.Flow.{Rest, flow_rest, closes_behind, is_head, shown_of, shown_by, shown_most, placed_most, kept_most, stage_fits, flow_fits, stage_written, flow_written, flow_left, flow_most, tree_asked, jobs_of, waits}
+use Rattle.connection.specs.Answers.{Service, Response, response_with, responses, first_response, bytes_in, logs_in, behind_body, reply_at, keeps}
+use Rattle.connection.specs.Steps.{begins, rest_of, past_body, logged_by, logged_in, IsLogged, Drops, RanOne, GoesOn, FitsNew}
+use Rattle.connection.specs.Conn.{view_at, after_at, bytes_at, logs_at, left_at, room_at, starts_at, pending_at, weight, price}
 
 -- a live connection goes on
 live_at : (service : Service) (cause : Option StopCause) (flow : Option Flow) (out : List ℕ) (journal : List Entry) (closing ended : Bool) (body : Option BodyState) (held : List ℕ) (next : HeadStep) → is_some cause ≡ false → is_live (view_at service cause flow out journal closing ended body held next) ≡ true
 live_at service None flow out journal closing ended body held next h = refl
 live_at service (Some cause) flow out journal closing ended body held next h = cc
+
+-- what is logged of its requests are the logs of its responses
+logged_shown : (in_flight : Bool) (logs : List (Option Log)) (over later : List Log) → logs ≡ map (λ l. Some l) over ++ cond in_flight (None ∷ []) [] → Logged logs (over ++ later)
+logged_shown true logs over later e = record { over = over; later = later; first = refl; told = inr e }
+logged_shown false logs over later e = record { over = over; later = later; first = refl; told = inl (e ∙ append-nil (map (λ l. Some l) over)) }
+
+logged_at : (service : Service) (flow : Option Flow) (journal : List Entry) (closing : Bool) (body : Option BodyState) (held : List ℕ) → IsLogged (is_some flow) journal → (trees : Trees) (more : List ℕ) (later : List Start) →
+    Logged (map log_of journal) (logs_at service (flow_rest flow) journal closing body held trees more later)
+logged_at service flow journal closing body held told trees more later =
+    logged_shown (is_some flow) (map log_of journal) (logged_in journal) ((flow_rest flow trees).logs ++ logs_in (after_at service (flow_rest flow) journal closing body held trees more later)) told
 
 never : (A : Type 0) → false ≡ true → A
 never A e = cc
@@ -59,23 +69,34 @@ wrote_rest : (n : ℕ) (flow flow' : Option Flow) (trees : Trees) → flow' ≡ 
 wrote_rest n None flow' trees e = ap (λ f. flow_rest f trees) e
 wrote_rest n (Some flow) flow' trees e = ap (λ f. flow_rest f trees) e ∙ written_rest flow n trees
 
+written_some : (n : ℕ) (flow : Option Flow) → is_some (flow_written flow n) ≡ is_some flow
+written_some n None = refl
+written_some n (Some flow) = refl
+
+-- a request in flight stays so
+pub wrote_logged : (n : ℕ) (flow flow' : Option Flow) (journal : List Entry) → flow' ≡ flow_written flow n → IsLogged (is_some flow) journal → IsLogged (is_some flow') journal
+wrote_logged n flow flow' journal e told = subst (λ b. IsLogged b journal) (sym (ap is_some e ∙ written_some n flow)) told
+
 -- the first pending bytes go
-pub wrote_went : (service : Service) (cause : Option StopCause) (flow flow' : Option Flow) (out out' : List ℕ) (journal : List Entry) (closing ended : Bool) (body : Option BodyState) (held : List ℕ) (next : HeadStep) (n : ℕ) → is_some cause ≡ false → out' ≡ drop n out → n ≤ length (pending_at flow out) → flow' ≡ flow_written flow n →
+pub wrote_went : (service : Service) (cause : Option StopCause) (flow flow' : Option Flow) (out out' : List ℕ) (journal : List Entry) (closing ended : Bool) (body : Option BodyState) (held : List ℕ) (next : HeadStep) (n : ℕ) → is_some cause ≡ false → out' ≡ drop n out → n ≤ length (pending_at flow out) → flow' ≡ flow_written flow n → IsLogged (is_some flow) journal →
     Went Always (view_at service cause flow out journal closing ended body held next) (view_at service cause flow' out' journal closing ended body held next) [] (take n (pending_at flow out)) []
-wrote_went service cause flow flow' out out' journal closing ended body held next n live e within w = record {
+wrote_went service cause flow flow' out out' journal closing ended body held next n live e within w told = record {
   before = live_at service cause flow out journal closing ended body held next live;
   after = live_at service cause flow' out' journal closing ended body held next live;
   moved = record {
     starts = sym (append-nil (map start_of journal));
     raceless = refl;
     bytes = λ trees is more later.
-        let tail : Rest → List ℕ = λ r. r.bytes ++ cond (closes_behind r closing) [] (past_body body (held ++ more) (λ input. answers service (length journal) trees input later)) in
+        let tail : Rest → List ℕ = λ r. r.bytes ++ bytes_in (cond (closes_behind r closing) [] (past_body body (held ++ more) (λ input. responses service (length journal) trees input later))) in
         ap (λ p. p ++ tail (flow_rest flow trees)) (sym (take-append-drop n out)) ∙ append_assoc (take n out) (drop n out) (tail (flow_rest flow trees))
         ∙ ap (λ p. p ++ (drop n out ++ tail (flow_rest flow trees))) (sym (front_of n (shown_of flow) out within))
         ∙ ap (λ p. take n (pending_at flow out) ++ (p ++ tail (flow_rest flow trees))) (sym e)
         ∙ ap (λ r. take n (pending_at flow out) ++ (out' ++ tail r)) (sym (wrote_rest n flow flow' trees w));
+    logs = λ trees is more later.
+        ap (λ (r : Rest). logged_in journal ++ (r.logs ++ logs_in (cond (closes_behind r closing) [] (past_body body (held ++ more) (λ input. responses service (length journal) trees input later))))) (sym (wrote_rest n flow flow' trees w));
     heavy = λ trees is more later h. h;
   };
+  logged = logged_at service flow' journal closing body held (wrote_logged n flow flow' journal w told);
 }
 
 pub not_stopped : (cause : Option StopCause) (flow : Option Flow) (out : List ℕ) (n : ℕ) → (is_some cause ≡ true → out ≡ []) → 0 < n → n ≤ length (pending_at flow out) → is_some cause ≡ false
@@ -183,7 +204,7 @@ room_some false true ended held room h = cc
 room_some true closing ended held room h = cc
 
 -- behind a body that is dropped, and what is held behind it
-absorbed : (g : List ℕ → List ℕ) (body body' : Option BodyState) (held held' bytes kept more : List ℕ) (broken : Bool) → (is_some body ≡ true → held ≡ []) → (body ≡ None → (body' ≡ None) × (broken ≡ false) × (kept ≡ bytes)) → Drops (rest_of body) bytes body' kept broken →
+absorbed : (g : List ℕ → List Response) (body body' : Option BodyState) (held held' bytes kept more : List ℕ) (broken : Bool) → (is_some body ≡ true → held ≡ []) → (body ≡ None → (body' ≡ None) × (broken ≡ false) × (kept ≡ bytes)) → Drops (rest_of body) bytes body' kept broken →
     held' ≡ held ++ kept → past_body body (held ++ (bytes ++ more)) g ≡ cond broken [] (past_body body' (held' ++ more) g)
 absorbed g None body' held held' bytes kept more broken drained still d e =
     let s = still refl in
@@ -195,7 +216,7 @@ absorbed g (Some state) body' held held' bytes kept more broken drained still d 
     ∙ ap (λ k. cond broken [] (past_body body' (k ++ more) g)) (sym (e ∙ ap (λ h. h ++ kept) none))
 
 -- whether the connection closes behind a response, where it doesn't yet
-behind_kept : (r : Rest) (closing closing' : Bool) (x y : List ℕ) → closing ≡ false → x ≡ cond closing' [] y → cond (closes_behind r closing) [] x ≡ cond (closes_behind r closing') [] y
+behind_kept : (r : Rest) (closing closing' : Bool) (x y : List Response) → closing ≡ false → x ≡ cond closing' [] y → cond (closes_behind r closing) [] x ≡ cond (closes_behind r closing') [] y
 behind_kept r closing closing' x y e f = ap (λ c. cond (closes_behind r c) [] x) e ∙ by r.stays
   where
     by : (stays : Bool) → cond (cond stays false true) [] x ≡ cond (cond stays closing' true) [] y
@@ -203,21 +224,25 @@ behind_kept r closing closing' x y e f = ap (λ c. cond (closes_behind r c) [] x
     by false = refl
 
 pub arrived_went : (service : Service) (cause : Option StopCause) (flow : Option Flow) (out : List ℕ) (journal : List Entry) (closing closing' ended : Bool) (body body' : Option BodyState) (held held' kept : List ℕ) (next next' : HeadStep) (bytes : List ℕ) → is_some cause ≡ false → closing ≡ false →
-    (is_some body ≡ true → held ≡ []) → (body ≡ None → (body' ≡ None) × (closing' ≡ false) × (kept ≡ bytes)) → Drops (rest_of body) bytes body' kept closing' → held' ≡ held ++ kept →
+    (is_some body ≡ true → held ≡ []) → (body ≡ None → (body' ≡ None) × (closing' ≡ false) × (kept ≡ bytes)) → Drops (rest_of body) bytes body' kept closing' → held' ≡ held ++ kept → IsLogged (is_some flow) journal →
     Went Always (view_at service cause flow out journal closing ended body held next) (view_at service cause flow out journal closing' ended body' held' next') bytes [] []
-arrived_went service cause flow out journal closing closing' ended body body' held held' kept next next' bytes live unclosed drained still d e = record {
+arrived_went service cause flow out journal closing closing' ended body body' held held' kept next next' bytes live unclosed drained still d e told = record {
   before = live_at service cause flow out journal closing ended body held next live;
   after = live_at service cause flow out journal closing' ended body' held' next' live;
   moved = record {
     starts = sym (append-nil (map start_of journal));
     raceless = refl;
-    bytes = λ trees is more later.
-        let g : List ℕ → List ℕ = λ input. answers service (length journal) trees input later in
-        ap (λ x. out ++ ((flow_rest flow trees).bytes ++ x))
-        (behind_kept (flow_rest flow trees) closing closing' (past_body body (held ++ (bytes ++ more)) g) (past_body body' (held' ++ more) g) unclosed (absorbed g body body' held held' bytes kept more closing' drained still d e));
+    bytes = λ trees is more later. ap (λ x. out ++ ((flow_rest flow trees).bytes ++ bytes_in x)) (same trees more later);
+    logs = λ trees is more later. ap (λ x. logged_in journal ++ ((flow_rest flow trees).logs ++ logs_in x)) (same trees more later);
     heavy = λ trees is more later h. h;
   };
+  logged = logged_at service flow journal closing' body' held' told;
 }
+  where
+    same : (trees : Trees) (more : List ℕ) (later : List Start) → after_at service (flow_rest flow) journal closing body held trees (bytes ++ more) later ≡ after_at service (flow_rest flow) journal closing' body' held' trees more later
+    same trees more later =
+        let g : List ℕ → List Response = λ input. responses service (length journal) trees input later in
+        behind_kept (flow_rest flow trees) closing closing' (past_body body (held ++ (bytes ++ more)) g) (past_body body' (held' ++ more) g) unclosed (absorbed g body body' held held' bytes kept more closing' drained still d e)
 
 pub arrived_left : (cause : Option StopCause) (flow : Option Flow) (out : List ℕ) (closing closing' : Bool) (held held' kept bytes : List ℕ) (n : ℕ) → closing ≡ false → held' ≡ held ++ kept → length kept ≤ n → left_at cause flow out closing' held' ≤ left_at cause flow out closing held + price * n
 unfolding price weight
@@ -242,67 +267,182 @@ pub node_ready : (t : Bool) (node : ℕ) → t ≡ true → node ≡ 0 → Conta
 node_ready true node e f = subst (Contains (0 ∷ [])) (sym f) (0, omega arith, refl)
 node_ready false node e f = cc
 
-answers_head : HeadStays → SizeFits → (service : Service) (k : ℕ) (trees : Trees) (input more : List ℕ) (start : Start) (later : List Start) (head : RequestHead) (size : ℕ) → head_step input ≡ Head head size →
-    answers service k trees (input ++ more) (start ∷ later) ≡ response (reply_at service trees start head) start (is_head head.method) (keeps service k head (reply_at service trees start head)) ++ cond (keeps service k head (reply_at service trees start head)) (behind_body (body_of head.body (drop size input ++ more)) (λ n. answers service (k + 1) trees (drop n (drop size input ++ more)) later)) []
-unfolding answers
-answers_head stays fits service k trees input more start later head size h =
-    ap (λ s. first_answer service trees k start s (λ n kind. behind_body (body_of kind (drop n (input ++ more))) (λ m. answers service (k + 1) trees (drop m (drop n (input ++ more))) later))) (stays input more head size h)
-    ∙ ap (λ i. response (reply_at service trees start head) start (is_head head.method) (keeps service k head (reply_at service trees start head)) ++ cond (keeps service k head (reply_at service trees start head)) (behind_body (body_of head.body i) (λ n. answers service (k + 1) trees (drop n i) later)) []) (drop-append-le size input more (fits input head size h).1)
+responses_head : HeadStays → SizeFits → (service : Service) (k : ℕ) (trees : Trees) (input more : List ℕ) (start : Start) (later : List Start) (head : RequestHead) (size : ℕ) → head_step input ≡ Head head size →
+    responses service k trees (input ++ more) (start ∷ later) ≡ response_with (reply_at service trees start head) start (is_head head.method) (keeps service k head (reply_at service trees start head)) ∷ cond (keeps service k head (reply_at service trees start head)) (behind_body (body_of head.body (drop size input ++ more)) (λ n. responses service (k + 1) trees (drop n (drop size input ++ more)) later)) []
+unfolding responses
+responses_head stays fits service k trees input more start later head size h =
+    ap (λ s. first_response service trees k start s (λ n kind. behind_body (body_of kind (drop n (input ++ more))) (λ m. responses service (k + 1) trees (drop m (drop n (input ++ more))) later))) (stays input more head size h)
+    ∙ ap (λ i. response_with (reply_at service trees start head) start (is_head head.method) (keeps service k head (reply_at service trees start head)) ∷ cond (keeps service k head (reply_at service trees start head)) (behind_body (body_of head.body i) (λ n. responses service (k + 1) trees (drop n i) later)) []) (drop-append-le size input more (fits input head size h).1)
 
-answers_bad : RefusalStays → (service : Service) (k : ℕ) (trees : Trees) (input more : List ℕ) (start : Start) (later : List Start) (code : ℕ) (no_body : Bool) → head_step input ≡ Bad code no_body →
-    answers service k trees (input ++ more) (start ∷ later) ≡ response (page_reply code) start no_body false
-unfolding answers
-answers_bad stays service k trees input more start later code no_body h =
-    ap (λ s. first_answer service trees k start s (λ n kind. behind_body (body_of kind (drop n (input ++ more))) (λ m. answers service (k + 1) trees (drop m (drop n (input ++ more))) later))) (stays input more code no_body h)
+responses_bad : RefusalStays → (service : Service) (k : ℕ) (trees : Trees) (input more : List ℕ) (start : Start) (later : List Start) (code : ℕ) (no_body : Bool) → head_step input ≡ Bad code no_body →
+    responses service k trees (input ++ more) (start ∷ later) ≡ response_with (page_reply code) start no_body false ∷ []
+unfolding responses
+responses_bad stays service k trees input more start later code no_body h =
+    ap (λ s. first_response service trees k start s (λ n kind. behind_body (body_of kind (drop n (input ++ more))) (λ m. responses service (k + 1) trees (drop m (drop n (input ++ more))) later))) (stays input more code no_body h)
 
 -- where the response keeps the connection open, what comes is what comes behind the body; else nothing
-kept_or_closed : (keep broken closes : Bool) (x y : List ℕ) → closes ≡ cond keep broken true → x ≡ cond broken [] y → cond keep x [] ≡ cond closes [] y
+kept_or_closed : (keep broken closes : Bool) (x y : List Response) → closes ≡ cond keep broken true → x ≡ cond broken [] y → cond keep x [] ≡ cond closes [] y
 kept_or_closed true broken closes x y c e = e ∙ ap (λ t. cond t [] y) (sym c)
 kept_or_closed false broken closes x y c e = ap (λ t. cond t [] y) (sym c)
 
--- the bytes that are still to come, behind a request that was started
-ran_bytes : HeadStays → RefusalStays → SizeFits → (service : Service) (trees : Trees) (now : Start) (flow' : Option Flow) (out out' : List ℕ) (journal journal' : List Entry) (entry : Entry) (closing closing' : Bool) (body body' : Option BodyState) (held held' : List ℕ) (next : HeadStep) →
-    closing ≡ false → body ≡ None → next ≡ head_step held → start_of entry ≡ now → journal' ≡ journal ++ entry ∷ [] → RanOne service trees now (length journal) next held held' body' flow' out out' closing' → (more : List ℕ) (later : List Start) →
-    bytes_at service (flow_rest None) out journal closing body held trees more (now ∷ later) ≡ bytes_at service (flow_rest flow') out' journal' closing' body' held' trees more later
-ran_bytes stays refused fits service trees now flow' out out' journal journal' entry closing closing' body body' held held' (Head head size) c b l s j r more later =
+-- A request was started: this is its response, before those that are still to come.
+record Said (service : Service) (trees : Trees) (now : Start) (flow' : Option Flow) (out out' : List ℕ) (journal journal' : List Entry) (closing closing' : Bool) (body body' : Option BodyState) (held held' : List ℕ) (log : Option Log) (more : List ℕ) (later : List Start) : Type 0 where
+  said : Response
+  first : after_at service (flow_rest None) journal closing body held trees more (now ∷ later) ≡ said ∷ after_at service (flow_rest flow') journal' closing' body' held' trees more later
+  put : out' ++ (flow_rest flow' trees).bytes ≡ out ++ said.bytes
+  logged : logged_by log ++ (flow_rest flow' trees).logs ≡ said.log ∷ []
+
+said_of : HeadStays → RefusalStays → SizeFits → (service : Service) (trees : Trees) (now : Start) (flow' : Option Flow) (out out' : List ℕ) (journal journal' : List Entry) (entry : Entry) (closing closing' : Bool) (body body' : Option BodyState) (held held' : List ℕ) (next : HeadStep) (log : Option Log) →
+    closing ≡ false → body ≡ None → next ≡ head_step held → journal' ≡ journal ++ entry ∷ [] → RanOne service trees now (length journal) next held held' body' flow' out out' closing' log → (more : List ℕ) (later : List Start) →
+    Said service trees now flow' out out' journal journal' closing closing' body body' held held' log more later
+said_of stays refused fits service trees now flow' out out' journal journal' entry closing closing' body body' held held' (Head head size) log c b l j r more later =
     let k = length journal in
     let reply = reply_at service trees now head in
     let keep = keeps service k head reply in
-    let text = response reply now (is_head head.method) keep in
+    let whole : Response = response_with reply now (is_head head.method) keep in
     let rest = flow_rest flow' trees in
-    let g : List ℕ → List ℕ = λ input. answers service (k + 1) trees input later in
+    let g : List ℕ → List Response = λ input. responses service (k + 1) trees input later in
     let count : length journal' ≡ k + 1 = ap length j ∙ length-append journal (entry ∷ []) in
     let behind = drop size held in
-    ap (λ x. out ++ cond x [] (past_body body (held ++ more) (λ input. answers service k trees input (now ∷ later)))) c
-    ∙ ap (λ x. out ++ past_body x (held ++ more) (λ input. answers service k trees input (now ∷ later))) b
-    ∙ ap (λ x. out ++ x) (answers_head stays fits service k trees held more now later head size (sym l))
-    ∙ sym (append_assoc out text (cond keep (behind_body (body_of head.body (behind ++ more)) (λ n. g (drop n (behind ++ more)))) []))
-    ∙ ap (λ x. (out ++ text) ++ x) (kept_or_closed keep r.broken (closes_behind rest closing') (behind_body (body_of head.body (behind ++ more)) (λ n. g (drop n (behind ++ more)))) (past_body body' (held' ++ more) g) r.closes (r.drops.rest g more))
-    ∙ ap (λ q. q ++ cond (closes_behind rest closing') [] (past_body body' (held' ++ more) g)) (sym r.put)
-    ∙ append_assoc out' rest.bytes (cond (closes_behind rest closing') [] (past_body body' (held' ++ more) g))
-    ∙ ap (λ n. out' ++ (rest.bytes ++ cond (closes_behind rest closing') [] (past_body body' (held' ++ more) (λ input. answers service n trees input later)))) (sym count)
-ran_bytes stays refused fits service trees now flow' out out' journal journal' entry closing closing' body body' held held' (Bad code no_body) c b l s j r more later =
-    ap (λ x. out ++ cond x [] (past_body body (held ++ more) (λ input. answers service (length journal) trees input (now ∷ later)))) c
-    ∙ ap (λ x. out ++ past_body x (held ++ more) (λ input. answers service (length journal) trees input (now ∷ later))) b
-    ∙ ap (λ x. out ++ x) (answers_bad refused service (length journal) trees held more now later code no_body (sym l))
-    ∙ sym r.put ∙ sym (append-nil out') ∙ ap (λ x. out' ++ cond x [] (past_body body' (held' ++ more) (λ input. answers service (length journal') trees input later))) (sym r.closes)
-    ∙ ap (λ f. out' ++ ((flow_rest f trees).bytes ++ cond (closes_behind (flow_rest f trees) closing') [] (past_body body' (held' ++ more) (λ input. answers service (length journal') trees input later)))) (sym r.over)
-ran_bytes stays refused fits service trees now flow' out out' journal journal' entry closing closing' body body' held held' More c b l s j r more later = absurd r
+    record {
+      said = whole;
+      first =
+          ap (λ x. cond x [] (past_body body (held ++ more) (λ input. responses service k trees input (now ∷ later)))) c
+          ∙ ap (λ x. past_body x (held ++ more) (λ input. responses service k trees input (now ∷ later))) b
+          ∙ responses_head stays fits service k trees held more now later head size (sym l)
+          ∙ ap (λ x. whole ∷ x) (kept_or_closed keep r.broken (closes_behind rest closing') (behind_body (body_of head.body (behind ++ more)) (λ n. g (drop n (behind ++ more)))) (past_body body' (held' ++ more) g) r.closes (r.drops.rest g more))
+          ∙ ap (λ n. whole ∷ cond (closes_behind rest closing') [] (past_body body' (held' ++ more) (λ input. responses service n trees input later))) (sym count);
+      put = r.put;
+      logged = r.logged;
+    }
+said_of stays refused fits service trees now flow' out out' journal journal' entry closing closing' body body' held held' (Bad code no_body) log c b l j r more later =
+    let whole : Response = response_with (page_reply code) now no_body false in
+    record {
+      said = whole;
+      first =
+          ap (λ x. cond x [] (past_body body (held ++ more) (λ input. responses service (length journal) trees input (now ∷ later)))) c
+          ∙ ap (λ x. past_body x (held ++ more) (λ input. responses service (length journal) trees input (now ∷ later))) b
+          ∙ responses_bad refused service (length journal) trees held more now later code no_body (sym l)
+          ∙ ap (λ x. whole ∷ cond x [] (past_body body' (held' ++ more) (λ input. responses service (length journal') trees input later))) (sym r.closes)
+          ∙ ap (λ f. whole ∷ cond (closes_behind (flow_rest f trees) closing') [] (past_body body' (held' ++ more) (λ input. responses service (length journal') trees input later))) (sym r.over);
+      put = ap (λ f. out' ++ (flow_rest f trees).bytes) r.over ∙ append-nil out' ∙ r.put;
+      logged = ap (λ f. logged_by log ++ (flow_rest f trees).logs) r.over ∙ append-nil (logged_by log) ∙ ap logged_by r.logged;
+    }
+said_of stays refused fits service trees now flow' out out' journal journal' entry closing closing' body body' held held' More log c b l j r more later = absurd r
 
-pub ran_went : HeadStays → RefusalStays → SizeFits → (service : Service) (now : Start) (cause : Option StopCause) (flow' : Option Flow) (out out' : List ℕ) (journal journal' : List Entry) (entry : Entry) (closing closing' ended : Bool) (body body' : Option BodyState) (held held' : List ℕ) (next next' : HeadStep) →
-    is_some cause ≡ false → closing ≡ false → body ≡ None → next ≡ head_step held → start_of entry ≡ now → journal' ≡ journal ++ entry ∷ [] → ((trees : Trees) → RanOne service trees now (length journal) next held held' body' flow' out out' closing') →
-    Ran now (view_at service cause None out journal closing ended body held next) (view_at service cause flow' out' journal' closing' ended body' held' next')
-ran_went stays refused fits service now cause flow' out out' journal journal' entry closing closing' ended body body' held held' next next' live c b l s j r =
+-- the bytes that are still to come, and the logs
+said_bytes : (service : Service) (trees : Trees) (now : Start) (flow' : Option Flow) (out out' : List ℕ) (journal journal' : List Entry) (closing closing' : Bool) (body body' : Option BodyState) (held held' : List ℕ) (log : Option Log) (more : List ℕ) (later : List Start) →
+    Said service trees now flow' out out' journal journal' closing closing' body body' held held' log more later →
+    bytes_at service (flow_rest None) out journal closing body held trees more (now ∷ later) ≡ bytes_at service (flow_rest flow') out' journal' closing' body' held' trees more later
+said_bytes service trees now flow' out out' journal journal' closing closing' body body' held held' log more later s =
+    let rest = flow_rest flow' trees in
+    let behind = bytes_in (after_at service (flow_rest flow') journal' closing' body' held' trees more later) in
+    ap (λ x. out ++ bytes_in x) s.first ∙ sym (append_assoc out s.said.bytes behind) ∙ ap (λ x. x ++ behind) (sym s.put) ∙ append_assoc out' rest.bytes behind
+
+pub entered_logs : (journal : List Entry) (entry : Entry) → logged_in (journal ++ entry ∷ []) ≡ logged_in journal ++ logged_by (log_of entry)
+unfolding logged_in
+entered_logs [] entry = append-nil (logged_by (log_of entry))
+entered_logs (e ∷ journal) entry = ap (λ x. logged_by (log_of e) ++ x) (entered_logs journal entry) ∙ sym (append_assoc (logged_by (log_of e)) (logged_in journal) (logged_by (log_of entry)))
+
+said_logs : (service : Service) (trees : Trees) (now : Start) (flow' : Option Flow) (out out' : List ℕ) (journal journal' : List Entry) (closing closing' : Bool) (body body' : Option BodyState) (held held' : List ℕ) (log : Option Log) (more : List ℕ) (later : List Start) →
+    logged_in journal' ≡ logged_in journal ++ logged_by log → Said service trees now flow' out out' journal journal' closing closing' body body' held held' log more later →
+    logs_at service (flow_rest None) journal closing body held trees more (now ∷ later) ≡ logs_at service (flow_rest flow') journal' closing' body' held' trees more later
+said_logs service trees now flow' out out' journal journal' closing closing' body body' held held' log more later e s =
+    let rest = flow_rest flow' trees in
+    let behind = logs_in (after_at service (flow_rest flow') journal' closing' body' held' trees more later) in
+    ap (λ x. logged_in journal ++ logs_in x) s.first ∙ ap (λ x. logged_in journal ++ (x ++ behind)) (sym s.logged)
+    ∙ ap (λ x. logged_in journal ++ x) (append_assoc (logged_by log) rest.logs behind) ∙ sym (append_assoc (logged_in journal) (logged_by log) (rest.logs ++ behind))
+    ∙ ap (λ x. x ++ (rest.logs ++ behind)) (sym e)
+
+-- a request that was started is logged where it isn't in flight
+over_logged : (in_flight : Bool) (logs : List Log) (log : Option Log) → is_some log ≡ not in_flight → (map (λ l. Some l) logs ++ []) ++ log ∷ [] ≡ map (λ l. Some l) (logs ++ logged_by log) ++ cond in_flight (None ∷ []) []
+over_logged false logs None e = cc
+over_logged true logs (Some log) e = cc
+over_logged false logs (Some log) e = ap (λ x. x ++ Some log ∷ []) (append-nil (map (λ l. Some l) logs)) ∙ sym (append-nil (map (λ l. Some l) (logs ++ log ∷ [])) ∙ map-append (λ l. Some l) logs (log ∷ []))
+over_logged true logs None e = ap (λ x. x ++ None ∷ []) (append-nil (map (λ l. Some l) logs)) ∙ sym (ap (λ x. map (λ l. Some l) x ++ None ∷ []) (append-nil logs))
+
+pub entered_logged : (in_flight : Bool) (journal : List Entry) (entry : Entry) (log : Option Log) → log_of entry ≡ log → IsLogged false journal → is_some log ≡ not in_flight → IsLogged in_flight (journal ++ entry ∷ [])
+entered_logged in_flight journal entry log is told over =
+    map-append log_of journal (entry ∷ []) ∙ ap (λ x. x ++ log_of entry ∷ []) told ∙ ap (λ x. (map (λ l. Some l) (logged_in journal) ++ []) ++ x ∷ []) is
+    ∙ over_logged in_flight (logged_in journal) log over ∙ ap (λ x. map (λ l. Some l) (logged_in journal ++ logged_by x) ++ cond in_flight (None ∷ []) []) (sym is)
+    ∙ ap (λ x. map (λ l. Some l) x ++ cond in_flight (None ∷ []) []) (sym (entered_logs journal entry))
+
+-- the entry of the request in flight is the last one
+record Open (journal : List Entry) (logs : List Log) : Type 0 where
+  front : List Entry
+  last : Entry
+  whole : journal ≡ front ++ last ∷ []
+  unlogged : log_of last ≡ None
+  logged : map log_of front ≡ map (λ l. Some l) logs
+
+open_of : (journal : List Entry) (logs : List Log) → map log_of journal ≡ map (λ l. Some l) logs ++ None ∷ [] → Open journal logs
+open_of [] [] e = cc
+open_of [] (l ∷ logs) e = cc
+open_of (x ∷ []) [] e = record { front = []; last = x; whole = refl; unlogged = cc; logged = refl }
+open_of (x ∷ []) (l ∷ []) e = cc
+open_of (x ∷ []) (l ∷ m ∷ logs) e = cc
+open_of (x ∷ y ∷ journal) [] e = cc
+open_of (x ∷ y ∷ journal) (l ∷ logs) e =
+    let head : log_of x ≡ Some l = cc in
+    let o = open_of (y ∷ journal) logs (let tail : map log_of (y ∷ journal) ≡ map (λ l. Some l) logs ++ None ∷ [] = cc in tail) in
+    record { front = x ∷ o.front; last = o.last; whole = ap (λ r. x ∷ r) o.whole; unlogged = o.unlogged; logged = ap (λ z. z ∷ map log_of o.front) head ∙ ap (λ r. Some l ∷ r) o.logged }
+
+set_last : (front : List Entry) (last new : Entry) → set (front ++ last ∷ []) (length front) new ≡ front ++ new ∷ []
+set_last [] last new = refl
+set_last (x ∷ front) last new = ap (λ r. x ∷ r) (set_last front last new)
+
+-- it is logged where its request is over
+finished_as : (journal : List Entry) (n : ℕ) (new : Entry) → n ≡ length journal - 1 → (o : Open journal (logged_in journal)) → set journal n new ≡ o.front ++ new ∷ []
+finished_as journal n new e o =
+    let size : n ≡ length o.front = (let a = ap length o.whole in let b = length-append o.front (o.last ∷ []) in omega (arith, e, a, b)) in
+    ap (λ k. set journal k new) size ∙ ap (λ j. set j (length o.front) new) o.whole ∙ set_last o.front o.last new
+
+open_logs : (journal : List Entry) → (o : Open journal (logged_in journal)) → logged_in journal ≡ logged_in o.front
+open_logs journal o = ap logged_in o.whole ∙ entered_logs o.front o.last ∙ ap (λ x. logged_in o.front ++ logged_by x) o.unlogged ∙ append-nil (logged_in o.front)
+
+front_logged : (journal : List Entry) → (o : Open journal (logged_in journal)) → IsLogged false o.front
+front_logged journal o = o.logged ∙ ap (map (λ l. Some l)) (open_logs journal o) ∙ sym (append-nil (map (λ l. Some l) (logged_in o.front)))
+
+not_twice : (b : Bool) → b ≡ not (not b)
+not_twice true = refl
+not_twice false = refl
+
+pub finished_logged : (journal : List Entry) (n : ℕ) (new : Entry) → n ≡ length journal - 1 → IsLogged true journal → IsLogged (not (is_some (log_of new))) (set journal n new)
+finished_logged journal n new e told =
+    let o = open_of journal (logged_in journal) told in
+    subst (IsLogged (not (is_some (log_of new)))) (sym (finished_as journal n new e o)) (entered_logged (not (is_some (log_of new))) o.front new (log_of new) refl (front_logged journal o) (not_twice (is_some (log_of new))))
+
+pub finished_logs : (journal : List Entry) (n : ℕ) (new : Entry) → n ≡ length journal - 1 → IsLogged true journal → logged_in (set journal n new) ≡ logged_in journal ++ logged_by (log_of new)
+finished_logs journal n new e told =
+    let o = open_of journal (logged_in journal) told in
+    ap logged_in (finished_as journal n new e o) ∙ entered_logs o.front new ∙ ap (λ x. x ++ logged_by (log_of new)) (sym (open_logs journal o))
+
+-- a request that was started is over where it is logged
+pub ran_over : (service : Service) (trees : Trees) (start : Start) (k : ℕ) (next : HeadStep) (held held' : List ℕ) (body : Option BodyState) (flow : Option Flow) (out out' : List ℕ) (closing : Bool) (log : Option Log) → RanOne service trees start k next held held' body flow out out' closing log → is_some log ≡ not (is_some flow)
+ran_over service trees start k (Head head size) held held' body flow out out' closing log r = r.over
+ran_over service trees start k (Bad code no_body) held held' body flow out out' closing log r = ap is_some r.logged ∙ ap (λ f. not (is_some f)) (sym r.over)
+ran_over service trees start k More held held' body flow out out' closing log r = absurd r
+
+pub ran_went : HeadStays → RefusalStays → SizeFits → (service : Service) (now : Start) (cause : Option StopCause) (flow' : Option Flow) (out out' : List ℕ) (journal journal' : List Entry) (entry : Entry) (closing closing' ended : Bool) (body body' : Option BodyState) (held held' : List ℕ) (next next' : HeadStep) (log : Option Log) →
+    is_some cause ≡ false → closing ≡ false → body ≡ None → next ≡ head_step held → start_of entry ≡ now → log_of entry ≡ log → journal' ≡ journal ++ entry ∷ [] → ((trees : Trees) → RanOne service trees now (length journal) next held held' body' flow' out out' closing' log) →
+    IsLogged (is_some flow') journal' → Ran now (view_at service cause None out journal closing ended body held next) (view_at service cause flow' out' journal' closing' ended body' held' next')
+ran_went stays refused fits service now cause flow' out out' journal journal' entry closing closing' ended body body' held held' next next' log live c b l s g j r told =
     Goes (now ∷ []) (inr refl) (record {
       before = live_at service cause None out journal closing ended body held next live;
       after = live_at service cause flow' out' journal' closing' ended body' held' next' live;
       moved = record {
         starts = ap (map start_of) j ∙ map-append start_of journal (entry ∷ []) ∙ ap (λ x. map start_of journal ++ x ∷ []) s;
         raceless = refl;
-        bytes = λ trees is more later. ran_bytes stays refused fits service trees now flow' out out' journal journal' entry closing closing' body body' held held' next c b l s j (r trees) more later;
+        bytes = λ trees is more later. said_bytes service trees now flow' out out' journal journal' closing closing' body body' held held' log more later (said trees more later);
+        logs = λ trees is more later. said_logs service trees now flow' out out' journal journal' closing closing' body body' held held' log more later
+            (ap logged_in j ∙ entered_logs journal entry ∙ ap (λ x. logged_in journal ++ logged_by x) g) (said trees more later);
         heavy = λ trees is more later h. h;
       };
+      logged = logged_at service flow' journal' closing' body' held' told;
     })
+  where
+    said : (trees : Trees) (more : List ℕ) (later : List Start) → Said service trees now flow' out out' journal journal' closing closing' body body' held held' log more later
+    said trees more later = said_of stays refused fits service trees now flow' out out' journal journal' entry closing closing' body body' held held' next log c b l j (r trees) more later
 
 falls : (w w' n n' : ℕ) (closing : Bool) → w' < w + weight → n' < n → 1 + w' + cond closing 0 (weight * (n' + 1)) < 1 + w + weight * (n + 1)
 unfolding weight
@@ -314,43 +454,61 @@ unfolding weight flow_most
 new_work None size f = omega (arith, f)
 new_work (Some flow) size f = subst (λ s. size + flow_left (Some (record { wish = flow.wish; ask = flow.ask; stage = s; len = flow.len })) size < weight) (sym f.1) (let z = f.0 in omega (arith, z))
 
-pub ran_left : SizeFits → (service : Service) (trees : Trees) (now : Start) (k : ℕ) (cause : Option StopCause) (flow' : Option Flow) (out out' : List ℕ) (closing closing' : Bool) (body' : Option BodyState) (held held' : List ℕ) (next : HeadStep) →
-    is_some cause ≡ false → closing ≡ false → next ≡ head_step held → FitsNew flow' (length out') → RanOne service trees now k next held held' body' flow' out out' closing' → left_at cause flow' out' closing' held' < left_at cause None out closing held
-ran_left fits service trees now k (Some cause) flow' out out' closing closing' body' held held' next live c l f r = cc
-ran_left fits service trees now k None flow' out out' closing closing' body' held held' (Head head size) live c l f r =
+pub ran_left : SizeFits → (service : Service) (trees : Trees) (now : Start) (k : ℕ) (cause : Option StopCause) (flow' : Option Flow) (out out' : List ℕ) (closing closing' : Bool) (body' : Option BodyState) (held held' : List ℕ) (next : HeadStep) (log : Option Log) →
+    is_some cause ≡ false → closing ≡ false → next ≡ head_step held → FitsNew flow' (length out') → RanOne service trees now k next held held' body' flow' out out' closing' log → left_at cause flow' out' closing' held' < left_at cause None out closing held
+ran_left fits service trees now k (Some cause) flow' out out' closing closing' body' held held' next log live c l f r = cc
+ran_left fits service trees now k None flow' out out' closing closing' body' held held' (Head head size) log live c l f r =
     let s = fits held head size (sym l) in
     let d : length (drop size held) ≡ length held - size = length-drop size held in
     let shorter : length held' < length held = omega (arith, s.0, s.1, d, r.drops.shorter) in
     let w : work flow' (length out') < work None (length out) + weight = (let n = new_work flow' (length out') f in omega (arith, n)) in
     rw c (falls (work None (length out)) (work flow' (length out')) (length held) (length held') closing' w shorter)
-ran_left fits service trees now k None flow' out out' closing closing' body' held held' (Bad code no_body) live c l f r =
+ran_left fits service trees now k None flow' out out' closing closing' body' held held' (Bad code no_body) log live c l f r =
     let w = new_work flow' (length out') f in
     rw (c, r.closes) (omega (arith, w))
-ran_left fits service trees now k None flow' out out' closing closing' body' held held' More live c l f r = absurd r
+ran_left fits service trees now k None flow' out out' closing closing' body' held held' More log live c l f r = absurd r
 
 -- a request that seeks a file goes on
-goes_bytes : (service : Service) (trees : Trees) (flow flow' : Option Flow) (out out' : List ℕ) (journal journal' : List Entry) (closing closing' : Bool) (body : Option BodyState) (held more : List ℕ) (later : List Start) → length journal' ≡ length journal → GoesOn trees flow flow' out out' closing closing' →
-    bytes_at service (flow_rest flow) out journal closing body held trees more later ≡ bytes_at service (flow_rest flow') out' journal' closing' body held trees more later
-goes_bytes service trees flow flow' out out' journal journal' closing closing' body held more later n g =
+goes_after : (service : Service) (trees : Trees) (flow flow' : Option Flow) (out out' : List ℕ) (journal journal' : List Entry) (closing closing' : Bool) (body : Option BodyState) (held more : List ℕ) (later : List Start) (log : Option Log) → length journal' ≡ length journal →
+    GoesOn trees flow flow' out out' closing closing' log → after_at service (flow_rest flow) journal closing body held trees more later ≡ after_at service (flow_rest flow') journal' closing' body held trees more later
+goes_after service trees flow flow' out out' journal journal' closing closing' body held more later log n g =
+    let tail : ℕ → Bool → List Response = λ k c. cond c [] (past_body body (held ++ more) (λ input. responses service k trees input later)) in
+    ap (tail (length journal)) (sym g.closes) ∙ ap (λ k. tail k (closes_behind (flow_rest flow' trees) closing')) (sym n)
+
+goes_bytes : (service : Service) (trees : Trees) (flow flow' : Option Flow) (out out' : List ℕ) (journal journal' : List Entry) (closing closing' : Bool) (body : Option BodyState) (held more : List ℕ) (later : List Start) (log : Option Log) → length journal' ≡ length journal →
+    GoesOn trees flow flow' out out' closing closing' log → bytes_at service (flow_rest flow) out journal closing body held trees more later ≡ bytes_at service (flow_rest flow') out' journal' closing' body held trees more later
+goes_bytes service trees flow flow' out out' journal journal' closing closing' body held more later log n g =
     let r = flow_rest flow trees in
     let r' = flow_rest flow' trees in
-    let tail : ℕ → Bool → List ℕ = λ k c. cond c [] (past_body body (held ++ more) (λ input. answers service k trees input later)) in
-    sym (append_assoc out r.bytes (tail (length journal) (closes_behind r closing))) ∙ ap (λ x. x ++ tail (length journal) (closes_behind r closing)) (sym g.bytes)
-    ∙ append_assoc out' r'.bytes (tail (length journal) (closes_behind r closing)) ∙ ap (λ c. out' ++ (r'.bytes ++ tail (length journal) c)) (sym g.closes)
-    ∙ ap (λ k. out' ++ (r'.bytes ++ tail k (closes_behind r' closing'))) (sym n)
+    let behind = bytes_in (after_at service (flow_rest flow') journal' closing' body held trees more later) in
+    ap (λ x. out ++ (r.bytes ++ bytes_in x)) (goes_after service trees flow flow' out out' journal journal' closing closing' body held more later log n g)
+    ∙ sym (append_assoc out r.bytes behind) ∙ ap (λ x. x ++ behind) (sym g.bytes) ∙ append_assoc out' r'.bytes behind
 
-pub goes_went : (ground : Ground) (service : Service) (cause : Option StopCause) (flow flow' : Option Flow) (out out' : List ℕ) (journal journal' : List Entry) (closing closing' ended : Bool) (body : Option BodyState) (held : List ℕ) (next : HeadStep) →
-    is_some cause ≡ false → length journal' ≡ length journal → map start_of journal' ≡ map start_of journal → ((trees : Trees) → Holds ground trees → GoesOn trees flow flow' out out' closing closing') →
+goes_logs : (service : Service) (trees : Trees) (flow flow' : Option Flow) (out out' : List ℕ) (journal journal' : List Entry) (closing closing' : Bool) (body : Option BodyState) (held more : List ℕ) (later : List Start) (log : Option Log) → length journal' ≡ length journal →
+    logged_in journal' ≡ logged_in journal ++ logged_by log → GoesOn trees flow flow' out out' closing closing' log → logs_at service (flow_rest flow) journal closing body held trees more later ≡ logs_at service (flow_rest flow') journal' closing' body held trees more later
+goes_logs service trees flow flow' out out' journal journal' closing closing' body held more later log n e g =
+    let r = flow_rest flow trees in
+    let r' = flow_rest flow' trees in
+    let behind = logs_in (after_at service (flow_rest flow') journal' closing' body held trees more later) in
+    ap (λ x. logged_in journal ++ (r.logs ++ logs_in x)) (goes_after service trees flow flow' out out' journal journal' closing closing' body held more later log n g)
+    ∙ ap (λ x. logged_in journal ++ (x ++ behind)) (sym g.logged) ∙ ap (λ x. logged_in journal ++ x) (append_assoc (logged_by log) r'.logs behind)
+    ∙ sym (append_assoc (logged_in journal) (logged_by log) (r'.logs ++ behind)) ∙ ap (λ x. x ++ (r'.logs ++ behind)) (sym e)
+
+pub goes_went : (ground : Ground) (service : Service) (cause : Option StopCause) (flow flow' : Option Flow) (out out' : List ℕ) (journal journal' : List Entry) (closing closing' ended : Bool) (body : Option BodyState) (held : List ℕ) (next : HeadStep) (log : Option Log) →
+    is_some cause ≡ false → length journal' ≡ length journal → map start_of journal' ≡ map start_of journal → logged_in journal' ≡ logged_in journal ++ logged_by log → IsLogged (is_some flow') journal' →
+    ((trees : Trees) → Holds ground trees → GoesOn trees flow flow' out out' closing closing' log) →
     Went ground (view_at service cause flow out journal closing ended body held next) (view_at service cause flow' out' journal' closing' ended body held next) [] [] []
-goes_went ground service cause flow flow' out out' journal journal' closing closing' ended body held next live n m g = record {
+goes_went ground service cause flow flow' out out' journal journal' closing closing' ended body held next log live n m e told g = record {
   before = live_at service cause flow out journal closing ended body held next live;
   after = live_at service cause flow' out' journal' closing' ended body held next live;
   moved = record {
     starts = m ∙ sym (append-nil (map start_of journal));
     raceless = refl;
-    bytes = λ trees is more later. goes_bytes service trees flow flow' out out' journal journal' closing closing' body held more later n (g trees is);
+    bytes = λ trees is more later. goes_bytes service trees flow flow' out out' journal journal' closing closing' body held more later log n (g trees is);
+    logs = λ trees is more later. goes_logs service trees flow flow' out out' journal journal' closing closing' body held more later log n e (g trees is);
     heavy = λ trees is more later h. h;
   };
+  logged = logged_at service flow' journal' closing' body held told;
 }
 
 pub goes_left : (cause : Option StopCause) (flow flow' : Option Flow) (out out' : List ℕ) (closing closing' : Bool) (held : List ℕ) → is_some cause ≡ false → (closing ≡ true → closing' ≡ true) → work flow' (length out') < work flow (length out) → left_at cause flow' out' closing' held < left_at cause flow out closing held
@@ -359,6 +517,12 @@ goes_left None flow flow' out out' true true held live k w = omega (arith, w)
 goes_left None flow flow' out out' true false held live k w = absurd (let e : false ≡ true = k refl in cc)
 goes_left None flow flow' out out' false true held live k w = omega (arith, w)
 goes_left None flow flow' out out' false false held live k w = omega (arith, w)
+
+pub not_over : (a b : Bool) → a ≡ not b → not a ≡ b
+not_over true true e = cc
+not_over true false e = refl
+not_over false true e = refl
+not_over false false e = cc
 
 pub some_taken : (n room taken : ℕ) → taken ≡ min n room → (n == 0) ≡ false → 0 < room → 0 < taken
 some_taken n room taken e f h = grind (arith, nat_tests)
@@ -386,6 +550,8 @@ refused now service cause flow out out' journal journal' closing closing' ended 
     why = refl;
     pending = ap (take shown_most) e ∙ none_taken shown_most;
     starts = ap (map start_of) j ∙ sym (append-nil (map start_of journal));
+    logs = ap (map log_of) j ∙ sym (append-nil (map log_of journal));
+    logged = λ all l. subst (λ x. Logged x all) (sym (ap (map log_of) j)) l;
     raceless = refl;
   },
 )

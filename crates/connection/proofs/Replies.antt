@@ -1,10 +1,10 @@
 -- Replies that are put behind what is kept for a peer, or still to come.
-use Rattle.std.proofs.Common.{◌≡◌, ℕ, Bool, true, false, ◌&&◌, List, [], ◌++◌, Option, None, Some, Result, Ok, Err, IfOk, refl, sym, ap, ◌∙◌, subst}
+use Rattle.std.proofs.Common.{◌≡◌, ℕ, Bool, true, false, ◌&&◌, List, [], ◌∷◌, ◌++◌, Option, None, Some, Result, Ok, Err, IfOk, refl, sym, ap, ◌∙◌, subst}
 use Rattle.std.proofs.lemmas.List.{append-nil}
 use Rattle.file_type.specs.Types.{type_of}
 use Rattle.file_tree.specs.Tree.{Item, AFile, AFolder, ALocked, Nothing, Tree, Trees, node_of}
 use Rattle.http_types.specs.declared.words.Method.{Method}
-use Rattle.ngx_outside.specs.Views.{Start}
+use Rattle.ngx_outside.specs.Views.{Start, Log}
 use Rattle.req_head.specs.declared.head.Head.{Head as RequestHead}
 use Rattle.static_content.specs.declared.content.Content.{Content}
 use Rattle.static_content.specs.declared.content.Content.TheVariants.{Send, Status, Slash}
@@ -24,18 +24,19 @@ use Rattle.connection.specs.Flow.{Rest, is_head, file_reply, content_reply, soug
 use Rattle.connection.specs.Answers.{Service, service_of, Puts, Meets, Responds, SeeksFor, rest_after, reply_at, reply_in, server_of, stays_in, stays_by, keeps}
 
 -- what is answered at once
-pub meets_puts : (r : Reply) (start : Start) (no_body stays keep : Bool) (rest : Rest) (old new : List ℕ) → rest ≡ record { bytes = []; stays = keep } → Puts r start no_body stays keep old new → Meets r start no_body stays rest old new
-meets_puts r start no_body stays keep rest old new e p = record {
+pub meets_puts : (r : Reply) (start : Start) (no_body stays keep : Bool) (log : Log) (rest : Rest) (old new : List ℕ) → rest ≡ record { bytes = []; stays = keep; logs = log ∷ [] } → Puts r start no_body stays keep log old new → Meets r start no_body stays rest old new
+meets_puts r start no_body stays keep log rest old new e p = record {
   kept = ap (λ (x : Rest). x.stays) e ∙ p.kept;
   put = ap (λ (x : Rest). new ++ x.bytes) e ∙ append-nil new ∙ p.put;
+  logged = ap (λ (x : Rest). x.logs) e ∙ ap (λ l. l ∷ []) p.logged;
 }
 
 pub meets_moved : (r r' : Reply) (start : Start) (b b' stays stays' : Bool) (rest : Rest) (old new : List ℕ) → r ≡ r' → b ≡ b' → stays ≡ stays' → Meets r start b stays rest old new → Meets r' start b' stays' rest old new
 meets_moved r r' start b b' stays stays' rest old new er eb es m =
     subst (λ x. Meets r' start b' x rest old new) es (subst (λ x. Meets r' start x stays rest old new) eb (subst (λ x. Meets x start b stays rest old new) er m))
 
-pub puts_moved : (r : Reply) (start : Start) (b b' stays keep : Bool) (old new : List ℕ) → b ≡ b' → Puts r start b stays keep old new → Puts r start b' stays keep old new
-puts_moved r start b b' stays keep old new e p = subst (λ x. Puts r start x stays keep old new) e p
+pub puts_moved : (r : Reply) (start : Start) (b b' stays keep : Bool) (log : Log) (old new : List ℕ) → b ≡ b' → Puts r start b stays keep log old new → Puts r start b' stays keep log old new
+puts_moved r start b b' stays keep log old new e p = subst (λ x. Puts r start x stays keep log old new) e p
 
 pub is_page : (level : LevelView) (method : Method) (path : List ℕ) (o : Outcome) (code : ℕ) (tree : Tree) → o ≡ Page code → page_reply code ≡ reply_by level method path o tree
 unfolding reply_by
@@ -72,7 +73,7 @@ seeks_meets level method path o at meeting start stays answered trees out e es f
     subst (λ s. Meets (reply_by level method path o (trees s.tree)) s (is_head method) stays (rest_after answered trees) out out) (sym es)
     (subst (λ a. Meets (reply_by level method path o (trees meeting.tree)) began (is_head method) stays (rest_after a trees) out out) (sym f)
     (subst (λ x. Meets x began (is_head method) stays (whole_rest (sought_reply (type_of level.types path) method (trees meeting.tree at)) began (is_head method) stays) out out) r
-    (record { kept = refl; put = refl })))
+    (record { kept = refl; put = refl; logged = refl })))
 
 -- the meeting of a service and a start
 same_meeting : (site : Site) (meeting : Meeting) (service : Service) (start : Start) → service ≡ service_of site meeting.local meeting.peer → start ≡ record { moment = meeting.moment; tree = meeting.tree } →
@@ -107,7 +108,7 @@ pub responds : (service : Service) (trees : Trees) (start : Start) (k : ℕ) (he
 unfolding reply_at keeps
 responds service trees start k head o rest old new e m =
     let q = subst (λ x. Meets (reply_in service (trees start.tree) start head x) start (is_head head.method) (head.keep && stays_in k head x) rest old new) e m in
-    record { stays = q.kept; put = q.put }
+    record { stays = q.kept; put = q.put; logged = q.logged }
 
 -- without a server
 pub no_reply : (service : Service) (tree : Tree) (start : Start) (head : RequestHead) → page_reply 404 ≡ reply_in service tree start head None

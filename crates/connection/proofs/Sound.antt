@@ -1,11 +1,11 @@
 -- What a connection shows is sound.
-use Rattle.std.proofs.Common.{◌≡◌, ◌≢◌, ℕ, ◌+◌, ◌-◌, ◌<◌, ◌≤◌, drop, take, Bool, true, false, not, ◌&&◌, ◌||◌, cond, List, [], ◌∷◌, ◌++◌, length, Option, None, Some, refl, sym, ap, ◌∙◌, arith, suc, zero}
+use Rattle.std.proofs.Common.{◌≡◌, ◌≢◌, ℕ, ◌+◌, ◌-◌, ◌<◌, ◌≤◌, drop, take, Bool, true, false, not, ◌&&◌, ◌||◌, cond, List, [], ◌∷◌, ◌++◌, length, map, Option, None, Some, refl, sym, ap, ◌∙◌, arith, suc, zero}
 use Rattle.std.specs.Prelude.{is_some, nat_le, nat_lt, ◌==◌}
 use Rattle.file_tree.specs.declared.job.Ask.{Ask}
 use Rattle.std.proofs.lemmas.List.{append-nil}
 use Rattle.std.proofs.lemmas.Bool.Decides.{nat_tests}
 use Rattle.file_tree.specs.Tree.{Trees}
-use Rattle.ngx_outside.specs.Views.{Start, IsSound, is_idle, no_bytes, no_nodes, no_jobs}
+use Rattle.ngx_outside.specs.Views.{Start, log_of, IsSound, is_idle, no_bytes, no_nodes, no_jobs}
 use Rattle.ngx_outside.specs.declared.event.Entry.{Entry}
 use Rattle.ngx_outside.specs.declared.event.StopCause.{StopCause}
 use Rattle.req_head.specs.declared.head.HeadStep.{HeadStep}
@@ -18,33 +18,46 @@ use Rattle.body_frame.specs.declared.state.BodyState.{BodyState}
 use Rattle.connection.specs.declared.flow.Flow.{Flow}
 use Rattle.connection.specs.declared.flow.Stage.{Stage}
 use Rattle.connection.specs.declared.flow.Stage.TheVariants.{Asked, Told, Reading, Came}
-use Rattle.connection.specs.Answers.{Service, answers, first_answer, behind_body}
-use Rattle.connection.specs.Steps.{starts, rest_of, past_body}
+use Rattle.connection.specs.Answers.{Service, Response, responses, first_response, bytes_in, logs_in, behind_body}
+use Rattle.connection.specs.Steps.{starts, rest_of, past_body, logged_in, IsLogged}
 use Rattle.connection.specs.Flow.{flow_rest, jobs_of, is_stat, may_run, shown_by, shown_most, placed_most, kept_most, is_block, stage_fits, flow_fits}
-use Rattle.connection.specs.Conn.{view_at, bytes_at, room_at, starts_at, idle_at, shut_at}
+use Rattle.connection.specs.Conn.{view_at, after_at, bytes_at, logs_at, room_at, starts_at, idle_at, shut_at}
 use Rattle.connection.proofs.Moves.{room_some, none_taken, below, and_left, and_right}
 
 -- bytes that begin no request are answered by nothing
-unanswered : (service : Service) (k : ℕ) (trees : Trees) (held : List ℕ) (later : List Start) → More ≡ head_step held → answers service k trees (held ++ []) later ≡ []
-unfolding answers
+unanswered : (service : Service) (k : ℕ) (trees : Trees) (held : List ℕ) (later : List Start) → More ≡ head_step held → responses service k trees (held ++ []) later ≡ []
+unfolding responses
 unanswered service k trees held [] e = refl
 unanswered service k trees held (start ∷ later) e =
-    ap (λ s. first_answer service trees k start s (λ n kind. behind_body (body_of kind (drop n (held ++ []))) (λ m. answers service (k + 1) trees (drop m (drop n (held ++ []))) later)))
+    ap (λ s. first_response service trees k start s (λ n kind. behind_body (body_of kind (drop n (held ++ []))) (λ m. responses service (k + 1) trees (drop m (drop n (held ++ []))) later)))
     (ap head_step (append-nil held) ∙ sym e)
 
 -- a body that isn't ended is followed by nothing yet
-unfinished : (state : BodyState) (held : List ℕ) (g : List ℕ → List ℕ) → held ≡ [] → rest_of (Some state) [] ≡ Short → past_body (Some state) (held ++ []) g ≡ []
+unfinished : (state : BodyState) (held : List ℕ) (g : List ℕ → List Response) → held ≡ [] → rest_of (Some state) [] ≡ Short → past_body (Some state) (held ++ []) g ≡ []
 unfinished state held g e s = ap (λ h. past_body (Some state) (h ++ []) g) e ∙ ap (λ o. behind_body o (λ n. g (drop n []))) s
 
--- where nothing is kept for the peer and no request begins, nothing more comes
+-- where no request begins there are no further responses
+quiet_after : (service : Service) (journal : List Entry) (closing : Bool) (body : Option BodyState) (held : List ℕ) (next : HeadStep) (trees : Trees) (later : List Start) →
+    (closing || not (starts body next)) ≡ true → next ≡ head_step held → (is_some body ≡ true → held ≡ []) → (is_some body ≡ true → rest_of body [] ≡ Short) → after_at service (flow_rest None) journal closing body held trees [] later ≡ []
+quiet_after service journal true body held next trees later q e d u = refl
+quiet_after service journal false (Some state) held next trees later q e d u = unfinished state held (λ input. responses service (length journal) trees input later) (d refl) (u refl)
+quiet_after service journal false None held More trees later q e d u = unanswered service (length journal) trees held later e
+quiet_after service journal false None held (Head head size) trees later q e d u = cc
+quiet_after service journal false None held (Bad code no_body) trees later q e d u = cc
+
+-- where nothing is kept for the peer either, nothing more comes
 quiet : (service : Service) (out : List ℕ) (journal : List Entry) (closing : Bool) (body : Option BodyState) (held : List ℕ) (next : HeadStep) (trees : Trees) (later : List Start) →
     no_bytes out ≡ true → (closing || not (starts body next)) ≡ true → next ≡ head_step held → (is_some body ≡ true → held ≡ []) → (is_some body ≡ true → rest_of body [] ≡ Short) → bytes_at service (flow_rest None) out journal closing body held trees [] later ≡ []
-quiet service [] journal true body held next trees later p q e d u = refl
-quiet service [] journal false (Some state) held next trees later p q e d u = unfinished state held (λ input. answers service (length journal) trees input later) (d refl) (u refl)
-quiet service [] journal false None held More trees later p q e d u = unanswered service (length journal) trees held later e
-quiet service [] journal false None held (Head head size) trees later p q e d u = cc
-quiet service [] journal false None held (Bad code no_body) trees later p q e d u = cc
+quiet service [] journal closing body held next trees later p q e d u = ap bytes_in (quiet_after service journal closing body held next trees later q e d u)
 quiet service (b ∷ out) journal closing body held next trees later p q e d u = cc
+
+-- and all responses are logged
+quiet_logs : (service : Service) (journal : List Entry) (closing : Bool) (body : Option BodyState) (held : List ℕ) (next : HeadStep) (trees : Trees) (later : List Start) → IsLogged false journal →
+    (closing || not (starts body next)) ≡ true → next ≡ head_step held → (is_some body ≡ true → held ≡ []) → (is_some body ≡ true → rest_of body [] ≡ Short) →
+    map log_of journal ≡ map (λ l. Some l) (logs_at service (flow_rest None) journal closing body held trees [] later)
+quiet_logs service journal closing body held next trees later told q e d u =
+    told ∙ append-nil (map (λ l. Some l) (logged_in journal))
+    ∙ ap (map (λ l. Some l)) (sym (ap (λ x. logged_in journal ++ logs_in x) (quiet_after service journal closing body held next trees later q e d u) ∙ append-nil (logged_in journal)))
 
 -- some bytes are shown where some are kept
 shown_some : (n : ℕ) (xs : List ℕ) → 0 < n → no_bytes (take n xs) ≡ no_bytes xs
@@ -201,9 +214,9 @@ unshut false true e = cc
 unshut false false e = cc
 
 pub sound : FullDecides → (service : Service) (cause : Option StopCause) (flow : Option Flow) (out : List ℕ) (journal : List Entry) (closing ended : Bool) (body : Option BodyState) (held : List ℕ) (next : HeadStep) →
-    (is_some cause ≡ false → next ≡ head_step held) → (is_some cause ≡ true → out ≡ []) → (is_some cause ≡ true → flow ≡ None) → flow_fits flow (length out) ≡ true → (is_some body ≡ true → held ≡ []) → (is_some body ≡ true → rest_of body [] ≡ Short) → IsSound (view_at service cause flow out journal closing ended body held next)
-sound full service (Some why) (Some flow) out journal closing ended body held next looked dropped quit fits drained unended = absurd (let e : Some flow ≡ None = quit refl in cc)
-sound full service (Some why) None out journal closing ended body held next looked dropped quit fits drained unended = record {
+    (is_some cause ≡ false → next ≡ head_step held) → (is_some cause ≡ true → out ≡ []) → (is_some cause ≡ true → flow ≡ None) → flow_fits flow (length out) ≡ true → (is_some body ≡ true → held ≡ []) → (is_some body ≡ true → rest_of body [] ≡ Short) → (is_some cause ≡ false → IsLogged (is_some flow) journal) → IsSound (view_at service cause flow out journal closing ended body held next)
+sound full service (Some why) (Some flow) out journal closing ended body held next looked dropped quit fits drained unended told = absurd (let e : Some flow ≡ None = quit refl in cc)
+sound full service (Some why) None out journal closing ended body held next looked dropped quit fits drained unended told = record {
   unsent = λ h. ap (take shown_most) (dropped refl) ∙ none_taken shown_most;
   unready = λ h. refl;
   unasked = λ h. refl;
@@ -215,10 +228,11 @@ sound full service (Some why) None out journal closing ended body held next look
   silent = λ h. refl;
   reads = λ h. cc;
   idle = λ h trees later. cc;
+  logged = λ h trees later. cc;
   shut = λ h s trees later. cc;
   closes = λ h s e trees more later. cc;
 }
-sound full service None None out journal closing ended body held next looked dropped quit fits drained unended = record {
+sound full service None None out journal closing ended body held next looked dropped quit fits drained unended told = record {
   unsent = λ h. cc;
   unready = λ h. cc;
   unasked = λ h. refl;
@@ -230,10 +244,11 @@ sound full service None None out journal closing ended body held next looked dro
   silent = silent_at false closing ended held;
   reads = λ h s. reading full out closing ended body held next (looked refl) drained (idle_parts out closing body next h) s;
   idle = λ h trees later. let i = idle_parts out closing body next h in quiet service out journal closing body held next trees later i.unsent i.waits (looked refl) drained unended;
+  logged = λ h trees later. let i = idle_parts out closing body next h in quiet_logs service journal closing body held next trees later (told refl) i.waits (looked refl) drained unended;
   shut = λ l h trees later. let i = shut_parts out closing ended body next h in quiet service out journal closing body held next trees later i.unsent i.waits (looked refl) drained unended;
   closes = λ l h e trees more later. closed service out journal closing ended body held next trees more later h e;
 }
-sound full service None (Some flow) out journal closing ended body held next looked dropped quit fits drained unended = record {
+sound full service None (Some flow) out journal closing ended body held next looked dropped quit fits drained unended told = record {
   unsent = λ h. cc;
   unready = λ h. cc;
   unasked = λ h. cc;
@@ -245,6 +260,7 @@ sound full service None (Some flow) out journal closing ended body held next loo
   silent = silent_at false closing ended held;
   reads = λ h. absurd (busy flow out fits h);
   idle = λ h trees later. absurd (busy flow out fits h);
+  logged = λ h trees later. absurd (busy flow out fits h);
   shut = λ l h trees later. absurd (unshut closing ended h);
   closes = λ l h e trees more later. absurd (unshut closing ended h);
 }

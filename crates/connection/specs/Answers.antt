@@ -1,10 +1,10 @@
 -- The answers of a connection: the responses to its requests, one after another.
-use Rattle.std.specs.Prelude.{◌≡◌, ◌≤◌, ℕ, ◌+◌, nat_lt, ◌==◌, Bool, true, false, not, ◌&&◌, List, [], ◌∷◌, ◌++◌, drop, Option, None, Some, if◌then◌else◌}
+use Rattle.std.specs.Prelude.{◌≡◌, ◌≤◌, ℕ, ◌+◌, nat_lt, ◌==◌, Bool, true, false, not, ◌&&◌, List, [], ◌∷◌, ◌++◌, drop, map, flat_map, Option, None, Some, if◌then◌else◌}
 use Rattle.file_tree.specs.Tree.{Trees}
 use Rattle.http_types.specs.declared.words.BodyKind.{BodyKind}
 use Rattle.body_frame.specs.Outcome.{BodyOutcome, Whole, Short, Broken}
 use Rattle.body_frame.specs.State.{body_of}
-use Rattle.ngx_outside.specs.Views.{Start}
+use Rattle.ngx_outside.specs.Views.{Start, Log}
 use Rattle.req_head.specs.declared.head.Head.{Head as RequestHead}
 use Rattle.req_head.specs.declared.head.HeadStep.{HeadStep}
 use Rattle.req_head.specs.declared.head.HeadStep.TheVariants.{More, Head, Bad}
@@ -22,7 +22,7 @@ use Rattle.phase_engine.specs.Outcomes.{page_reply}
 use Rattle.connection.specs.declared.respond.Answered.{Answered}
 use Rattle.connection.specs.declared.respond.Answered.TheVariants.{AtOnce, Seeks}
 use Rattle.connection.specs.declared.flow.Stage.TheVariants.{Asked}
-use Rattle.connection.specs.Flow.{Rest, flow_rest, response, is_head, is_stat}
+use Rattle.connection.specs.Flow.{Rest, flow_rest, response, log_in, is_head, is_stat}
 use Rattle.file_tree.specs.declared.job.Ask.TheVariants.{Stat}
 use Rattle.file_type.specs.Types.{TypeList, type_of}
 use Rattle.http_types.specs.declared.words.Method.{Method}
@@ -68,19 +68,21 @@ keeps service k head r = (head.keep && stays_in k head (server_of service)) && n
 
 -- what becomes of a request: it was answered, behind which the connection stays open or not, or it seeks a file
 abbrev pub rest_after : Answered → Trees → Rest
-rest_after (AtOnce sent) trees = record { bytes = []; stays = sent.keep }
+rest_after (AtOnce sent) trees = record { bytes = []; stays = sent.keep; logs = (sent.status, sent.length) ∷ [] }
 rest_after (Seeks flow) trees = flow_rest (Some flow) trees
 
 -- a reply is put behind what is kept for a peer, and the connection stays open behind it where it may and the reply doesn't
--- close it
-pub record Puts (r : Reply) (start : Start) (no_body stays keep : Bool) (old new : List ℕ) : Type 0 where
+-- close it; this is to be logged of it
+pub record Puts (r : Reply) (start : Start) (no_body stays keep : Bool) (log : Log) (old new : List ℕ) : Type 0 where
   pub kept : keep ≡ (stays && not r.closes)
   pub put : new ≡ old ++ response r start no_body (stays && not r.closes)
+  pub logged : log ≡ log_in r no_body
 
--- what was put behind what is kept for a peer and what is still to come is the response with this reply
+-- what was put behind what is kept for a peer and what is still to come is the response with this reply, which is to be logged
 pub record Meets (r : Reply) (start : Start) (no_body stays : Bool) (rest : Rest) (old new : List ℕ) : Type 0 where
   pub kept : rest.stays ≡ (stays && not r.closes)
   pub put : new ++ rest.bytes ≡ old ++ response r start no_body (stays && not r.closes)
+  pub logged : rest.logs ≡ log_in r no_body ∷ []
 
 -- a request that seeks a file at a path, for a reply with the media type of its own path
 abbrev pub SeeksFor : TypeList → (path : List ℕ) → Method → Meeting → (at : List ℕ) → (stays : Bool) → Answered → Type 0
@@ -101,25 +103,48 @@ FitsOne (Seeks flow) tree old new = (new ≡ old) × (flow.stage ≡ Asked) × (
 pub record Responds (service : Service) (r : Reply) (start : Start) (k : ℕ) (head : RequestHead) (rest : Rest) (old new : List ℕ) : Type 0 where
   pub stays : rest.stays ≡ keeps service k head r
   pub put : new ++ rest.bytes ≡ old ++ response r start (is_head head.method) (keeps service k head r)
+  pub logged : rest.logs ≡ log_in r (is_head head.method) ∷ []
 
--- what is answered to the bytes behind a request's body (RFC 9112, section 6): nothing, where no whole body stands there
-abbrev pub behind_body : BodyOutcome → (ℕ → List ℕ) → List ℕ
+-- a response as it goes out: its bytes, and what is logged of it
+pub record Response : Type 0 where
+  pub bytes : List ℕ
+  pub log : Log
+
+abbrev pub response_with : Reply → Start → (no_body keep : Bool) → Response
+response_with r start no_body keep = record { bytes = response r start no_body keep; log = log_in r no_body }
+
+-- the responses to the bytes behind a request's body (RFC 9112, section 6): none, where no whole body stands there
+abbrev pub behind_body : BodyOutcome → (ℕ → List Response) → List Response
 behind_body (Whole count) behind = behind count
 behind_body Short behind = []
 behind_body Broken behind = []
 
--- the response to the first head, and what is answered to the bytes behind it and its body
-abbrev pub first_answer : Service → Trees → ℕ → Start → HeadStep → (ℕ → BodyKind → List ℕ) → List ℕ
-first_answer service trees k start (Head head size) behind =
+-- the response to the first head, and those to the bytes behind it and its body
+abbrev pub first_response : Service → Trees → ℕ → Start → HeadStep → (ℕ → BodyKind → List Response) → List Response
+first_response service trees k start (Head head size) behind =
     let r = reply_at service trees start head in
-    response r start (is_head head.method) (keeps service k head r) ++ (if keeps service k head r then behind size head.body else [])
-first_answer service trees k start (Bad code no_body) behind = response (page_reply code) start no_body false
-first_answer service trees k start More behind = []
+    response_with r start (is_head head.method) (keeps service k head r) ∷ (if keeps service k head r then behind size head.body else [])
+first_response service trees k start (Bad code no_body) behind = response_with (page_reply code) start no_body false ∷ []
+first_response service trees k start More behind = []
 
--- The answers to the input, of which k requests came before, each from the tree of its start. A request starts for each of
--- these entries, as far as the input has heads and whole bodies behind them.
-unfoldable pub answers : Service → ℕ → Trees → List ℕ → List Start → List ℕ
-answers service k trees input [] = []
-answers service k trees input (start ∷ later) =
-    first_answer service trees k start (head_step input)
-    (λ size kind. behind_body (body_of kind (drop size input)) (λ count. answers service (k + 1) trees (drop count (drop size input)) later))
+-- The responses to the requests of the input, of which k came before, each from the tree of its start. A request starts for
+-- each of these entries, as far as the input has heads and whole bodies behind them.
+unfoldable pub responses : Service → ℕ → Trees → List ℕ → List Start → List Response
+responses service k trees input [] = []
+responses service k trees input (start ∷ later) =
+    first_response service trees k start (head_step input)
+    (λ size kind. behind_body (body_of kind (drop size input)) (λ count. responses service (k + 1) trees (drop count (drop size input)) later))
+
+abbrev pub bytes_in : List Response → List ℕ
+bytes_in rs = flat_map (λ (r : Response). r.bytes) rs
+
+abbrev pub logs_in : List Response → List Log
+logs_in rs = map (λ (r : Response). r.log) rs
+
+-- the answers to the input: the bytes of the responses, one after another
+abbrev pub answers : Service → ℕ → Trees → List ℕ → List Start → List ℕ
+answers service k trees input later = bytes_in (responses service k trees input later)
+
+-- what is logged of each
+abbrev pub answer_logs : Service → ℕ → Trees → List ℕ → List Start → List Log
+answer_logs service k trees input later = logs_in (responses service k trees input later)

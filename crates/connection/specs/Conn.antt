@@ -1,7 +1,7 @@
 -- What a connection shows.
 use Rattle.std.specs.Prelude.{◌≡◌, ◌≤◌, ◌⊎◌, ℕ, ◌+◌, ◌-◌, ◌*◌, ◌^◌, take, nat_le, Bool, true, false, not, ◌&&◌, ◌||◌, is_some, List, [], ◌∷◌, ◌++◌, Option, None, Some, length, map, if◌then◌else◌}
 use Rattle.file_tree.specs.Tree.{Trees}
-use Rattle.ngx_outside.specs.Views.{ConnView, Course, start_of, Start, StepsOwn, LeftBy, TakesNone, IsSound, no_bytes}
+use Rattle.ngx_outside.specs.Views.{ConnView, Course, start_of, log_of, Log, Start, StepsOwn, LeftBy, TakesNone, IsSound, no_bytes}
 use Rattle.ngx_outside.specs.declared.event.Event.{Event}
 use Rattle.ngx_outside.specs.declared.event.Event.TheVariants.{Ended}
 use Rattle.ngx_outside.specs.declared.event.StepAnswer.{StepAnswer}
@@ -14,19 +14,29 @@ use Rattle.connection.specs.declared.conn.Conn.{Conn}
 use Rattle.http_types.specs.declared.words.Addr.{Addr}
 use Rattle.connection.specs.declared.flow.Flow.{Flow}
 use Rattle.connection.specs.Flow.{Rest, flow_rest, closes_behind, may_run, jobs_of, shown_of, flow_left, tree_asked, kept_most}
-use Rattle.connection.specs.Answers.{Service, service_of, answers}
+use Rattle.connection.specs.Answers.{Service, Response, service_of, answers, answer_logs, responses, bytes_in, logs_in}
 use Rattle.body_frame.specs.declared.state.BodyState.{BodyState}
-use Rattle.connection.specs.Steps.{starts, past_body}
+use Rattle.connection.specs.Steps.{starts, past_body, logged_in}
 
 -- what is to come on a connection that is opened now, with these ends
 abbrev pub fresh_course : Site → Addr → Addr → Course
-fresh_course site local peer = record { bytes = λ trees more later. answers (service_of site local peer) 0 trees more later; heavy = λ trees more later. false; raceless = true }
+fresh_course site local peer = record { bytes = λ trees more later. answers (service_of site local peer) 0 trees more later; logs = λ trees more later. answer_logs (service_of site local peer) 0 trees more later; heavy = λ trees more later. false; raceless = true }
 
--- the bytes that are still to come: behind those that are kept for the peer the rest of the response, and behind that the
--- answers to what stands behind the body that is dropped
+-- the responses behind the one in flight: those to what stands behind the body that is dropped, unless the connection closes
+abbrev pub after_at : Service → (Trees → Rest) → List Entry → Bool → Option BodyState → List ℕ → Trees → List ℕ → List Start → List Response
+after_at service rest journal closing body held trees more later =
+    if closes_behind (rest trees) closing then [] else past_body body (held ++ more) (λ input. responses service (length journal) trees input later)
+
+-- the bytes that are still to come: behind those that are kept for the peer the rest of the response in flight, and those of
+-- the responses behind it
 abbrev pub bytes_at : Service → (Trees → Rest) → List ℕ → List Entry → Bool → Option BodyState → List ℕ → Trees → List ℕ → List Start → List ℕ
 bytes_at service rest out journal closing body held trees more later =
-    out ++ ((rest trees).bytes ++ (if closes_behind (rest trees) closing then [] else past_body body (held ++ more) (λ input. answers service (length journal) trees input later)))
+    out ++ ((rest trees).bytes ++ bytes_in (after_at service rest journal closing body held trees more later))
+
+-- the logs of all responses: those in the journal, that of the one in flight, and those behind it
+abbrev pub logs_at : Service → (Trees → Rest) → List Entry → Bool → Option BodyState → List ℕ → Trees → List ℕ → List Start → List Log
+logs_at service rest journal closing body held trees more later =
+    logged_in journal ++ ((rest trees).logs ++ logs_in (after_at service rest journal closing body held trees more later))
 
 -- how many more bytes are taken, as far as 8192 are held: none after a stop, behind a response that closes or behind the
 -- input's end
@@ -64,7 +74,8 @@ view_at service cause flow out journal closing ended body held next =
       cause = cause;
       pending = pending_at flow out;
       starts = map start_of journal;
-      course = record { bytes = bytes_at service (flow_rest flow) out journal closing body held; heavy = λ trees more later. false; raceless = true };
+      logs = map log_of journal;
+      course = record { bytes = bytes_at service (flow_rest flow) out journal closing body held; logs = logs_at service (flow_rest flow) journal closing body held; heavy = λ trees more later. false; raceless = true };
       room = room_at (is_some cause) closing ended held;
       ready = if ready_at (is_some cause) flow closing out body next then 0 ∷ [] else [];
       jobs = jobs_of flow;
@@ -117,6 +128,6 @@ pub record StepsConn (site : Site) (now : Start) (e : Event) (a : StepAnswer) (o
 abbrev pub AllSound : Type 0
 AllSound = (site : Site) (conn : Conn) → IsSound (view_of site conn)
 
--- no connection keeps more bytes for its peer than this
+-- no connection holds more bytes of its input than these, nor keeps more for its peer
 abbrev pub AllBounded : Type 0
-AllBounded = (conn : Conn) → length conn.out ≤ kept_most
+AllBounded = (conn : Conn) → (length conn.held ≤ 8192) × (length conn.out ≤ kept_most)

@@ -7,7 +7,7 @@ use Rattle.file_tree.specs.declared.job.Ask.{Ask}
 use Rattle.file_tree.specs.declared.job.Ask.TheVariants as ask
 use Rattle.http_types.specs.declared.words.Method.{Method}
 use Rattle.http_types.specs.declared.words.Method.TheVariants as methods
-use Rattle.ngx_outside.specs.Views.{Start, Job}
+use Rattle.ngx_outside.specs.Views.{Start, Job, Log}
 use Rattle.resp_head.specs.declared.head.ReplyHead.{ReplyHead}
 use Rattle.resp_head.specs.Head.{head_of}
 use Rattle.static_content.specs.declared.content.Content.{Content}
@@ -42,6 +42,10 @@ content_of r no_body = if no_body then [] else r.body
 unfoldable pub response : Reply → Start → Bool → Bool → List ℕ
 response r start no_body keep = head_of (reply_head r start keep) ++ content_of r no_body
 
+-- what is logged of it: the status, and how many bytes of the body are sent
+abbrev pub log_in : Reply → (no_body : Bool) → Log
+log_in r no_body = (r.status, length (content_of r no_body))
+
 abbrev pub is_head : Method → Bool
 is_head methods.Get = false
 is_head methods.Head = true
@@ -67,14 +71,16 @@ content_reply kind item Slash = page_reply 404
 unfoldable pub sought_reply : List ℕ → Method → Item → Reply
 sought_reply kind method item = content_reply kind item (content_for (node_of item) method false)
 
--- What is still to come of a response, and whether the connection stays open behind it.
+-- What is still to come of a response, whether the connection stays open behind it, and what will be logged of it, where that
+-- isn't logged yet.
 pub record Rest : Type 0 where
   pub bytes : List ℕ
   pub stays : Bool
+  pub logs : List Log
 
 -- nothing of a response is to come
 abbrev pub no_rest : Rest
-no_rest = record { bytes = []; stays = true }
+no_rest = record { bytes = []; stays = true; logs = [] }
 
 -- whether the connection closes, by what is still to come of a response
 abbrev pub closes_behind : Rest → Bool → Bool
@@ -82,7 +88,7 @@ closes_behind r closing = if r.stays then closing else true
 
 -- where the whole response is to come, which doesn't close the connection where it may stay open
 abbrev pub whole_rest : Reply → Start → (no_body stays : Bool) → Rest
-whole_rest r start no_body stays = record { bytes = response r start no_body (stays && not r.closes); stays = stays && not r.closes }
+whole_rest r start no_body stays = record { bytes = response r start no_body (stays && not r.closes); stays = stays && not r.closes; logs = log_in r no_body ∷ [] }
 
 abbrev pub start_of_wish : Wish → Start
 start_of_wish wish = record { moment = wish.moment; tree = wish.tree }
@@ -92,7 +98,7 @@ wish_rest wish item = whole_rest (sought_reply wish.kind wish.method item) (star
 
 -- so many bytes of a file of this length are to come
 abbrev pub file_rest : (len left : ℕ) → Item → Rest
-file_rest len left item = record { bytes = padded left (drop (len - left) (text_of item)); stays = true }
+file_rest len left item = record { bytes = padded left (drop (len - left) (text_of item)); stays = true; logs = (200, len) ∷ [] }
 
 -- what was told of an item is so from then on: a file has the length that was told
 abbrev pub told_item : Node → Item → Item
@@ -189,6 +195,7 @@ stage_fits len job (Told node) size = is_stat job && (size == 0)
 stage_fits len job (Reading left) size = (nat_le left len && is_block len left job) && nat_le size placed_most
 stage_fits len job (Came left placed) size = (nat_le left len && not (is_stat job)) && ((nat_le placed size && nat_le placed placed_most) && nat_le size kept_most)
 
+-- where none is in flight, no more bytes are kept than may be placed
 abbrev pub flow_fits : Option Flow → (size : ℕ) → Bool
 flow_fits None size = nat_le size placed_most
 flow_fits (Some flow) size = stage_fits flow.len flow.ask flow.stage size

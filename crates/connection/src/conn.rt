@@ -1,11 +1,11 @@
 // One connection.
-ghost use Rattle.std.specs.Prelude.{◌≡◌, ◌≤◌, ◌<◌, ◌+◌, ◌++◌, ◌∷◌, ◌^◌, ◌⊎◌, true, false, [], ℕ, length, take, drop, is_some, OnOk, OnErr, IfOk, vec_len, map, Some, None};
-ghost use Rattle.ngx_outside.specs.Views.{Start, start_of};
+ghost use Rattle.std.specs.Prelude.{◌≡◌, ◌≤◌, ◌<◌, ◌+◌, ◌++◌, ◌∷◌, ◌^◌, ◌⊎◌, true, false, not, [], ℕ, length, take, drop, is_some, OnOk, OnErr, IfOk, vec_len, map, Some, None};
+ghost use Rattle.ngx_outside.specs.Views.{Start, start_of, log_of};
 ghost use Rattle.req_head.specs.Step.{head_step};
 ghost use Rattle.file_tree.specs.Tree.{Trees};
 ghost use Rattle.ngx_outside.specs.declared.event.Entry.{Entry as Logged};
 ghost use Rattle.connection.specs.Flow.{flow_fits, tree_asked};
-ghost use Rattle.connection.specs.Steps.{begins as head_begins, starts, rest_of, RanOne, FitsNew, flow_in, closes_in};
+ghost use Rattle.connection.specs.Steps.{begins as head_begins, starts, rest_of, RanOne, FitsNew, flow_in, closes_in, log_of_answer, logged_by, logged_in, IsLogged};
 ghost use Rattle.connection.specs.Answers.{service_of};
 ghost use Rattle.body_frame.specs.Outcome.{Short};
 
@@ -88,17 +88,20 @@ fn enter(
     tree: u64,
     log: Option<(u16, u64)>,
 ) -> Result<(), OutOfMemory>
-    ensures ok { OnOk result ((entry : Logged) × (start_of entry ≡ record { moment = moment; tree = tree }) × (journal.new.items ≡ journal.old.items ++ entry ∷ [])) }
+    ensures ok { OnOk result ((entry : Logged) × (start_of entry ≡ record { moment = moment; tree = tree }) × (log_of entry ≡ log) × (journal.new.items ≡ journal.old.items ++ entry ∷ [])) }
     ensures err { OnErr result (journal.new.items ≡ journal.old.items) }
 {
     journal.push(Entry { moment, tree, log })?;
     Ok(())
 }
 
-// The last request that was started is over.
+// The last request that was started, which is in flight, is logged where it is over.
 fn finish(journal: &mut Vec<Entry>, log: Option<(u16, u64)>)
+    requires { IsLogged true journal.old.items }
     ensures starts { map start_of journal.new.items ≡ map start_of journal.old.items }
     ensures count { vec_len journal.new ≡ vec_len journal.old }
+    ensures logged { IsLogged (not (is_some log)) journal.new.items }
+    ensures log { logged_in journal.new.items ≡ logged_in journal.old.items ++ logged_by log }
 {
     if log.is_none() || journal.is_empty() {
         return;
@@ -116,6 +119,7 @@ fn finish(journal: &mut Vec<Entry>, log: Option<(u16, u64)>)
 fn outcome(answered: Answered, broken: bool) -> Onward
     ensures flow { result.flow ≡ flow_in answered }
     ensures closing { result.closing ≡ closes_in answered broken }
+    ensures log { result.log ≡ log_of_answer answered }
 {
     match answered {
         Answered::AtOnce(sent) => Onward {
@@ -146,9 +150,9 @@ fn run_one(
     requires looked { next.old ≡ head_step held.old }
     requires begins { head_begins next.old ≡ true }
     requires unsent { out.old ≡ [] }
-    ensures ran { (trees : Trees) → IfOk result (λ o. RanOne (service_of site.now meeting.local meeting.peer) trees (record { moment = meeting.moment; tree = meeting.tree }) (vec_len journal.old) next.old held.old held.new body.new o.flow out.old out.new o.closing) }
+    ensures ran { (trees : Trees) → IfOk result (λ o. RanOne (service_of site.now meeting.local meeting.peer) trees (record { moment = meeting.moment; tree = meeting.tree }) (vec_len journal.old) next.old held.old held.new body.new o.flow out.old out.new o.closing o.log) }
     ensures looked { OnOk result (next.new ≡ head_step held.new) }
-    ensures journal { OnOk result ((entry : Logged) × (start_of entry ≡ record { moment = meeting.moment; tree = meeting.tree }) × (journal.new.items ≡ journal.old.items ++ entry ∷ [])) }
+    ensures journal { IfOk result (λ o. (entry : Logged) × (start_of entry ≡ record { moment = meeting.moment; tree = meeting.tree }) × (log_of entry ≡ o.log) × (journal.new.items ≡ journal.old.items ++ entry ∷ [])) }
     ensures kept { OnErr result (journal.new.items ≡ journal.old.items) }
     ensures fits { IfOk result (λ o. FitsNew o.flow (length out.new)) }
     ensures asked { IfOk result (λ o. tree_asked o.flow ≡ 0 ⊎ tree_asked o.flow ≡ meeting.tree) }
@@ -169,17 +173,13 @@ fn run_one(
         }
         HeadStep::Bad { code, no_body } => {
             let length = put_page(alloc, out, *code, meeting.moment, *no_body)?;
-            enter(
-                journal,
-                meeting.moment,
-                meeting.tree,
-                Some((*code, length as u64)),
-            )?;
+            let log = Some((*code, length as u64));
+            enter(journal, meeting.moment, meeting.tree, log)?;
             *body = None;
             Ok(Onward {
                 flow: None,
                 closing: true,
-                log: None,
+                log,
             })
         }
         HeadStep::More => unreachable!(),
@@ -205,8 +205,10 @@ pub struct Conn {
     ghost dropped: { is_some cause ≡ true → out ≡ [] },
     ghost quit: { is_some cause ≡ true → flow ≡ None },
     ghost flowing: { flow_fits flow (length out) ≡ true },
+    ghost few: { length held ≤ 8192 },
     ghost drained: { is_some body ≡ true → held ≡ [] },
     ghost unended: { is_some body ≡ true → rest_of body [] ≡ Short },
+    ghost logged: { is_some cause ≡ false → IsLogged (is_some flow) journal.items },
 }
 
 impl Conn {
@@ -217,6 +219,7 @@ impl Conn {
     ghost use Rattle.connection.specs.Flow.{shown_of, jobs_of};
 
     /// A connection with these two ends, on which nothing has come and gone.
+    #[tactic(auto, unfolding(crate::specs::Steps::logged_in))]
     pub fn new(alloc: Global, local: Addr, peer: Addr) -> Result<Self, OutOfMemory>
         ensures fresh { IfOk result (λ c. (site : _) → Fresh (fresh_course site local peer) (view_of site c)) }
         ensures left { IfOk result (λ c. left_of c ≡ 1 + weight) }
@@ -400,6 +403,7 @@ impl Conn {
                 self.body = None;
                 self.flow = None;
                 self.out.clear();
+                self.held.clear();
                 self.cause = Some(StopCause::Memory);
                 StepAnswer::OutOfMemory
             }
@@ -452,8 +456,9 @@ impl Conn {
                 StepAnswer::Done { taken: 0 }
             }
             Err(OutOfMemory) => {
+                self.flow = None;
                 self.out.clear();
-                self.stop(StopCause::Memory);
+                self.cause = Some(StopCause::Memory);
                 StepAnswer::OutOfMemory
             }
         }
@@ -498,8 +503,9 @@ impl Conn {
                 StepAnswer::Done { taken: 0 }
             }
             Err(OutOfMemory) => {
+                self.flow = None;
                 self.out.clear();
-                self.stop(StopCause::Memory);
+                self.cause = Some(StopCause::Memory);
                 StepAnswer::OutOfMemory
             }
         }
@@ -538,6 +544,7 @@ impl Conn {
                 self.body = None;
                 self.flow = None;
                 self.out.clear();
+                self.held.clear();
                 self.cause = Some(StopCause::Memory);
                 StepAnswer::OutOfMemory
             }

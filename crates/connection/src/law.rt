@@ -12,7 +12,8 @@ pub fn connections_are_sound()
     full_decides();
 }
 
-/// Whatever is served, and however slowly a peer reads: a connection keeps no more than 114688 bytes for it.
+/// Whatever is served, and however slowly a peer reads: a connection holds no more than 8192 bytes of its input, and keeps no
+/// more than 114688 bytes for its peer.
 pub fn connections_are_bounded()
     ensures { AllBounded }
 {}

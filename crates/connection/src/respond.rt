@@ -147,7 +147,7 @@ fn put_reply(
     no_body: bool,
     stays: bool,
 ) -> Result<Sent, OutOfMemory>
-    ensures puts { (r : Replied) (start : Start) → IsReply reply.entry r → start.moment ≡ moment → IfOk result (λ sent. Puts r start no_body stays sent.keep out.old out.new) }
+    ensures puts { (r : Replied) (start : Start) → IsReply reply.entry r → start.moment ≡ moment → IfOk result (λ sent. Puts r start no_body stays sent.keep (sent.status, sent.length) out.old out.new) }
     ensures fits { OnOk result (length out.new ≤ length out.old + 65536) }
 {
     let keep = keeps(stays, reply.closes);
@@ -168,7 +168,7 @@ fn put_error(
     no_body: bool,
     stays: bool,
 ) -> Result<Sent, OutOfMemory>
-    ensures puts { (start : Start) → start.moment ≡ moment → IfOk result (λ sent. Puts (page_replied code) start no_body stays sent.keep out.old out.new) }
+    ensures puts { (start : Start) → start.moment ≡ moment → IfOk result (λ sent. Puts (page_replied code) start no_body stays sent.keep (sent.status, sent.length) out.old out.new) }
     ensures fits { OnOk result (length out.new ≤ length out.old + 65536) }
 {
     let mut page = ByteText::new(alloc);
@@ -187,7 +187,7 @@ pub enum Answered {
 
 fn at_once(sent: Result<Sent, OutOfMemory>) -> Result<Answered, OutOfMemory>
     ensures fits { (tree old new : ℕ) → OnOk sent (new ≤ old + 65536) → IfOk result (λ a. FitsOne a tree old new) }
-    ensures meets { (r : Replied) (start : Start) (no_body stays : Bool) (old new : List ℕ) → IfOk sent (λ s. Puts r start no_body stays s.keep old new) → IfOk result (λ a. (trees : Trees) → Meets r start no_body stays (rest_after a trees) old new) }
+    ensures meets { (r : Replied) (start : Start) (no_body stays : Bool) (old new : List ℕ) → IfOk sent (λ s. Puts r start no_body stays s.keep (s.status, s.length) old new) → IfOk result (λ a. (trees : Trees) → Meets r start no_body stays (rest_after a trees) old new) }
 {
     let sent = sent?;
     Ok(Answered::AtOnce(sent))
@@ -241,7 +241,7 @@ fn put_text(
     text: &[u8],
     stays: bool,
 ) -> Result<Sent, OutOfMemory>
-    ensures puts { (start : Start) → start.moment ≡ asked.now.meeting.moment → IfOk result (λ sent. Puts (text_replied (asked_level asked.now) asked.now.target.now.path code text.now) start (asks_head asked.now.head.now.method) stays sent.keep out.old out.new) }
+    ensures puts { (start : Start) → start.moment ≡ asked.now.meeting.moment → IfOk result (λ sent. Puts (text_replied (asked_level asked.now) asked.now.target.now.path code text.now) start (asks_head asked.now.head.now.method) stays sent.keep (sent.status, sent.length) out.old out.new) }
     ensures fits { OnOk result (length out.new ≤ length out.old + 65536) }
 {
     let reply = text_reply(
@@ -398,7 +398,7 @@ pub fn put_refusal(
     wish: &Wish,
     code: u16,
 ) -> Result<Sent, OutOfMemory>
-    ensures puts { IfOk result (λ sent. Puts (page_replied code) (start_of_wish wish.now) (asks_head wish.now.method) wish.now.stays sent.keep out.old out.new) }
+    ensures puts { IfOk result (λ sent. Puts (page_replied code) (start_of_wish wish.now) (asks_head wish.now.method) wish.now.stays sent.keep (sent.status, sent.length) out.old out.new) }
     ensures fits { OnOk result (length out.new ≤ length out.old + 65536) }
 {
     put_error(

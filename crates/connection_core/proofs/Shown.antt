@@ -1,7 +1,7 @@
 -- What the core shows of each connection is sound.
 use Rattle.std.proofs.Common.{◌≡◌, ℕ, true, false, cond, eqb, List, [], ◌∷◌, refl}
 use Rattle.std.specs.Prelude.{map}
-use Rattle.ngx_outside.specs.Views.{start_of, IsSound, nobody}
+use Rattle.ngx_outside.specs.Views.{start_of, log_of, IsSound, nobody}
 use Rattle.site_model.specs.declared.site.Site.{Site}
 use Rattle.connection.specs.declared.conn.Conn.{Conn}
 use Rattle.connection.specs.Conn.{view_of, AllSound}
@@ -20,6 +20,7 @@ nobody_sound = record {
   silent = λ h. cc;
   reads = λ h s none. cc;
   idle = λ h trees later. refl;
+  logged = λ h trees later. refl;
   shut = λ h s trees later. refl;
   closes = λ l h e trees more later. cc;
 }
@@ -35,6 +36,12 @@ started_in site [] conns c = refl
 started_in site (id ∷ ids) [] c = refl
 started_in site (id ∷ ids) (conn ∷ conns) c =
     elim (eqb id c) as (λ t. map start_of (cond t conn.journal.items (journal_in ids conns c)) ≡ (cond t (view_of site conn) (view_in site ids conns c)).starts) [ true ↦ refl | false ↦ started_in site ids conns c ]
+
+pub logged_in : (site : Site) (ids : List ℕ) (conns : List Conn) (c : ℕ) → map log_of (journal_in ids conns c) ≡ (view_in site ids conns c).logs
+logged_in site [] conns c = refl
+logged_in site (id ∷ ids) [] c = refl
+logged_in site (id ∷ ids) (conn ∷ conns) c =
+    elim (eqb id c) as (λ t. map log_of (cond t conn.journal.items (journal_in ids conns c)) ≡ (cond t (view_of site conn) (view_in site ids conns c)).logs) [ true ↦ refl | false ↦ logged_in site ids conns c ]
 
 pub raceless_in : (site : Site) (ids : List ℕ) (conns : List Conn) (c : ℕ) → (view_in site ids conns c).raceless ≡ true
 raceless_in site [] conns c = refl

@@ -1,11 +1,11 @@
 -- Where the wants of one connection stand among all, and how they are put in place of others.
-use Rattle.std.proofs.Common.{◌≡◌, ◌≢◌, ℕ, ◌+◌, ◌-◌, ◌<◌, ◌≤◌, Bool, true, false, cond, eqb, nat_lt, List, [], ◌∷◌, ◌++◌, length, take, drop, get_or, ◌⊎◌, inl, inr, refl, sym, ap, ◌∙◌, subst, arith, append_assoc, length-append, suc, zero}
+use Rattle.std.proofs.Common.{◌≡◌, ◌≢◌, ℕ, ◌+◌, ◌-◌, ◌<◌, ◌≤◌, Bool, true, false, cond, eqb, nat_lt, List, [], ◌∷◌, ◌++◌, length, take, drop, get_or, ◌⊎◌, inl, inr, refl, sym, ap, ◌∙◌, subst, arith, append_assoc, length-append, length-drop, suc, zero}
 use Rattle.std.specs.List.{AllByRecursion}
 use Rattle.std.specs.List.Sorted.{IsPartitionedBy, IsPartitionPoint}
 use Rattle.std.proofs.Math.Seq.{get_or-append_right}
 use Rattle.std.proofs.lemmas.Bool.{cases_lt}
 use Rattle.std.proofs.lemmas.Bool.Decides.{nat_tests}
-use Rattle.std.proofs.lemmas.List.{get_or_append_left}
+use Rattle.std.proofs.lemmas.List.{get_or_append_left, length-take, take_all}
 use Rattle.std.specs.Borrow.{Bor}
 use Rattle.std.specs.Prelude.{Option, None, Some, is_some, map, not, option_copied}
 use Rattle.ngx_outside.specs.declared.event.Want.{Want}
@@ -102,13 +102,68 @@ back_is n zs xs ys e s = ap (drop n) e ∙ ap (λ k. drop k (xs ++ ys)) (sym s) 
     drop_there [] ys = refl
     drop_there (x ∷ xs) ys = drop_there xs ys
 
+-- what stands from one place on comes to stand at another before it
+pub moved_down : {X : Type 0} (xs mid new : List X) (from to n size : ℕ) → to ≤ from → from ≤ length xs → n ≡ length xs - from → size ≡ to + n →
+    mid ≡ (take to xs ++ take n (drop from xs)) ++ drop (to + n) xs → new ≡ take size mid → new ≡ take to xs ++ drop from xs
+moved_down xs mid new from to n size before within count whole m k =
+    k ∙ ap (take size) (m ∙ ap (λ l. (take to xs ++ l) ++ drop (to + n) xs) all) ∙ front_is size ((take to xs ++ drop from xs) ++ drop (to + n) xs) (take to xs ++ drop from xs) (drop (to + n) xs) refl sizes
+  where
+    behind : length (drop from xs) ≡ length xs - from
+    behind = length-drop from xs
+
+    all : take n (drop from xs) ≡ drop from xs
+    all = take_all n (drop from xs) (omega (arith, behind, count))
+
+    sizes : length (take to xs ++ drop from xs) ≡ size
+    sizes = let e = length-append (take to xs) (drop from xs) in let f = length-take to xs in omega (arith, e, f, behind, count, whole, before, within)
+
+-- the last stand in place of as many others
+pub put_there : (xs mid new lower own higher last : List Want) (start count len n : ℕ) → xs ≡ lower ++ (own ++ (higher ++ last)) → length lower ≡ start → length own ≡ count → length last ≡ count → len ≡ length xs - count → n ≡ length xs - len →
+    mid ≡ (take start xs ++ take n (drop len xs)) ++ drop (start + n) xs → new ≡ take len mid → new ≡ lower ++ (last ++ higher)
+put_there xs mid new lower own higher last start count len n whole a b c l r m k =
+    k ∙ ap (take len) turned ∙ front_is len ((lower ++ last) ++ (higher ++ last)) ((lower ++ last) ++ higher) last (sym (append_assoc (lower ++ last) higher last)) sizes ∙ append_assoc lower last higher
+  where
+    long : length xs ≡ length lower + (length own + (length higher + length last))
+    long =
+        let e = ap length whole in
+        let f = length-append lower (own ++ (higher ++ last)) in
+        let g = length-append own (higher ++ last) in
+        let h = length-append higher last in
+        omega (arith, e, f, g, h)
+
+    some : n ≡ count
+    some = omega (arith, r, l, long, c)
+
+    ahead : length (lower ++ (own ++ higher)) ≡ len
+    ahead = let f = length-append lower (own ++ higher) in let g = length-append own higher in omega (arith, f, g, l, long, c)
+
+    parted_last : xs ≡ (lower ++ (own ++ higher)) ++ last
+    parted_last = whole ∙ ap (λ r. lower ++ r) (sym (append_assoc own higher last)) ∙ sym (append_assoc lower (own ++ higher) last)
+
+    parted_own : xs ≡ (lower ++ own) ++ (higher ++ last)
+    parted_own = whole ∙ sym (append_assoc lower own (higher ++ last))
+
+    placed : length (lower ++ own) ≡ start + count
+    placed = let f = length-append lower own in omega (arith, f, a, b)
+
+    turned : mid ≡ (lower ++ last) ++ (higher ++ last)
+    turned =
+        m ∙ ap (λ i. (take start xs ++ take i (drop len xs)) ++ drop (start + i) xs) some
+        ∙ ap (λ z. (z ++ take count (drop len xs)) ++ drop (start + count) xs) (front_is start xs lower (own ++ (higher ++ last)) whole a)
+        ∙ ap (λ z. (lower ++ take count z) ++ drop (start + count) xs) (back_is len xs (lower ++ (own ++ higher)) last parted_last ahead)
+        ∙ ap (λ z. (lower ++ z) ++ drop (start + count) xs) (take_all count last (omega (arith, c)))
+        ∙ ap (λ z. (lower ++ last) ++ z) (back_is (start + count) xs (lower ++ own) (higher ++ last) parted_own placed)
+
+    sizes : length ((lower ++ last) ++ higher) ≡ len
+    sizes = let f = length-append (lower ++ last) higher in let g = length-append lower last in omega (arith, f, g, l, long, b, c)
+
 -- the last stand in place of some others
 pub settled : (xs mid new lower own higher last : List Want) (start gone added : ℕ) → xs ≡ lower ++ (own ++ (higher ++ last)) → length lower ≡ start → length own ≡ gone → length last ≡ added →
     mid ≡ take start xs ++ (drop (length (drop start xs) - added) (drop start xs) ++ take (length (drop start xs) - added) (drop start xs)) →
-    new ≡ take (length mid - gone) (take (start + added) mid ++ (drop gone (drop (start + added) mid) ++ take gone (drop (start + added) mid))) →
-    new ≡ lower ++ (last ++ higher)
+    new ≡ take (start + added) mid ++ drop (start + added + gone) mid → new ≡ lower ++ (last ++ higher)
 settled xs mid new lower own higher last start gone added whole a b c m n =
-    n ∙ ap (take (length mid - gone)) turned ∙ front_is (length mid - gone) (lower ++ (last ++ (higher ++ own))) (lower ++ (last ++ higher)) own regrouped sizes
+    n ∙ ap (λ l. l ++ drop (start + added + gone) mid) (front_is (start + added) mid (lower ++ last) (own ++ higher) grouped size)
+    ∙ ap (λ l. (lower ++ last) ++ l) (back_is (start + added + gone) mid ((lower ++ last) ++ own) higher apart sizes) ∙ append_assoc lower last higher
   where
     tail : drop start xs ≡ (own ++ higher) ++ last
     tail = back_is start xs lower (own ++ (higher ++ last)) whole a ∙ sym (append_assoc own higher last)
@@ -128,28 +183,11 @@ settled xs mid new lower own higher last start gone added whole a b c m n =
     size : length (lower ++ last) ≡ start + added
     size = let e = length-append lower last in omega (arith, e, a, c)
 
-    rest : drop (start + added) mid ≡ own ++ higher
-    rest = back_is (start + added) mid (lower ++ last) (own ++ higher) grouped size
+    apart : mid ≡ ((lower ++ last) ++ own) ++ higher
+    apart = grouped ∙ sym (append_assoc (lower ++ last) own higher)
 
-    turned : take (start + added) mid ++ (drop gone (drop (start + added) mid) ++ take gone (drop (start + added) mid)) ≡ lower ++ (last ++ (higher ++ own))
-    turned =
-        ap (λ l. l ++ (drop gone (drop (start + added) mid) ++ take gone (drop (start + added) mid))) (front_is (start + added) mid (lower ++ last) (own ++ higher) grouped size)
-        ∙ ap (λ l. (lower ++ last) ++ (l ++ take gone (drop (start + added) mid))) (back_is gone (drop (start + added) mid) own higher rest b)
-        ∙ ap (λ l. (lower ++ last) ++ (higher ++ l)) (front_is gone (drop (start + added) mid) own higher rest b)
-        ∙ append_assoc lower last (higher ++ own)
-
-    regrouped : lower ++ (last ++ (higher ++ own)) ≡ (lower ++ (last ++ higher)) ++ own
-    regrouped = ap (λ l. lower ++ l) (sym (append_assoc last higher own)) ∙ sym (append_assoc lower (last ++ higher) own)
-
-    sizes : length (lower ++ (last ++ higher)) ≡ length mid - gone
-    sizes =
-        let e = ap length first in
-        let f = length-append lower (last ++ (own ++ higher)) in
-        let g = length-append last (own ++ higher) in
-        let h = length-append own higher in
-        let i = length-append lower (last ++ higher) in
-        let j = length-append last higher in
-        omega (arith, e, f, g, h, i, j, b)
+    sizes : length ((lower ++ last) ++ own) ≡ start + added + gone
+    sizes = let e = length-append (lower ++ last) own in omega (arith, e, size, b)
 
 -- how many wants there are
 read_count : (number : ℕ) (o : Option ℕ) → length (read_want number o) ≡ tally (is_some o)

@@ -1,7 +1,7 @@
 -- What the core shows.
 use Rattle.std.specs.Prelude.{◌≡◌, ℕ, Bool, true, List, map, Option, None}
 use Rattle.http_types.specs.declared.words.Addr.{Addr}
-use Rattle.ngx_outside.specs.Views.{ConnView, Course, Start, start_of, IsSound}
+use Rattle.ngx_outside.specs.Views.{ConnView, Course, Start, start_of, log_of, IsSound}
 use Rattle.ngx_outside.specs.declared.event.Entry.{Entry}
 use Rattle.ngx_outside.specs.Records.{Given}
 use Rattle.connection.specs.Conn.{fresh_course}
@@ -43,11 +43,12 @@ refused_at h = h.refused
 abbrev pub events_at : Hub → Option (List Given)
 events_at h = None
 
--- what is so of each connection that a core shows: it is sound, its journal tells when its requests started, and the order of
--- steps can't change its bytes
+-- what is so of each connection that a core shows: it is sound, its journal tells when its requests started and what is logged
+-- of each, and the order of steps can't change its bytes
 pub record IsShown (h : Hub) (c : ℕ) : Type 0 where
   pub sound : IsSound (view_at h c)
   pub started : map start_of (journal_at h c) ≡ (view_at h c).starts
+  pub logged : map log_of (journal_at h c) ≡ (view_at h c).logs
   pub raceless : (view_at h c).raceless ≡ true
 
 abbrev pub AllShown : Type 0

@@ -3,7 +3,7 @@ ghost use Rattle.connection_core.specs.Core.{AllShown};
 
 use connection::connections_are_sound;
 
-/// What a core shows of each connection is sound, and its journal tells when its requests started.
+/// What a core shows of each connection is sound, and its journal tells when its requests started and what is logged of each.
 pub fn cores_are_sound()
     ensures { AllShown }
 {

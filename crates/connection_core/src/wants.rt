@@ -110,11 +110,23 @@ fn move_last(wants: &mut Vec<Want>, start: usize, count: usize)
 // Takes out the wants from `start` on, so many.
 fn take_out(wants: &mut Vec<Want>, start: usize, count: usize)
     requires { start + count ≤ vec_len wants.old }
-    ensures items { wants.new.items ≡ take (length wants.old.items - count) (take start wants.old.items ++ (drop count (drop start wants.old.items) ++ take count (drop start wants.old.items))) }
+    ensures items { wants.new.items ≡ take start wants.old.items ++ drop (start + count) wants.old.items }
     ensures capacity { vec_capacity wants.new ≡ vec_capacity wants.old }
 {
-    wants[start..].rotate_left(count);
-    wants.truncate(wants.len() - count);
+    let len = wants.len() - count;
+    wants.copy_within(start + count.., start);
+    wants.truncate(len);
+}
+
+// Puts the last wants, so many, in place of as many that begin at `start`: what stands between them stays where it is.
+fn put_last(wants: &mut Vec<Want>, start: usize, count: usize)
+    requires { start + count + count ≤ vec_len wants.old }
+    ensures items { (lower own higher last : List AWant) → wants.old.items ≡ lower ++ (own ++ (higher ++ last)) → length lower ≡ start → length own ≡ count → length last ≡ count → wants.new.items ≡ lower ++ (last ++ higher) }
+    ensures capacity { vec_capacity wants.new ≡ vec_capacity wants.old }
+{
+    let len = wants.len() - count;
+    wants.copy_within(len.., start);
+    wants.truncate(len);
 }
 
 // Puts the last wants, `added` of them, in place of the `gone` that begin at `start`.
@@ -123,8 +135,12 @@ fn settle(wants: &mut Vec<Want>, start: usize, gone: usize, added: usize)
     ensures items { (lower own higher last : List AWant) → wants.old.items ≡ lower ++ (own ++ (higher ++ last)) → length lower ≡ start → length own ≡ gone → length last ≡ added → wants.new.items ≡ lower ++ (last ++ higher) }
     ensures capacity { vec_capacity wants.new ≡ vec_capacity wants.old }
 {
-    move_last(wants, start, added);
-    take_out(wants, start + added, gone);
+    if gone == added {
+        put_last(wants, start, added);
+    } else {
+        move_last(wants, start, added);
+        take_out(wants, start + added, gone);
+    }
 }
 
 // Writes the wants of a connection in place of all from `start` on.

@@ -2,10 +2,12 @@
 use Rattle.std.proofs.Common.{◌≡◌, Bool, true, false, List, [], ◌∷◌, ◌++◌, refl, sym, ap, subst, ◌∙◌}
 use Rattle.std.specs.Prelude.{ℕ, map, Option}
 use Rattle.std.proofs.lemmas.List.{map-append, append_cancel_left}
-use Rattle.ngx_outside.specs.Records.{Adds, LinkAnswer, FileAnswer, Held}
+use Rattle.ngx_outside.specs.Records.{Adds, Given, LinkAnswer, FileAnswer, Held}
 use Rattle.memory_outside.specs.declared.answers.LinkTold.{LinkTold}
 use Rattle.memory_outside.specs.declared.answers.FileTold.{FileTold}
+use Rattle.memory_outside.specs.declared.telling.GivenEvent.{GivenEvent}
 use Rattle.memory_outside.specs.Answered.{told_by, link_answer, file_answer}
+use Rattle.memory_outside.specs.Events.{given_event}
 
 -- one answer more
 added : {A B : Type 0} (f : A → B) (a : A) (whole whole' : Bool) (kept kept' : List A) →
@@ -25,6 +27,11 @@ pub file_added : (a : FileTold) (b : FileAnswer) (whole whole' : Bool) (kept kep
 file_added a b whole whole' kept kept' e h =
     subst (λ (c : FileAnswer). Adds c (told_by file_answer whole kept) (told_by file_answer whole' kept')) (sym e) (added file_answer a whole whole' kept kept' h)
 
+pub event_added : (a : GivenEvent) (b : Given) (whole whole' : Bool) (kept kept' : List GivenEvent) → given_event a ≡ b →
+    (whole' ≡ true → (whole ≡ true) × (kept' ≡ kept ++ a ∷ [])) → Adds b (told_by given_event whole kept) (told_by given_event whole' kept')
+event_added a b whole whole' kept kept' e h =
+    subst (λ (c : Given). Adds c (told_by given_event whole kept) (told_by given_event whole' kept')) e (added given_event a whole whole' kept kept' h)
+
 -- nothing is told any more
 pub links_stopped : (b : LinkAnswer) (old : Option (List LinkAnswer)) (whole : Bool) (kept : List LinkTold) → whole ≡ false → Adds b old (told_by link_answer whole kept)
 links_stopped b old false kept e = λ later n. cc
@@ -33,6 +40,10 @@ links_stopped b old true kept e = cc
 pub files_stopped : (b : FileAnswer) (old : Option (List FileAnswer)) (whole : Bool) (kept : List FileTold) → whole ≡ false → Adds b old (told_by file_answer whole kept)
 files_stopped b old false kept e = λ later n. cc
 files_stopped b old true kept e = cc
+
+pub events_stopped : (b : Given) (old : Option (List Given)) (whole : Bool) (kept : List GivenEvent) → whole ≡ false → Adds b old (told_by given_event whole kept)
+events_stopped b old false kept e = λ later n. cc
+events_stopped b old true kept e = cc
 
 -- what a read added is what was kept of it
 pub read_kept : (old new piece : List ℕ) (before after : Option (List FileAnswer)) → new ≡ old ++ piece → Adds (Held piece) before after →

@@ -32,7 +32,7 @@ pub(crate) enum LinkTold {
 
 /// What a stat or a read of a file answered.
 #[derive(Drop)]
-pub(crate) enum FileTold {
+pub enum FileTold {
     Stood(Node),
     Held(ByteText),
     Failed,
@@ -49,7 +49,7 @@ impl<T: Drop> Answers<T> {
         }
     }
 
-    fn add(&mut self, answer: T)
+    pub(crate) fn add(&mut self, answer: T)
         ensures { self.new.whole ≡ true → (self.old.whole ≡ true) × (self.new.kept.items ≡ self.old.kept.items ++ answer ∷ []) }
     {
         match self.kept.push(answer) {
@@ -58,7 +58,7 @@ impl<T: Drop> Answers<T> {
         }
     }
 
-    fn stop(&mut self)
+    pub(crate) fn stop(&mut self)
         ensures { self.new.whole ≡ false }
     {
         self.whole = false;

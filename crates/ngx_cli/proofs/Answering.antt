@@ -6,7 +6,7 @@ use Rattle.replay_text.specs.declared.parts.EventLine.{EventLine}
 use Rattle.replay_text.specs.declared.parts.EventLine.TheVariants as line
 use Rattle.ngx_outside.specs.Views.{ConnView, Course, IsSound, is_live}
 use Rattle.ngx_outside.specs.declared.event.StopCause.{StopCause}
-use Rattle.ngx_outside.specs.Runs.{Tracked, AllIsSentWhenIdle, AllIsSentWhenShut}
+use Rattle.ngx_outside.specs.Runs.{Tracked, AllIsSentWhenIdle, AllIsSentWhenShut, AllIsLoggedWhenIdle}
 use Rattle.replay_run.specs.Told.{Told}
 use Rattle.replay_run.specs.declared.lane.LinkEnds.{LinkEnds}
 use Rattle.replay_run.specs.Plays.{AreOpenedBy}
@@ -41,8 +41,8 @@ live_by false cause h c = cc
 live : (v : ConnView) → v.held ≡ true → v.cause ≡ None → is_live v ≡ true
 live v h c = live_by v.held v.cause h c
 
-pub answered : AllIsSentWhenIdle → AllIsSentWhenShut → (site : Site) (told : Told) (v : ConnView) (lane : Lane) (sent : List ℕ) → v.held ≡ true → IsSound v → Standing (fresh_course site) told v lane sent → Answered site told v lane sent
-answered sent_all shut_sent_all site told v lane sent h sound standing =
+pub answered : AllIsSentWhenIdle → AllIsSentWhenShut → AllIsLoggedWhenIdle → (site : Site) (told : Told) (v : ConnView) (lane : Lane) (sent : List ℕ) → v.held ≡ true → IsSound v → Standing (fresh_course site) told v lane sent → Answered site told v lane sent
+answered sent_all shut_sent_all logged_all site told v lane sent h sound standing =
     let s = seen site told v lane sent h standing in
     record {
       ends = s.ends;
@@ -54,6 +54,8 @@ answered sent_all shut_sent_all site told v lane sent h sound standing =
       whole = λ i trees agree later. sent_all (fresh_course site s.ends.local s.ends.peer) told.trees told.newest v s.came lane.went s.tracked sound i refl trees agree later;
       closes = λ c shut given trees agree more later.
           shut_sent_all (fresh_course site s.ends.local s.ends.peer) told.trees told.newest v s.came lane.went s.tracked sound (live v h c) shut (s.ended ∙ given) refl trees agree more later;
+      logged = λ trees agree. s.tracked.logged refl trees agree;
+      all_logged = λ i trees agree later. logged_all (fresh_course site s.ends.local s.ends.peer) told.trees told.newest v s.came lane.went s.tracked sound i refl trees agree later;
     }
 
 -- before a run nothing stands on any connection

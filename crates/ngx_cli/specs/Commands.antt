@@ -1,16 +1,18 @@
 -- What the program ends with, and when.
-use Rattle.std.specs.Prelude.{◌≡◌, ◌⊎◌, ℕ, Bool, true, List, [], ◌++◌, Option, None, Some, Result, Ok, Err}
+use Rattle.std.specs.Prelude.{◌≡◌, ◌⊎◌, ℕ, ◌+◌, ◌-◌, ◌^◌, min, length, ◌∷◌, Bool, true, List, [], ◌++◌, Option, None, Some, Result, Ok, Err}
 use Rattle.file_tree.specs.Tree.{Tree, text_of}
 use Rattle.ngx_outside.specs.Causes.{Rose}
+use Rattle.ready_loop.specs.Seen.{FilesSeen}
 use Rattle.ready_loop.specs.declared.service.Ending.{Ending}
 use Rattle.ready_loop.specs.declared.service.Ending.TheVariants as ending
 use Rattle.replay_text.specs.declared.faults.ScriptFault.{ScriptFault}
 use Rattle.conf_text.specs.declared.fault.ConfFault.{ConfFault}
 use Rattle.conf_text.specs.declared.fault.FaultKind.TheVariants.{ReadFault}
-use Rattle.site_model.specs.Levels.{SiteView, seen}
+use Rattle.site_model.specs.Levels.{ServerView, SiteView, seen}
 use Rattle.conf_include.specs.Listings.{Names, IsNaming}
 use Rattle.report_text.specs.Lines.{ended}
 use Rattle.report_text.specs.Faults.{conf_fault_line}
+use Rattle.report_text.specs.Counts.{counts_text}
 use Rattle.site_model.specs.declared.site.Site.{Site}
 use Rattle.ngx_cli.specs.declared.script.Outcome.{Outcome}
 use Rattle.ngx_cli.specs.declared.script.Outcome.TheVariants as outcome
@@ -19,7 +21,7 @@ use Rattle.ngx_cli.specs.declared.status.Status.TheVariants as status
 use Rattle.ngx_cli.specs.Running.{Replays}
 use Rattle.ngx_cli.specs.Sites.{site_at}
 use Rattle.site_service.specs.Serving.{Outside, Serving}
-use Rattle.ngx_cli.specs.Words.{Request, Replay, Serve}
+use Rattle.ngx_cli.specs.Words.{Request, Check, Replay, Serve}
 
 -- the status that the program ends with
 abbrev pub code_of : Status → ℕ
@@ -78,23 +80,23 @@ ReplayEnds tell tree faults faults' out path status.OutOfMemory = Printed out []
 ReplayEnds tell tree faults faults' out path s = ⊥
 
 -- The configuration at a path comes to this, as far as the files tell and their newest tree stays.
-abbrev pub Describes : Outside → List ℕ → Result SiteView (ConfFault × List ℕ) → Type 0
-Describes o path outcome =
-    o.files_tell ≡ true → o.files'.newest ≡ o.files.newest → (names : Names) → IsNaming (o.files.trees o.files.newest) names →
-    site_at (o.files.trees o.files.newest) names path ≡ outcome
+abbrev pub Describes : (tell : Bool) → (files files' : FilesSeen) → List ℕ → Result SiteView (ConfFault × List ℕ) → Type 0
+Describes tell files files' path outcome =
+    tell ≡ true → files'.newest ≡ files.newest → (names : Names) → IsNaming (files.trees files.newest) names →
+    site_at (files.trees files.newest) names path ≡ outcome
 
 -- The site of the configuration at a path was served. Nothing was printed.
 pub record Served (o : Outside) (out : Output) (path : List ℕ) (turns : ℕ) (e : Ending) : Type 0 where
   pub site : Site
-  pub described : Describes o path (Ok (seen site))
+  pub described : Describes o.files_tell o.files o.files' path (Ok (seen site))
   pub serving : Serving site turns e o
   pub printed : Printed out []
 
 -- the configuration at a path has this first fault, which was printed with the path of its file
-pub record Faulty (o : Outside) (out : Output) (path : List ℕ) : Type 0 where
+pub record Faulty (tell : Bool) (files files' : FilesSeen) (out : Output) (path : List ℕ) : Type 0 where
   pub fault : ConfFault
   pub at : List ℕ
-  pub described : Describes o path (Err (fault, at))
+  pub described : Describes tell files files' path (Err (fault, at))
   pub printed : Printed out (ended (conf_fault_line at fault))
 
 -- a file couldn't be read, which was printed, with the path of the file that names it
@@ -104,12 +106,33 @@ pub record Unread (out : Output) : Type 0 where
   pub kind : fault.kind ≡ ReadFault
   pub printed : Printed out (ended (conf_fault_line at fault))
 
+-- how many locations the servers have
+unfoldable pub locations_of : List ServerView → ℕ
+locations_of [] = 0
+locations_of (server ∷ servers) = length server.locations + locations_of servers
+
+-- The configuration at a path describes a site, and how many servers and locations it has was printed, as far as 64 bits
+-- count them.
+pub record Counted (tell : Bool) (files files' : FilesSeen) (out : Output) (path : List ℕ) : Type 0 where
+  pub site : Site
+  pub described : Describes tell files files' path (Ok (seen site))
+  pub printed : Printed out (counts_text (length (seen site).servers) (min (locations_of (seen site).servers) (2 ^ 64 - 1)))
+
+-- When each status of a check comes.
+abbrev pub CheckEnds : (tell : Bool) → (files files' : FilesSeen) → Output → (path : List ℕ) → Status → Type 0
+CheckEnds tell files files' out path status.Done = Counted tell files files' out path
+CheckEnds tell files files' out path status.ConfFault = Faulty tell files files' out path
+CheckEnds tell files files' out path status.FilesFault = Rose files.faults files'.faults × Unread out
+CheckEnds tell files files' out path status.SinkFault = Rose out.faults out.faults'
+CheckEnds tell files files' out path status.OutOfMemory = Printed out []
+CheckEnds tell files files' out path s = ⊥
+
 -- When each status of serving comes: at 0 no notice will come any more, for which `over` stands; at 9 all turns were taken; a
 -- fault of the files while the configuration was read, of the links themselves, or of the output is counted by these.
 abbrev pub ServeEnds : (over : Bool) → Outside → Output → (path : List ℕ) → (turns : ℕ) → Status → Type 0
 ServeEnds over o out path turns status.Done = (over ≡ true) × Served o out path turns ending.Ended
 ServeEnds over o out path turns status.TurnsUsed = Served o out path turns ending.TurnsUsed
-ServeEnds over o out path turns status.ConfFault = Faulty o out path
+ServeEnds over o out path turns status.ConfFault = Faulty o.files_tell o.files o.files' out path
 ServeEnds over o out path turns status.FilesFault = Rose o.files.faults o.files'.faults × Unread out
 ServeEnds over o out path turns status.LinksFault =
     Rose o.links_faults o.links_faults' × (Served o out path turns ending.ListenFault ⊎ Served o out path turns ending.NextFault)
@@ -120,6 +143,7 @@ ServeEnds over o out path turns s = ⊥
 -- When each status comes, by what the words ask for. Words that are no command print nothing.
 abbrev pub Ends : (over : Bool) → Option Request → Outside → Output → Status → Type 0
 Ends over None o out s = (s ≡ status.Usage) × Printed out []
+Ends over (Some (Check path)) o out s = CheckEnds o.files_tell o.files o.files' out path s
 Ends over (Some (Replay path)) o out s = ReplayEnds o.files_tell (o.files.trees o.files.newest) o.files.faults o.files'.faults out path s
 Ends over (Some (Serve path turns)) o out s = ServeEnds over o out path turns s
 
@@ -129,3 +153,10 @@ PutsFault out at fault (Ok u) = Printed out (ended (conf_fault_line at fault))
 PutsFault out at fault (Err status.SinkFault) = Rose out.faults out.faults'
 PutsFault out at fault (Err status.OutOfMemory) = Printed out []
 PutsFault out at fault (Err s) = ⊥
+
+-- the counts of a site were printed, or the output failed, or memory ran out
+abbrev pub PutsCounts : Output → SiteView → Status → Type 0
+PutsCounts out site status.Done = Printed out (counts_text (length site.servers) (min (locations_of site.servers) (2 ^ 64 - 1)))
+PutsCounts out site status.SinkFault = Rose out.faults out.faults'
+PutsCounts out site status.OutOfMemory = Printed out []
+PutsCounts out site s = ⊥

@@ -1,7 +1,7 @@
 -- A run of a script, from its bytes to what is printed of it.
 use Rattle.std.specs.Prelude.{◌≡◌, ℕ, true, false, is_some, List, [], ◌∷◌, ◌++◌, map, Contains, None, Some, Result, Ok, Err, if◌then◌else◌}
 use Rattle.file_tree.specs.Tree.{Trees}
-use Rattle.ngx_outside.specs.Views.{ConnView, Start, start_of, is_idle, nobody}
+use Rattle.ngx_outside.specs.Views.{ConnView, Start, Logged, start_of, log_of, is_idle, nobody}
 use Rattle.ngx_outside.specs.Runs.{IsPrefixOf, Agree}
 use Rattle.ngx_outside.specs.declared.event.Entry.{Entry}
 use Rattle.replay_text.specs.Grammar.{script_of}
@@ -19,7 +19,7 @@ use Rattle.conf_text.specs.declared.fault.ConfFault.{ConfFault}
 use Rattle.replay_confs.specs.Confs.{conf_tree}
 use Rattle.site_model.specs.Levels.{SiteView, seen}
 use Rattle.site_model.specs.declared.site.Site.{Site}
-use Rattle.connection.specs.Answers.{answers, service_of}
+use Rattle.connection.specs.Answers.{answers, answer_logs, service_of}
 use Rattle.connection.specs.Conn.{fresh_course}
 use Rattle.report_text.specs.declared.report.ConnState.{ConnState}
 use Rattle.report_text.specs.declared.report.ConnState.TheVariants.{Stopped, Idle, Busy}
@@ -66,7 +66,8 @@ report_in s journals c = record {
 -- what the script's files told: what was emitted is the beginning of the answers that the site gives to these bytes at these
 -- ends, by the requests that were started; while no cause stops the connection, what was emitted and what is still to come
 -- are the answers, however it goes on; where it is idle, all has been emitted; and where it is to be closed before the core was
--- told that its input has ended, that is so whatever else would come.
+-- told that its input has ended, that is so whatever else would come. What is logged of its requests are the statuses and the
+-- lengths of bodies of these answers, of each but at most the last; where it is idle, of each.
 pub record Answered (site : Site) (told : Told) (v : ConnView) (lane : Lane) (sent : List ℕ) : Type 0 where
   pub ends : LinkEnds
   pub opened : lane.ends ≡ Some ends
@@ -78,6 +79,8 @@ pub record Answered (site : Site) (told : Told) (v : ConnView) (lane : Lane) (se
   pub whole : is_idle v ≡ true → (trees : Trees) → Agree told.trees told.newest trees → (later : List Start) → answers (service_of site ends.local ends.peer) 0 trees came (v.starts ++ later) ≡ lane.went
   pub closes : v.cause ≡ None → v.shut ≡ true → is_given lane.tail ≡ false → (trees : Trees) → Agree told.trees told.newest trees → (more : List ℕ) (later : List Start) →
       answers (service_of site ends.local ends.peer) 0 trees (came ++ more) (v.starts ++ later) ≡ lane.went
+  pub logged : (trees : Trees) → Agree told.trees told.newest trees → Logged v.logs (answer_logs (service_of site ends.local ends.peer) 0 trees came v.starts)
+  pub all_logged : is_idle v ≡ true → (trees : Trees) → Agree told.trees told.newest trees → (later : List Start) → v.logs ≡ map (λ l. Some l) (answer_logs (service_of site ends.local ends.peer) 0 trees came (v.starts ++ later))
 
 -- A run of a script's lines, over its tree, on a new core of a site, and the text that is printed of it: a report on each connection, by
 -- number, and the counts of the lines that were skipped and refused. The ends of each connection are those of a line that
@@ -93,6 +96,7 @@ pub record Ran (site : Site) (tree : List TreeLine) (events : List EventLine) (t
   pub held : AreHeld conns last.view
   pub journals : ℕ → List Entry
   pub started : (c : ℕ) → map start_of (journals c) ≡ (last.view c).starts
+  pub logged : (c : ℕ) → map log_of (journals c) ≡ (last.view c).logs
   pub opened : (c : ℕ) (ends : LinkEnds) → (last.lanes c).ends ≡ Some ends → Contains events (line.Open c ends.local ends.peer)
   pub printed : text ≡ run_text (map (report_in last journals) conns) skipped refused
   pub answered : (c : ℕ) → Contains conns c → Answered site (told_in events (told_first tree)) (last.view c) (last.lanes c) (sent_in events c)

@@ -22,8 +22,9 @@ unfoldable pub turns_of : List ℕ → Option ℕ
 turns_of word =
     if list_all is_digit word && (nat_le 1 (value_behind 0 word) && nat_le (value_behind 0 word) most_turns) then Some (value_behind 0 word) else None
 
--- what the words ask for: a script that is to be run, or a configuration that is to be served
+-- what the words ask for: a configuration that is to be read, a script that is to be run, or a configuration that is to be served
 pub data Request : Type 0 where
+  Check : (path : List ℕ) → Request
   Replay : (path : List ℕ) → Request
   Serve : (path : List ℕ) → (turns : ℕ) → Request
 
@@ -33,13 +34,19 @@ serve_after path (Some turns) = Some (Serve path turns)
 
 -- a command as the code gives it
 abbrev pub request_of : Command → Request
+request_of (command.Check conf) = Check conf.now
 request_of (command.Replay script) = Replay script.now
 request_of (command.Serve conf turns) = Serve conf.now turns
 
--- the program's name and `replay PATH`, `serve PATH` or `serve PATH --turns N`
+-- `check PATH`, `replay PATH` or `serve PATH`
+abbrev pub request_for : (command path : List ℕ) → Option Request
+request_for command path =
+    if bytes_eq command (codes "check") then Some (Check path)
+    else (if bytes_eq command (codes "replay") then Some (Replay path) else (if bytes_eq command (codes "serve") then Some (Serve path most_turns) else None))
+
+-- the program's name and one of these, or `serve PATH --turns N`
 abbrev pub request_in : List (List ℕ) → Option Request
-request_in (program ∷ command ∷ path ∷ []) =
-    if bytes_eq command (codes "replay") then Some (Replay path) else (if bytes_eq command (codes "serve") then Some (Serve path most_turns) else None)
+request_in (program ∷ command ∷ path ∷ []) = request_for command path
 request_in (program ∷ command ∷ path ∷ flag ∷ turns ∷ []) =
     if bytes_eq command (codes "serve") && bytes_eq flag (codes "--turns") then serve_after path (turns_of turns) else None
 request_in words = None

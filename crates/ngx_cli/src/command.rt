@@ -5,6 +5,7 @@ ghost use Rattle.ngx_cli.specs.Words.{request_in};
 ghost use Rattle.ngx_cli.specs.Commands.{Ends, ReplayEnds, ServeEnds, PutsFault, code_of};
 ghost use Rattle.ngx_cli.specs.declared.status.Status.{Status as Ended};
 
+use crate::check::run_check;
 use crate::script::{placed_fault_text, replay};
 use crate::site::site_at;
 use crate::status::{Status, served_status, status_of};
@@ -35,8 +36,12 @@ fn run_script<F: Files, O: Sink>(alloc: Global, path: &[u8], files: &mut F, out:
     }
 }
 
-// Prints a fault of a configuration; where that fails, what the program ends with.
-fn put_fault<O: Sink>(alloc: Global, placed: &PlacedFault, out: &mut O) -> Result<(), Status>
+/// Prints a fault of a configuration; where that fails, what the program ends with.
+pub(crate) fn put_fault<O: Sink>(
+    alloc: Global,
+    placed: &PlacedFault,
+    out: &mut O,
+) -> Result<(), Status>
     ensures { PutsFault (record { tells = O.tells out.old; written = O.written out.old; written' = O.written out.new; faults = O.faults out.old; faults' = O.faults out.new }) placed.now.path placed.now.fault result }
 {
     let mut text = ByteText::new(alloc);
@@ -101,6 +106,7 @@ fn run<F: Files, L: Links, C: Clock, O: Sink>(
 {
     match command_of(words) {
         None => Status::Usage,
+        Some(Command::Check { conf }) => run_check(alloc, conf.as_bytes(), files, out),
         Some(Command::Replay { script }) => run_script(alloc, script.as_bytes(), files, out),
         Some(Command::Serve { conf, turns }) => {
             run_site(alloc, conf.as_bytes(), turns, files, links, clock, out)
@@ -111,10 +117,12 @@ fn run<F: Files, L: Links, C: Clock, O: Sink>(
 /// The program: does what its words ask for, with these files, links, clock and output, and answers the exit status of the
 /// process. The links and the clock are new.
 ///
-/// The words are the program's name and one of these. `replay SCRIPT`: the script is run on a new core of the site that its
-/// configuration describes, and what each connection came to is printed. `serve CONF`, or `serve CONF --turns N`: the site
-/// that the configuration describes is served on its addresses, until no notice comes any more, or for N turns, from 1 to
-/// 1000000000, which is also how many are taken where none are said. Serving prints nothing but faults.
+/// The words are the program's name and one of these. `check CONF`: the configuration is read with what it includes, and
+/// `servers N locations M` is printed, M being the locations of all its servers; nothing is printed of variables, since no
+/// directive that is served sets one. `replay SCRIPT`: the script is run on a new core of the site that its configuration
+/// describes, and what each connection came to is printed. `serve CONF`, or `serve CONF --turns N`: the site that the
+/// configuration describes is served on its addresses, until no notice comes any more, or for N turns, from 1 to 1000000000,
+/// which is also how many are taken where none are said. Serving prints nothing but faults.
 ///
 /// 0: done; of serving, no notice will come any more. 1: the configuration has a fault, which is printed. 2: the words are no
 /// command. 4: the files failed; where a configuration was read, that is printed. 5: the output failed. 6: listening or the

@@ -1,6 +1,7 @@
 //! The program: its commands, over any files, links, clock and output.
 #![tactic(auto)]
 
+mod check;
 mod command;
 mod laws;
 mod script;

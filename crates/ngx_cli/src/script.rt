@@ -14,7 +14,9 @@ use crate::site::site_at;
 use byte_text::{ByteText, OutOfMemory};
 use conf_include::{ExpandError, PlacedFault};
 use connection_core::{Hub, cores_are_sound};
-use ngx_outside::{StopCause, all_is_sent_when_idle, all_is_sent_when_shut, tracks_begin};
+use ngx_outside::{
+    StopCause, all_is_logged_when_idle, all_is_sent_when_idle, all_is_sent_when_shut, tracks_begin,
+};
 use replay_confs::ConfFiles;
 use replay_run::{Counts, Player, files_of, run_lines};
 use replay_text::{Conf, Confs, EventLine, ScriptError, ScriptFault, TreeLine, read};
@@ -113,6 +115,7 @@ fn run(
     tracks_begin();
     all_is_sent_when_idle();
     all_is_sent_when_shut();
+    all_is_logged_when_idle();
     cores_are_sound();
     let mut hub = Hub::new(alloc, site)?;
     let mut player = Player::new(alloc);

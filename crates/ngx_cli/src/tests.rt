@@ -27,6 +27,9 @@ const CONF: &[u8] = b"http { include part; }";
 
 const PART: &[u8] = b"server { listen 80; location / { return 200 hi; } }";
 
+const TWO: &[u8] =
+    b"http { server { listen 80; location / { return 200 hi; } location /a { return 204; } } server { listen 81; location / { return 200 ho; } } }";
+
 const BAD: &[u8] = b"http {\nserves; }";
 
 const REQUEST: &[u8] = b"GET / HTTP/1.1\r\nHost: a\r\n\r\n";
@@ -57,6 +60,7 @@ fn files_of(alloc: Global, failing: Option<FileCall>) -> Result<MemoryFiles, Fai
         (b"/nothing".as_slice(), INCLUDING_NOTHING),
         (b"/c".as_slice(), CONF),
         (b"/part".as_slice(), PART),
+        (b"/two".as_slice(), TWO),
         (b"/bad".as_slice(), BAD),
     ];
     for (path, text) in stored {
@@ -237,6 +241,32 @@ fn faults_are_printed_with_their_file(rt: HostRuntime) -> Result<(), Fail> {
         shown.printed.as_slice(),
         b"fault 10 ReadFault /c:1 /part\n".as_slice()
     );
+    Ok(())
+}
+
+#[test]
+fn configurations_are_checked(rt: HostRuntime) -> Result<(), Fail> {
+    let alloc = rt.alloc();
+    let cases: [(&str, Option<FileCall>, bool, u8, &[u8]); 6] = [
+        ("/two", None, false, 0, b"servers 2 locations 3\n"),
+        ("/c", None, false, 0, b"servers 1 locations 1\n"),
+        ("/bad", None, false, 1, b"fault 11 Unknown /bad:2 serves\n"),
+        ("/none", None, false, 1, b"fault 6 NotThere /none:1 /none\n"),
+        (
+            "/c",
+            Some(FileCall::Stat(1)),
+            false,
+            4,
+            b"fault 10 ReadFault /c:1 /part\n",
+        ),
+        ("/two", None, true, 5, b""),
+    ];
+    for (conf, file, full, status, printed) in cases {
+        let words = ["ngx", "check", conf];
+        let shown = run(alloc, words.as_slice(), file, None, false, full)?;
+        assert_eq!(rt; shown.status, status);
+        assert_eq!(rt; shown.printed.as_slice(), printed);
+    }
     Ok(())
 }
 

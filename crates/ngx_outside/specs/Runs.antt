@@ -1,8 +1,8 @@
 -- What has come and gone on a connection since it was opened.
-use Rattle.std.specs.Prelude.{◌≡◌, ℕ, ◌≤◌, true, false, List, [], ◌++◌}
+use Rattle.std.specs.Prelude.{◌≡◌, ℕ, ◌≤◌, true, false, List, [], ◌++◌, map, Some}
 use Rattle.file_tree.specs.Tree.{Trees}
 use Rattle.ngx_outside.specs.Outside.{Grow}
-use Rattle.ngx_outside.specs.Views.{ConnView, Course, Start, Ground, Holds, Fresh, Went, Stopped, is_live, is_idle, IsSound}
+use Rattle.ngx_outside.specs.Views.{ConnView, Course, Start, Ground, Holds, Fresh, Went, Stopped, Log, Logged, is_live, is_idle, IsSound}
 use Rattle.ngx_outside.specs.declared.event.StopCause.{StopCause}
 
 abbrev pub IsPrefixOf : List ℕ → List ℕ → Type 0
@@ -15,12 +15,17 @@ pub record Agree (told : Trees) (newest : ℕ) (trees : Trees) : Type 0 where
 -- On a connection on which `whole` was to come at its opening these bytes came and those went. Whether the order of steps
 -- can't change the bytes is known from its opening. Where it can't, for all trees that agree with what was told: what went is
 -- the beginning of what was to come; while the connection is live, what went and what is still to come is all that was to
--- come, however it goes on; and what is foreseen of subrequests now was foreseen at its opening.
+-- come, however it goes on; what is logged of its requests are the logs of the responses that were to come; and what is
+-- foreseen of subrequests now was foreseen at its opening.
 pub record Tracked (whole : Course) (told : Trees) (newest : ℕ) (v : ConnView) (came went : List ℕ) : Type 0 where
   pub raceless : v.raceless ≡ whole.raceless
   pub front : whole.raceless ≡ true → (trees : Trees) → Agree told newest trees → IsPrefixOf went (whole.bytes trees came v.starts)
   pub on : is_live v ≡ true → whole.raceless ≡ true → (trees : Trees) → Agree told newest trees → (more : List ℕ) (later : List Start) →
       whole.bytes trees (came ++ more) (v.starts ++ later) ≡ went ++ v.course.bytes trees more later
+  pub logged : whole.raceless ≡ true → (trees : Trees) → Agree told newest trees → Logged v.logs (whole.logs trees came v.starts)
+  pub shown : is_live v ≡ true → (trees : Trees) (more : List ℕ) (later : List Start) → Logged v.logs (v.course.logs trees more later)
+  pub logs : is_live v ≡ true → whole.raceless ≡ true → (trees : Trees) → Agree told newest trees → (more : List ℕ) (later : List Start) →
+      whole.logs trees (came ++ more) (v.starts ++ later) ≡ v.course.logs trees more later
   pub heavy : is_live v ≡ true → whole.raceless ≡ true → (trees : Trees) → Agree told newest trees → (more : List ℕ) (later : List Start) →
       v.course.heavy trees more later ≡ true → whole.heavy trees (came ++ more) (v.starts ++ later) ≡ true
 
@@ -61,3 +66,10 @@ AllIsSentWhenShut =
     (whole : Course) (told : Trees) (newest : ℕ) (v : ConnView) (came went : List ℕ) →
     Tracked whole told newest v came went → IsSound v → is_live v ≡ true → v.shut ≡ true → v.ended ≡ false → whole.raceless ≡ true →
     (trees : Trees) → Agree told newest trees → (more : List ℕ) (later : List Start) → whole.bytes trees (came ++ more) (v.starts ++ later) ≡ went
+
+-- where a connection is idle each of its requests is over, and logged
+abbrev pub AllIsLoggedWhenIdle : Type 0
+AllIsLoggedWhenIdle =
+    (whole : Course) (told : Trees) (newest : ℕ) (v : ConnView) (came went : List ℕ) →
+    Tracked whole told newest v came went → IsSound v → is_idle v ≡ true → whole.raceless ≡ true →
+    (trees : Trees) → Agree told newest trees → (later : List Start) → v.logs ≡ map (λ l. Some l) (whole.logs trees came (v.starts ++ later))

@@ -1,5 +1,5 @@
 -- What a core shows of a connection, and what an event does to it.
-use Rattle.std.specs.Prelude.{◌≡◌, ◌≢◌, ℕ, ◌+◌, ◌*◌, ◌==◌, ◌<◌, ◌≤◌, min, Bool, true, false, ◌&&◌, is_none, List, [], ◌∷◌, ◌++◌, length, take, Contains, Option, None, Some, if◌then◌else◌, ◌⊎◌}
+use Rattle.std.specs.Prelude.{◌≡◌, ◌≢◌, ℕ, ◌+◌, ◌*◌, ◌==◌, ◌<◌, ◌≤◌, min, Bool, true, false, ◌&&◌, is_none, List, [], ◌∷◌, ◌++◌, length, take, map, Contains, Option, None, Some, if◌then◌else◌, ◌⊎◌}
 use Rattle.file_tree.specs.Tree.{Trees, IsFrom, is_fitting}
 use Rattle.file_tree.specs.declared.job.Ask.{Ask}
 use Rattle.file_tree.specs.declared.job.JobAnswer.{JobAnswer}
@@ -21,11 +21,21 @@ pub record Start : Type 0 where
 abbrev pub start_of : Entry → Start
 start_of e = record { moment = e.moment; tree = e.tree }
 
--- What is still to come on a connection if its jobs are answered from these trees, these bytes arrive and further requests
--- start so: the bytes; and whether a request then asks for more subrequests than are made for one. And whether the order of
--- the connection's steps can't change its bytes.
+-- what is logged of a response: its status, and the length of its body in bytes
+abbrev pub Log : Type 0
+Log = ℕ × ℕ
+
+-- nothing is logged of a request until its response is made
+abbrev pub log_of : Entry → Option Log
+log_of e = e.log
+
+-- What comes of a connection if its jobs are answered from these trees, these bytes arrive and further requests start so: the
+-- bytes that are still to come; the logs of all its responses, one after another, of those that are over too; and whether a
+-- request then asks for more subrequests than are made for one. And whether the order of the connection's steps can't change
+-- its bytes.
 pub record Course : Type 0 where
   pub bytes : Trees → List ℕ → List Start → List ℕ
+  pub logs : Trees → List ℕ → List Start → List Log
   pub heavy : Trees → List ℕ → List Start → Bool
   pub raceless : Bool
 
@@ -35,14 +45,15 @@ pub record Job : Type 0 where
   pub ask : Ask
 
 -- A connection as a core shows it: whether it is held, and why it was stopped, if it was; what is to be written next; the
--- requests that were started; what is still to come; and how many bytes it takes now, the nodes that can run and the jobs,
--- each by node number, whether its link is to be closed, whether its input has ended, whether the order of its steps can't
--- change its bytes, and the moment at which it is given up.
+-- requests that were started, and what is logged of each; what comes of it; and how many bytes it takes now, the nodes that
+-- can run and the jobs, each by node number, whether its link is to be closed, whether its input has ended, whether the order
+-- of its steps can't change its bytes, and the moment at which it is given up.
 pub record ConnView : Type 0 where
   pub held : Bool
   pub cause : Option StopCause
   pub pending : List ℕ
   pub starts : List Start
+  pub logs : List (Option Log)
   pub course : Course
   pub room : Option ℕ
   pub ready : List ℕ
@@ -80,7 +91,8 @@ nobody =
       cause = None;
       pending = [];
       starts = [];
-      course = record { bytes = λ trees more later. []; heavy = λ trees more later. false; raceless = true };
+      logs = [];
+      course = record { bytes = λ trees more later. []; logs = λ trees more later. []; heavy = λ trees more later. false; raceless = true };
       room = None;
       ready = [];
       jobs = [];
@@ -108,33 +120,47 @@ Holds Always trees = Unit {0}
 Holds (Answers ask answer) trees = IsFrom trees ask answer
 Holds (Raceless raceless) trees = raceless ≡ true
 
+-- Of a connection's requests these are the logs, in their order, where all its responses have those: the log of each that is
+-- over, and nothing yet of the last one, where that isn't.
+pub record Logged (logs : List (Option Log)) (all : List Log) : Type 0 where
+  pub over : List Log
+  pub later : List Log
+  pub first : all ≡ over ++ later
+  pub told : (logs ≡ map (λ l. Some l) over) ⊎ (logs ≡ map (λ l. Some l) over ++ None ∷ [])
+
 -- From old to new these bytes came, those went and these requests started. For all trees for which the ground holds, what
--- was still to come, with the bytes and the starts in front, is what went and what is still to come.
+-- was still to come, with the bytes and the starts in front, is what went and what is still to come; and the logs of all
+-- responses are the same.
 pub record Moved (ground : Ground) (old new : ConnView) (came went : List ℕ) (started : List Start) : Type 0 where
   pub starts : new.starts ≡ old.starts ++ started
   pub raceless : new.raceless ≡ old.raceless
   pub bytes : (trees : Trees) → Holds ground trees → (more : List ℕ) (later : List Start) →
       old.course.bytes trees (came ++ more) (started ++ later) ≡ went ++ new.course.bytes trees more later
+  pub logs : (trees : Trees) → Holds ground trees → (more : List ℕ) (later : List Start) →
+      old.course.logs trees (came ++ more) (started ++ later) ≡ new.course.logs trees more later
   pub heavy : (trees : Trees) → Holds ground trees → (more : List ℕ) (later : List Start) →
       new.course.heavy trees more later ≡ true → old.course.heavy trees (came ++ more) (started ++ later) ≡ true
 
--- an event that was done on a live connection, which stays live
+-- an event that was done on a live connection, which stays live, and of whose requests the logs are those of its responses
 pub record Went (ground : Ground) (old new : ConnView) (came went : List ℕ) (started : List Start) : Type 0 where
   pub before : is_live old ≡ true
   pub after : is_live new ≡ true
   pub moved : Moved ground old new came went started
+  pub logged : (trees : Trees) (more : List ℕ) (later : List Start) → Logged new.logs (new.course.logs trees more later)
 
 -- at most one request starts, and it starts now
 abbrev pub IsStart : Start → List Start → Type 0
 IsStart now started = (started ≡ []) ⊎ (started ≡ now ∷ [])
 
--- how a connection is stopped: what was started stays, and nothing is to be done but to close it
+-- how a connection is stopped: what was started and logged stays, and nothing is to be done but to close it
 pub record Stopped (cause : StopCause) (old new : ConnView) (started : List Start) : Type 0 where
   pub before : is_live old ≡ true
   pub held : new.held ≡ true
   pub why : new.cause ≡ Some cause
   pub pending : new.pending ≡ []
   pub starts : new.starts ≡ old.starts ++ started
+  pub logs : new.logs ≡ old.logs ++ map (λ s. None) started
+  pub logged : (all : List Log) → Logged old.logs all → Logged new.logs all
   pub raceless : new.raceless ≡ old.raceless
 
 -- how a connection begins, from what is to come on it
@@ -142,6 +168,7 @@ pub record Fresh (course : Course) (new : ConnView) : Type 0 where
   pub live : is_live new ≡ true
   pub pending : new.pending ≡ []
   pub starts : new.starts ≡ []
+  pub logs : new.logs ≡ []
   pub comes : new.course ≡ course
   pub ended : new.ended ≡ false
   pub raceless : new.raceless ≡ course.raceless
@@ -298,8 +325,9 @@ pub record IsSound (v : ConnView) : Type 0 where
   -- none reads behind the end of its input, and an idle one that isn't to be closed reads
   pub silent : v.ended ≡ true → v.room ≡ None
   pub reads : is_idle v ≡ true → v.shut ≡ false → v.room ≢ None
-  -- an idle one has nothing more to come, and neither has a live one that is to be closed; where its input hasn't ended,
-  -- nothing comes whatever arrives
+  -- an idle one has nothing more to come, all its responses are logged, and a live one that is to be closed has nothing more
+  -- to come either; where its input hasn't ended, nothing comes whatever arrives
   pub idle : is_idle v ≡ true → (trees : Trees) (later : List Start) → v.course.bytes trees [] later ≡ []
+  pub logged : is_idle v ≡ true → (trees : Trees) (later : List Start) → v.logs ≡ map (λ l. Some l) (v.course.logs trees [] later)
   pub shut : is_live v ≡ true → v.shut ≡ true → (trees : Trees) (later : List Start) → v.course.bytes trees [] later ≡ []
   pub closes : is_live v ≡ true → v.shut ≡ true → v.ended ≡ false → (trees : Trees) (more : List ℕ) (later : List Start) → v.course.bytes trees more later ≡ []

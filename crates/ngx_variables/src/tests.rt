@@ -1,38 +1,29 @@
 use super::*;
-use byte_text::ByteText;
+use byte_text::{ByteText, OutOfMemory};
 use http_header::{HeaderMap, HeaderName, HeaderValue};
 use http_types::{Addr, Method, Version};
 use std::alloc::Global;
 use std::net::{IpAddr, Ipv4Addr, Ipv6Addr};
+use std::process::Abort;
 use std::test::Fail;
 
-fn text(alloc: Global, bytes: &[u8]) -> Result<ByteText, Fail> {
-    Ok(ByteText::from_slice(alloc, bytes)?)
+/// What a text is evaluated with.
+#[derive(Drop)]
+struct World {
+    main: Main,
+    request: Request,
+    vars: VarTable,
 }
 
-fn fields(alloc: Global) -> Result<HeaderMap, Fail> {
-    let mut fields = HeaderMap::new(alloc);
-    for (name, value) in [
-        (b"x-a".as_slice(), b"1".as_slice()),
-        (b"cookie", b"a=1;  B=2 ; c=3"),
-        (b"x-a", b"2"),
-        (b"cookie", b"d=4"),
-        (b"content-type", b"text/plain"),
-    ] {
-        let name = HeaderName::from_bytes(alloc, name)?;
-        fields.append(name, HeaderValue::from_bytes(alloc, value)?)?;
-    }
-    Ok(fields)
-}
-
-fn main_request(alloc: Global) -> Result<Main, Fail> {
-    Ok(Main {
-        received: text(alloc, b"GET http://H.x:1/q?a=1 HTTP/1.1")?,
+/// A main request of empty texts.
+fn empty_main(alloc: Global) -> Main {
+    Main {
+        received: ByteText::new(alloc),
         method: Method::Get,
         version: Version::V11,
-        target: text(alloc, b"http://H.x:1/q?a=1")?,
-        host: text(alloc, b"h.x")?,
-        server_name: text(alloc, b"s.x")?,
+        target: ByteText::new(alloc),
+        host: ByteText::new(alloc),
+        server_name: ByteText::new(alloc),
         local: Addr {
             ip: IpAddr::V4(Ipv4Addr::new(10, 0, 0, 1)),
             port: 80,
@@ -43,87 +34,158 @@ fn main_request(alloc: Global) -> Result<Main, Fail> {
         },
         moment: 0,
         tree: 0,
-        date: text(alloc, b"Thursday, 01-Jan-1970 00:00:00 GMT")?,
-        fields: fields(alloc)?,
-        folder: text(alloc, b"/etc/ngx")?,
-    })
+        date: ByteText::new(alloc),
+        fields: HeaderMap::new(alloc),
+        folder: ByteText::new(alloc),
+    }
 }
 
-fn request(alloc: Global) -> Result<Request, Fail> {
-    let mut groups = Groups::new(alloc);
-    groups.push(b"one")?;
-    groups.push(b"two")?;
+fn empty_world(alloc: Global) -> World {
+    World {
+        main: empty_main(alloc),
+        request: Request {
+            method: Method::Get,
+            path: ByteText::new(alloc),
+            args: ByteText::new(alloc),
+            groups: Groups::new(alloc),
+            place: None,
+            role: Role::Main,
+        },
+        vars: VarTable::new(alloc),
+    }
+}
+
+// The texts are written into what is there already, so that no call has anything to let go where memory runs out.
+
+fn write_main(main: &mut Main) -> Result<(), OutOfMemory> {
+    main.received.extend(b"GET http://H.x:1/q?a=1 HTTP/1.1")?;
+    main.target.extend(b"http://H.x:1/q?a=1")?;
+    main.host.extend(b"h.x")?;
+    main.server_name.extend(b"s.x")?;
+    main.date.extend(b"Thursday, 01-Jan-1970 00:00:00 GMT")?;
+    main.folder.extend(b"/etc/ngx")
+}
+
+fn add_field(alloc: Global, fields: &mut HeaderMap, name: &[u8], value: &[u8]) -> Result<(), Fail> {
+    let name = HeaderName::from_bytes(alloc, name)?;
+    fields.append(name, HeaderValue::from_bytes(alloc, value)?)?;
+    Ok(())
+}
+
+fn add_fields(alloc: Global, fields: &mut HeaderMap) -> Result<(), Fail> {
+    add_field(alloc, fields, b"x-a", b"1")?;
+    add_field(alloc, fields, b"cookie", b"a=1;  B=2 ; c=3")?;
+    add_field(alloc, fields, b"x-a", b"2")?;
+    add_field(alloc, fields, b"cookie", b"d=4")?;
+    add_field(alloc, fields, b"content-type", b"text/plain")
+}
+
+fn write_request(request: &mut Request) -> Result<(), OutOfMemory> {
+    request.path.extend(b"/i//x.html")?;
+    request.args.extend(b"b&a=1&A=2&c=")?;
+    request.groups.push(b"one")?;
+    request.groups.push(b"two")
+}
+
+/// The place of an alias, copied once.
+fn alias(alloc: Global) -> Result<Place, Fail> {
+    let text = Value::compile(alloc, b"docs/$v/")?;
     let place = Place::Rest {
-        text: Value::compile(alloc, b"docs/$v/")?,
-        prefix: text(alloc, b"/i/")?,
+        text,
+        prefix: ByteText::from_slice(alloc, b"/i/")?,
     };
-    Ok(Request {
-        method: Method::Get,
-        path: text(alloc, b"/i//x.html")?,
-        args: text(alloc, b"b&a=1&A=2&c=")?,
-        groups,
-        place: Some(place.copy(alloc)?),
-        role: Role::Main,
-    })
+    Ok(place.copy(alloc)?)
 }
 
-#[test]
-fn every_variable_has_its_text(rt: HostRuntime) -> Result<(), Fail> {
-    let alloc = rt.alloc();
-    let main = main_request(alloc)?;
-    let request = request(alloc)?;
-    let mut vars = VarTable::new(alloc);
+fn put_variables(vars: &mut VarTable) -> Result<(), OutOfMemory> {
     vars.put(b"v", b"old")?;
     vars.put(b"w", b"y")?;
-    vars.put(b"v", b"z")?;
-    for (value, wanted) in [
-        (b"".as_slice(), b"".as_slice()),
-        (b"a b", b"a b"),
-        (b"<$uri|${DOCUMENT_URI}>", b"</i//x.html|/i//x.html>"),
-        (b"$args $query_string", b"b&a=1&A=2&c= b&a=1&A=2&c="),
-        (b"$is_args$arg_A|$arg_b|$arg_c|$arg_d", b"?1|||"),
-        (b"$document_root", b"docs/z/"),
-        (b"$request_filename", b"/etc/ngx/docs/z/x.html"),
-        (b"$1x$2$3", b"onextwo"),
-        (b"$12", b"one2"),
-        (b"$request_uri", b"/q?a=1"),
-        (b"$request_method $server_protocol", b"GET HTTP/1.1"),
-        (b"$request", b"GET http://H.x:1/q?a=1 HTTP/1.1"),
-        (b"$host$server_name", b"h.xs.x"),
-        (b"$http_x_a", b"1, 2"),
-        (b"$http_y", b""),
-        (b"$cookie_a$cookie_b$cookie_d$cookie_e", b"124"),
-        (b"$content_type$content_length", b"text/plain"),
-        (b"$remote_addr", b"2001:db8::1"),
-        (b"$remote_port", b"40000"),
-        (b"$server_addr:$server_port", b"10.0.0.1:80"),
-        (b"$scheme$https", b"http"),
-        (b"$date_gmt", b"Thursday, 01-Jan-1970 00:00:00 GMT"),
-        (b"$v$w$u", b"zy"),
-    ] {
-        let mut out = ByteText::new(alloc);
-        Value::compile(alloc, value)?.eval(alloc, &main, &request, &vars, &mut out)?;
-        assert_eq!(rt; out.as_slice(), wanted);
+    vars.put(b"v", b"z")
+}
+
+fn fill(alloc: Global, world: &mut World) -> Result<(), Fail> {
+    write_main(&mut world.main)?;
+    add_fields(alloc, &mut world.main.fields)?;
+    write_request(&mut world.request)?;
+    world.request.place = Some(alias(alloc)?);
+    put_variables(&mut world.vars)?;
+    Ok(())
+}
+
+fn evaluated(alloc: Global, world: &World, text: &[u8]) -> Result<ByteText, Fail> {
+    let value = Value::compile(alloc, text)?;
+    let mut out = ByteText::new(alloc);
+    value.eval(alloc, &world.main, &world.request, &world.vars, &mut out)?;
+    Ok(out)
+}
+
+fn has_text(
+    rt: &impl Abort,
+    alloc: Global,
+    world: &World,
+    text: &[u8],
+    wanted: &[u8],
+) -> Result<(), Fail> {
+    let out = evaluated(alloc, world, text)?;
+    assert_eq!(rt; out.as_slice(), wanted);
+    Ok(())
+}
+
+/// Texts with variables, each with what it is evaluated to.
+const TEXTS: [(&[u8], &[u8]); 23] = [
+    (b"", b""),
+    (b"a b", b"a b"),
+    (b"<$uri|${DOCUMENT_URI}>", b"</i//x.html|/i//x.html>"),
+    (b"$args $query_string", b"b&a=1&A=2&c= b&a=1&A=2&c="),
+    (b"$is_args$arg_A|$arg_b|$arg_c|$arg_d", b"?1|||"),
+    (b"$document_root", b"docs/z/"),
+    (b"$request_filename", b"/etc/ngx/docs/z/x.html"),
+    (b"$1x$2$3", b"onextwo"),
+    (b"$12", b"one2"),
+    (b"$request_uri", b"/q?a=1"),
+    (b"$request_method $server_protocol", b"GET HTTP/1.1"),
+    (b"$request", b"GET http://H.x:1/q?a=1 HTTP/1.1"),
+    (b"$host$server_name", b"h.xs.x"),
+    (b"$http_x_a", b"1, 2"),
+    (b"$http_y", b""),
+    (b"$cookie_a$cookie_b$cookie_d$cookie_e", b"124"),
+    (b"$content_type$content_length", b"text/plain"),
+    (b"$remote_addr", b"2001:db8::1"),
+    (b"$remote_port", b"40000"),
+    (b"$server_addr:$server_port", b"10.0.0.1:80"),
+    (b"$scheme$https", b"http"),
+    (b"$date_gmt", b"Thursday, 01-Jan-1970 00:00:00 GMT"),
+    (b"$v$w$u", b"zy"),
+];
+
+fn all_have_their_texts(rt: &impl Abort, alloc: Global, world: &mut World) -> Result<(), Fail> {
+    fill(alloc, world)?;
+    for (text, wanted) in &TEXTS {
+        has_text(rt, alloc, world, text, wanted)?;
     }
     Ok(())
 }
 
 #[test]
+fn every_variable_has_its_text(rt: HostRuntime) -> Result<(), Fail> {
+    let mut world = empty_world(rt.alloc());
+    all_have_their_texts(&rt, rt.alloc(), &mut world)
+}
+
+fn is_refused(rt: &impl Abort, alloc: Global, text: &str, wanted: ValueFault) {
+    match Value::compile(alloc, text.as_bytes()) {
+        Ok(_) => assert!(rt; false, "{text} was read"),
+        Err(fault) => assert_eq!(rt; fault, wanted),
+    }
+}
+
+#[test]
 fn a_bad_text_is_refused(rt: HostRuntime) -> Result<(), Fail> {
-    let alloc = rt.alloc();
-    for (value, wanted) in [
-        (b"$".as_slice(), ValueFault::BadName),
-        (b"a$-b", ValueFault::BadName),
-        (b"${}", ValueFault::BadName),
-        (b"${a b}", ValueFault::BadName),
-        (b"${a", ValueFault::Unclosed),
-        (b"${a$", ValueFault::Unclosed),
-        (b"$$", ValueFault::BadName),
-    ] {
-        match Value::compile(alloc, value) {
-            Ok(_) => assert!(rt; false),
-            Err(fault) => assert_eq!(rt; fault, wanted),
-        }
+    for text in "$\na$-b\n${}\n${a b}\n$$".lines() {
+        is_refused(&rt, rt.alloc(), text, ValueFault::BadName);
+    }
+    for text in "${a\n${a$".lines() {
+        is_refused(&rt, rt.alloc(), text, ValueFault::Unclosed);
     }
     assert!(rt; is_builtin(b"arg_x"));
     assert!(rt; !is_builtin(b"arg_"));

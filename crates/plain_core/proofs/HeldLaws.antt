@@ -6,17 +6,17 @@ use Rattle.std.proofs.lemmas.List.{append-nil}
 use Rattle.file_tree.specs.Tree.{is_fitting}
 use Rattle.file_tree.specs.declared.job.Ask.{Ask}
 use Rattle.file_tree.specs.declared.job.JobAnswer.{JobAnswer}
-use Rattle.ngx_outside.specs.Views.{ConnView, Course, Fresh, OneSteps, Ticked, Waits, Unmoved, IsSound, Start, kept_moment, nobody, ask_in, no_bytes, no_nodes}
+use Rattle.ngx_outside.specs.Views.{ConnView, Course, Fresh, OneSteps, Ticked, Waits, Unmoved, IsSound, Start, Log, kept_moment, nobody, ask_in, no_bytes, no_nodes}
 use Rattle.ngx_outside.specs.Wants.{wants_at, wants_in, read_want}
-use Rattle.ngx_outside.specs.declared.event.Entry.{Entry}
+use Rattle.plain_core.specs.declared.conn.Request.{Request}
 use Rattle.ngx_outside.specs.declared.event.Want.{Want}
 use Rattle.ngx_outside.specs.declared.event.Want.TheVariants as want
 use Rattle.plain_core.specs.declared.conn.Life.{Life}
 use Rattle.plain_core.specs.declared.conn.Life.TheVariants as life
-use Rattle.plain_core.specs.Lines.{has_line, answers}
-use Rattle.plain_core.specs.Shown.{shown_at, is_absent_at, reads_at, can_run_at, is_shut_at}
+use Rattle.plain_core.specs.Lines.{has_line, requests, answers, logs}
+use Rattle.plain_core.specs.Shown.{shown_at, logs_in, is_absent_at, reads_at, can_run_at, is_shut_at}
 use Rattle.plain_core.specs.Held.{at_conn, conns_at, want_if}
-use Rattle.plain_core.proofs.LineLaws.{answers-none}
+use Rattle.plain_core.proofs.LineLaws.{requests-none}
 
 test_yes : (a b : ℕ) → a ≡ b → eqb a b ≡ true
 test_yes a b e = grind (arith, nat_tests)
@@ -45,7 +45,7 @@ other_step n c Does v e d = record {
 }
 
 -- an absent connection is nobody
-pub absent_is : (reply input output : List ℕ) (l : Life) (journal : List Entry) (ended : Bool) (due : ℕ) → is_absent_at l ≡ true →
+pub absent_is : (reply input output : List ℕ) (l : Life) (journal : List Request) (ended : Bool) (due : ℕ) → is_absent_at l ≡ true →
     shown_at reply l input output journal ended due ≡ nobody
 absent_is reply input output life.Absent journal ended due h = refl
 absent_is reply input output life.Live journal ended due h = cc
@@ -73,7 +73,7 @@ unfolding kept_moment
 kept_is now = refl
 
 -- no job waits
-pub jobs_none : (reply input output : List ℕ) (l : Life) (journal : List Entry) (ended : Bool) (due : ℕ) → (shown_at reply l input output journal ended due).jobs ≡ []
+pub jobs_none : (reply input output : List ℕ) (l : Life) (journal : List Request) (ended : Bool) (due : ℕ) → (shown_at reply l input output journal ended due).jobs ≡ []
 jobs_none reply input output life.Absent journal ended due = refl
 jobs_none reply input output life.Live journal ended due = refl
 jobs_none reply input output (life.Stopped cause) journal ended due = refl
@@ -95,7 +95,7 @@ pub job_step : (n c node : ℕ) (v : ConnView) → v.jobs ≡ [] → OneSteps c 
 job_step n c node v e = record { own = record { same = refl; cause = no_ask n c node v e }; others = λ k ne. refl }
 
 -- the wants of the connection, as they are added
-pub wants_are : (n : ℕ) (reply input output : List ℕ) (l : Life) (journal : List Entry) (ended : Bool) (due : ℕ) →
+pub wants_are : (n : ℕ) (reply input output : List ℕ) (l : Life) (journal : List Request) (ended : Bool) (due : ℕ) →
     ((([] ++ want_if (reads_at l ended) (want.Read n 4096)) ++ want_if (can_run_at l input output) (want.Run n 0))
     ++ want_if (not (no_bytes (shown_at reply l input output journal ended due).pending)) (want.Write n))
     ++ want_if (is_shut_at l input output ended) (want.Close n)
@@ -130,7 +130,7 @@ no_bytes_is [] = refl
 no_bytes_is (x ∷ xs) = test_no (length (x ∷ xs)) 0 (λ e. omega arith)
 
 -- the wants, written anew
-pub refilled : (n : ℕ) (reply input output pending : List ℕ) (l : Life) (journal : List Entry) (ended : Bool) (due : ℕ) (reads runs empty shut : Bool)
+pub refilled : (n : ℕ) (reply input output pending : List ℕ) (l : Life) (journal : List Request) (ended : Bool) (due : ℕ) (reads runs empty shut : Bool)
     (w0 w1 w2 w3 w4 : List Want) → reads ≡ reads_at l ended → runs ≡ can_run_at l input output → empty ≡ eqb (length pending) 0 →
     pending ≡ (shown_at reply l input output journal ended due).pending → shut ≡ is_shut_at l input output ended →
     w0 ≡ [] → w1 ≡ w0 ++ want_if reads (want.Read n 4096) → w2 ≡ w1 ++ want_if runs (want.Run n 0) → w3 ≡ w2 ++ want_if (not empty) (want.Write n) →
@@ -143,9 +143,13 @@ refilled n reply input output pending l journal ended due reads runs empty shut 
     ∙ ap (λ t. ((([] ++ want_if (reads_at l ended) (want.Read n 4096)) ++ want_if (can_run_at l input output) (want.Run n 0)) ++ want_if (not (no_bytes (shown_at reply l input output journal ended due).pending)) (want.Write n)) ++ want_if t (want.Close n)) s
     ∙ wants_are n reply input output l journal ended due
 
-quiet_bytes : (reply input output : List ℕ) (later : List Start) → (no_bytes output ≡ true) × (has_line input ≡ false) → output ++ answers reply (input ++ []) later ≡ []
-quiet_bytes reply input [] later q = answers-none reply input later q.1
+quiet_bytes : (reply input output : List ℕ) (later : List Start) → (no_bytes output ≡ true) × (has_line input ≡ false) → output ++ answers reply (requests (input ++ []) later) ≡ []
+quiet_bytes reply input [] later q = ap (answers reply) (requests-none input later q.1)
 quiet_bytes reply input (b ∷ output) later q = let no : no_bytes (b ∷ output) ≡ true = q.0 in cc
+
+-- and no log
+quiet_logs : (reply input : List ℕ) (past : List Log) (later : List Start) → has_line input ≡ false → past ++ logs reply (requests (input ++ []) later) ≡ past
+quiet_logs reply input past later q = ap (λ asked. past ++ logs reply asked) (requests-none input later q) ∙ append-nil past
 
 idle_tests : (o h : Bool) → (o && no_nodes (cond (o && h) (0 ∷ []) []) && true) ≡ true → (o ≡ true) × (h ≡ false)
 idle_tests true true e = cc
@@ -178,7 +182,7 @@ room_is true room e = cc
 room_is false room e = let is : 4096 ≡ room = cc in omega arith
 
 -- what it shows is sound
-pub sound_at : (reply input output : List ℕ) (l : Life) (journal : List Entry) (ended : Bool) (due : ℕ) → IsSound (shown_at reply l input output journal ended due)
+pub sound_at : (reply input output : List ℕ) (l : Life) (journal : List Request) (ended : Bool) (due : ℕ) → IsSound (shown_at reply l input output journal ended due)
 sound_at reply input output life.Absent journal ended due = record {
   unsent = λ h. refl;
   unready = λ h. refl;
@@ -191,6 +195,7 @@ sound_at reply input output life.Absent journal ended due = record {
   silent = λ h. refl;
   reads = λ h. cc;
   idle = λ h trees later. cc;
+  logged = λ h trees later. cc;
   shut = λ h s trees later. cc;
   closes = λ h. cc;
 }
@@ -206,6 +211,7 @@ sound_at reply input output (life.Stopped cause) journal ended due = record {
   silent = λ h. refl;
   reads = λ h. cc;
   idle = λ h trees later. cc;
+  logged = λ h trees later. cc;
   shut = λ h s trees later. cc;
   closes = λ h. cc;
 }
@@ -221,6 +227,7 @@ sound_at reply input output life.Live journal ended due = record {
   silent = λ e. ap reading_room e;
   reads = λ h s. reading ended (no_bytes output) (has_line input) (idle_tests (no_bytes output) (has_line input) h) s;
   idle = λ h trees later. quiet_bytes reply input output later (idle_tests (no_bytes output) (has_line input) h);
+  logged = λ h trees later. ap (map (λ l. Some l)) (sym (quiet_logs reply input (logs_in journal) later (idle_tests (no_bytes output) (has_line input) h).1));
   shut = λ h s trees later. quiet_bytes reply input output later (shut_tests ended (no_bytes output) (has_line input) s);
   closes = λ h s e. absurd (unended ended (no_bytes output) (has_line input) s e);
 }

@@ -3,7 +3,7 @@ use Rattle.std.proofs.Common.{◌≡◌, ◌≢◌, ℕ, suc, ◌+◌, ◌<◌, 
 use Rattle.std.proofs.lemmas.Bool.Decides.{nat_tests}
 use Rattle.std.proofs.lemmas.List.{append-nil}
 use Rattle.ngx_outside.specs.Views.{Start}
-use Rattle.plain_core.specs.Lines.{has_line, after_line, answers}
+use Rattle.plain_core.specs.Lines.{has_line, after_line, requests}
 
 test_yes : (a b : ℕ) → a ≡ b → eqb a b ≡ true
 test_yes a b e = grind (arith, nat_tests)
@@ -76,17 +76,17 @@ after_line-append (b ∷ xs) ys h =
       | false ↦ (λ e. after_line-append xs ys e)
     ] h
 
--- a request that starts is answered by the text
-pub answers-line : (reply input more : List ℕ) (now : Start) (later : List Start) → has_line input ≡ true →
-    answers reply (input ++ more) (now ∷ later) ≡ reply ++ answers reply (after_line input ++ more) later
-unfolding answers
-answers-line reply input more now later h =
-    ap (λ t. cond t (reply ++ answers reply (after_line (input ++ more)) later) []) (has_line-append input more h)
-    ∙ ap (λ rest. reply ++ answers reply rest later) (after_line-append input more h)
+-- the first line is a request that starts now
+pub requests-line : (input more : List ℕ) (now : Start) (later : List Start) → has_line input ≡ true →
+    requests (input ++ more) (now ∷ later) ≡ now ∷ requests (after_line input ++ more) later
+unfolding requests
+requests-line input more now later h =
+    ap (λ t. cond t (now ∷ requests (after_line (input ++ more)) later) []) (has_line-append input more h)
+    ∙ ap (λ rest. now ∷ requests rest later) (after_line-append input more h)
 
--- without a line nothing more is answered
-pub answers-none : (reply input : List ℕ) (later : List Start) → has_line input ≡ false → answers reply (input ++ []) later ≡ []
-unfolding answers
-answers-none reply input [] h = refl
-answers-none reply input (now ∷ later) h =
-    ap (λ t. cond t (reply ++ answers reply (after_line (input ++ [])) later) []) (ap has_line (append-nil input) ∙ h)
+-- without a line there is none
+pub requests-none : (input : List ℕ) (later : List Start) → has_line input ≡ false → requests (input ++ []) later ≡ []
+unfolding requests
+requests-none input [] h = refl
+requests-none input (now ∷ later) h =
+    ap (λ t. cond t (now ∷ requests (after_line (input ++ [])) later) []) (ap has_line (append-nil input) ∙ h)

@@ -29,7 +29,7 @@ now_of s = record { moment = s.moment; tree = s.tree }
 
 -- on each connection that is opened the same text is to come for each line
 abbrev pub fresh_of : State → Addr → Addr → Course
-fresh_of s local peer = course_of s.conn.reply [] []
+fresh_of s local peer = course_of s.conn.reply [] [] []
 
 abbrev pub opens_of : State → ℕ → Addr → Bool
 opens_of s conn local = is_absent_at s.conn.life

@@ -1,13 +1,13 @@
 -- What the core shows of its connection.
 use Rattle.std.specs.Prelude.{◌≡◌, ◌≢◌, ℕ, ◌+◌, ◌*◌, ◌<◌, ◌≤◌, Bool, true, false, ◌&&◌, not, List, [], ◌∷◌, length, take, map, Contains, None, Some, if◌then◌else◌}
-use Rattle.ngx_outside.specs.Views.{ConnView, Start, start_of, Always, Went, Stopped, Unmoved, Takes, Refused, Ran, nobody, no_bytes, is_live}
-use Rattle.ngx_outside.specs.declared.event.Entry.{Entry}
+use Rattle.ngx_outside.specs.Views.{ConnView, Start, Log, Always, Went, Stopped, Unmoved, Takes, Refused, Ran, nobody, no_bytes, is_live}
 use Rattle.ngx_outside.specs.declared.event.StepAnswer.{StepAnswer}
 use Rattle.ngx_outside.specs.declared.event.StepAnswer.TheVariants.{Done, Skipped, OutOfMemory}
 use Rattle.ngx_outside.specs.declared.event.StopCause.TheVariants as stop
 use Rattle.plain_core.specs.declared.conn.Life.{Life}
 use Rattle.plain_core.specs.declared.conn.Life.TheVariants as life
 use Rattle.plain_core.specs.declared.conn.Conn.{Conn}
+use Rattle.plain_core.specs.declared.conn.Request.{Request}
 use Rattle.plain_core.specs.Lines.{has_line, course_of}
 
 abbrev pub is_live_at : Life → Bool
@@ -36,14 +36,23 @@ is_quiet_at input output = no_bytes output && not (has_line input)
 abbrev pub is_over : List ℕ → List ℕ → Bool → Bool
 is_over input output ended = ended && is_quiet_at input output
 
-abbrev pub shown_at : List ℕ → Life → List ℕ → List ℕ → List Entry → Bool → ℕ → ConnView
+-- when the requests started that were answered
+abbrev pub starts_in : List Request → List Start
+starts_in journal = map (λ (r : Request). record { moment = r.moment; tree = r.tree }) journal
+
+-- and what is logged of them
+abbrev pub logs_in : List Request → List Log
+logs_in journal = map (λ (r : Request). r.log) journal
+
+abbrev pub shown_at : List ℕ → Life → List ℕ → List ℕ → List Request → Bool → ℕ → ConnView
 shown_at reply life.Absent input output journal ended due = nobody
 shown_at reply (life.Stopped cause) input output journal ended due =
     record {
       held = true;
       cause = Some cause;
       pending = [];
-      starts = map start_of journal;
+      starts = starts_in journal;
+      logs = map (λ l. Some l) (logs_in journal);
       course = nobody.course;
       room = None;
       ready = [];
@@ -58,8 +67,9 @@ shown_at reply life.Live input output journal ended due =
       held = true;
       cause = None;
       pending = output;
-      starts = map start_of journal;
-      course = course_of reply input output;
+      starts = starts_in journal;
+      logs = map (λ l. Some l) (logs_in journal);
+      course = course_of reply (logs_in journal) input output;
       room = if ended then None else Some 4096;
       ready = if no_bytes output && has_line input then 0 ∷ [] else [];
       jobs = [];

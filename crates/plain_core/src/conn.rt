@@ -1,12 +1,12 @@
 // The one connection.
-ghost use Rattle.std.specs.Prelude.{◌≡◌, ◌≤◌, ◌<◌, ◌+◌, ◌*◌, ◌++◌, ◌∷◌, ℕ, List, [], true, false, length, drop, map, OnOk, OnErr};
-ghost use Rattle.ngx_outside.specs.Views.{Start, start_of, Fresh, Ticked, Stopped};
+ghost use Rattle.std.specs.Prelude.{◌≡◌, ◌≤◌, ◌<◌, ◌+◌, ◌*◌, ◌++◌, ◌∷◌, ℕ, List, [], true, false, length, drop, OnOk, OnErr};
+ghost use Rattle.ngx_outside.specs.Views.{Start, Fresh, Ticked, Stopped};
 ghost use Rattle.plain_core.specs.Lines.{has_line, course_of};
-ghost use Rattle.plain_core.specs.Shown.{shown, work_of, price_of, is_live_at, is_absent_at, is_quiet_at, reads_at, can_run_at, is_shut_at, Arrives, Ends, Writes, Fails, Runs, Goes, LeftTaken, LeftLower, LeftKept, KeepsEnd, EndsBy, TakesNo};
+ghost use Rattle.plain_core.specs.Shown.{shown, starts_in, logs_in, work_of, price_of, is_live_at, is_absent_at, is_quiet_at, reads_at, can_run_at, is_shut_at, Arrives, Ends, Writes, Fails, Runs, Goes, LeftTaken, LeftLower, LeftKept, KeepsEnd, EndsBy, TakesNo};
 
 use crate::lines::line_size;
 use byte_text::{ByteQueue, ByteText, OutOfMemory};
-use ngx_outside::{Entry, StepAnswer, StopCause};
+use ngx_outside::{StepAnswer, StopCause};
 use std::alloc::Global;
 
 /// The most bytes that are taken at once.
@@ -22,13 +22,25 @@ pub(crate) enum Life {
     Stopped(StopCause),
 }
 
+/// A request that was answered: when it started, by the clock and by the number of the tree, and what is logged of it, the
+/// status of its response and the length of its body in bytes.
+#[derive(Clone, Copy)]
+pub(crate) struct Request {
+    pub(crate) moment: u64,
+    pub(crate) tree: u64,
+    pub(crate) log: (u16, u64),
+}
+
+/// The status of each response.
+const STATUS: u16 = 200;
+
 #[derive(Drop)]
 pub(crate) struct Conn {
     pub(crate) reply: ByteText,
     pub(crate) life: Life,
     pub(crate) input: ByteQueue,
     pub(crate) output: ByteQueue,
-    pub(crate) journal: Vec<Entry>,
+    pub(crate) journal: Vec<Request>,
     pub(crate) ended: bool,
     pub(crate) due: u64,
 }
@@ -132,7 +144,7 @@ impl Conn {
 
     /// It opens, with nothing come and nothing gone.
     pub(crate) fn open(&mut self, moment: u64)
-        ensures fresh { Fresh (course_of self.old.reply [] []) (shown self.new) }
+        ensures fresh { Fresh (course_of self.old.reply [] [] []) (shown self.new) }
         ensures left { work_of self.new ≡ 2 }
         ensures reply { self.new.reply ≡ self.old.reply }
     {
@@ -215,26 +227,28 @@ impl Conn {
         StepAnswer::Done { taken: 0 }
     }
 
-    // Starts the next request, and answers it.
-    fn start(&mut self, size: usize, now: Entry) -> Result<(), OutOfMemory>
+    // Starts the next request, answers it and logs that.
+    fn start(&mut self, size: usize, moment: u64, tree: u64) -> Result<(), OutOfMemory>
         requires size { size ≤ length self.old.input }
         requires some { 0 < size }
         ensures life { self.new.life ≡ self.old.life }
         ensures ended { self.new.ended ≡ self.old.ended }
-        ensures starts { OnOk result (map start_of self.new.journal.items ≡ map start_of self.old.journal.items ++ start_of now ∷ []) }
+        ensures starts { OnOk result (starts_in self.new.journal.items ≡ starts_in self.old.journal.items ++ record { moment = moment; tree = tree } ∷ []) }
+        ensures logs { OnOk result (logs_in self.new.journal.items ≡ logs_in self.old.journal.items ++ (200, length self.old.reply) ∷ []) }
         ensures input { OnOk result (self.new.input ≡ drop size self.old.input) }
         ensures output { OnOk result (self.new.output ≡ self.old.output ++ self.old.reply) }
         ensures same { OnErr result (self.new.journal.items ≡ self.old.journal.items) }
         ensures reply { self.new.reply ≡ self.old.reply }
     {
         self.output.append(self.reply.as_slice())?;
-        self.journal.push(now)?;
+        let log = (STATUS, self.reply.len() as u64);
+        self.journal.push(Request { moment, tree, log })?;
         self.input.used(size);
         Ok(())
     }
 
-    pub(crate) fn run(&mut self, node: u32, now: Entry) -> StepAnswer
-        ensures steps { Runs (start_of now) node result (shown self.old) (shown self.new) }
+    pub(crate) fn run(&mut self, node: u32, moment: u64, tree: u64) -> StepAnswer
+        ensures steps { Runs (record { moment = moment; tree = tree }) node result (shown self.old) (shown self.new) }
         ensures ended { KeepsEnd (shown self.old) (shown self.new) }
         ensures taken { TakesNo result }
         ensures left { LeftLower result (work_of self.old) (work_of self.new) }
@@ -249,7 +263,7 @@ impl Conn {
         let Some(size) = line_size(self.input.front()) else {
             return StepAnswer::Skipped;
         };
-        match self.start(size, now) {
+        match self.start(size, moment, tree) {
             Ok(()) => StepAnswer::Done { taken: 0 },
             Err(OutOfMemory) => {
                 self.stop(StopCause::Memory);

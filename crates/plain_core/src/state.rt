@@ -7,7 +7,7 @@ ghost use Rattle.plain_core.specs.Shown.{Arrives, Ends, Writes, Fails, Runs, Goe
 ghost use Rattle.plain_core.specs.Held.{view_of, now_of, fresh_of, opens_of, left_of, price_at, refused_of, Begins, LeftBegun, RefusedBy, KeepsEnds, Ending};
 
 use crate::conn::Conn;
-use ngx_outside::{Entry, Event, StepAnswer};
+use ngx_outside::{Event, StepAnswer};
 
 /// The last second of the year 9999.
 const LAST_MOMENT: u64 = 253402300799;
@@ -34,7 +34,7 @@ fn count(refused: &mut u64, answer: StepAnswer)
 
 impl State {
     fn opened(&mut self, conn: u32) -> StepAnswer
-        ensures steps { OneSteps conn (Begins (course_of self.old.conn.reply [] []) result) (view_of self.old) (view_of self.new) }
+        ensures steps { OneSteps conn (Begins (course_of self.old.conn.reply [] [] []) result) (view_of self.old) (view_of self.new) }
         ensures ended { KeepsEnds (view_of self.old) (view_of self.new) }
         ensures taken { TakesNo result }
         ensures opens { result ≡ Skipped → is_absent_at self.old.conn.life ≡ false }
@@ -125,12 +125,7 @@ impl State {
         if conn != self.number {
             return StepAnswer::Skipped;
         }
-        let now = Entry {
-            moment: self.moment,
-            tree: self.tree,
-            log: None,
-        };
-        let answer = self.conn.run(node, now);
+        let answer = self.conn.run(node, self.moment, self.tree);
         count(&mut self.refused, answer);
         answer
     }

@@ -1,5 +1,5 @@
 -- The events of a core go on standing beside what was answered.
-use Rattle.std.proofs.Common.{◌≡◌, ℕ, Bool, true, false, List, [], ◌∷◌, ◌++◌, flat_map, length, Option, None, Some, refl, sym, ap, ◌∙◌, append_assoc}
+use Rattle.std.proofs.Common.{◌≡◌, ℕ, Bool, true, false, List, [], ◌∷◌, ◌++◌, flat_map, length, Option, None, Some, refl, sym, subst, ap, ◌∙◌, append_assoc}
 use Rattle.std.proofs.lemmas.List.{append-nil, take-append-le}
 use Rattle.std.proofs.lemmas.Grind.{flat_map-append}
 use Rattle.ngx_outside.specs.Linked.{GotWithin}
@@ -164,3 +164,29 @@ got_front input.Failed front rest h = refl
 
 pub stand_none : (events : Option (List Given)) (links : Option (List LinkAnswer)) (files : Option (List FileAnswer)) (clock : Option (List ℕ)) → StandBeside events events links links files files clock clock
 stand_none events links files clock = stand_same events events links links files files clock clock refl refl refl refl
+
+-- what came since a list was empty is all of it
+from_start : {A : Type 0} (now since : List A) → Grew (Some []) now since → now ≡ since
+from_start now since g = let none : [] ≡ g.earlier = cc in g.longer ∙ ap (λ xs. xs ++ since) (sym none)
+
+-- so all that was given stands beside all that was answered
+pub beside_from_start : {A B : Type 0} (come_of : Given → List B) (beside : A → List B) (events events' : Option (List Given)) (answers answers' : Option (List A)) →
+    events ≡ Some [] → answers ≡ Some [] → Beside come_of beside events events' answers answers' →
+    (given : List Given) (answered : List A) → events' ≡ Some given → answers' ≡ Some answered → flat_map come_of given ≡ flat_map beside answered
+beside_from_start come_of beside events events' answers answers' none unheard b given answered is are =
+    let m = b.matched given answered is are in
+    ap (flat_map come_of) (from_start given m.events_since (subst (λ o. Grew o given m.events_since) none m.events)) ∙ m.same
+    ∙ sym (ap (flat_map beside) (from_start answered m.answers_since (subst (λ o. Grew o answered m.answers_since) unheard m.answers)))
+
+alone_all : (moments : List ℕ) → flat_map alone moments ≡ moments
+alone_all [] = refl
+alone_all (m ∷ moments) = ap (λ more. m ∷ more) (alone_all moments)
+
+-- and its moments are those that the clock told
+pub moments_from_start : (events events' : Option (List Given)) (tells tells' : Bool) (told told' : List ℕ) →
+    events ≡ Some [] → tells ≡ true → tells' ≡ tells → told ≡ [] → Beside of_clock alone events events' (moments_told tells told) (moments_told tells' told') →
+    (given : List Given) → events' ≡ Some given → flat_map of_clock given ≡ told'
+moments_from_start events events' tells tells' told told' none tell stay untold b given is =
+    beside_from_start of_clock alone events events' (moments_told tells told) (moments_told tells' told') none
+    (ap (λ t. moments_told t told) tell ∙ ap (λ xs. Some xs) untold) b given told' is (ap (λ t. moments_told t told') (stay ∙ tell))
+    ∙ alone_all told'

@@ -1,13 +1,19 @@
-ghost use Rattle.std.specs.Prelude.{◌≡◌, ◌<◌, ◌≤◌, IfOk, false, ℕ};
-ghost use Rattle.memory_outside.specs.Told.{open_of};
+ghost use Rattle.std.specs.Prelude.{◌≡◌, ◌<◌, ◌≤◌, IfOk, OnOk, true, false, ℕ, List, [], Some, flat_map};
+ghost use Rattle.memory_outside.specs.Core.{core_of, events_of};
+ghost use Rattle.memory_outside.specs.Told.{open_of, answers_of};
 ghost use Rattle.memory_outside.specs.Stored.{newest_of};
+ghost use Rattle.ngx_outside.specs.Records.{Given, LinkAnswer, beside_link, of_clock};
 ghost use Rattle.plain_core.specs.Core.{view_at, now_at};
+ghost use Rattle.ready_loop.specs.Tellings.{Beside, alone, moments_told, of_link};
 
 use super::*;
 use byte_text::{ByteText, OutOfMemory};
 use http_types::Addr;
-use memory_outside::{FixedClock, LinkCall, ListClock, MemoryFiles, MemoryLinks, ScriptedNotice};
-use ngx_outside::Clock;
+use memory_outside::{
+    FixedClock, GivenEvent, LinkCall, ListClock, MemoryFiles, MemoryLinks, ScriptedNotice,
+    TellingCore,
+};
+use ngx_outside::{Clock, EventCore};
 use plain_core::PlainCore;
 use std::alloc::Global;
 use std::marker::Brand;
@@ -22,13 +28,18 @@ fn end_at(port: u16) -> Addr {
     }
 }
 
-// A peer connects that sends this, and has room for so many bytes.
-fn opened(alloc: Global, input: &[u8], window: usize) -> Result<ScriptedNotice, OutOfMemory> {
+// A peer connects that sends this, then ends or not, and has room for so many bytes.
+fn opened(
+    alloc: Global,
+    input: &[u8],
+    ends: bool,
+    window: usize,
+) -> Result<ScriptedNotice, OutOfMemory> {
     Ok(ScriptedNotice::Opened {
         local: end_at(80),
         peer: end_at(5000),
         input: ByteText::from_slice(alloc, input)?,
-        ends: false,
+        ends,
         window,
     })
 }
@@ -42,16 +53,19 @@ fn core(alloc: Global) -> Result<PlainCore, OutOfMemory>
 }
 
 // Serves these notices on an address.
-fn ending<C: Clock>(
+fn ending<E: EventCore, C: Clock>(
     alloc: Global,
-    core: &mut PlainCore,
+    core: &mut E,
     links: &mut MemoryLinks,
     clock: &mut C,
     turns: u64,
 ) -> Result<Ending, OutOfMemory>
-    requires empty { (c : ℕ) → (view_at core.old c).held ≡ false }
-    requires tree { (now_at core.old).tree ≡ 0 }
+    requires empty { (c : ℕ) → (E.view core.old c).held ≡ false }
+    requires tree { (E.now core.old).tree ≡ 0 }
     requires open { (c : ℕ) → open_of links.old c ≡ false }
+    ensures links { OnOk result (Beside of_link beside_link (E.events core.old) (E.events core.new) (answers_of links.old) (answers_of links.new)) }
+    ensures clock { OnOk result (Beside of_clock alone (E.events core.old) (E.events core.new) (moments_told (C.tells clock.old) (C.told clock.old)) (moments_told (C.tells clock.new) (C.told clock.new))) }
+    ensures tells { OnOk result (C.tells clock.new ≡ C.tells clock.old) }
 {
     let mut files = MemoryFiles::new(alloc, Vec::new(alloc));
     let addrs = [end_at(80)];
@@ -64,8 +78,8 @@ fn some_links(alloc: Global, failing: &[LinkCall]) -> Result<MemoryLinks, OutOfM
     ensures { IfOk result (λ links. (c : ℕ) → open_of links c ≡ false) }
 {
     let mut script = Vec::new(alloc);
-    script.push(opened(alloc, b"a\n", 2)?)?;
-    script.push(opened(alloc, b"b\n", 9)?)?;
+    script.push(opened(alloc, b"a\n", false, 2)?)?;
+    script.push(opened(alloc, b"b\n", false, 9)?)?;
     script.push(ScriptedNotice::Readable { id: 1 })?;
     script.push(ScriptedNotice::Writable { id: 1, more: 9 })?;
     Ok(MemoryLinks::new(alloc, script, failing.to_vec(alloc)?))
@@ -137,5 +151,108 @@ fn is_open_after<L: Ledger>(rt: &HostRuntime, blank: Blank) -> Result<bool, Fail
 #[test]
 fn a_connection_that_is_given_up_is_closed(rt: HostRuntime) -> Result<(), Fail> {
     assert!(rt; !is_open_after::<Brand>(&rt, Blank::new(1))?);
+    Ok(())
+}
+
+// An event as a line.
+fn line_of(alloc: Global, event: &GivenEvent) -> Result<String, Fail> {
+    Ok(match event {
+        GivenEvent::Opened { conn, local, peer } => {
+            format!(in alloc; "opened {conn} at {} by {}", local.port, peer.port)?
+        }
+        GivenEvent::Arrived { conn, bytes } => {
+            format!(in alloc; "arrived {conn} {:?}", bytes.as_slice())?
+        }
+        GivenEvent::Ended { conn } => format!(in alloc; "ended {conn}")?,
+        GivenEvent::Wrote { conn, count } => format!(in alloc; "wrote {conn} {count}")?,
+        GivenEvent::LinkFailed { conn } => format!(in alloc; "link failed {conn}")?,
+        GivenEvent::Answered {
+            conn,
+            node,
+            answer: _,
+        } => format!(in alloc; "answered {conn} {node}")?,
+        GivenEvent::Run { conn, node } => format!(in alloc; "run {conn} {node}")?,
+        GivenEvent::Tick { now } => format!(in alloc; "tick {now}")?,
+        GivenEvent::Tree { to } => format!(in alloc; "tree {to}")?,
+        GivenEvent::Gone { conn } => format!(in alloc; "gone {conn}")?,
+    })
+}
+
+// Serves a core that was given nothing yet, over links that answered nothing yet. Of what it was given, what comes of the
+// links is what stands beside their answers; and its moments are those of a clock that tells, and had told none.
+fn serve_from_start<C: Clock>(
+    alloc: Global,
+    core: &mut TellingCore<PlainCore>,
+    links: &mut MemoryLinks,
+    clock: &mut C,
+    turns: u64,
+) -> Result<(), OutOfMemory>
+    requires empty { (c : ℕ) → (view_at (core_of core.old) c).held ≡ false }
+    requires tree { (now_at (core_of core.old)).tree ≡ 0 }
+    requires open { (c : ℕ) → open_of links.old c ≡ false }
+    requires ungiven { events_of core.old ≡ Some [] }
+    requires unanswered { answers_of links.old ≡ Some [] }
+    ensures links { OnOk result ((given : List Given) (answered : List LinkAnswer) → events_of core.new ≡ Some given → answers_of links.new ≡ Some answered → flat_map of_link given ≡ flat_map beside_link answered) }
+    ensures clock { C.tells clock.old ≡ true → C.told clock.old ≡ [] → OnOk result ((given : List Given) → events_of core.new ≡ Some given → flat_map of_clock given ≡ C.told clock.new) }
+{
+    ending(alloc, core, links, clock, turns)?;
+    Ok(())
+}
+
+// A peer connects that sends a line and ends, and has room for two bytes of the answer at first.
+fn one_link(alloc: Global) -> Result<MemoryLinks, OutOfMemory>
+    ensures open { IfOk result (λ links. (c : ℕ) → open_of links c ≡ false) }
+    ensures unanswered { IfOk result (λ links. answers_of links ≡ Some []) }
+{
+    let mut script = Vec::new(alloc);
+    script.push(opened(alloc, b"a\n", true, 2)?)?;
+    script.push(ScriptedNotice::Readable { id: 1 })?;
+    script.push(ScriptedNotice::Writable { id: 1, more: 9 })?;
+    script.push(ScriptedNotice::Readable { id: 1 })?;
+    Ok(MemoryLinks::new(alloc, script, Vec::new(alloc)))
+}
+
+// The events that a core is given which serves that peer, each as a line.
+fn lines_given<L: Ledger>(rt: &HostRuntime, blank: Blank) -> Result<Vec<String>, Fail>
+    requires name { blank.name ≡ L.name }
+    requires parts { blank.parts ≡ L.parts }
+    requires some { 0 < L.parts }
+{
+    let alloc = rt.alloc();
+    let mut core = TellingCore::new(alloc, core(alloc)?);
+    let mut links = one_link(alloc)?;
+    let mut clock = ListClock::<L>::new(blank, [7, 8].to_vec(alloc)?);
+    serve_from_start(alloc, &mut core, &mut links, &mut clock, 5)?;
+    let mut lines = Vec::new(alloc);
+    if let Some(given) = core.given() {
+        for event in given {
+            lines.push(line_of(alloc, event)?)?;
+        }
+    }
+    Ok(lines)
+}
+
+#[test]
+fn a_core_is_given_what_was_answered(rt: HostRuntime) -> Result<(), Fail> {
+    let lines = lines_given::<Brand>(&rt, Blank::new(1))?;
+    let expected = [
+        "tick 7",
+        "tree 0",
+        "opened 1 at 80 by 5000",
+        "tick 8",
+        "arrived 1 [97, 10]",
+        "run 1 0",
+        "wrote 1 2",
+        "tick 8",
+        "wrote 1 1",
+        "tick 8",
+        "ended 1",
+        "gone 1",
+        "tick 8",
+    ];
+    assert_eq!(rt; lines.len(), expected.len());
+    for (line, expected) in lines.iter().zip(expected) {
+        assert_eq!(rt; line.as_str(), expected);
+    }
     Ok(())
 }

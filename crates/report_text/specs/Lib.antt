@@ -3,4 +3,5 @@ pub mod Lines
 pub mod Report
 pub mod Kinds
 pub mod Faults
+pub mod Counts
 pub mod Laws

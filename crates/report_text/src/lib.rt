@@ -1,6 +1,8 @@
-//! What the commands print: each connection of a run and the run's end, and the faults of scripts and configurations.
+//! What the commands print: each connection of a run and the run's end, how many servers and locations a configuration has,
+//! and the faults of scripts and configurations.
 #![tactic(auto)]
 
+mod counts;
 mod escapes;
 mod faults;
 mod kinds;
@@ -9,6 +11,7 @@ mod lines;
 mod report;
 mod words;
 
+pub use counts::counts_text;
 pub use faults::{conf_fault_text, script_fault_text};
 pub use laws::{printed_bytes_read_back, what_was_sent_is_read_back};
 pub use report::{ConnReport, ConnState, conn_text, end_text};

@@ -145,3 +145,13 @@ fn ends_and_faults_are_printed(rt: HostRuntime) -> Result<(), Fail> {
     assert_eq!(rt; out.as_slice(), text.as_slice());
     Ok(())
 }
+
+#[test]
+fn counts_are_printed(rt: HostRuntime) -> Result<(), Fail> {
+    let mut out = ByteText::new(rt.alloc());
+    counts_text(1, 0, &mut out)?;
+    counts_text(2, 18446744073709551615, &mut out)?;
+    let text = b"servers 1 locations 0\nservers 2 locations 18446744073709551615\n";
+    assert_eq!(rt; out.as_slice(), text.as_slice());
+    Ok(())
+}

@@ -1,26 +1,13 @@
 -- Lists that grow at their end.
-use Rattle.std.proofs.Common.{◌≡◌, ℕ, ◌+◌, ◌≤◌, List, [], ◌++◌, length, take, sym, ap, ◌∙◌, append_assoc, length-append, arith}
-use Rattle.std.proofs.lemmas.List.{append-nil, length-take}
+use Rattle.std.proofs.Common.{◌≡◌, ℕ, ◌+◌, List, [], ◌++◌, length, take, drop, sym, ap, ◌∙◌, append_assoc, arith}
+use Rattle.std.proofs.lemmas.List.{append-nil, take-append-drop, length-drop}
 
--- new is old with more behind it, of which so many are still to come
-pub record Filled (old new : List ℕ) (left count : ℕ) : Type 0 where
-  pub added : List ℕ
-  pub whole : new ≡ old ++ added
-  pub size : length added + left ≡ count
-
-pub filled_first : (old : List ℕ) (count : ℕ) → Filled old old count count
-filled_first old count = record { added = []; whole = sym (append-nil old); size = omega arith }
-
-pub filled_next : (old mid new block : List ℕ) (left left' some count : ℕ) → Filled old mid left count → new ≡ mid ++ take some block → some ≤ length block → left' + some ≡ left → Filled old new left' count
-filled_next old mid new block left left' some count f e h s = record {
-  added = f.added ++ take some block;
-  whole = e ∙ ap (λ l. l ++ take some block) f.whole ∙ append_assoc old f.added (take some block);
-  size =
-      let n = length-append f.added (take some block) in
-      let t : length (take some block) ≡ some = length-take some block ∙ (omega arith) in
-      let z = f.size in
-      omega (arith, n, t, z, s);
-}
+-- A list whose beginning is old, and which is so much longer, is old with so many items behind it.
+pub grown : (old new : List ℕ) (count : ℕ) → take (length old) new ≡ old → length new ≡ length old + count → (added : List ℕ) × (new ≡ old ++ added) × (length added ≡ count)
+grown old new count kept size =
+    let front : new ≡ old ++ drop (length old) new = sym (take-append-drop (length old) new) ∙ ap (λ l. l ++ drop (length old) new) kept in
+    let left = length-drop (length old) new in
+    (drop (length old) new, front, omega (arith, left, size))
 
 -- new is old with more behind it
 pub record Longer {X : Type 0} (old new : List X) : Type 0 where

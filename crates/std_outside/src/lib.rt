@@ -3,7 +3,11 @@
 #![tactic(auto)]
 
 mod files;
+mod kept;
 mod sink;
 
 pub use files::HostFiles;
 pub use sink::HostSink;
+
+#[cfg(test)]
+mod tests;

@@ -3,4 +3,4 @@ use Rattle.connection.proofs.Sound.{bounded}
 use Rattle.connection.proofs.law.connections_are_bounded.Goals as goal
 
 pub returns : goal.returns
-returns c = λ s. bounded s.flow (length s.out) s.flowing
+returns c = λ s. (s.few, bounded s.flow (length s.out) s.flowing)

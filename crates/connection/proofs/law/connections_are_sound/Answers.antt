@@ -3,4 +3,4 @@ use Rattle.connection.specs.Answers.{service_of}
 use Rattle.connection.proofs.law.connections_are_sound.Goals as goal
 
 pub returns : goal.returns
-returns c = λ site s. sound c.full_decides.ensures (service_of site s.local s.peer) s.cause s.flow s.out s.journal.items s.closing s.ended s.body s.held s.next s.looked s.dropped s.quit s.flowing s.drained s.unended
+returns c = λ site s. sound c.full_decides.ensures (service_of site s.local s.peer) s.cause s.flow s.out s.journal.items s.closing s.ended s.body s.held s.next s.looked s.dropped s.quit s.flowing s.drained s.unended s.logged

@@ -36,7 +36,7 @@ returns-in-Ok-serve_site g c =
     let o : Outside = record (mid (f.tells c.args.files.now)) { files = earlier } in
     let out : Output = record { tells = u.tells c.args.out.now; written = u.written c.args.out.now; written' = u.written c.args.out.now; faults = u.faults c.args.out.now; faults' = u.faults c.args.out.now } in
     let over : Bool = k.over c.serve_site.new.links in
-    let described : Describes o path (Ok (seen site)) = λ tells same names naming.
+    let described : Describes o.files_tell o.files o.files' path (Ok (seen site)) = λ tells same names naming.
     a.exact tells (let n : f.newest c.site_at.new.files ≡ f.newest c.args.files.now = omega (arith, a.newest, s.newest, same) in n) names naming in
     let serving : Serving site c.args.turns e o =
     c.files_may_fail_before.ensures site c.args.turns e (mid (f.tells c.args.files.now)) earlier a.later (subst (λ b. Serving site c.args.turns e (mid b)) a.tells s.serving) in

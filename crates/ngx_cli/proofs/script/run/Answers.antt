@@ -38,9 +38,10 @@ returns c =
         held = c.put_run.ensures.held;
         journals = journal_at end;
         started = λ q. (c.cores_are_sound.ensures end q).started;
+        logged = λ q. (c.cores_are_sound.ensures end q).logged;
         opened = opened_by_lines events first last.lanes new c.in_ok-counts.ensures.opened;
         printed = refl;
-        answered = λ q among. answered c.all_is_sent_when_idle.ensures c.all_is_sent_when_shut.ensures site (told_in events (told_first c.args.tree.now)) (last.view q) (last.lanes q) (sent_in events q) ((c.put_run.ensures.held.held q).0 among) (c.cores_are_sound.ensures end q).sound
+        answered = λ q among. answered c.all_is_sent_when_idle.ensures c.all_is_sent_when_shut.ensures c.all_is_logged_when_idle.ensures site (told_in events (told_first c.args.tree.now)) (last.view q) (last.lanes q) (sent_in events q) ((c.put_run.ensures.held.held q).0 among) (c.cores_are_sound.ensures end q).sound
             (subst (λ t. AllStanding (fresh_course site) (told_in events t) last (λ k. sent_in events k)) told
             (subst (λ f. AllStanding f (told_in events (told_of files)) last (λ k. sent_in events k)) c.in_ok-hub.ensures.fresh (c.in_ok-counts.ensures.stands (λ k. []) (begins_standing (fresh_at hub) (told_of files) first new))) q);
       },

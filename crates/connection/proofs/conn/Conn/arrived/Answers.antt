@@ -30,7 +30,7 @@ returns-in-Ok c = λ site now conn.
       own = λ course. (
         record { most = c.in-Some.room; has_room = has; takes = c.min-taken.ensures; some = some_taken (length c.args.bytes.now) c.in-Some.room c.min-taken.result c.min-taken.ensures some r.3 },
         subst (λ b. Went Always (view_at service s.cause s.flow s.out s.journal.items s.closing s.ended s.body s.held s.next) (view_at service s.cause s.flow s.out s.journal.items d.broken s.ended d.body n.held n.next) b [] []) c.first_bytes-bytes.ensures
-            (arrived_went service s.cause s.flow s.out s.journal.items s.closing d.broken s.ended s.body d.body s.held n.held kept s.next n.next first r.0 r.1 s.drained c.drop_rest-dropped.ensures.none drops held),
+            (arrived_went service s.cause s.flow s.out s.journal.items s.closing d.broken s.ended s.body d.body s.held n.held kept s.next n.next first r.0 r.1 s.drained c.drop_rest-dropped.ensures.none drops held (s.logged r.0)),
       );
       left = arrived_left s.cause s.flow s.out s.closing d.broken s.held n.held kept c.args.bytes.now c.min-taken.result r.1 held few;
       ended = refl;
@@ -46,8 +46,8 @@ returns-in-Err c = λ site now conn.
     let has = sym c.room.ensures ∙ c.in-Some.is in
     let r = room_some (is_some s.cause) s.closing s.ended s.held c.in-Some.room has in
     record {
-      own = λ course. refused now service s.cause s.flow s.out c.clear.new.self s.journal.items s.journal.items s.closing s.closing s.ended s.ended s.body None s.held n.held s.next n.next r.0 c.clear.ensures refl;
-      left = refused_left s.cause s.flow s.out c.clear.new.self s.closing s.closing s.held n.held r.0;
+      own = λ course. refused now service s.cause s.flow s.out c.clear.new.self s.journal.items s.journal.items s.closing s.closing s.ended s.ended s.body None s.held c.clear-in-Err.new.self s.next n.next r.0 c.clear.ensures refl;
+      left = refused_left s.cause s.flow s.out c.clear.new.self s.closing s.closing s.held c.clear-in-Err.new.self r.0;
       ended = refl;
       taken = tt;
       asked = inl (omega arith);

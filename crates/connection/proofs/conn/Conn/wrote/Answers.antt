@@ -14,7 +14,7 @@ returns c = λ site now conn.
     let live = not_stopped s.cause s.flow s.out c.args.count s.dropped some within in
     let is = c.written.ensures ∙ ap (λ f. flow_written f c.args.count) c.take.ensures.value in
     record {
-      own = λ course. (some, within, wrote_went service s.cause s.flow c.written.result s.out c.used.new.self s.journal.items s.closing s.ended s.body s.held s.next c.args.count live c.used.ensures within is);
+      own = λ course. (some, within, wrote_went service s.cause s.flow c.written.result s.out c.used.new.self s.journal.items s.closing s.ended s.body s.held s.next c.args.count live c.used.ensures within is (s.logged live));
       left = wrote_left s.cause s.flow c.written.result s.out c.used.new.self s.closing s.held c.args.count live c.used.ensures some within is s.flowing;
       ended = refl;
       taken = refl;
