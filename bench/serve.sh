@@ -1,23 +1,27 @@
 #!/bin/bash
-# Measures `ngx serve` and Debian's nginx (one worker, no access log) in turn on this machine, for `return 200 hi`: wrk with one
-# thread over 1, 16 and 256 connections. Prints, as medians over the rounds, requests a second and microseconds of processor
-# time a request of both, and how many times nginx's ours are.
-# usage: bench/serve.sh [seconds of a measurement, 3] [rounds, 3]
+# Measures `ngx serve` and Debian's nginx (one worker, no access log) in turn on this machine, for `return 200 hi` or a file: wrk
+# with one thread over 1, 16 and 256 connections. Prints, as medians over the rounds, requests a second and microseconds of
+# processor time a request of both, and how many times nginx's ours are.
+# usage: bench/serve.sh [seconds of a measurement, 3] [rounds, 3] [hi, or the bytes of the file, hi]
 set -eu
 top=$(cd "$(dirname "$0")/.." && pwd)
 seconds=${1:-3}
 rounds=${2:-3}
+what=${3:-hi}
 work=$(mktemp -d)
+chmod 755 "$work"
+[ "$what" = hi ] || head -c "$what" /dev/zero | tr '\0' a >"$work/$what"
 server=
 trap 'stop; rm -rf "$work"' EXIT
-cat >"$work/ngx.conf" <<'CONF'
-http { server { listen 127.0.0.1:18089; location / { return 200 hi; } } }
+cat >"$work/ngx.conf" <<CONF
+http { default_type text/plain; keepalive_requests 1000000000;
+  server { listen 127.0.0.1:18089; root $work; location /hi { return 200 hi; } } }
 CONF
 cat >"$work/nginx.conf" <<CONF
 worker_processes 1; pid $work/nginx.pid; error_log $work/nginx.err; daemon off;
 events { worker_connections 1024; }
 http { default_type text/plain; access_log off; keepalive_requests 1000000000;
-  server { listen 127.0.0.1:18080; location / { return 200 hi; } } }
+  server { listen 127.0.0.1:18080; root $work; location /hi { return 200 hi; } } }
 CONF
 start() { # ngx or nginx
     case $1 in
@@ -27,7 +31,7 @@ start() { # ngx or nginx
     server=$!
     for _ in $(seq 50); do
         sleep 0.1
-        curl -s -o /dev/null "http://127.0.0.1:$port/" && break
+        curl -s -o /dev/null "http://127.0.0.1:$port/$what" && break
     done
 }
 stop() {
@@ -43,8 +47,9 @@ ticks() { # processor time of the server and of its worker, in hundredths of a s
 }
 measure() { # server, connections: requests a second, and microseconds a request
     local before after text requests
+    kill -0 "$server" || { echo "$1 has ended: is port $port free?" >&2; exit 1; }
     before=$(ticks)
-    text=$(taskset -c 2 wrk -t1 -c"$2" -d"${seconds}s" "http://127.0.0.1:$port/")
+    text=$(taskset -c 2 wrk -t1 -c"$2" -d"${seconds}s" "http://127.0.0.1:$port/$what")
     after=$(ticks)
     requests=$(awk '/requests in/ { print $1 }' <<<"$text")
     grep -E 'Non-2xx|Socket errors' <<<"$text" >&2 || true
