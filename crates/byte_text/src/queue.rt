@@ -17,10 +17,14 @@ fn move_down(bytes: &mut Vec<u8>, start: usize)
     bytes.truncate(len - start);
 }
 
+/// A queue that runs empty keeps no more room than this.
+const KEPT: usize = 8192;
+
 /// A queue of bytes that grows. Contracts see it as the list of the bytes that wait, the next to leave first.
 ///
 /// Bytes leave by a start offset, and are moved down only when more than half of the buffer is free at its front: so
-/// each byte is moved a bounded number of times, and a queue that runs empty moves none.
+/// each byte is moved a bounded number of times, and a queue that runs empty moves none. Much room is given back then, so that
+/// a connection that rests holds little, and one that needs much gets what another had just now.
 #[derive(Drop)]
 pub struct ByteQueue {
     bytes: Vec<u8>,
@@ -74,6 +78,9 @@ impl ByteQueue {
         if self.start == self.bytes.len() {
             self.bytes.clear();
             self.start = 0;
+            if self.bytes.capacity() > KEPT {
+                self.bytes.shrink_to_fit();
+            }
         }
     }
 

@@ -11,7 +11,7 @@ ghost use Rattle.body_frame.specs.Outcome.{Short};
 
 use crate::body::{drop_body, drop_rest};
 use crate::flow::{Flow, Onward, Stage, answered, may_run, run_on, waits, written};
-use crate::respond::{Answered, put_answer, put_page};
+use crate::respond::{Answered, Workspace, put_answer, put_page};
 use body_frame::BodyState;
 use byte_text::{ByteQueue, OutOfMemory};
 use file_tree::{Ask, JobAnswer, is_fitting};
@@ -138,7 +138,7 @@ fn outcome(answered: Answered, broken: bool) -> Onward
 // Starts a request, and answers it or has it seek its file: what is answered at once is put behind what is kept for the peer,
 // the request is written into the journal, and what is held behind it is looked at.
 fn run_one(
-    alloc: Global,
+    space: &mut Workspace,
     site: &Site,
     meeting: Meeting,
     held: &mut ByteQueue,
@@ -162,8 +162,8 @@ fn run_one(
             size_fits();
             let dropped = drop_body(BodyState::new(head.body), behind(held, *size));
             let size = *size + dropped.used;
-            let following = read_head(alloc, behind(held, size))?;
-            let answered = put_answer(alloc, site, out, head, journal.len(), meeting)?;
+            let following = read_head(space.alloc, behind(held, size))?;
+            let answered = put_answer(space, site, out, head, journal.len(), meeting)?;
             let onward = outcome(answered, dropped.broken);
             enter(journal, meeting.moment, meeting.tree, onward.log)?;
             held.used(size);
@@ -172,7 +172,7 @@ fn run_one(
             Ok(onward)
         }
         HeadStep::Bad { code, no_body } => {
-            let length = put_page(alloc, out, *code, meeting.moment, *no_body)?;
+            let length = put_page(space, out, *code, meeting.moment, *no_body)?;
             let log = Some((*code, length as u64));
             enter(journal, meeting.moment, meeting.tree, log)?;
             *body = None;
@@ -487,7 +487,7 @@ impl Conn {
     }
 
     // The request that seeks a file runs on.
-    fn goes_on(&mut self, alloc: Global) -> StepAnswer
+    fn goes_on(&mut self, space: &mut Workspace) -> StepAnswer
         requires some { is_some self.old.flow ≡ true }
         requires ready { ready_at (is_some self.old.cause) self.old.flow self.old.closing self.old.out self.old.body self.old.next ≡ true }
         ensures { (site : _) (now : Start) (conn : ℕ) → StepsConn site now (Run conn 0) result self.old self.new }
@@ -495,7 +495,7 @@ impl Conn {
         let Some(flow) = self.flow.take() else {
             unreachable!()
         };
-        match run_on(alloc, flow, &mut self.out, self.closing) {
+        match run_on(space, flow, &mut self.out, self.closing) {
             Ok(onward) => {
                 finish(&mut self.journal, onward.log);
                 self.flow = onward.flow;
@@ -512,7 +512,13 @@ impl Conn {
     }
 
     // A request starts.
-    fn starts_one(&mut self, alloc: Global, site: &Site, moment: u64, tree: u64) -> StepAnswer
+    fn starts_one(
+        &mut self,
+        space: &mut Workspace,
+        site: &Site,
+        moment: u64,
+        tree: u64,
+    ) -> StepAnswer
         requires none { self.old.flow ≡ None }
         requires ready { starts_at (is_some self.old.cause) self.old.closing self.old.out self.old.body self.old.next ≡ true }
         ensures { (conn : ℕ) → StepsConn site.now (record { moment = moment; tree = tree }) (Run conn 0) result self.old self.new }
@@ -521,7 +527,7 @@ impl Conn {
         refusal_stays();
         size_fits();
         match run_one(
-            alloc,
+            space,
             site,
             Meeting {
                 local: self.local,
@@ -554,7 +560,7 @@ impl Conn {
     /// A node runs: the only one is the main request's, which starts, or goes on with its file.
     pub fn runs(
         &mut self,
-        alloc: Global,
+        space: &mut Workspace,
         site: &Site,
         moment: u64,
         tree: u64,
@@ -566,9 +572,9 @@ impl Conn {
             return StepAnswer::Skipped;
         }
         if self.flow.is_some() {
-            self.goes_on(alloc)
+            self.goes_on(space)
         } else {
-            self.starts_one(alloc, site, moment, tree)
+            self.starts_one(space, site, moment, tree)
         }
     }
 }

@@ -7,12 +7,11 @@ ghost use Rattle.connection.specs.Steps.{GoesOn};
 ghost use Rattle.file_tree.specs.declared.job.Node.{Node as ANode};
 ghost use Rattle.connection.specs.declared.flow.Stage.TheVariants.{Told as AtTold, Came as AtCame};
 
-use crate::respond::{is_head, put_file_head, put_refusal};
+use crate::respond::{Workspace, is_head, put_file_head, put_refusal};
 use byte_text::{ByteQueue, ByteText, OutOfMemory};
 use file_tree::{Ask, JobAnswer, Node};
 use http_types::Method;
 use phase_engine::{Found, on_node};
-use std::alloc::Global;
 
 /// No more bytes than these are placed for a peer: what is shown as pending, and a buffer of the request's.
 const PLACED: usize = 98304;
@@ -137,7 +136,7 @@ fn closes(closing: bool, keep: bool) -> bool
 // A file of this length and date is sent: its head, and, but to a HEAD, the blocks that are asked from then on.
 #[tactic(auto, unfolding(crate::specs::Flow::flow_most, crate::specs::Flow::placed_most))]
 fn run_file(
-    alloc: Global,
+    space: &mut Workspace,
     wish: Wish,
     ask: Ask,
     len: u64,
@@ -153,7 +152,7 @@ fn run_file(
     ensures asked { IfOk result (λ o. tree_asked o.flow ≤ tree_of ask) }
     ensures closes { IfOk result (λ o. closing ≡ true → o.closing ≡ true) }
 {
-    put_file_head(alloc, out, &wish, len, date)?;
+    put_file_head(space, out, &wish, len, date)?;
     let closing = closes(closing, wish.stays);
     if is_head(&wish.method) {
         return Ok(Onward {
@@ -178,7 +177,7 @@ fn run_file(
 // It was told what stands at its path.
 #[tactic(auto, unfolding(crate::specs::Flow::flow_most, crate::specs::Flow::placed_most))]
 fn run_told(
-    alloc: Global,
+    space: &mut Workspace,
     wish: Wish,
     ask: Ask,
     node: Node,
@@ -195,14 +194,14 @@ fn run_told(
 {
     match on_node(node, &wish.method) {
         Found::Refused(code) => {
-            let sent = put_refusal(alloc, out, &wish, code)?;
+            let sent = put_refusal(space, out, &wish, code)?;
             Ok(Onward {
                 flow: None,
                 closing: closes(closing, sent.keep),
                 log: Some((sent.status, sent.length)),
             })
         }
-        Found::Sends { len, date } => run_file(alloc, wish, ask, len, date, out, closing),
+        Found::Sends { len, date } => run_file(space, wish, ask, len, date, out, closing),
     }
 }
 
@@ -262,7 +261,7 @@ fn run_came(
 
 /// Runs a request on that seeks a file, to its next job or its end.
 pub(crate) fn run_on(
-    alloc: Global,
+    space: &mut Workspace,
     flow: Flow,
     out: &mut ByteQueue,
     closing: bool,
@@ -283,7 +282,7 @@ pub(crate) fn run_on(
         len,
     } = flow;
     match stage {
-        Stage::Told(node) => run_told(alloc, wish, ask, node, out, closing),
+        Stage::Told(node) => run_told(space, wish, ask, node, out, closing),
         Stage::Came { left, placed } => Ok(run_came(
             wish,
             ask,

@@ -10,4 +10,4 @@ mod respond;
 pub use conn::Conn;
 pub use flow::{Flow, Stage, Wish};
 pub use law::{connections_are_bounded, connections_are_sound};
-pub use respond::{Answered, Sent, put_answer, put_page};
+pub use respond::{Answered, Sent, Workspace, put_answer, put_page};

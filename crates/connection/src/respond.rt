@@ -19,9 +19,26 @@ use phase_engine::{
     Asked, Meeting, Outcome, Reply, outcome_for, page_reply, replies_are, target_of, text_reply,
 };
 use req_head::Head;
-use resp_head::{ReplyHead, head_text};
+use resp_head::{HeadWriter, ReplyHead};
 use site_model::{Level, Server, Site};
 use std::alloc::Global;
+
+/// What connections work with, one after another: memory, and the writer of their responses' heads.
+#[derive(Drop)]
+pub struct Workspace {
+    pub alloc: Global,
+    pub heads: HeadWriter,
+}
+
+impl Workspace {
+    /// One in which nothing was written. It takes no memory yet.
+    pub fn new(alloc: Global) -> Workspace {
+        Workspace {
+            alloc,
+            heads: HeadWriter::new(alloc),
+        }
+    }
+}
 
 /// No more bytes than these are kept for a peer.
 pub const OUTGOING: usize = 65536;
@@ -63,16 +80,6 @@ fn content<'a>(reply: Reply<'a>, no_body: bool) -> &'a [u8]
     reply.body
 }
 
-// The text of a response's head.
-fn head_bytes(alloc: Global, reply: Reply, moment: u64, keep: bool) -> Result<ByteText, OutOfMemory>
-    ensures { (r : Replied) (start : Start) → IsReply reply.entry r → start.moment ≡ moment → IfOk result (λ t. t ≡ head_of (reply_head r start keep)) }
-{
-    let head = head_for(alloc, reply, moment, keep)?;
-    let mut text = ByteText::new(alloc);
-    head_text(&head, &mut text)?;
-    Ok(text)
-}
-
 // Appends a head and a body, as far as there is room for both.
 fn put_parts(out: &mut ByteQueue, head: &[u8], body: &[u8]) -> Result<(), OutOfMemory>
     ensures put { OnOk result (out.new ≡ out.old ++ (head.now ++ body.now)) }
@@ -89,7 +96,7 @@ fn put_parts(out: &mut ByteQueue, head: &[u8], body: &[u8]) -> Result<(), OutOfM
 /// Appends a response to what is kept for a peer. Where it doesn't fit, there is no memory for it.
 #[tactic(auto, unfolding(crate::specs::Flow::response))]
 pub fn put_response(
-    alloc: Global,
+    space: &mut Workspace,
     out: &mut ByteQueue,
     reply: Reply,
     moment: u64,
@@ -99,14 +106,14 @@ pub fn put_response(
     ensures put { (r : Replied) (start : Start) → IsReply reply.entry r → start.moment ≡ moment → OnOk result (out.new ≡ out.old ++ response r start no_body keep) }
     ensures fits { OnOk result (length out.new ≤ length out.old + 65536) }
 {
-    let head = head_bytes(alloc, reply, moment, keep)?;
-    put_parts(out, head.as_slice(), content(reply, no_body))?;
+    let head = head_for(space.alloc, reply, moment, keep)?;
+    put_parts(out, space.heads.text(&head)?, content(reply, no_body))?;
     Ok(())
 }
 
 /// Appends the response to a request that is refused with a code.
 pub fn put_page(
-    alloc: Global,
+    space: &mut Workspace,
     out: &mut ByteQueue,
     code: u16,
     moment: u64,
@@ -116,10 +123,10 @@ pub fn put_page(
     ensures fits { OnOk result (length out.new ≤ length out.old + 65536) }
     ensures size { IfOk result (λ size. size ≡ length (content_of (page_replied code) no_body)) }
 {
-    let mut page = ByteText::new(alloc);
+    let mut page = ByteText::new(space.alloc);
     page_text(code, &mut page)?;
     let reply = page_reply(code, page.as_slice());
-    put_response(alloc, out, reply, moment, no_body, false)?;
+    put_response(space, out, reply, moment, no_body, false)?;
     Ok(content(reply, no_body).len())
 }
 
@@ -140,7 +147,7 @@ fn keeps(stays: bool, closes: bool) -> bool
 
 // Appends a reply, behind which the connection stays open where it may and the reply doesn't close it.
 fn put_reply(
-    alloc: Global,
+    space: &mut Workspace,
     out: &mut ByteQueue,
     reply: Reply,
     moment: u64,
@@ -151,7 +158,7 @@ fn put_reply(
     ensures fits { OnOk result (length out.new ≤ length out.old + 65536) }
 {
     let keep = keeps(stays, reply.closes);
-    put_response(alloc, out, reply, moment, no_body, keep)?;
+    put_response(space, out, reply, moment, no_body, keep)?;
     Ok(Sent {
         status: reply.status,
         length: content(reply, no_body).len() as u64,
@@ -161,7 +168,7 @@ fn put_reply(
 
 // Appends the built-in page of an error.
 fn put_error(
-    alloc: Global,
+    space: &mut Workspace,
     out: &mut ByteQueue,
     code: u16,
     moment: u64,
@@ -171,10 +178,10 @@ fn put_error(
     ensures puts { (start : Start) → start.moment ≡ moment → IfOk result (λ sent. Puts (page_replied code) start no_body stays sent.keep (sent.status, sent.length) out.old out.new) }
     ensures fits { OnOk result (length out.new ≤ length out.old + 65536) }
 {
-    let mut page = ByteText::new(alloc);
+    let mut page = ByteText::new(space.alloc);
     page_text(code, &mut page)?;
     let reply = page_reply(code, page.as_slice());
-    let sent = put_reply(alloc, out, reply, moment, no_body, stays)?;
+    let sent = put_reply(space, out, reply, moment, no_body, stays)?;
     Ok(sent)
 }
 
@@ -234,7 +241,7 @@ fn seek(
 
 // Appends a text of a status.
 fn put_text(
-    alloc: Global,
+    space: &mut Workspace,
     out: &mut ByteQueue,
     asked: &Asked<'_>,
     code: u16,
@@ -252,12 +259,12 @@ fn put_text(
         text,
     );
     let no_body = is_head(&asked.head.method);
-    put_reply(alloc, out, reply, asked.meeting.moment, no_body, stays)
+    put_reply(space, out, reply, asked.meeting.moment, no_body, stays)
 }
 
 // Appends what a request comes to, or has it seek its file.
 fn put_outcome(
-    alloc: Global,
+    space: &mut Workspace,
     out: &mut ByteQueue,
     asked: &Asked<'_>,
     outcome: Outcome<'_>,
@@ -269,12 +276,12 @@ fn put_outcome(
     let moment = asked.meeting.moment;
     let no_body = is_head(&asked.head.method);
     match outcome {
-        Outcome::Page(code) => at_once(put_error(alloc, out, code, moment, no_body, stays)),
-        Outcome::Given { code, text } => at_once(put_text(alloc, out, asked, code, text, stays)),
+        Outcome::Page(code) => at_once(put_error(space, out, code, moment, no_body, stays)),
+        Outcome::Given { code, text } => at_once(put_text(space, out, asked, code, text, stays)),
         Outcome::Made { code, text } => {
-            at_once(put_text(alloc, out, asked, code, text.as_slice(), stays))
+            at_once(put_text(space, out, asked, code, text.as_slice(), stays))
         }
-        Outcome::Seek(at) => seek(alloc, asked, at, stays),
+        Outcome::Seek(at) => seek(space.alloc, asked, at, stays),
     }
 }
 
@@ -302,7 +309,7 @@ fn may_stay(head: &Head, level: &Level, count: usize) -> bool
 
 // Appends the response of a server to a request that so many others came before, or has it seek its file.
 fn put_served(
-    alloc: Global,
+    space: &mut Workspace,
     site: &Site,
     server: &Server,
     out: &mut ByteQueue,
@@ -315,7 +322,7 @@ fn put_served(
     ensures fits { IfOk result (λ a. FitsOne a meeting.tree (length out.old) (length out.new)) }
 {
     replies_are();
-    let target = target_of(alloc, head)?;
+    let target = target_of(space.alloc, head)?;
     let level = site.level(site.find(server, target.path.as_slice()));
     let asked = Asked {
         site,
@@ -324,15 +331,15 @@ fn put_served(
         target: &target,
         meeting,
     };
-    let outcome = outcome_for(alloc, &asked)?;
+    let outcome = outcome_for(space.alloc, &asked)?;
     let stays = may_stay(head, level, count);
-    let answered = put_outcome(alloc, out, &asked, outcome, stays)?;
+    let answered = put_outcome(space, out, &asked, outcome, stays)?;
     Ok(answered)
 }
 
 /// Appends the response to a request that so many others came before, or has it seek its file.
 pub fn put_answer(
-    alloc: Global,
+    space: &mut Workspace,
     site: &Site,
     out: &mut ByteQueue,
     head: &Head,
@@ -344,9 +351,9 @@ pub fn put_answer(
     ensures fits { IfOk result (λ a. FitsOne a meeting.tree (length out.old) (length out.new)) }
 {
     match site.server_at(meeting.local) {
-        Some(server) => put_served(alloc, site, server, out, head, count, meeting),
+        Some(server) => put_served(space, site, server, out, head, count, meeting),
         None => at_once(put_error(
-            alloc,
+            space,
             out,
             404,
             meeting.moment,
@@ -375,7 +382,7 @@ fn file_head(alloc: Global, wish: &Wish, len: u64, date: u64) -> Result<ReplyHea
 
 /// Appends the head of a response with a file of this length and date.
 pub fn put_file_head(
-    alloc: Global,
+    space: &mut Workspace,
     out: &mut ByteQueue,
     wish: &Wish,
     len: u64,
@@ -384,16 +391,14 @@ pub fn put_file_head(
     ensures put { (bytes : List ℕ) → length bytes ≡ len → OnOk result (out.new ≡ out.old ++ head_of (reply_head (file_reply wish.now.kind bytes date) (start_of_wish wish.now) wish.now.stays)) }
     ensures fits { OnOk result (length out.new ≤ length out.old + 65536) }
 {
-    let head = file_head(alloc, wish, len, date)?;
-    let mut text = ByteText::new(alloc);
-    head_text(&head, &mut text)?;
-    put_parts(out, text.as_slice(), b"")?;
+    let head = file_head(space.alloc, wish, len, date)?;
+    put_parts(out, space.heads.text(&head)?, b"")?;
     Ok(())
 }
 
 /// Appends the built-in page that answers a request that sought a file.
 pub fn put_refusal(
-    alloc: Global,
+    space: &mut Workspace,
     out: &mut ByteQueue,
     wish: &Wish,
     code: u16,
@@ -402,7 +407,7 @@ pub fn put_refusal(
     ensures fits { OnOk result (length out.new ≤ length out.old + 65536) }
 {
     put_error(
-        alloc,
+        space,
         out,
         code,
         wish.moment,

@@ -87,7 +87,7 @@ put_told site c at ids ids' conns conns' wants wants' x g told e f w =
 put_before : (site : Site) (c at : ℕ) (ids : List ℕ) (conns : List Conn) (b : BelongsAt c ids at) → view_in site ids conns c ≡ nobody
 put_before site c at ids conns b = nowhere site ids conns c (subst (λ l. AllByRecursion (λ id. id ≢ c) l) (sym b.whole) (none_of_two b.front b.back c b.below b.above))
 
-put_after : (site : Site) (c at : ℕ) (ids ids' : List ℕ) (conns conns' : List Conn) (x : Conn) (g : Gap c at ids conns) → ids' ≡ insert ids at c → conns' ≡ insert conns at x → view_in site ids' conns' c ≡ view_of site x
+pub put_after : (site : Site) (c at : ℕ) (ids ids' : List ℕ) (conns conns' : List Conn) (x : Conn) (g : Gap c at ids conns) → ids' ≡ insert ids at c → conns' ≡ insert conns at x → view_in site ids' conns' c ≡ view_of site x
 put_after site c at ids ids' conns conns' x g e f =
     let b = g.belongs in
     ap (λ l. view_in site l conns' c) (e ∙ ids_put c at ids conns g) ∙ ap (λ l. view_in site (b.front ++ c ∷ b.back) l c) (f ∙ conns_put c at ids conns x g) ∙ there site b.front g.front c x b.back g.back g.even b.below
@@ -166,7 +166,7 @@ cut_told site c at ids ids' conns conns' wants wants' s e f w =
     w ∙ ap (λ l. l ++ p.higher) s.lower ∙ ap (λ l. wants_held site t.front p.front ++ l) s.higher
     ∙ sym (ap (λ l. wants_held site l conns') (e ∙ ids_cut site c at ids conns wants s) ∙ ap (λ l. wants_held site (t.front ++ t.back) l) (f ∙ conns_cut site c at ids conns wants s) ∙ wants_joined site t.front p.front t.back p.back s.even)
 
-cut_after : (site : Site) (c at : ℕ) (ids ids' : List ℕ) (conns conns' : List Conn) (wants : List Want) (s : Seat site c at ids conns wants) → ids' ≡ remove ids at → view_in site ids' conns' c ≡ nobody
+pub cut_after : (site : Site) (c at : ℕ) (ids ids' : List ℕ) (conns conns' : List Conn) (wants : List Want) (s : Seat site c at ids conns wants) → ids' ≡ remove ids at → view_in site ids' conns' c ≡ nobody
 cut_after site c at ids ids' conns conns' wants s e =
     let t = s.stands in
     nowhere site ids' conns' c (subst (λ l. AllByRecursion (λ id. id ≢ c) l) (sym (e ∙ ids_cut site c at ids conns wants s)) (none_of_two t.front t.back c t.below t.above))

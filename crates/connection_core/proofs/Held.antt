@@ -143,7 +143,7 @@ seen site c at ids conns wants s =
     ap (λ l. view_in site l conns c) t.whole ∙ ap (λ l. view_in site (t.front ++ c ∷ t.back) l c) p.whole ∙ there site t.front p.front c p.here t.back p.back s.even t.below
 
 -- what it shows when it has changed
-changed : (site : Site) (c at : ℕ) (ids : List ℕ) (conns conns' : List Conn) (wants wants' : List Want) (Does : Conn → Conn → Type 0) (s : Seat site c at ids conns wants) →
+pub changed : (site : Site) (c at : ℕ) (ids : List ℕ) (conns conns' : List Conn) (wants wants' : List Want) (Does : Conn → Conn → Type 0) (s : Seat site c at ids conns wants) →
     (r : Replaced site c at conns wants Does s.placed conns' wants') → view_in site ids conns' c ≡ view_of site r.there
 changed site c at ids conns conns' wants wants' Does s r =
     let p = s.placed in

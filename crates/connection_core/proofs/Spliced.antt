@@ -5,7 +5,7 @@ use Rattle.std.specs.List.Sorted.{IsPartitionedBy, IsPartitionPoint}
 use Rattle.std.proofs.Math.Seq.{get_or-append_right}
 use Rattle.std.proofs.lemmas.Bool.{cases_lt}
 use Rattle.std.proofs.lemmas.Bool.Decides.{nat_tests}
-use Rattle.std.proofs.lemmas.List.{get_or_append_left, length-take, take_all}
+use Rattle.std.proofs.lemmas.List.{get_or_append_left, take_all}
 use Rattle.std.specs.Borrow.{Bor}
 use Rattle.std.specs.Prelude.{Option, None, Some, is_some, map, not, option_copied}
 use Rattle.ngx_outside.specs.declared.event.Want.{Want}
@@ -102,21 +102,6 @@ back_is n zs xs ys e s = ap (drop n) e ∙ ap (λ k. drop k (xs ++ ys)) (sym s) 
     drop_there [] ys = refl
     drop_there (x ∷ xs) ys = drop_there xs ys
 
--- what stands from one place on comes to stand at another before it
-pub moved_down : {X : Type 0} (xs mid new : List X) (from to n size : ℕ) → to ≤ from → from ≤ length xs → n ≡ length xs - from → size ≡ to + n →
-    mid ≡ (take to xs ++ take n (drop from xs)) ++ drop (to + n) xs → new ≡ take size mid → new ≡ take to xs ++ drop from xs
-moved_down xs mid new from to n size before within count whole m k =
-    k ∙ ap (take size) (m ∙ ap (λ l. (take to xs ++ l) ++ drop (to + n) xs) all) ∙ front_is size ((take to xs ++ drop from xs) ++ drop (to + n) xs) (take to xs ++ drop from xs) (drop (to + n) xs) refl sizes
-  where
-    behind : length (drop from xs) ≡ length xs - from
-    behind = length-drop from xs
-
-    all : take n (drop from xs) ≡ drop from xs
-    all = take_all n (drop from xs) (omega (arith, behind, count))
-
-    sizes : length (take to xs ++ drop from xs) ≡ size
-    sizes = let e = length-append (take to xs) (drop from xs) in let f = length-take to xs in omega (arith, e, f, behind, count, whole, before, within)
-
 -- the last stand in place of as many others
 pub put_there : (xs mid new lower own higher last : List Want) (start count len n : ℕ) → xs ≡ lower ++ (own ++ (higher ++ last)) → length lower ≡ start → length own ≡ count → length last ≡ count → len ≡ length xs - count → n ≡ length xs - len →
     mid ≡ (take start xs ++ take n (drop len xs)) ++ drop (start + n) xs → new ≡ take len mid → new ≡ lower ++ (last ++ higher)
@@ -157,37 +142,31 @@ put_there xs mid new lower own higher last start count len n whole a b c l r m k
     sizes : length ((lower ++ last) ++ higher) ≡ len
     sizes = let f = length-append (lower ++ last) higher in let g = length-append lower last in omega (arith, f, g, l, long, b, c)
 
--- the last stand in place of some others
-pub settled : (xs mid new lower own higher last : List Want) (start gone added : ℕ) → xs ≡ lower ++ (own ++ (higher ++ last)) → length lower ≡ start → length own ≡ gone → length last ≡ added →
-    mid ≡ take start xs ++ (drop (length (drop start xs) - added) (drop start xs) ++ take (length (drop start xs) - added) (drop start xs)) →
-    new ≡ take (start + added) mid ++ drop (start + added + gone) mid → new ≡ lower ++ (last ++ higher)
-settled xs mid new lower own higher last start gone added whole a b c m n =
-    n ∙ ap (λ l. l ++ drop (start + added + gone) mid) (front_is (start + added) mid (lower ++ last) (own ++ higher) grouped size)
-    ∙ ap (λ l. (lower ++ last) ++ l) (back_is (start + added + gone) mid ((lower ++ last) ++ own) higher apart sizes) ∙ append_assoc lower last higher
+-- all from one place on
+pub tail_is : (from : ℕ) (xs : List Want) → take (length xs - from) (drop from xs) ≡ drop from xs
+tail_is from xs = let e = length-drop from xs in take_all (length xs - from) (drop from xs) (omega (arith, e))
+
+-- the last stand in place of some others, behind which the rest is put back
+pub laid : (xs spare cut mid new lower own higher last : List Want) (start gone added n : ℕ) → xs ≡ lower ++ (own ++ (higher ++ last)) → length lower ≡ start → length own ≡ gone → length last ≡ added →
+    spare ≡ drop (start + gone) xs → cut ≡ take start xs → n ≡ length spare - added → mid ≡ cut ++ drop n spare → new ≡ mid ++ take n spare → new ≡ lower ++ (last ++ higher)
+laid xs spare cut mid new lower own higher last start gone added n whole a b c s t r m k =
+    k ∙ ap (λ l. l ++ take n spare) (m ∙ ap (λ l. l ++ drop n spare) front ∙ ap (λ l. lower ++ l) (back_is n spare higher last aside count)) ∙ ap (λ l. (lower ++ last) ++ l) (front_is n spare higher last aside count)
+    ∙ append_assoc lower last higher
   where
-    tail : drop start xs ≡ (own ++ higher) ++ last
-    tail = back_is start xs lower (own ++ (higher ++ last)) whole a ∙ sym (append_assoc own higher last)
+    parted_own : xs ≡ (lower ++ own) ++ (higher ++ last)
+    parted_own = whole ∙ sym (append_assoc lower own (higher ++ last))
 
-    count : length (own ++ higher) ≡ length (drop start xs) - added
-    count = let e = ap length tail in let f = length-append (own ++ higher) last in omega (arith, e, f, c)
+    placed : length (lower ++ own) ≡ start + gone
+    placed = let e = length-append lower own in omega (arith, e, a, b)
 
-    first : mid ≡ lower ++ (last ++ (own ++ higher))
-    first =
-        m ∙ ap (λ l. l ++ (drop (length (drop start xs) - added) (drop start xs) ++ take (length (drop start xs) - added) (drop start xs))) (front_is start xs lower (own ++ (higher ++ last)) whole a)
-        ∙ ap (λ l. lower ++ (l ++ take (length (drop start xs) - added) (drop start xs))) (back_is (length (drop start xs) - added) (drop start xs) (own ++ higher) last tail count)
-        ∙ ap (λ l. lower ++ (last ++ l)) (front_is (length (drop start xs) - added) (drop start xs) (own ++ higher) last tail count)
+    aside : spare ≡ higher ++ last
+    aside = s ∙ back_is (start + gone) xs (lower ++ own) (higher ++ last) parted_own placed
 
-    grouped : mid ≡ (lower ++ last) ++ (own ++ higher)
-    grouped = first ∙ sym (append_assoc lower last (own ++ higher))
+    front : cut ≡ lower
+    front = t ∙ front_is start xs lower (own ++ (higher ++ last)) whole a
 
-    size : length (lower ++ last) ≡ start + added
-    size = let e = length-append lower last in omega (arith, e, a, c)
-
-    apart : mid ≡ ((lower ++ last) ++ own) ++ higher
-    apart = grouped ∙ sym (append_assoc (lower ++ last) own higher)
-
-    sizes : length ((lower ++ last) ++ own) ≡ start + added + gone
-    sizes = let e = length-append (lower ++ last) own in omega (arith, e, size, b)
+    count : length higher ≡ n
+    count = let e = ap length aside in let f = length-append higher last in omega (arith, e, f, c, r)
 
 -- how many wants there are
 read_count : (number : ℕ) (o : Option ℕ) → length (read_want number o) ≡ tally (is_some o)
@@ -205,6 +184,22 @@ when_count w false = refl
 unless_count : (w : Want) (t : Bool) → length (cond t [] (w ∷ [])) ≡ tally (not t)
 unless_count w true = refl
 unless_count w false = refl
+
+-- how long a list of three parts is
+pub three : (xs a b c : List Want) → xs ≡ a ++ (b ++ c) → length xs ≡ length a + (length b + length c)
+three xs a b c e = ap length e ∙ length-append a (b ++ c) ∙ ap (λ n. length a + n) (length-append b c)
+
+-- those that stand from one place on, so many
+pub cut_out : (xs lower own higher : List Want) (start count : ℕ) → xs ≡ lower ++ (own ++ higher) → start ≡ length lower → count ≡ length own → take count (drop start xs) ≡ own
+cut_out xs lower own higher start count e a b = ap (take count) (back_is start xs lower (own ++ higher) e (sym a)) ∙ front_is count (own ++ higher) own higher refl (sym b)
+
+-- so many stand between the others
+pub between : (xs lower own higher : List Want) (count : ℕ) → xs ≡ lower ++ (own ++ higher) → length lower + count + length higher ≡ length xs → count ≡ length own
+between xs lower own higher count e size =
+    let f = ap length e in
+    let g = length-append lower (own ++ higher) in
+    let h = length-append own higher in
+    omega (arith, size, f, g, h)
 
 -- what is lent stands there
 pub some_copied : {A : Type 0} (o : Option (Bor A)) → is_some o ≡ is_some (option_copied o)

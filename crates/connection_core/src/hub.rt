@@ -6,7 +6,7 @@ ghost use Rattle.connection_core.specs.Table.{AllKnown, Counted};
 use crate::law::cores_are_sound;
 use crate::table::Table;
 use byte_text::OutOfMemory;
-use connection::connections_are_sound;
+use connection::{Workspace, connections_are_sound};
 use file_tree::Ask;
 use http_types::Addr;
 use ngx_outside::{Entry, Event, EventCore, StepAnswer, StopCause, Want};
@@ -31,7 +31,7 @@ fn count(refused: &mut u64, answer: StepAnswer)
 /// clock and by one number of the tree.
 #[derive(Drop)]
 pub struct Hub {
-    pub(crate) alloc: Global,
+    pub(crate) space: Workspace,
     pub(crate) table: Table,
     pub(crate) moment: u64,
     pub(crate) tree: u64,
@@ -58,7 +58,7 @@ impl Hub {
     {
         let table = Table::new(alloc, site)?;
         Ok(Hub {
-            alloc,
+            space: Workspace::new(alloc),
             table,
             moment: 0,
             tree: 0,
@@ -130,7 +130,7 @@ impl Hub {
     {
         let answer = self
             .table
-            .own(self.alloc, self.moment, self.tree, conn, event);
+            .own(&mut self.space, self.moment, self.tree, conn, event);
         count(&mut self.refused, answer);
         answer
     }
@@ -160,7 +160,9 @@ impl EventCore for Hub {
     fn step(&mut self, event: Event) -> StepAnswer {
         cores_are_sound();
         match event {
-            Event::Opened { conn, local, peer } => self.table.open(self.alloc, conn, local, peer),
+            Event::Opened { conn, local, peer } => self
+                .table
+                .open(self.space.alloc, conn, local, peer),
             Event::Arrived { conn, bytes: _ } => self.own(conn, event),
             Event::Ended { conn } => self.own(conn, event),
             Event::Wrote { conn, count: _ } => self.own(conn, event),

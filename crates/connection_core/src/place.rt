@@ -1,15 +1,14 @@
 // One connection among those that are held.
-ghost use Rattle.std.specs.Prelude.{◌≡◌, ◌+◌, ◌≤◌, ◌<◌, true, vec_len, vec_capacity, insert};
+ghost use Rattle.std.specs.Prelude.{◌≡◌, ◌+◌, ◌≤◌, ◌<◌, true, length, vec_len, vec_capacity, insert};
 ghost use Rattle.std.specs.Prelude.{MatchResult};
 ghost use Rattle.std.specs.List.Sorted.{IsStrictlyIncreasing};
 ghost use Rattle.connection.specs.Conn.{StepsConn};
 ghost use Rattle.connection_core.specs.Table.{is_own, StandsAt, BelongsAt, Placed, Replaced};
 
 use crate::wants::{count, rewrite};
-use connection::Conn;
+use connection::{Conn, Workspace};
 use ngx_outside::{Event, StepAnswer, Want};
 use site_model::Site;
-use std::alloc::Global;
 
 /// The place of a number, or the place where it belongs.
 pub(crate) fn place(ids: &[u32], conn: u32) -> Result<usize, usize>
@@ -35,7 +34,7 @@ pub(crate) fn put_at<T: Drop>(items: &mut Vec<T>, at: usize, item: T)
 /// Gives a connection one event of its own; any other event is skipped.
 pub(crate) fn happen(
     conn: &mut Conn,
-    alloc: Global,
+    space: &mut Workspace,
     site: &Site,
     moment: u64,
     tree: u64,
@@ -49,7 +48,7 @@ pub(crate) fn happen(
             local: _,
             peer: _,
         } => StepAnswer::Skipped,
-        Event::Arrived { conn: _, bytes } => conn.arrived(alloc, bytes),
+        Event::Arrived { conn: _, bytes } => conn.arrived(space.alloc, bytes),
         Event::Ended { conn: _ } => conn.input_ended(),
         Event::Wrote { conn: _, count } => conn.wrote(count),
         Event::LinkFailed { conn: _ } => conn.link_failed(),
@@ -59,34 +58,64 @@ pub(crate) fn happen(
             answer,
         } => conn.file_done(node, answer),
         Event::JobFailed { conn: _, node } => conn.job_failed(node),
-        Event::Run { conn: _, node } => conn.runs(alloc, site, moment, tree, node),
+        Event::Run { conn: _, node } => conn.runs(space, site, moment, tree, node),
         Event::Tick { now: _ } => StepAnswer::Skipped,
         Event::Tree { to: _ } => StepAnswer::Skipped,
         Event::Gone { conn: _ } => StepAnswer::Skipped,
     }
 }
 
+/// Where the wants of a connection stand among those of all, and how many they are.
+#[derive(Clone, Copy)]
+pub(crate) struct Stretch {
+    pub(crate) conn: u32,
+    pub(crate) start: usize,
+    pub(crate) count: usize,
+}
+
+/// What became of an event, and where the wants of its connection stand since.
+#[derive(Clone, Copy)]
+pub(crate) struct Happened {
+    pub(crate) answer: StepAnswer,
+    pub(crate) wants: Stretch,
+}
+
 /// Gives the connection at a place one event of its own, and writes its wants anew.
 pub(crate) fn happen_at(
     conns: &mut Vec<Conn>,
     wants: &mut Vec<Want>,
+    spare: &mut Vec<Want>,
     at: usize,
     number: u32,
-    alloc: Global,
+    space: &mut Workspace,
     site: &Site,
     moment: u64,
     tree: u64,
     event: Event,
-) -> StepAnswer
+) -> Happened
     requires placed { Placed site.now number at conns.old.items wants.old.items }
     requires room { vec_len wants.old + 5 ≤ vec_capacity wants.old }
-    ensures replaced { is_own event.entry ≡ true → (p : Placed site.now number at conns.old.items wants.old.items) → Replaced site.now number at conns.old.items wants.old.items (λ old new. StepsConn site.now (record { moment = moment; tree = tree }) event.entry result old new) p conns.new.items wants.new.items }
+    requires spare { vec_len wants.old + 5 ≤ vec_capacity spare.old }
+    ensures replaced { is_own event.entry ≡ true → (p : Placed site.now number at conns.old.items wants.old.items) → Replaced site.now number at conns.old.items wants.old.items (λ old new. StepsConn site.now (record { moment = moment; tree = tree }) event.entry result.answer old new) p conns.new.items wants.new.items }
+    ensures conn { result.wants.conn ≡ number }
+    ensures start { (p : Placed site.now number at conns.old.items wants.old.items) → result.wants.start ≡ length p.lower }
+    ensures size { (p : Placed site.now number at conns.old.items wants.old.items) → length p.lower + result.wants.count + length p.higher ≡ length wants.new.items }
     ensures len { vec_len conns.new ≡ vec_len conns.old }
-    ensures capacity { vec_capacity wants.new ≡ vec_capacity wants.old }
+    ensures capacity { vec_capacity wants.old ≤ vec_capacity wants.new }
+    ensures spare_capacity { vec_capacity spare.old ≤ vec_capacity spare.new }
 {
     let conn = &mut conns[at];
     let gone = count(conn);
-    let answer = happen(conn, alloc, site, moment, tree, event);
-    rewrite(wants, number, gone, conn);
-    answer
+    let answer = happen(conn, space, site, moment, tree, event);
+    let len = wants.len();
+    let start = rewrite(wants, spare, number, gone, conn);
+    let count = wants.len() + gone - len;
+    Happened {
+        answer,
+        wants: Stretch {
+            conn: number,
+            start,
+            count,
+        },
+    }
 }

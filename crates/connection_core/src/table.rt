@@ -1,13 +1,13 @@
 // All connections that are held, each under its number.
-ghost use Rattle.std.specs.Prelude.{◌≡◌, ◌*◌, ◌+◌, ◌≤◌, ◌++◌, ℕ, List, length, vec_len, vec_capacity};
+ghost use Rattle.std.specs.Prelude.{◌≡◌, ◌*◌, ◌+◌, ◌≤◌, length, take, drop, vec_len, vec_capacity};
 ghost use Rattle.std.specs.List.Sorted.{IsStrictlyIncreasing};
-ghost use Rattle.ngx_outside.specs.declared.event.Want.{Want as AWant};
-ghost use Rattle.connection_core.specs.Table.{wants_held};
+ghost use Rattle.ngx_outside.specs.Wants.{wants_at};
+ghost use Rattle.connection_core.specs.Table.{view_in, wants_held};
 
-use crate::place::{happen_at, place, put_at};
+use crate::place::{Stretch, happen_at, place, put_at};
 use crate::wants::{count, remove, rewrite, start_of};
 use byte_text::OutOfMemory;
-use connection::Conn;
+use connection::{Conn, Workspace};
 use http_types::Addr;
 use ngx_outside::{Event, StepAnswer, Want};
 use site_model::Site;
@@ -19,22 +19,39 @@ const MOST: usize = 512;
 // A part of the wants.
 fn part(wants: &[Want], start: usize, count: usize) -> &[Want]
     requires { start + count ≤ length wants.now }
-    ensures { (lower own higher : List AWant) → wants.now ≡ lower ++ (own ++ higher) → start ≡ length lower → count ≡ length own → result.now ≡ own }
+    ensures { result.now ≡ take count (drop start wants.now) }
 {
     &wants[start..start + count]
 }
 
-/// The connections that are held for a site, each under its number, and what is to be done next on all of them.
+// The wants of a connection that has none.
+fn nowhere(conn: u32) -> Stretch
+    ensures { result ≡ record { conn = conn; start = 0; count = 0 } }
+{
+    Stretch {
+        conn,
+        start: 0,
+        count: 0,
+    }
+}
+
+/// The connections that are held for a site, each under its number, what is to be done next on all of them, room to move that
+/// in, and where the wants of the connection stand that had the last event.
 #[derive(Drop)]
 pub(crate) struct Table {
     pub(crate) site: Site,
     pub(crate) ids: Vec<u32>,
     pub(crate) conns: Vec<Conn>,
     pub(crate) wants: Vec<Want>,
+    pub(crate) spare: Vec<Want>,
+    pub(crate) last: Stretch,
     ghost rising: { IsStrictlyIncreasing ids.items },
     ghost paired: { vec_len conns ≡ vec_len ids },
     ghost told: { wants.items ≡ wants_held site ids.items conns.items },
     ghost roomy: { 5 * vec_len ids + 5 ≤ vec_capacity wants },
+    ghost spared: { 5 * vec_len ids + 5 ≤ vec_capacity spare },
+    ghost within: { last.start + last.count ≤ length wants.items },
+    ghost recalled: { take last.count (drop last.start wants.items) ≡ wants_at last.conn (view_in site ids.items conns.items last.conn) },
 }
 
 impl Table {
@@ -52,11 +69,15 @@ impl Table {
     {
         let mut wants = Vec::new(alloc);
         wants.reserve(5)?;
+        let mut spare = Vec::new(alloc);
+        spare.reserve(5)?;
         Ok(Table {
             site,
             ids: Vec::new(alloc),
             conns: Vec::new(alloc),
             wants,
+            spare,
+            last: nowhere(0),
         })
     }
 
@@ -76,6 +97,9 @@ impl Table {
     pub(crate) fn wants_of(&self, conn: u32) -> &[Want]
         ensures wants { result.now ≡ wants_at conn (view_in self.now.site self.now.ids.items self.now.conns.items conn) }
     {
+        if self.last.conn == conn {
+            return part(self.wants.as_slice(), self.last.start, self.last.count);
+        }
         match place(self.ids.as_slice(), conn) {
             Ok(at) => {
                 let start = start_of(self.wants.as_slice(), conn);
@@ -94,6 +118,7 @@ impl Table {
         ensures ids_room { OnOk result (vec_len self.new.ids < vec_capacity self.new.ids) }
         ensures conns_room { OnOk result (vec_len self.new.conns < vec_capacity self.new.conns) }
         ensures wants_room { OnOk result (5 * vec_len self.new.ids + 10 ≤ vec_capacity self.new.wants) }
+        ensures spare_room { OnOk result (5 * vec_len self.new.ids + 10 ≤ vec_capacity self.new.spare) }
         ensures fresh { IfOk result (λ c. (site : _) → Fresh (fresh_course site local peer) (view_of site c)) }
         ensures left { IfOk result (λ c. left_of c ≡ 1 + weight) }
         ensures asked { IfOk result (λ c. asked_of c ≡ 0) }
@@ -102,6 +127,7 @@ impl Table {
         self.conns.reserve(1)?;
         let room = 5 * self.ids.len() + 10;
         self.wants.reserve(room.saturating_sub(self.wants.len()))?;
+        self.spare.reserve(room.saturating_sub(self.spare.len()))?;
         let conn = Conn::new(alloc, local, peer)?;
         Ok(conn)
     }
@@ -112,11 +138,17 @@ impl Table {
         requires ids_room { vec_len self.old.ids < vec_capacity self.old.ids }
         requires conns_room { vec_len self.old.conns < vec_capacity self.old.conns }
         requires wants_room { 5 * vec_len self.old.ids + 10 ≤ vec_capacity self.old.wants }
+        requires spare_room { 5 * vec_len self.old.ids + 10 ≤ vec_capacity self.old.spare }
         ensures ids { self.new.ids.items ≡ insert self.old.ids.items at conn }
         ensures conns { self.new.conns.items ≡ insert self.old.conns.items at fresh }
         ensures site { self.new.site ≡ self.old.site }
     {
-        rewrite(&mut self.wants, conn, 0, &fresh);
+        let start = rewrite(&mut self.wants, &mut self.spare, conn, 0, &fresh);
+        self.last = Stretch {
+            conn,
+            start,
+            count: count(&fresh),
+        };
         put_at(&mut self.ids, at, conn);
         put_at(&mut self.conns, at, fresh);
     }
@@ -148,7 +180,7 @@ impl Table {
     /// Gives a connection one event of its own.
     pub(crate) fn own(
         &mut self,
-        alloc: Global,
+        space: &mut Workspace,
         moment: u64,
         tree: u64,
         conn: u32,
@@ -164,17 +196,22 @@ impl Table {
         ensures site { self.new.site ≡ self.old.site }
     {
         match place(self.ids.as_slice(), conn) {
-            Ok(at) => happen_at(
-                &mut self.conns,
-                &mut self.wants,
-                at,
-                conn,
-                alloc,
-                &self.site,
-                moment,
-                tree,
-                event,
-            ),
+            Ok(at) => {
+                let happened = happen_at(
+                    &mut self.conns,
+                    &mut self.wants,
+                    &mut self.spare,
+                    at,
+                    conn,
+                    space,
+                    &self.site,
+                    moment,
+                    tree,
+                    event,
+                );
+                self.last = happened.wants;
+                happened.answer
+            }
             Err(_) => StepAnswer::Skipped,
         }
     }
@@ -192,9 +229,15 @@ impl Table {
                 if !self.conns[at].is_shut() {
                     return StepAnswer::Skipped;
                 }
-                remove(&mut self.wants, conn, count(&self.conns[at]));
+                remove(
+                    &mut self.wants,
+                    &mut self.spare,
+                    conn,
+                    count(&self.conns[at]),
+                );
                 self.ids.remove(at);
                 self.conns.remove(at);
+                self.last = nowhere(conn);
                 StepAnswer::Done { taken: 0 }
             }
             Err(_) => StepAnswer::Skipped,

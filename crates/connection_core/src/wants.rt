@@ -97,25 +97,16 @@ fn add(wants: &mut Vec<Want>, number: u32, conn: &Conn)
     add_if(wants, conn.is_shut(), Want::Close { conn: number });
 }
 
-// The last wants, so many, come to stand at `start`.
-fn move_last(wants: &mut Vec<Want>, start: usize, count: usize)
-    requires { start + count ≤ vec_len wants.old }
-    ensures items { wants.new.items ≡ take start wants.old.items ++ (drop (length (drop start wants.old.items) - count) (drop start wants.old.items) ++ take (length (drop start wants.old.items) - count) (drop start wants.old.items)) }
-    ensures len { vec_len wants.new ≡ vec_len wants.old }
-    ensures capacity { vec_capacity wants.new ≡ vec_capacity wants.old }
+// Appends wants, for which there is room.
+fn append(wants: &mut Vec<Want>, more: &[Want])
+    requires { vec_len wants.old + length more.now ≤ vec_capacity wants.old }
+    ensures items { wants.new.items ≡ wants.old.items ++ more.now }
+    ensures capacity { vec_capacity wants.old ≤ vec_capacity wants.new }
 {
-    wants[start..].rotate_right(count);
-}
-
-// Takes out the wants from `start` on, so many.
-fn take_out(wants: &mut Vec<Want>, start: usize, count: usize)
-    requires { start + count ≤ vec_len wants.old }
-    ensures items { wants.new.items ≡ take start wants.old.items ++ drop (start + count) wants.old.items }
-    ensures capacity { vec_capacity wants.new ≡ vec_capacity wants.old }
-{
-    let len = wants.len() - count;
-    wants.copy_within(start + count.., start);
-    wants.truncate(len);
+    match wants.extend_from_slice(more) {
+        Ok(()) => {}
+        Err(_) => unreachable!(),
+    }
 }
 
 // Puts the last wants, so many, in place of as many that begin at `start`: what stands between them stays where it is.
@@ -129,17 +120,35 @@ fn put_last(wants: &mut Vec<Want>, start: usize, count: usize)
     wants.truncate(len);
 }
 
-// Puts the last wants, `added` of them, in place of the `gone` that begin at `start`.
-fn settle(wants: &mut Vec<Want>, start: usize, gone: usize, added: usize)
-    requires { start + gone + added ≤ vec_len wants.old }
+// Puts the last wants, `added` of them, in place of the `gone` that begin at `start`: what stands behind those is set aside,
+// and put back.
+fn replace(wants: &mut Vec<Want>, spare: &mut Vec<Want>, start: usize, gone: usize, added: usize)
+    requires within { start + gone + added ≤ vec_len wants.old }
+    requires spare { vec_len wants.old ≤ vec_capacity spare.old }
     ensures items { (lower own higher last : List AWant) → wants.old.items ≡ lower ++ (own ++ (higher ++ last)) → length lower ≡ start → length own ≡ gone → length last ≡ added → wants.new.items ≡ lower ++ (last ++ higher) }
-    ensures capacity { vec_capacity wants.new ≡ vec_capacity wants.old }
+    ensures capacity { vec_capacity wants.old ≤ vec_capacity wants.new }
+    ensures spare_capacity { vec_capacity spare.old ≤ vec_capacity spare.new }
+{
+    spare.clear();
+    append(spare, &wants[start + gone..]);
+    wants.truncate(start);
+    let higher = spare.len() - added;
+    append(wants, &spare[higher..]);
+    append(wants, &spare[..higher]);
+}
+
+// Puts the last wants, `added` of them, in place of the `gone` that begin at `start`.
+fn settle(wants: &mut Vec<Want>, spare: &mut Vec<Want>, start: usize, gone: usize, added: usize)
+    requires within { start + gone + added ≤ vec_len wants.old }
+    requires spare { vec_len wants.old ≤ vec_capacity spare.old }
+    ensures items { (lower own higher last : List AWant) → wants.old.items ≡ lower ++ (own ++ (higher ++ last)) → length lower ≡ start → length own ≡ gone → length last ≡ added → wants.new.items ≡ lower ++ (last ++ higher) }
+    ensures capacity { vec_capacity wants.old ≤ vec_capacity wants.new }
+    ensures spare_capacity { vec_capacity spare.old ≤ vec_capacity spare.new }
 {
     if gone == added {
         put_last(wants, start, added);
     } else {
-        move_last(wants, start, added);
-        take_out(wants, start + added, gone);
+        replace(wants, spare, start, gone, added);
     }
 }
 
@@ -154,29 +163,42 @@ fn rewrite_last(wants: &mut Vec<Want>, number: u32, start: usize, conn: &Conn)
     add(wants, number, conn);
 }
 
-/// Writes the wants of a connection anew, in place of the `gone` that it had. Nothing is
-/// allocated, and nothing is moved where no other wants stand behind them.
-pub(crate) fn rewrite(wants: &mut Vec<Want>, number: u32, gone: usize, conn: &Conn)
+/// Writes the wants of a connection anew, in place of the `gone` that it had, and answers where they begin. Nothing is
+/// allocated, and nothing is moved where it has as many as before or no other wants stand behind them.
+pub(crate) fn rewrite(
+    wants: &mut Vec<Want>,
+    spare: &mut Vec<Want>,
+    number: u32,
+    gone: usize,
+    conn: &Conn,
+) -> usize
     requires room { vec_len wants.old + 5 ≤ vec_capacity wants.old }
+    requires spare { vec_len wants.old + 5 ≤ vec_capacity spare.old }
     requires splits { Splits number wants.old.items gone }
     ensures items { (site : SiteParts) (s : Splits number wants.old.items gone) → wants.new.items ≡ s.lower ++ (wants_at number (view_of site conn.now) ++ s.higher) }
-    ensures capacity { vec_capacity wants.new ≡ vec_capacity wants.old }
+    ensures capacity { vec_capacity wants.old ≤ vec_capacity wants.new }
+    ensures spare_capacity { vec_capacity spare.old ≤ vec_capacity spare.new }
+    ensures start { (s : Splits number wants.old.items gone) → result ≡ length s.lower }
 {
     let start = start_of(wants.as_slice(), number);
     let len = wants.len();
     if start + gone == len {
-        return rewrite_last(wants, number, start, conn);
+        rewrite_last(wants, number, start, conn);
+        return start;
     }
     add(wants, number, conn);
-    settle(wants, start, gone, wants.len() - len);
+    settle(wants, spare, start, gone, wants.len() - len);
+    start
 }
 
 /// Takes out the wants of a connection, `gone` of them.
-pub(crate) fn remove(wants: &mut Vec<Want>, number: u32, gone: usize)
+pub(crate) fn remove(wants: &mut Vec<Want>, spare: &mut Vec<Want>, number: u32, gone: usize)
+    requires spare { vec_len wants.old ≤ vec_capacity spare.old }
     requires splits { Splits number wants.old.items gone }
     ensures items { (s : Splits number wants.old.items gone) → wants.new.items ≡ s.lower ++ s.higher }
-    ensures capacity { vec_capacity wants.new ≡ vec_capacity wants.old }
+    ensures capacity { vec_capacity wants.old ≤ vec_capacity wants.new }
+    ensures spare_capacity { vec_capacity spare.old ≤ vec_capacity spare.new }
 {
     let start = start_of(wants.as_slice(), number);
-    settle(wants, start, gone, 0);
+    settle(wants, spare, start, gone, 0);
 }

@@ -1,5 +1,5 @@
 // The head of a response.
-ghost use Rattle.std.specs.Prelude.{◌≡◌, ◌++◌, OnOk, false};
+ghost use Rattle.std.specs.Prelude.{◌≡◌, ◌++◌, IfOk, OnOk, false};
 ghost use Rattle.http_moment.specs.Moment.{date_of};
 ghost use Rattle.resp_head.specs.Head.{is_bodiless as has_no_body, field_lines, type_fields, length_fields, modified_fields, location_fields, transfer_fields, head_with, head_of};
 
@@ -7,7 +7,8 @@ use crate::lines::{
     put_chunked, put_date, put_end, put_length, put_modified, put_status_line, put_target, put_type,
 };
 use byte_text::{ByteText, OutOfMemory};
-use http_moment::date_text;
+use http_moment::{DateCache, date_text};
+use std::alloc::Global;
 
 /// What the head of a response says.
 #[derive(Clone, Debug, Drop)]
@@ -167,5 +168,35 @@ impl ReplyHead {
             chunked: false,
             ..self
         }
+    }
+}
+
+/// Writes the heads of responses, one after another: each into the room of the one before, and the Date of a second once.
+#[derive(Drop)]
+pub struct HeadWriter {
+    dates: DateCache,
+    text: ByteText,
+}
+
+impl HeadWriter {
+    /// A writer that wrote nothing. It takes no memory yet.
+    pub fn new(alloc: Global) -> HeadWriter {
+        HeadWriter {
+            dates: DateCache::new(0),
+            text: ByteText::new(alloc),
+        }
+    }
+
+    /// The head of a response, as [`head_text`] appends it.
+    ///
+    /// # Errors
+    ///
+    /// Want of memory alone, where no head before was as long.
+    pub fn text(&mut self, head: &ReplyHead) -> Result<&[u8], OutOfMemory>
+        ensures { IfOk result (λ text. text.now ≡ head_of head.now) }
+    {
+        self.text.clear();
+        head_text_dated(head, self.dates.date_text(head.moment), &mut self.text)?;
+        Ok(self.text.as_slice())
     }
 }

@@ -101,3 +101,15 @@ fn phrases_are_those_of_nginx(rt: HostRuntime) {
     assert_eq!(rt; page_phrase(401), b"Authorization Required".as_slice());
     assert_eq!(rt; page_phrase(404), b"Not Found".as_slice());
 }
+
+#[test]
+fn a_writer_writes_one_head_after_another(rt: HostRuntime) -> Result<(), Fail> {
+    let alloc = rt.alloc();
+    let mut writer = HeadWriter::new(alloc);
+    let long = full(alloc, 301)?;
+    assert_eq!(rt; writer.text(&long)?, text_of(alloc, &long)?.as_slice());
+    let mut later = bare(204);
+    later.moment = 784111777;
+    assert_eq!(rt; writer.text(&later)?, text_of(alloc, &later)?.as_slice());
+    Ok(())
+}

@@ -17,25 +17,33 @@ pub struct Listener {
     pub stuck: bool,
 }
 
-/// An event of a link.
+/// An event of a link: whether it may be read and written, and whether its peer sends no more.
 #[derive(Clone, Copy, Debug)]
 pub struct Ready {
     pub id: u32,
     pub reads: bool,
     pub writes: bool,
+    pub closed: bool,
 }
 
-/// What is remembered of the link of a slot: whether its last write found no room, and whether it is to be reported
-/// readable again.
+/// What is remembered of the link of a slot.
 #[derive(Clone, Copy, Debug)]
 pub struct Mark {
+    /// Its last write found no room.
     pub full: bool,
+    /// It is to be reported readable again.
     pub again: bool,
+    /// Its last read took all that was there, and no event of it was reported since.
+    pub drained: bool,
+    /// An event said that its peer sends no more.
+    pub closed: bool,
 }
 
 pub const UNMARKED: Mark = Mark {
     full: false,
     again: false,
+    drained: false,
+    closed: false,
 };
 
 /// The first listener that may have a peer.
@@ -96,24 +104,31 @@ pub fn notice_of(
             id,
             Mark {
                 full: false,
-                again: mark.again,
+                ..mark
             },
         );
         if ready.reads {
             // There is room, since this event stood there.
             let _kept = batch.push(Ready {
-                id,
-                reads: true,
                 writes: false,
+                ..ready
             });
         }
         return Notice::Writable { id };
     }
-    if ready.reads {
-        Notice::Readable { id }
-    } else {
-        Notice::Nothing
+    if !ready.reads {
+        return Notice::Nothing;
     }
+    set_mark(
+        marks,
+        id,
+        Mark {
+            drained: false,
+            closed: mark.closed || ready.closed,
+            ..mark
+        },
+    );
+    Notice::Readable { id }
 }
 
 /// A link that is to be reported readable again.
@@ -128,8 +143,8 @@ pub fn again_of(links: &[Option<Link>], marks: &mut [Mark], id: u32) -> Notice
         marks,
         id,
         Mark {
-            full: mark.full,
             again: false,
+            ..mark
         },
     );
     Notice::Readable { id }
@@ -150,23 +165,27 @@ pub fn collect(events: &Events, batch: &mut Vec<Ready>, listeners: &mut [Listene
                 id: token as u32,
                 reads: event.is_readable() || event.is_read_closed() || event.is_error(),
                 writes: event.is_writable() || event.is_write_closed() || event.is_error(),
+                closed: event.is_read_closed() || event.is_error(),
             });
         }
     }
 }
 
-/// Has a link reported readable again, once.
-pub fn report_again(marks: &mut [Mark], again: &mut VecDeque<u32>, id: u32) {
+/// Has a link reported readable again, once, from which a read took all that was there, or as much as there was room for.
+/// What comes after a read that took all is an event of its own, and so is that the peer sends no more, unless it was told
+/// already (epoll(7), edge-triggered).
+pub fn report_again(marks: &mut [Mark], again: &mut VecDeque<u32>, id: u32, all: bool) {
     let mark = mark_of(marks, id);
+    set_mark(
+        marks,
+        id,
+        Mark {
+            again: true,
+            drained: all && !mark.closed,
+            ..mark
+        },
+    );
     if !mark.again {
-        set_mark(
-            marks,
-            id,
-            Mark {
-                full: mark.full,
-                again: true,
-            },
-        );
         // Room for it was made before the link was read.
         let _kept = again.push_back(id);
     }

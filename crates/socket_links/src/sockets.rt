@@ -30,9 +30,9 @@ const NOTICES: u32 = 64;
 
 const ACCEPTS: u32 = 4;
 
-/// The sockets of the system. A link is reported readable when bytes come, and again after each read that gave some;
-/// and writable only after a write that found no room. Where there is nothing to report, `next` waits for a second at
-/// most. It tells nothing of what is read and written.
+/// The sockets of the system. A link is reported readable when bytes come, and again after each read that gave some, though a
+/// read behind one that took all that was there asks nothing of the system; and writable only after a write that found no
+/// room. Where there is nothing to report, `next` waits for a second at most. It tells nothing of what is read and written.
 #[derive(Drop)]
 pub struct SocketLinks<'a, R> {
     rt: &'a R,
@@ -327,13 +327,21 @@ impl<R: Net> Links for SocketLinks<'_, R> {
     }
 
     fn read(&mut self, id: u32, buf: &mut [u8]) -> Input {
+        if mark_of(self.marks.as_slice(), id).drained {
+            return Input::NotYet;
+        }
         if self.again.reserve(1).is_err() {
             self.link_failed();
             return Input::Failed;
         }
         match read_at(self.links.as_slice(), id, buf) {
             Input::Got(count) => {
-                report_again(self.marks.as_mut_slice(), &mut self.again, id);
+                report_again(
+                    self.marks.as_mut_slice(),
+                    &mut self.again,
+                    id,
+                    count < buf.len(),
+                );
                 Input::Got(count)
             }
             Input::NotYet => Input::NotYet,
@@ -350,14 +358,7 @@ impl<R: Net> Links for SocketLinks<'_, R> {
             Output::Put(count) => Output::Put(count),
             Output::NotYet => {
                 let mark = mark_of(self.marks.as_slice(), id);
-                set_mark(
-                    self.marks.as_mut_slice(),
-                    id,
-                    Mark {
-                        full: true,
-                        again: mark.again,
-                    },
-                );
+                set_mark(self.marks.as_mut_slice(), id, Mark { full: true, ..mark });
                 Output::NotYet
             }
             Output::Failed => {

@@ -1,11 +1,10 @@
-use Rattle.std.proofs.Common.{◌≡◌, ap, sym, ◌∙◌, cond, [], ◌∷◌, ◌++◌, List}
+use Rattle.std.proofs.Common.{ap, sym, ◌∙◌, cond, [], ◌∷◌, ◌++◌, List}
 use Rattle.std.specs.Prelude.{is_some, not, map}
-use Rattle.ngx_outside.specs.Views.{Job, ask_in, no_bytes}
+use Rattle.ngx_outside.specs.Views.{Job, no_bytes}
 use Rattle.ngx_outside.specs.Wants.{wants_at, read_want}
 use Rattle.ngx_outside.specs.declared.event.Want.{Want}
 use Rattle.ngx_outside.specs.declared.event.Want.TheVariants as want
-use Rattle.connection.specs.Conn.{view_of, ready_at, pending_at}
-use Rattle.connection.specs.Flow.{jobs_of}
+use Rattle.connection.specs.Conn.{view_of, ready_at}
 use Rattle.connection_core.proofs.Spliced.{all_added, run_wants, job_wants, write_wants, some_copied, no_bytes_is}
 use Rattle.connection_core.proofs.wants.add.Goals as goal
 

@@ -4,8 +4,8 @@ use Rattle.connection_core.specs.Table.{Splits}
 use Rattle.connection_core.proofs.Spliced.{size_within, whole_behind}
 use Rattle.connection_core.proofs.wants.remove.Goals as goal
 
-pub settle-requires : goal.settle-requires
-settle-requires c =
+pub settle-requires-clause-within : goal.settle-requires-clause-within
+settle-requires-clause-within c =
     let s = c.requires.splits in
     let seen : Splits c.args.number c.as_slice.result.now c.args.gone = record { lower = s.lower; own = s.own; higher = s.higher; whole = c.as_slice.ensures.value ∙ s.whole; size = s.size; all_lower = s.all_lower; all_own = s.all_own; all_higher = s.all_higher } in
     let len : vec_len c.args.wants.now ≡ length c.args.wants.now.items = omega (arith, c.args.wants.now.ok.0) in

@@ -1,4 +1,4 @@
-use Rattle.std.proofs.Common.{◌∙◌, sym, ap, None, refl}
+use Rattle.std.proofs.Common.{◌∙◌, sym, ap}
 use Rattle.ngx_outside.specs.Views.{ConnView, ask_in}
 use Rattle.connection_core.proofs.Ends.{asks_known}
 use Rattle.connection_core.proofs.hub.HubEventCore.ask.Goals as goal
