@@ -13,6 +13,3 @@ pub use listen::{address_by, addresses, listens_of};
 pub use location::{Key, Kind, has_modifier, is_misplaced, is_plain, key_of, text_in};
 pub use named::{has_named, http_in, next_named};
 pub use role::{Content, Role, are_directives, content_inside, place_of, role_of};
-
-#[cfg(test)]
-mod tests;

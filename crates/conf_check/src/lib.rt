@@ -11,6 +11,3 @@ mod names;
 mod served;
 
 pub use first::check;
-
-#[cfg(test)]
-mod tests;

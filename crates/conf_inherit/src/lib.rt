@@ -9,6 +9,3 @@ mod site;
 
 pub use laws::{defaults_hold, values_hold_by_block, what_is_stated_holds};
 pub use site::build;
-
-#[cfg(test)]
-mod tests;

@@ -6,6 +6,3 @@ mod table;
 
 pub use rule::{DirectiveRule, Feature, Place, Places};
 pub use table::entry;
-
-#[cfg(test)]
-mod tests;

@@ -13,6 +13,3 @@ pub use directive::{Directive, Directives, split_block};
 pub use fault::{ConfError, ConfFault, FaultKind};
 pub use law::what_is_printed_is_read;
 pub use reader::parse;
-
-#[cfg(test)]
-mod tests;

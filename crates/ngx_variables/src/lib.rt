@@ -21,6 +21,3 @@ pub use request::{Groups, Main, Place, Request, Role, method_name};
 pub use table::{Setting, VarTable};
 pub use value::{Piece, Value};
 pub use variable::{Variable, is_builtin};
-
-#[cfg(test)]
-mod tests;

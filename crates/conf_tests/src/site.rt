@@ -1,5 +1,5 @@
-use super::*;
 use byte_text::{ByteText, OutOfMemory};
+use conf_inherit::build;
 use conf_text::{ConfError, parse};
 use file_type::Types;
 use ngx_variables::{Piece, Place, Value};

@@ -1,5 +1,5 @@
-use super::*;
 use byte_text::{ByteText, OutOfMemory};
+use conf_check::check;
 use conf_text::{ConfError, ConfFault, FaultKind, parse};
 use std::alloc::Global;
 use std::process::Abort;

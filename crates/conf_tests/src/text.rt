@@ -1,5 +1,5 @@
-use super::*;
 use byte_text::{ByteText, OutOfMemory};
+use conf_text::{ConfError, Directives, parse, split_block};
 use std::alloc::Global;
 use std::test::Fail;
 

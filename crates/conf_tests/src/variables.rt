@@ -1,7 +1,7 @@
-use super::*;
 use byte_text::{ByteText, OutOfMemory};
 use http_header::{HeaderMap, HeaderName, HeaderValue};
 use http_types::{Addr, Method, Version};
+use ngx_variables::{Groups, Main, Place, Request, Role, Value, ValueFault, VarTable, is_builtin};
 use std::alloc::Global;
 use std::net::{IpAddr, Ipv4Addr, Ipv6Addr};
 use std::process::Abort;

@@ -1,5 +1,5 @@
-use super::*;
 use byte_text::OutOfMemory;
+use conf_block::{http_in, listens_of, next_named};
 use conf_text::parse;
 use site_model::Listens;
 use std::alloc::Global;

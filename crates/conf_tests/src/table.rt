@@ -1,4 +1,4 @@
-use super::*;
+use conf_table::{Place, entry};
 use std::test::Fail;
 
 /// The places by their letters: the top, `events`, `http`, a server, a location, an `if` of a server, one of a location.
