@@ -49,6 +49,23 @@ told('a head one byte at a time', answer(s).startswith(b'HTTP/1.1 200')); s.clos
 import struct
 s = link(); s.sendall(ask); s.setsockopt(socket.SOL_SOCKET, socket.SO_LINGER, struct.pack('ii', 1, 0)); s.close()
 s = link(); s.sendall(ask); told('a reset touches no other link', answer(s).startswith(b'HTTP/1.1 200')); s.close()
+def all_of(s):
+    text = b''
+    try:
+        while True:
+            more = s.recv(65536)
+            if not more: return text.count(b'HTTP/1.1 200')
+            text += more
+    except OSError: return -1
+def ends(what, count, *pieces):
+    s = link()
+    for piece in pieces: s.sendall(piece); time.sleep(0.05)
+    s.shutdown(socket.SHUT_WR)
+    told(what, all_of(s) == count); s.close()
+ends('a peer that ends its input with its request is answered, and its link closed', 1, ask)
+ends('so is one that ends it later', 1, ask, b'')
+ends('and one that sent 400 requests at once', 400, ask * 400)
+ends('and one whose requests are cut at 8192 bytes', 400, (ask * 400)[:8192], (ask * 400)[8192:])
 time.sleep(0.5)
 links = [link() for i in range(600)]
 time.sleep(1)
