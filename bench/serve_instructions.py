@@ -1,9 +1,9 @@
 #!/usr/bin/env python3
 """Counts the instructions that a request costs a server, `ngx serve` and Debian's nginx (one worker, no access log), by callgrind
-(valgrind): 100 and 900 requests, one after another on one connection, for a text of `return`, a file of 5 bytes and one of 20,000
-bytes; the difference is shared out. Counts of the same program on the same machine differ by less than 1 %.
+(valgrind): requests one after another, on so many open connections in turn, for a text of `return`, a file of 5 bytes and one of
+20,000 bytes; what 800 more of them cost is shared out. Counts of the same program on the same machine differ by less than 1 %.
 
-usage: bench/serve_instructions.py
+usage: bench/serve_instructions.py [connections, 1]
 """
 import os
 import re
@@ -11,6 +11,7 @@ import shutil
 import signal
 import socket
 import subprocess
+import sys
 import tempfile
 import time
 
@@ -28,7 +29,7 @@ def configurations(work):
         out.write('http { keepalive_requests 1000000; default_type text/plain; %s }\n' % SERVER.format(port=NGX_PORT, root=work))
     nginx = os.path.join(work, 'nginx.conf')
     with open(nginx, 'w') as out:
-        out.write('daemon off; master_process off; pid %s/pid; error_log %s/err;\nevents { }\n' % (work, work))
+        out.write('daemon off; master_process off; pid %s/pid; error_log %s/err;\nevents { worker_connections 1024; }\n' % (work, work))
         out.write('http { keepalive_requests 1000000; default_type text/plain; access_log off; %s }\n' % SERVER.format(port=NGINX_PORT, root=work))
     return {'ngx': ([os.path.join(TOP, 'crates/ngx/out/ngx'), 'serve', ngx], NGX_PORT), 'nginx': ([shutil.which('nginx') or '/usr/sbin/nginx', '-c', nginx], NGINX_PORT)}
 
@@ -43,27 +44,28 @@ def connect(port):
     raise SystemExit('no server listens on port %d' % port)
 
 
-def ask(link, path, count):
-    """So many requests, each after the response to the one before. The length of a response."""
-    request = b'GET %s HTTP/1.1\r\nHost: a\r\n\r\n' % path.encode()
-    for _ in range(count):
-        link.sendall(request)
-        got = b''
-        while b'\r\n\r\n' not in got:
-            got += link.recv(65536)
-        head, body = got.split(b'\r\n\r\n', 1)
-        assert head.startswith(b'HTTP/1.1 200'), head
-        left = int(re.search(rb'Content-Length: (\d+)', head).group(1)) - len(body)
-        while left > 0:
-            left -= len(link.recv(left))
+def ask(link, path):
+    """One request, and the response to it."""
+    link.sendall(b'GET %s HTTP/1.1\r\nHost: a\r\n\r\n' % path.encode())
+    got = b''
+    while b'\r\n\r\n' not in got:
+        got += link.recv(65536)
+    head, body = got.split(b'\r\n\r\n', 1)
+    assert head.startswith(b'HTTP/1.1 200'), head
+    left = int(re.search(rb'Content-Length: (\d+)', head).group(1)) - len(body)
+    while left > 0:
+        left -= len(link.recv(left))
 
 
-def instructions(words, port, path, count):
-    """All that a server executes that answers so many requests."""
+def instructions(words, port, path, connections, count):
+    """All that a server executes that answers so many requests on so many connections."""
     with tempfile.TemporaryDirectory() as folder:
         server = subprocess.Popen(['valgrind', '--tool=callgrind', '--callgrind-out-file=%s/out' % folder] + words, stderr=subprocess.DEVNULL, stdout=subprocess.DEVNULL)
-        with connect(port) as link:
-            ask(link, path, count)
+        links = [connect(port) for _ in range(connections)]
+        for number in range(count):
+            ask(links[number % connections], path)
+        for link in links:
+            link.close()
         server.send_signal(signal.SIGTERM)
         server.wait()
         with open('%s/out' % folder) as out:
@@ -71,6 +73,7 @@ def instructions(words, port, path, count):
 
 
 def main():
+    connections = int(sys.argv[1]) if len(sys.argv) > 1 else 1
     with tempfile.TemporaryDirectory() as work:
         os.chmod(work, 0o755)
         for name, size in (('small.txt', 5), ('large.txt', 20000)):
@@ -78,7 +81,7 @@ def main():
                 out.write('a' * size)
         for what, path in PATHS.items():
             for name, (words, port) in configurations(work).items():
-                few, many = (instructions(words, port, path, count) for count in (100, 900))
+                few, many = (instructions(words, port, path, connections, count) for count in (connections + 100, connections + 900))
                 print('%-24s %-6s %6d' % (what, name, (many - few) // 800), flush=True)
 
 
