@@ -1,13 +1,14 @@
 #!/bin/bash
 # Asks a running `ngx serve` as real clients do, and as bad ones, and says of each whether the answer is right.
-# usage: bench/clients.sh
+# usage: bench/clients.sh, or NGX=PROGRAM bench/clients.sh; tests/edge.sh tries what the system may do
 set -u
 top=$(cd "$(dirname "$0")/.." && pwd)
+program=${NGX:-$top/ngx}
 work=$(mktemp -d)
 port=18090
 url=http://127.0.0.1:$port/
 printf 'http { server { listen 127.0.0.1:%s; location / { return 200 hi; } } }\n' $port >"$work/conf"
-"$top/ngx" serve "$work/conf" &
+"$program" serve "$work/conf" &
 server=$!
 trap 'kill $server 2>/dev/null; rm -rf "$work"' EXIT
 for _ in $(seq 50); do curl -s -o /dev/null $url && break; sleep 0.1; done
@@ -19,7 +20,10 @@ expect "curl, HTTP/1.1" "hi 200 1.1" "$(curl -s -w ' %{http_code} %{http_version
 expect "curl, HTTP/1.0" "hi 200" "$(curl -s --http1.0 -w ' %{http_code}' $url)"
 expect "curl, two requests on one connection" "hihi 1" "$(curl -s $url $url -w '' ; echo " $(curl -s -v $url $url 2>&1 | grep -c 'Re-using existing connection')")"
 expect "curl, HEAD" "200 2" "$(curl -s -I $url | tr -d '\r' | awk 'NR == 1 { s = $2 } tolower($1) == "content-length:" { l = $2 } END { print s, l }')"
-expect "three pipelined requests by nc" 3 "$(printf 'GET / HTTP/1.1\r\nHost: a\r\n\r\nGET / HTTP/1.1\r\nHost: a\r\n\r\nGET / HTTP/1.1\r\nHost: a\r\nConnection: close\r\n\r\n' | nc -w 3 127.0.0.1 $port | grep -o 'HTTP/1.1 200' | wc -l)"
+exec 3<>/dev/tcp/127.0.0.1/$port
+printf 'GET / HTTP/1.1\r\nHost: a\r\n\r\nGET / HTTP/1.1\r\nHost: a\r\n\r\nGET / HTTP/1.1\r\nHost: a\r\nConnection: close\r\n\r\n' >&3
+expect "three pipelined requests" 3 "$(timeout 3 cat <&3 | grep -o 'HTTP/1.1 200' | wc -l)"
+exec 3>&-
 python3 - $port <<'PY' || failed=1
 import socket, sys, time
 port = int(sys.argv[1])
@@ -79,11 +83,11 @@ time.sleep(0.5)
 s = link(); s.sendall(ask); told('and then one more is served', answer(s).startswith(b'HTTP/1.1 200')); s.close()
 sys.exit(bad)
 PY
-"$top/ngx" serve "$work/conf" </dev/null
+"$program" serve "$work/conf" </dev/null
 expect "a port in use" 6 $?
 kill $server
 wait $server 2>/dev/null
-"$top/ngx" serve "$work/conf" &
+"$program" serve "$work/conf" &
 server=$!
 for _ in $(seq 50); do curl -s -o /dev/null $url && break; sleep 0.1; done
 expect "again on the same port" "hi" "$(curl -s $url)"

@@ -1,60 +1,25 @@
 #!/bin/bash
-# Counts the instructions that a search for the pattern `^/o/(.*)$` costs in a path of 40 bytes, by `PatternSet::matches` of
-# ngx_pattern and by PCRE2 beside it, interpreted as nginx has it unless `pcre_jit` is on, and by its JIT, under callgrind
-# (valgrind). The libraries and the program are proved and built in a workspace of their own first. Proofs that stand in out/ of the
-# two libraries are taken along: with them a whole run took 94 processor seconds, without them ngx_pattern alone takes 65 more.
+# Counts the instructions that a search in a path of 40 bytes costs, for patterns of everyday kinds that match and that don't, by
+# `PatternSet::matches` of ngx_pattern and by PCRE2 beside it, interpreted as nginx has it unless `pcre_jit` is on, and by its JIT,
+# under callgrind (valgrind). Then it shows the memory that a pattern holds when it is added, and after paths that were made to fill
+# its tables. The library and two programs are proved and built in a workspace of their own first; a proof that is in the library's
+# out/ is taken along.
 # usage: bench/pattern.sh [file for the counts of each function]
 set -eu
 top=$(cd "$(dirname "$0")/.." && pwd)
 work=$(mktemp -d)
 trap 'rm -rf "$work"' EXIT
-mkdir -p "$work/crates/pattern/src"
-for crate in byte_text ngx_pattern; do
-    cp -a "$top/crates/$crate" "$work/crates/"
+for program in pattern memory; do
+    mkdir -p "$work/crates/$program/src"
+    cp "$top/bench/pattern/$program.rt.txt" "$work/crates/$program/src/main.rt"
 done
-cat >"$work/crates/pattern/src/main.rt" <<'PROGRAM'
-//! Searches a path of 40 bytes for `^/o/(.*)$`, as often as the program's argument says, and prints how often it was found.
-#![tactic(auto)]
-
-use ngx_pattern::{CrateMaker, PatternSet, Spans};
-use std::alloc::Global;
-use std::{env, io};
-
-const PATH: &[u8] = b"/o/a/path/of/forty/bytes/in/all/x.html12";
-
-/// How often the pattern was found in so many searches, or `None` where it wasn't made or memory ran out.
-fn found(alloc: Global, searches: u64) -> Option<u64> {
-    let mut set = PatternSet::new(alloc);
-    let id = set
-        .add(&mut CrateMaker::new(), b"^/o/(.*)$", false)
-        .ok()?;
-    let mut spans = Spans::new();
-    let mut found: u64 = 0;
-    for _ in 0..searches {
-        if set.matches(id, PATH, &mut spans).ok()? {
-            found = found.saturating_add(1);
-        }
-    }
-    Some(found)
-}
-
-fn main(rt: HostRuntime) -> io::Result<()> {
-    let searches = match env::args(&rt)?.nth(1) {
-        Some(word) => word.parse().unwrap_or(0),
-        None => 1,
-    };
-    match found(rt.alloc(), searches) {
-        Some(count) => println!(rt; "{count}"),
-        None => println!(rt; "none"),
-    }
-}
-PROGRAM
-cat >"$work/crates.txt" <<'CRATES'
-byte_text:
-ngx_pattern: byte_text regex regex_syntax
-pattern: ngx_pattern
-CRATES
-(cd "$work/crates/pattern" && rt run -- 1) >"$work/built" 2>&1 || { cat "$work/built" >&2; exit 1; }
+cp -a "$top/crates/ngx_pattern" "$work/crates/"
+grep '^ngx_pattern:' "$top/crates.txt" >"$work/crates.txt"
+printf 'pattern: ngx_pattern\nmemory: ngx_pattern\n' >>"$work/crates.txt"
+for program in pattern memory; do
+    (cd "$work/crates/$program" && rt run) >"$work/built" 2>&1 || { cat "$work/built" >&2; exit 1; }
+done
+ours=$work/crates/pattern/out/pattern
 gcc -O2 -o "$work/pcre" "$top/bench/pattern/pcre.c" -lpcre2-8 || true
 count() { # a program and its words
     valgrind --tool=callgrind --callgrind-out-file="$work/counts" "$@" 2>&1 >/dev/null | sed -n 's/.*Collected : \([0-9]*\).*/\1/p'
@@ -65,6 +30,36 @@ search() { # a program and its words before the number of searches
     many=$(count "$@" 1100)
     echo $(((many - few) / 1000))
 }
-echo "ngx_pattern: $(search "$work/crates/pattern/out/pattern") instructions a search"
-[ $# = 0 ] || callgrind_annotate --inclusive=no "$work/counts" >"$1"
-[ ! -x "$work/pcre" ] || echo "PCRE2: $(search "$work/pcre" interpreted), by its JIT $(search "$work/pcre" jit)"
+row() { # a pattern, whether in either case, and a text
+    local others=
+    [ ! -x "$work/pcre" ] || others=", PCRE2 $(search "$work/pcre" i "$@"), its JIT $(search "$work/pcre" j "$@")"
+    echo "$1 in $3: ngx_pattern $(search "$ours" "$@")$others"
+}
+row '^/o/(.*)$' 0 /o/a/path/of/forty/bytes/in/all/x.html12
+[ $# = 0 ] || { count "$ours" '^/o/(.*)$' 0 /o/a/path/of/forty/bytes/in/all/x.html12 1100 >/dev/null; callgrind_annotate --inclusive=no "$work/counts" >"$1"; }
+row '^/o/(.*)$' 0 /p/a/path/of/forty/bytes/in/all/x.html12
+row '\.php$' 0 /o/a/path/of/forty/bytes/in/all/xyz1.php
+row '\.php$' 0 /o/a/path/of/forty/bytes/in/all/x.html12
+row '^/(en|de)/(.*)$' 0 /de/path/of/forty/bytes/in/all/x.html123
+row '^/(en|de)/(.*)$' 0 /fr/path/of/forty/bytes/in/all/x.html123
+row '\.(gif|jpe?g|png)$' 1 /o/a/path/of/forty/bytes/in/all/xy1.JPEG
+row '\.(gif|jpe?g|png)$' 1 /o/a/path/of/forty/bytes/in/all/x.html12
+row '/admin/' 0 /o/a/path/of/forty/bytes/admin/x.html123
+row '/admin/' 0 /o/a/path/of/forty/bytes/in/all/x.html12
+row '/(\d+)/(\w+)' 0 /o/a/path/of/forty/bytes/1234/x.html123
+row '/(\d+)/(\w+)' 0 /o/a/path/of/forty/bytes/in/all/x.html12
+
+gcc -O2 -shared -fPIC -o "$work/live.so" "$top/bench/pattern/live.c" -ldl
+held() { # a pattern, an alphabet, a length of texts and a number of them
+    LD_PRELOAD=$work/live.so "$work/crates/memory/out/memory" "$1" 0 "$2" "$3" "$4" 2>&1 >/dev/null | sed -n 's/^live \([0-9]*\).*/\1/p'
+}
+fill() { # a pattern, an alphabet, a length of texts and a number of them
+    echo "$1: $(held "$1" "$2" "$3" 0) bytes when it was added, $(held "$@") after $4 texts of $3 bytes of $2"
+}
+fill '^/o/(.*)$' /o 40 30000
+fill '/(\d+)/(\w+)' 'ab/.o12' 40 20000
+fill '/(\d+)/(\w+)' '/12äöü漢字aé٣' 200 20000
+fill '\bfoo(\w+)\b' 'foé漢 ' 200 5000
+fill '(.*)a.{12}(.*)b$' ab 8000 100
+fill '(a|b)*a(a|b){14}/(\w+)' ab/ 100 5000
+fill '(a|b)*a(a|b){14}/(\w+)' ab/ 8000 50

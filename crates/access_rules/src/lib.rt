@@ -5,6 +5,3 @@ mod read;
 mod rule;
 
 pub use rule::{Rule, Source, allowed, decision};
-
-#[cfg(test)]
-mod tests;

@@ -4,6 +4,3 @@
 mod filter;
 
 pub use filter::AdditionFilter;
-
-#[cfg(test)]
-mod tests;

@@ -9,6 +9,3 @@ mod step;
 pub use laws::{bodies_are_the_grammars, bodies_go_on, bodies_stay, takes_compose};
 pub use state::BodyState;
 pub use step::BodyStep;
-
-#[cfg(test)]
-mod tests;

@@ -10,6 +10,3 @@ pub use memory::OutOfMemory;
 pub use queue::ByteQueue;
 pub use text::ByteText;
 pub use texts::ByteTexts;
-
-#[cfg(test)]
-mod tests;

@@ -7,6 +7,3 @@ mod write;
 
 pub use laws::{chunks_are_a_body, feeds_compose, sizes_are_chunk_lines};
 pub use state::ChunkState;
-
-#[cfg(test)]
-mod tests;

@@ -1,11 +1,12 @@
 -- The main file.
 use Rattle.std.proofs.Common.{◌≡◌, ℕ, true, List, [], ◌∷◌, length, get_or, Ok, Err, refl, ap, sym, ◌∙◌, arith}
-use Rattle.file_tree.specs.Tree.{Tree}
+use Rattle.file_tree.specs.Tree.{Trees, Tree}
 use Rattle.conf_text.specs.declared.directive.Directive.{Directive}
 use Rattle.conf_text.specs.declared.fault.ConfFault.{ConfFault}
 use Rattle.conf_include.specs.declared.stop.Stop.{Stop}
 use Rattle.conf_include.specs.Listings.{Names}
-use Rattle.conf_include.specs.Told.{Telling, Later, IsTold}
+use Rattle.ngx_outside.specs.Seen.{FilesSeen}
+use Rattle.conf_include.specs.Told.{Later, IsTold}
 use Rattle.conf_include.specs.Expansion.{spot, Tally, tally, Outcome, ◌>>=◌, text_in, directives_in, most_deep, put_lines, open_main, put_main, located, expansion}
 use Rattle.conf_include.specs.Steps.{StopsAs, onto}
 use Rattle.conf_include.proofs.PutLaws.{deeper_none}
@@ -72,10 +73,10 @@ unfolding expansion
 expansion_err tree names main before fault paths path none is h =
     ap located (sym (onto_none (put_main tree names main)) ∙ ap (λ l. onto l 0 (put_main tree names main)) (sym none) ∙ h) ∙ ap (λ p. Err (fault, p)) (sym is)
 
--- the tree that is the newest all the while is told
-pub told_newest : (of : ℕ) (old new : Telling) → of ≡ old.newest → Later old new → old.tells ≡ true → new.newest ≡ old.newest → IsTold of (old.trees old.newest) new
-told_newest of old new version later tells still = record {
-  tells = later.tells ∙ tells;
+-- the tree that is the newest all the while is told, where its number was asked for first
+pub told_newest : (of : ℕ) (old mid new : FilesSeen) → of ≡ old.newest → mid.newest ≡ old.newest → mid.trees ≡ old.trees → mid.tells ≡ old.tells → Later mid new → old.tells ≡ true → new.newest ≡ old.newest → IsTold of (old.trees old.newest) new
+told_newest of old mid new version number trees told later tells still = record {
+  tells = later.tells ∙ told ∙ tells;
   newest = still ∙ sym version;
-  same = λ path. later.same of (omega (arith, version)) path ∙ ap (λ n. old.trees n path) version;
+  same = λ path. later.same of (omega (arith, version, number)) path ∙ ap (λ (t : Trees). t of path) trees ∙ ap (λ n. old.trees n path) version;
 }

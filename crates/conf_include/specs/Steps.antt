@@ -14,7 +14,8 @@ use Rattle.conf_include.specs.declared.main_file.ExpandError.TheVariants as erro
 use Rattle.conf_text.specs.declared.fault.ConfFault.{ConfFault}
 use Rattle.conf_include.specs.Masks.{matches}
 use Rattle.conf_include.specs.Listings.{Names, IsNaming}
-use Rattle.conf_include.specs.Told.{Telling, IsTold}
+use Rattle.ngx_outside.specs.Seen.{FilesSeen}
+use Rattle.conf_include.specs.Told.{IsTold}
 use Rattle.conf_include.specs.Expansion.{Tally, tally, Faulty, Outcome, Spot, fault_about, text_in, deeper}
 
 -- a row tells of each end of a name, the longest first, whether a mask matches it
@@ -89,7 +90,7 @@ onto lines depth (Ok x) = Ok (lines ++ deeper depth x.0, x.1)
 onto lines depth (Err e) = Err e
 
 -- What was put behind the directives is what a tree and its names make of it, where the files tell that tree.
-abbrev pub Puts : (Tree → Names → Outcome) → ℕ → Telling → ℕ → Reading → Reading → Result (Unit {0}) Stop → Type 0
+abbrev pub Puts : (Tree → Names → Outcome) → ℕ → FilesSeen → ℕ → Reading → Reading → Result (Unit {0}) Stop → Type 0
 Puts what of t depth old new result =
     (tree : Tree) (names : Names) → IsTold of tree t → IsNaming tree names
     → Answers (λ _. (new.lines, tally_of new)) result (onto old.lines depth (what tree names)) new.paths

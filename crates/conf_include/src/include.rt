@@ -1,7 +1,7 @@
 // Directives with each include replaced by its files.
 ghost use Rattle.std.specs.Prelude.{◌≡◌, ◌≤◌, ◌<◌, ◌+◌, ◌*◌, ◌^◌, ℕ, List, length, IfOk, OnOk, option_copied};
 ghost use Rattle.conf_include.specs.Expansion.{spot, directives_in, include_word, next_number};
-ghost use Rattle.conf_include.specs.Told.{telling, Later, IsTold};
+ghost use Rattle.conf_include.specs.Told.{Later, IsTold};
 ghost use Rattle.conf_include.specs.Steps.{IsCaused, Answers, one_less, AreShallow};
 
 use crate::listing::paths_named;
@@ -96,10 +96,10 @@ impl Reading {
         at: Spot,
         path: ByteText,
     ) -> Result<Directives, Stop>
-        requires known { setting.now.tree ≤ F.newest files.old }
-        ensures later { Later (telling (F.tells files.old) (F.trees files.old) (F.newest files.old) (F.faults files.old)) (telling (F.tells files.new) (F.trees files.new) (F.newest files.new) (F.faults files.new)) }
-        ensures cause { IsCaused result (F.faults files.old) (F.faults files.new) }
-        ensures opens { (tree : Tree) → IsTold setting.now.tree tree (telling (F.tells files.new) (F.trees files.new) (F.newest files.new) (F.faults files.new)) → Answers (λ lines. (lines, tally_of self.new)) result (open_file tree (spot at.file at.line) path (tally_of self.old)) self.new.paths }
+        requires known { setting.now.tree ≤ (F.seen files.old).newest }
+        ensures later { Later (F.seen files.old) (F.seen files.new) }
+        ensures cause { IsCaused result (F.seen files.old).faults (F.seen files.new).faults }
+        ensures opens { (tree : Tree) → IsTold setting.now.tree tree (F.seen files.new) → Answers (λ lines. (lines, tally_of self.new)) result (open_file tree (spot at.file at.line) path (tally_of self.old)) self.new.paths }
         ensures lines { self.new.lines ≡ self.old.lines }
         ensures shallow { IfOk result AreShallow }
     {
@@ -128,11 +128,11 @@ impl Reading {
         at: Spot,
         path: ByteText,
     ) -> Result<(), Stop>
-        requires known { setting.now.tree ≤ F.newest files.old }
+        requires known { setting.now.tree ≤ (F.seen files.old).newest }
         requires room { depth + 33 * left < 2 ^ 32 }
-        ensures later { Later (telling (F.tells files.old) (F.trees files.old) (F.newest files.old) (F.faults files.old)) (telling (F.tells files.new) (F.trees files.new) (F.newest files.new) (F.faults files.new)) }
-        ensures cause { IsCaused result (F.faults files.old) (F.faults files.new) }
-        ensures exact { Puts (λ tree names. put_file tree names setting.now.main.now left (spot at.file at.line) path (tally_of self.old)) setting.now.tree (telling (F.tells files.new) (F.trees files.new) (F.newest files.new) (F.faults files.new)) depth self.old self.new result }
+        ensures later { Later (F.seen files.old) (F.seen files.new) }
+        ensures cause { IsCaused result (F.seen files.old).faults (F.seen files.new).faults }
+        ensures exact { Puts (λ tree names. put_file tree names setting.now.main.now left (spot at.file at.line) path (tally_of self.old)) setting.now.tree (F.seen files.new) depth self.old self.new result }
     {
         let left = one_less(setting.alloc, left, at, path.as_slice())?;
         let lines = self.open(setting, files, at, path)?;
@@ -151,11 +151,11 @@ impl Reading {
         at: Spot,
         paths: ByteTexts,
     ) -> Result<(), Stop>
-        requires known { setting.now.tree ≤ F.newest files.old }
+        requires known { setting.now.tree ≤ (F.seen files.old).newest }
         requires room { depth + 33 * left < 2 ^ 32 }
-        ensures later { Later (telling (F.tells files.old) (F.trees files.old) (F.newest files.old) (F.faults files.old)) (telling (F.tells files.new) (F.trees files.new) (F.newest files.new) (F.faults files.new)) }
-        ensures cause { IsCaused result (F.faults files.old) (F.faults files.new) }
-        ensures exact { Puts (λ tree names. put_all (put_file tree names setting.now.main.now left (spot at.file at.line)) paths (tally_of self.old)) setting.now.tree (telling (F.tells files.new) (F.trees files.new) (F.newest files.new) (F.faults files.new)) depth self.old self.new result }
+        ensures later { Later (F.seen files.old) (F.seen files.new) }
+        ensures cause { IsCaused result (F.seen files.old).faults (F.seen files.new).faults }
+        ensures exact { Puts (λ tree names. put_all (put_file tree names setting.now.main.now left (spot at.file at.line)) paths (tally_of self.old)) setting.now.tree (F.seen files.new) depth self.old self.new result }
     {
         for path in paths.into_vec() {
             self.put_file(setting, files, left, depth, at, path)?;
@@ -173,12 +173,12 @@ impl Reading {
         depth: u32,
         line: Directive,
     ) -> Result<(), Stop>
-        requires known { setting.now.tree ≤ F.newest files.old }
+        requires known { setting.now.tree ≤ (F.seen files.old).newest }
         requires room { depth + 32 + 33 * left < 2 ^ 32 }
         requires shallow { line.depth ≤ 32 }
-        ensures later { Later (telling (F.tells files.old) (F.trees files.old) (F.newest files.old) (F.faults files.old)) (telling (F.tells files.new) (F.trees files.new) (F.newest files.new) (F.faults files.new)) }
-        ensures cause { IsCaused result (F.faults files.old) (F.faults files.new) }
-        ensures exact { Puts (λ tree names. put_line (put_file tree names setting.now.main.now left) (named_by names setting.now.main.now) line (tally_of self.old)) setting.now.tree (telling (F.tells files.new) (F.trees files.new) (F.newest files.new) (F.faults files.new)) depth self.old self.new result }
+        ensures later { Later (F.seen files.old) (F.seen files.new) }
+        ensures cause { IsCaused result (F.seen files.old).faults (F.seen files.new).faults }
+        ensures exact { Puts (λ tree names. put_line (put_file tree names setting.now.main.now left) (named_by names setting.now.main.now) line (tally_of self.old)) setting.now.tree (F.seen files.new) depth self.old self.new result }
     {
         let depth = depth + line.depth;
         match include_word(&line) {
@@ -209,12 +209,12 @@ impl Reading {
         depth: u32,
         lines: Directives,
     ) -> Result<(), Stop>
-        requires known { setting.now.tree ≤ F.newest files.old }
+        requires known { setting.now.tree ≤ (F.seen files.old).newest }
         requires room { depth + 32 + 33 * left < 2 ^ 32 }
         requires shallow { AreShallow lines }
-        ensures later { Later (telling (F.tells files.old) (F.trees files.old) (F.newest files.old) (F.faults files.old)) (telling (F.tells files.new) (F.trees files.new) (F.newest files.new) (F.faults files.new)) }
-        ensures cause { IsCaused result (F.faults files.old) (F.faults files.new) }
-        ensures exact { Puts (λ tree names. put_lines tree names setting.now.main.now left lines (tally_of self.old)) setting.now.tree (telling (F.tells files.new) (F.trees files.new) (F.newest files.new) (F.faults files.new)) depth self.old self.new result }
+        ensures later { Later (F.seen files.old) (F.seen files.new) }
+        ensures cause { IsCaused result (F.seen files.old).faults (F.seen files.new).faults }
+        ensures exact { Puts (λ tree names. put_lines tree names setting.now.main.now left lines (tally_of self.old)) setting.now.tree (F.seen files.new) depth self.old self.new result }
     {
         for line in lines.into_vec() {
             self.put_line(setting, files, left, depth, line)?;

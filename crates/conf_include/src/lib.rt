@@ -13,6 +13,3 @@ mod stop;
 pub use laws::files_stand_whole;
 pub use main_file::{ExpandError, Expanded, PlacedFault, expand};
 pub use paths::folder_of;
-
-#[cfg(test)]
-mod tests;

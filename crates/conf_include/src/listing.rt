@@ -6,7 +6,7 @@ ghost use Rattle.conf_include.specs.Listings.{byte_order, Names, IsListing, IsNa
 ghost use Rattle.conf_include.specs.Paths.{front_of, last_of, folder_of, is_mask};
 ghost use Rattle.conf_include.specs.Masks.{matches};
 ghost use Rattle.conf_include.specs.Expansion.{paths_named};
-ghost use Rattle.conf_include.specs.Told.{telling, Later, IsTold};
+ghost use Rattle.conf_include.specs.Told.{Later, IsTold};
 ghost use Rattle.conf_include.specs.Steps.{IsCaused, NamesFound, AreNamed};
 
 use crate::mask::matches;
@@ -54,9 +54,9 @@ fn names_of<F: Files>(
     path: &[u8],
     at: Spot,
 ) -> Result<ByteTexts, Stop>
-    ensures later { Later (telling (F.tells files.old) (F.trees files.old) (F.newest files.old) (F.faults files.old)) (telling (F.tells files.new) (F.trees files.new) (F.newest files.new) (F.faults files.new)) }
-    ensures cause { IsCaused result (F.faults files.old) (F.faults files.new) }
-    ensures names { (of : ℕ) (tree : Tree) → of ≤ F.newest files.old → IsTold of tree (telling (F.tells files.new) (F.trees files.new) (F.newest files.new) (F.faults files.new)) → NamesFound tree (folder_of path.now) result }
+    ensures later { Later (F.seen files.old) (F.seen files.new) }
+    ensures cause { IsCaused result (F.seen files.old).faults (F.seen files.new).faults }
+    ensures names { (of : ℕ) (tree : Tree) → of ≤ (F.seen files.old).newest → IsTold of tree (F.seen files.new) → NamesFound tree (folder_of path.now) result }
 {
     let mut names = ByteTexts::new(alloc);
     match files.list(folder_of(path), &mut names) {
@@ -80,9 +80,9 @@ fn paths_matched<F: Files>(
     at: Spot,
 ) -> Result<ByteTexts, Stop>
     requires { is_mask path.now ≡ true }
-    ensures later { Later (telling (F.tells files.old) (F.trees files.old) (F.newest files.old) (F.faults files.old)) (telling (F.tells files.new) (F.trees files.new) (F.newest files.new) (F.faults files.new)) }
-    ensures cause { IsCaused result (F.faults files.old) (F.faults files.new) }
-    ensures paths { (of : ℕ) (tree : Tree) (names : Names) → of ≤ F.newest files.old → IsTold of tree (telling (F.tells files.new) (F.trees files.new) (F.newest files.new) (F.faults files.new)) → IsNaming tree names → AreNamed (paths_named names path.now) result }
+    ensures later { Later (F.seen files.old) (F.seen files.new) }
+    ensures cause { IsCaused result (F.seen files.old).faults (F.seen files.new).faults }
+    ensures paths { (of : ℕ) (tree : Tree) (names : Names) → of ≤ (F.seen files.old).newest → IsTold of tree (F.seen files.new) → IsNaming tree names → AreNamed (paths_named names path.now) result }
 {
     let found = names_of(alloc, files, path, at)?;
     let names = in_order(alloc, found.as_slice())?;
@@ -96,9 +96,9 @@ pub fn paths_named<F: Files>(
     path: ByteText,
     at: Spot,
 ) -> Result<ByteTexts, Stop>
-    ensures later { Later (telling (F.tells files.old) (F.trees files.old) (F.newest files.old) (F.faults files.old)) (telling (F.tells files.new) (F.trees files.new) (F.newest files.new) (F.faults files.new)) }
-    ensures cause { IsCaused result (F.faults files.old) (F.faults files.new) }
-    ensures paths { (of : ℕ) (tree : Tree) (names : Names) → of ≤ F.newest files.old → IsTold of tree (telling (F.tells files.new) (F.trees files.new) (F.newest files.new) (F.faults files.new)) → IsNaming tree names → AreNamed (paths_named names path) result }
+    ensures later { Later (F.seen files.old) (F.seen files.new) }
+    ensures cause { IsCaused result (F.seen files.old).faults (F.seen files.new).faults }
+    ensures paths { (of : ℕ) (tree : Tree) (names : Names) → of ≤ (F.seen files.old).newest → IsTold of tree (F.seen files.new) → IsNaming tree names → AreNamed (paths_named names path) result }
 {
     if is_mask(path.as_slice()) {
         return paths_matched(alloc, files, path.as_slice(), at);

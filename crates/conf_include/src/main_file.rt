@@ -1,10 +1,11 @@
 // A configuration from its main file.
 ghost use Rattle.std.specs.Prelude.{◌≡◌, ◌≤◌, ◌+◌, ◌∷◌, ℕ, List, [], true, slice_index_or};
 ghost use Rattle.ngx_outside.specs.Outside.{Grow};
+ghost use Rattle.ngx_outside.specs.Records.{Adds};
 ghost use Rattle.conf_include.specs.declared.main_file.ExpandError.TheVariants.{OutOfMemory as NoMemory};
 ghost use Rattle.conf_include.specs.Listings.{Names, IsNaming};
 ghost use Rattle.conf_include.specs.Expansion.{put_main, expansion};
-ghost use Rattle.conf_include.specs.Told.{telling, Later};
+ghost use Rattle.conf_include.specs.Told.{Later};
 ghost use Rattle.conf_include.specs.Steps.{IsCaused, Puts, Expands, FailsIf};
 
 use crate::include::{Reading, Setting, directives_in};
@@ -57,13 +58,13 @@ fn read_main<F: Files>(
     files: &mut F,
     reading: &mut Reading,
 ) -> Result<(), Stop>
-    requires known { setting.now.tree ≤ F.newest files.old }
+    requires known { setting.now.tree ≤ (F.seen files.old).newest }
     requires paths { reading.old.paths ≡ setting.now.main.now ∷ [] }
     requires size { reading.old.size ≡ 0 }
     requires lines { reading.old.lines ≡ [] }
-    ensures later { Later (telling (F.tells files.old) (F.trees files.old) (F.newest files.old) (F.faults files.old)) (telling (F.tells files.new) (F.trees files.new) (F.newest files.new) (F.faults files.new)) }
-    ensures cause { IsCaused result (F.faults files.old) (F.faults files.new) }
-    ensures exact { Puts (λ tree names. put_main tree names setting.now.main.now) setting.now.tree (telling (F.tells files.new) (F.trees files.new) (F.newest files.new) (F.faults files.new)) 0 reading.old reading.new result }
+    ensures later { Later (F.seen files.old) (F.seen files.new) }
+    ensures cause { IsCaused result (F.seen files.old).faults (F.seen files.new).faults }
+    ensures exact { Puts (λ tree names. put_main tree names setting.now.main.now) setting.now.tree (F.seen files.new) 0 reading.old reading.new result }
 {
     let at = Spot { file: 0, line: 1 };
     let text = text_of(
@@ -106,17 +107,21 @@ fn path_at(alloc: Global, paths: ByteTexts, number: u32) -> ByteText
 /// `Fault` for the first fault, in the order of reading: a file is read whole before its includes are. A fault of a file
 /// that an include names stands at the include, and one of the main file at its own line 1; its word is the file's path.
 /// `Failed` only where the files failed in this call. `OutOfMemory`.
+///
+/// The number of the newest tree is asked for once, first.
 pub fn expand<F: Files>(alloc: Global, files: &mut F, path: &[u8]) -> Result<Expanded, ExpandError>
-    ensures exact { F.tells files.old ≡ true → F.newest files.new ≡ F.newest files.old → (names : Names) → IsNaming (F.trees files.old (F.newest files.old)) names → Expands result (expansion (F.trees files.old (F.newest files.old)) names path.now) }
-    ensures cause { FailsIf result (F.faults files.old) (F.faults files.new) }
-    ensures tells { F.tells files.new ≡ F.tells files.old }
-    ensures grow { Grow (F.newest files.old) (F.newest files.new) (F.trees files.old) (F.trees files.new) }
-    ensures later { F.faults files.old ≤ F.faults files.new }
+    ensures exact { (F.seen files.old).tells ≡ true → (F.seen files.new).newest ≡ (F.seen files.old).newest → (names : Names) → IsNaming ((F.seen files.old).trees (F.seen files.old).newest) names → Expands result (expansion ((F.seen files.old).trees (F.seen files.old).newest) names path.now) }
+    ensures cause { FailsIf result (F.seen files.old).faults (F.seen files.new).faults }
+    ensures tells { (F.seen files.new).tells ≡ (F.seen files.old).tells }
+    ensures versions { Adds (F.seen files.old).newest (F.seen files.old).versions (F.seen files.new).versions }
+    ensures grow { Grow (F.seen files.old).newest (F.seen files.new).newest (F.seen files.old).trees (F.seen files.new).trees }
+    ensures later { (F.seen files.old).faults ≤ (F.seen files.new).faults }
 {
+    let tree = files.version();
     let setting = Setting {
         alloc,
         main: path,
-        tree: files.version(),
+        tree,
     };
     let mut paths = ByteTexts::new(alloc);
     paths.push(ByteText::from_slice(alloc, path)?)?;

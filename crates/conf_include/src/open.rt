@@ -2,7 +2,7 @@
 ghost use Rattle.std.specs.Prelude.{◌≡◌, ◌≤◌, ◌+◌, ℕ, List, length, IfOk};
 ghost use Rattle.file_tree.specs.Tree.{Tree};
 ghost use Rattle.conf_include.specs.Expansion.{spot, tally, text_in};
-ghost use Rattle.conf_include.specs.Told.{telling, Later, IsTold};
+ghost use Rattle.conf_include.specs.Told.{Later, IsTold};
 ghost use Rattle.conf_include.specs.Steps.{IsCaused, Answers, IsLenOf, AreBytesOf};
 
 use crate::stop::{Spot, Stop, fault_about};
@@ -24,10 +24,10 @@ fn len_of<F: Files>(
     path: &[u8],
     size: u64,
 ) -> Result<u64, Stop>
-    requires { of ≤ F.newest files.old }
-    ensures later { Later (telling (F.tells files.old) (F.trees files.old) (F.newest files.old) (F.faults files.old)) (telling (F.tells files.new) (F.trees files.new) (F.newest files.new) (F.faults files.new)) }
-    ensures cause { IsCaused result (F.faults files.old) (F.faults files.new) }
-    ensures len { (tree : Tree) (paths : List (List ℕ)) → IsTold of tree (telling (F.tells files.new) (F.trees files.new) (F.newest files.new) (F.faults files.new)) → IsLenOf (tree path.now) (spot at.file at.line) path.now (tally paths size) result }
+    requires { of ≤ (F.seen files.old).newest }
+    ensures later { Later (F.seen files.old) (F.seen files.new) }
+    ensures cause { IsCaused result (F.seen files.old).faults (F.seen files.new).faults }
+    ensures len { (tree : Tree) (paths : List (List ℕ)) → IsTold of tree (F.seen files.new) → IsLenOf (tree path.now) (spot at.file at.line) path.now (tally paths size) result }
     ensures fits { IfOk result (λ len. len + size ≤ 1048576) }
 {
     match files.stat(path, of) {
@@ -54,10 +54,10 @@ fn bytes_of<F: Files>(
     path: &[u8],
     len: u64,
 ) -> Result<ByteText, Stop>
-    requires { of ≤ F.newest files.old }
-    ensures later { Later (telling (F.tells files.old) (F.trees files.old) (F.newest files.old) (F.faults files.old)) (telling (F.tells files.new) (F.trees files.new) (F.newest files.new) (F.faults files.new)) }
-    ensures cause { IsCaused result (F.faults files.old) (F.faults files.new) }
-    ensures bytes { (tree : Tree) → IsTold of tree (telling (F.tells files.new) (F.trees files.new) (F.newest files.new) (F.faults files.new)) → AreBytesOf (tree path.now) len result }
+    requires { of ≤ (F.seen files.old).newest }
+    ensures later { Later (F.seen files.old) (F.seen files.new) }
+    ensures cause { IsCaused result (F.seen files.old).faults (F.seen files.new).faults }
+    ensures bytes { (tree : Tree) → IsTold of tree (F.seen files.new) → AreBytesOf (tree path.now) len result }
     ensures count { IfOk result (λ t. length t ≡ len) }
 {
     let mut text = ByteText::new(alloc);
@@ -82,10 +82,10 @@ pub fn text_of<F: Files>(
     path: &[u8],
     size: u64,
 ) -> Result<ByteText, Stop>
-    requires { of ≤ F.newest files.old }
-    ensures later { Later (telling (F.tells files.old) (F.trees files.old) (F.newest files.old) (F.faults files.old)) (telling (F.tells files.new) (F.trees files.new) (F.newest files.new) (F.faults files.new)) }
-    ensures cause { IsCaused result (F.faults files.old) (F.faults files.new) }
-    ensures text { (tree : Tree) (paths : List (List ℕ)) → IsTold of tree (telling (F.tells files.new) (F.trees files.new) (F.newest files.new) (F.faults files.new)) → Answers (λ t. t) result (text_in (tree path.now) (spot at.file at.line) path.now (tally paths size)) paths }
+    requires { of ≤ (F.seen files.old).newest }
+    ensures later { Later (F.seen files.old) (F.seen files.new) }
+    ensures cause { IsCaused result (F.seen files.old).faults (F.seen files.new).faults }
+    ensures text { (tree : Tree) (paths : List (List ℕ)) → IsTold of tree (F.seen files.new) → Answers (λ t. t) result (text_in (tree path.now) (spot at.file at.line) path.now (tally paths size)) paths }
     ensures fits { IfOk result (λ t. size + length t ≤ 1048576) }
 {
     let len = len_of(alloc, files, of, at, path, size)?;

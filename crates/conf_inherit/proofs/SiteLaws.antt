@@ -6,7 +6,7 @@ use Rattle.file_type.specs.Types.{TypeList}
 use Rattle.site_model.specs.declared.site.Return.{Return}
 use Rattle.site_model.specs.declared.site.Level.{Level}
 use Rattle.site_model.specs.declared.site.Location.{Location}
-use Rattle.site_model.specs.declared.site.Server.{Server}
+use Rattle.http_types.specs.declared.words.Addr.{Addr}
 use Rattle.site_model.specs.declared.site.Site.{Site}
 use Rattle.site_model.specs.Levels.{location_seen, server_seen, types_at, raw_level, level_at, level_seen}
 use Rattle.std.specs.Prelude.{codes}
@@ -111,13 +111,14 @@ location-shown site levels types l d body outer v number level h t n e shown ts 
   level = (level-shown site levels types v l.level number (returned_in body) level h n shown ts ∙ ap (λ v. level_with v (returned_in body)) e) i;
 }
 
-pub server-shown : (site : Site) (levels : List Level) (types : List TypeList) (s : Server) (d : Directive) (body : Forest) (outer v : Values) (number : ℕ) (level : Level)
-    → Holds levels types site → s.listens ≡ or_default (listens_of (roots body)) → slice_get levels s.level ≡ Some level → v ≡ over (stated [] body) outer
+pub server-shown : (site : Site) (levels : List Level) (types : List TypeList) (listens : List Addr) (own : ℕ) (locations : List Location) (d : Directive) (body : Forest) (outer v : Values) (number : ℕ) (level : Level)
+    → Holds levels types site → listens ≡ or_default (listens_of (roots body)) → slice_get levels own ≡ Some level → v ≡ over (stated [] body) outer
     → level ≡ level_by v number (returned_in body) → slice_get types number ≡ Some v.types
-    → map (location_seen site) s.locations.items ≡ map (location_in v) (blocks_of (codes "location") body) → server_seen site s ≡ server_in outer (block_with d body)
-server-shown site levels types s d body outer v number level h a n e shown ts ls = λ i. record {
+    → map (location_seen site) locations ≡ map (location_in v) (blocks_of (codes "location") body)
+    → record { listens = listens; level = level_at site own; locations = map (location_seen site) locations } ≡ server_in outer (block_with d body)
+server-shown site levels types listens own locations d body outer v number level h a n e shown ts ls = λ i. record {
   listens = a i;
-  level = (level-shown site levels types v s.level number (returned_in body) level h n shown ts ∙ ap (λ v. level_with v (returned_in body)) e) i;
+  level = (level-shown site levels types v own number (returned_in body) level h n shown ts ∙ ap (λ v. level_with v (returned_in body)) e) i;
   locations = (ls ∙ ap (λ v. map (location_in v) (blocks_of (codes "location") body)) e) i;
 }
 

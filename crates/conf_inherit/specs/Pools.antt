@@ -1,5 +1,5 @@
 -- How levels and lists of media types are kept under numbers while a site is built.
-use Rattle.std.specs.Prelude.{◌≡◌, ℕ, List, [], map, Option, None, Some, codes, slice_get}
+use Rattle.std.specs.Prelude.{◌≡◌, ℕ, true, false, List, [], map, Option, None, Some, codes, slice_get}
 use Rattle.file_type.specs.Types.{TypeList}
 use Rattle.file_type.specs.declared.types.TypeEntry.{TypeEntry}
 use Rattle.ngx_variables.specs.declared.request.Place.{Place}
@@ -38,9 +38,39 @@ values_by v = record {
   idle = v.idle;
 }
 
--- a level with these values, whose media types have this number
+-- a level with these values, whose media types have this number; what no directive that is served states has its default
 abbrev pub level_by : Values → ℕ → Option Return → Level
-level_by v types returned = record { place = v.place; types = types; requests = v.requests; idle = v.idle; returned = returned }
+level_by v types returned = record {
+  place = v.place;
+  types = types;
+  requests = v.requests;
+  idle = v.idle;
+  returned = returned;
+  index = None;
+  tries = None;
+  internal = false;
+  pages = None;
+  recursive = false;
+  body_most = 1048576;
+  send_wait = 60000;
+  head_wait = 60000;
+  absolute = true;
+  with_port = true;
+  with_server_name = false;
+  any = false;
+  rules = None;
+  auth = None;
+  auth_sets = None;
+  ssi = false;
+  silent = false;
+  ssi_types = None;
+  value_most = 256;
+  capture_most = 4096;
+  before = None;
+  after = None;
+  addition_types = None;
+  program = [];
+}
 
 -- what has a number keeps it
 abbrev pub Keeps : {A : Type 0} → List A → List A → Type 0

@@ -11,7 +11,7 @@ use conf_block::{has_named, next_named};
 use conf_text::Directive;
 use conf_values::{count_of, return_by, time_of, value_of};
 use ngx_variables::Place;
-use site_model::{Level, Return};
+use site_model::{Level, Program, Return};
 use std::alloc::Global;
 
 /// The first word of the first directive of this name.
@@ -141,7 +141,7 @@ fn returned_in(alloc: Global, level: &[Directive]) -> Result<Option<Return>, Out
     }
 }
 
-/// A level with these values, and with its own `return`.
+/// A level with these values, and with its own `return`. What no directive that is served states has its default.
 pub fn level_of(
     alloc: Global,
     values: Inherited<'_>,
@@ -155,5 +155,29 @@ pub fn level_of(
         requests: values.requests,
         idle: values.idle,
         returned: returned_in(alloc, level)?,
+        index: None,
+        tries: None,
+        internal: false,
+        pages: None,
+        recursive: false,
+        body_most: 1_048_576,
+        send_wait: 60_000,
+        head_wait: 60_000,
+        absolute: true,
+        with_port: true,
+        with_server_name: false,
+        any: false,
+        rules: None,
+        auth: None,
+        auth_sets: None,
+        ssi: false,
+        silent: false,
+        ssi_types: None,
+        value_most: 256,
+        capture_most: 4096,
+        before: None,
+        after: None,
+        addition_types: None,
+        program: Program::new(alloc),
     })
 }

@@ -16,7 +16,7 @@ use byte_text::{ByteText, OutOfMemory};
 use conf_block::{Branch, http_in, listens_of, next_named, text_in};
 use conf_check::check;
 use conf_text::{ConfError, Directive};
-use site_model::{Location, Server, Site};
+use site_model::{Listens, Location, LocationKind, Server, Site};
 use std::alloc::Global;
 
 /// A location, with the values around it.
@@ -36,7 +36,12 @@ fn location_of<'a>(
     let values = pool.inner(alloc, prefix, branch.block, outer)?;
     let level = pool.add_level(level_of(alloc, values, branch.block)?)?;
     let text = ByteText::from_slice(alloc, prefix)?;
-    Ok(Location { text, level })
+    Ok(Location {
+        text,
+        level,
+        kind: LocationKind::Prefix,
+        depth: 0,
+    })
 }
 
 /// The locations of a server, with its values.
@@ -82,6 +87,12 @@ fn server_of<'a>(
         listens,
         level,
         locations,
+        defaults: Listens::new(alloc),
+        names: Vec::new(alloc),
+        first_name: ByteText::new(alloc),
+        named: Vec::new(alloc),
+        merge: true,
+        visible: None,
     })
 }
 
@@ -120,6 +131,11 @@ fn site_of(alloc: Global, folder: &[u8], http: &[Directive]) -> Result<Site, Out
         types: pool.types,
         outside: level_of(alloc, defaults(), &[])?,
         plain: types_of(alloc, defaults())?,
+        indexes: Vec::new(alloc),
+        pages: Vec::new(alloc),
+        rules: Vec::new(alloc),
+        auth_sets: Vec::new(alloc),
+        media: Vec::new(alloc),
     })
 }
 

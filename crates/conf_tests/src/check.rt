@@ -41,196 +41,227 @@ fn are_refused(
     Ok(())
 }
 
-#[test]
-fn what_is_served_has_no_fault(rt: HostRuntime) -> Result<(), Fail> {
-    let cases: [&[u8]; 5] = [
-        b"http { server { } }",
-        b"user a; events { use epoll; } http { server { location /a { gzip_x 1; } listen [::]:81 default_server; listen 82; } }",
-        b"http { root a$uri; server { location /a { alias b; } location /b { root ''; } } server { listen 81; root c; } }",
-        b"http { types { m/n y Z; } keepalive_timeout 0 5m; server { default_type u/v; location / { keepalive_requests 7; } } }",
-        b"http { server { return 404; location / { return 200 'a $uri'; return 201; } } }",
-    ];
-    for text in cases {
-        assert!(rt; first_fault(rt.alloc(), text)?.is_none());
+fn have_no_fault(rt: &impl Abort, alloc: Global, texts: &[&[u8]]) -> Result<(), Fail> {
+    for text in texts {
+        assert!(rt; first_fault(alloc, *text)?.is_none());
     }
     Ok(())
 }
 
 #[test]
-fn what_is_not_served_is_unknown(rt: HostRuntime) -> Result<(), Fail> {
-    let cases: [(&[u8], u64, &[u8]); 15] = [
-        (b"http { serve { } }", 1, b"serve"),
-        (b"http { server { } }\nfoo;\nserver { }", 2, b"foo"),
-        (b"http { server { foo { bar; } } }", 1, b"foo"),
-        (b"http { server { gzipx; } }", 1, b"gzipx"),
-        (
-            b"http { root $A$b; server { set $a 1; auth_request_set $B 1; } }",
-            1,
-            b"set",
-        ),
-        (b"http { server { }\nserver { } }", 2, b"server"),
-        (b"http { server { }\nserver {\nlisten 80; } }", 3, b"listen"),
-        (b"http { server { location = / { } } }", 1, b"location"),
-        (
-            b"http { server { location / {\nlocation /a { } } } }",
-            2,
-            b"location",
-        ),
-        (b"http { server { location @a { } } }", 1, b"location"),
-        (
-            b"http { server { return 200 a;\nreturn 302; } }",
-            2,
-            b"return",
-        ),
-        (b"http { server { return https://a; } }", 1, b"return"),
-        (b"http { server { if (a) { return 200; } } }", 1, b"if"),
-        (b"http { server { server_name a; } }", 1, b"server_name"),
-        (b"include a; http { server { } }", 1, b"include"),
-    ];
-    are_refused(&rt, rt.alloc(), FaultKind::Unknown, cases.as_slice())
+fn what_is_served_has_no_fault(rt: HostRuntime) -> Result<(), Fail> {
+    have_no_fault(
+        &rt,
+        rt.alloc(),
+        &[
+            b"http { server { } }",
+            b"user a; events { use epoll; } http { server { location /a { gzip_x 1; } listen [::]:81 default_server; listen 82; } }",
+            b"http { root a$uri; server { location /a { alias b; } location /b { root ''; } } server { listen 81; root c; } }",
+            b"http { types { m/n y Z; } keepalive_timeout 0 5m; server { default_type u/v; location / { keepalive_requests 7; } } }",
+            b"http { server { return 404; location / { return 200 'a $uri'; return 201; } } }",
+        ],
+    )
 }
 
 #[test]
-fn directives_stand_in_their_places(rt: HostRuntime) -> Result<(), Fail> {
-    let cases: [(&[u8], u64, &[u8]); 8] = [
-        (b"server { }", 1, b"server"),
-        (b"http {\nlocation / { } }", 2, b"location"),
-        (b"events { http { } }", 1, b"http"),
-        (b"http { server { if (a) { root b; } } }", 1, b"root"),
-        (
-            b"http { server { location / { if (a) { root b; index c; } } } }",
-            1,
-            b"index",
-        ),
-        (
-            b"http { server { location /a {\nlocation @b { } } } }",
-            2,
-            b"location",
-        ),
-        (
-            b"http { server { location = /a {\nlocation /b { } } } }",
-            2,
-            b"location",
-        ),
-        (
-            b"http { server { location @a {\nlocation /b { } } } }",
-            2,
-            b"location",
-        ),
-    ];
-    are_refused(&rt, rt.alloc(), FaultKind::NotHere, cases.as_slice())
+fn what_is_not_served_is_unknown(rt: HostRuntime) -> Result<(), Fail> {
+    are_refused(
+        &rt,
+        rt.alloc(),
+        FaultKind::Unknown,
+        &[
+            (b"http { serve { } }", 1, b"serve"),
+            (b"http { server { } }\nfoo;\nserver { }", 2, b"foo"),
+            (b"http { server { foo { bar; } } }", 1, b"foo"),
+            (b"http { server { gzipx; } }", 1, b"gzipx"),
+            (
+                b"http { root $A$b; server { set $a 1; auth_request_set $B 1; } }",
+                1,
+                b"set",
+            ),
+            (b"http { server { }\nserver { } }", 2, b"server"),
+            (b"http { server { }\nserver {\nlisten 80; } }", 3, b"listen"),
+            (b"http { server { location = / { } } }", 1, b"location"),
+            (
+                b"http { server { location / {\nlocation /a { } } } }",
+                2,
+                b"location",
+            ),
+            (b"http { server { location @a { } } }", 1, b"location"),
+            (
+                b"http { server { return 200 a;\nreturn 302; } }",
+                2,
+                b"return",
+            ),
+            (b"http { server { return https://a; } }", 1, b"return"),
+            (b"http { server { if (a) { return 200; } } }", 1, b"if"),
+            (b"http { server { server_name a; } }", 1, b"server_name"),
+            (b"include a; http { server { } }", 1, b"include"),
+        ],
+    )
+}
+
+#[test]
+fn directives_are_in_their_places(rt: HostRuntime) -> Result<(), Fail> {
+    are_refused(
+        &rt,
+        rt.alloc(),
+        FaultKind::NotHere,
+        &[
+            (b"server { }", 1, b"server"),
+            (b"http {\nlocation / { } }", 2, b"location"),
+            (b"events { http { } }", 1, b"http"),
+            (b"http { server { if (a) { root b; } } }", 1, b"root"),
+            (
+                b"http { server { location / { if (a) { root b; index c; } } } }",
+                1,
+                b"index",
+            ),
+            (
+                b"http { server { location /a {\nlocation @b { } } } }",
+                2,
+                b"location",
+            ),
+            (
+                b"http { server { location = /a {\nlocation /b { } } } }",
+                2,
+                b"location",
+            ),
+            (
+                b"http { server { location @a {\nlocation /b { } } } }",
+                2,
+                b"location",
+            ),
+        ],
+    )
 }
 
 #[test]
 fn words_and_blocks_are_counted(rt: HostRuntime) -> Result<(), Fail> {
-    let cases: [(&[u8], u64, &[u8]); 9] = [
-        (b"http;", 1, b"http"),
-        (b"http a { }", 1, b"http"),
-        (b"http { server { listen; } }", 1, b"listen"),
-        (b"http { server { return 200 a b; } }", 1, b"return"),
-        (b"http { server { listen 80 { } } }", 1, b"listen"),
-        (b"user { }", 1, b"user"),
-        (b"http { types { a b; user;\nc { } } }", 1, b"user"),
-        (b"http { types { a b;\nc d { } } }", 2, b"c"),
-        (b"include a b;", 1, b"include"),
-    ];
-    are_refused(&rt, rt.alloc(), FaultKind::Count, cases.as_slice())
+    are_refused(
+        &rt,
+        rt.alloc(),
+        FaultKind::Count,
+        &[
+            (b"http;", 1, b"http"),
+            (b"http a { }", 1, b"http"),
+            (b"http { server { listen; } }", 1, b"listen"),
+            (b"http { server { return 200 a b; } }", 1, b"return"),
+            (b"http { server { listen 80 { } } }", 1, b"listen"),
+            (b"user { }", 1, b"user"),
+            (b"http { types { a b; user;\nc { } } }", 1, b"user"),
+            (b"http { types { a b;\nc d { } } }", 2, b"c"),
+            (b"include a b;", 1, b"include"),
+        ],
+    )
 }
 
 #[test]
-fn what_stands_once_stands_once(rt: HostRuntime) -> Result<(), Fail> {
-    let cases: [(&[u8], u64, &[u8]); 10] = [
-        (b"events { }\nevents { }", 2, b"events"),
-        (b"http { } http { }", 1, b"http"),
-        (b"http { root a; server { root b; }\nroot c; }", 2, b"root"),
-        (
-            b"http { server { listen 80;\nlisten *:80; } }",
-            2,
-            b"listen",
-        ),
-        (
-            b"http { server { listen 0.0.0.0:80; listen 80 x; } }",
-            1,
-            b"listen",
-        ),
-        (
-            b"http { server { listen [::1]:80; listen [0:0::1]:80; } }",
-            1,
-            b"listen",
-        ),
-        (
-            b"http { server { location / { alias a; root b; } } }",
-            1,
-            b"root",
-        ),
-        (
-            b"http { server { location /a { }\nlocation ^~ /a { } } }",
-            2,
-            b"location",
-        ),
-        (
-            b"http { server { location = /a { } location /a { } location = /a { } } }",
-            1,
-            b"location",
-        ),
-        (
-            b"http { server { listen 80 default_server; }\nserver { listen 80 default_server; } }",
-            2,
-            b"listen",
-        ),
-    ];
-    are_refused(&rt, rt.alloc(), FaultKind::Duplicate, cases.as_slice())
+fn what_is_there_once_is_there_once(rt: HostRuntime) -> Result<(), Fail> {
+    are_refused(
+        &rt,
+        rt.alloc(),
+        FaultKind::Duplicate,
+        &[
+            (b"events { }\nevents { }", 2, b"events"),
+            (b"http { } http { }", 1, b"http"),
+            (b"http { root a; server { root b; }\nroot c; }", 2, b"root"),
+            (
+                b"http { server { listen 80;\nlisten *:80; } }",
+                2,
+                b"listen",
+            ),
+            (
+                b"http { server { listen 0.0.0.0:80; listen 80 x; } }",
+                1,
+                b"listen",
+            ),
+            (
+                b"http { server { listen [::1]:80; listen [0:0::1]:80; } }",
+                1,
+                b"listen",
+            ),
+            (
+                b"http { server { location / { alias a; root b; } } }",
+                1,
+                b"root",
+            ),
+            (
+                b"http { server { location /a { }\nlocation ^~ /a { } } }",
+                2,
+                b"location",
+            ),
+            (
+                b"http { server { location = /a { } location /a { } location = /a { } } }",
+                1,
+                b"location",
+            ),
+            (
+                b"http { server { listen 80 default_server; }\nserver { listen 80 default_server; } }",
+                2,
+                b"listen",
+            ),
+        ],
+    )
 }
 
 #[test]
 fn values_are_looked_at(rt: HostRuntime) -> Result<(), Fail> {
-    let cases: [(&[u8], u64, &[u8]); 22] = [
-        (b"http { server { listen 80 x; } }", 1, b"listen"),
-        (b"http { server { listen 0; } }", 1, b"listen"),
-        (b"http { server { listen 65536; } }", 1, b"listen"),
-        (b"http { server { listen 080; } }", 1, b"listen"),
-        (b"http { server { listen a:80; } }", 1, b"listen"),
-        (b"http { server { listen [::1]80; } }", 1, b"listen"),
-        (b"http { server { listen 1.2.3:80; } }", 1, b"listen"),
-        (b"http { server { return 199; } }", 1, b"return"),
-        (b"http { server { return 600 a; } }", 1, b"return"),
-        (b"http { server { return ok; } }", 1, b"return"),
-        (
-            b"http { server { root a; location / { return 2000; } } }",
-            1,
-            b"return",
-        ),
-        (b"http { server { location ! /a { } } }", 1, b"location"),
-        (b"http { root $document_root/a; }", 1, b"root"),
-        (
-            b"http { server { location / { alias ${request_filename}; } } }",
-            1,
-            b"alias",
-        ),
-        (b"http { root $a;\nserver { set $b 1; } }", 1, b"root"),
-        (b"http { types { set $a; } root $a; }", 1, b"root"),
-        (b"http { server { return 200 $; } }", 1, b"return"),
-        (b"http { server { return http://$a; } }", 1, b"return"),
-        (b"http { keepalive_requests 0; }", 1, b"keepalive_requests"),
-        (
-            b"http { keepalive_requests 1000000001; }",
-            1,
-            b"keepalive_requests",
-        ),
-        (
-            b"http { keepalive_timeout 12725830d; }",
-            1,
-            b"keepalive_timeout",
-        ),
-        (b"http { keepalive_timeout 1 ms; }", 1, b"keepalive_timeout"),
-    ];
-    are_refused(&rt, rt.alloc(), FaultKind::BadValue, cases.as_slice())
+    are_refused(
+        &rt,
+        rt.alloc(),
+        FaultKind::BadValue,
+        &[
+            (b"http { server { listen 80 x; } }", 1, b"listen"),
+            (b"http { server { listen 0; } }", 1, b"listen"),
+            (b"http { server { listen 65536; } }", 1, b"listen"),
+            (b"http { server { listen 080; } }", 1, b"listen"),
+            (b"http { server { listen a:80; } }", 1, b"listen"),
+            (b"http { server { listen [::1]80; } }", 1, b"listen"),
+            (b"http { server { listen 1.2.3:80; } }", 1, b"listen"),
+            (b"http { server { return 199; } }", 1, b"return"),
+            (b"http { server { return 600 a; } }", 1, b"return"),
+            (b"http { server { return ok; } }", 1, b"return"),
+            (
+                b"http { server { root a; location / { return 2000; } } }",
+                1,
+                b"return",
+            ),
+            (b"http { server { location ! /a { } } }", 1, b"location"),
+            (b"http { root $document_root/a; }", 1, b"root"),
+            (
+                b"http { server { location / { alias ${request_filename}; } } }",
+                1,
+                b"alias",
+            ),
+            (b"http { root $a;\nserver { set $b 1; } }", 1, b"root"),
+            (b"http { types { set $a; } root $a; }", 1, b"root"),
+            (b"http { server { return 200 $; } }", 1, b"return"),
+            (b"http { server { return http://$a; } }", 1, b"return"),
+            (b"http { keepalive_requests 0; }", 1, b"keepalive_requests"),
+            (
+                b"http { keepalive_requests 1000000001; }",
+                1,
+                b"keepalive_requests",
+            ),
+            (
+                b"http { keepalive_timeout 12725830d; }",
+                1,
+                b"keepalive_timeout",
+            ),
+            (b"http { keepalive_timeout 1 ms; }", 1, b"keepalive_timeout"),
+        ],
+    )
 }
 
 #[test]
 fn a_server_is_asked_for(rt: HostRuntime) -> Result<(), Fail> {
-    let cases: [(&[u8], u64, &[u8]); 2] = [(b"", 1, b""), (b"\nhttp { root a; }", 1, b"")];
-    are_refused(&rt, rt.alloc(), FaultKind::NoServer, cases.as_slice())
+    are_refused(
+        &rt,
+        rt.alloc(),
+        FaultKind::NoServer,
+        &[(b"", 1, b""), (b"\nhttp { root a; }", 1, b"")],
+    )
 }
 
 /// A number below 1000 in decimals.

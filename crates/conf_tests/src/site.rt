@@ -5,6 +5,7 @@ use file_type::Types;
 use ngx_variables::{Piece, Place, Value};
 use site_model::{Return, Site};
 use std::alloc::Global;
+use std::process::Abort;
 use std::test::Fail;
 
 /// A text with variables, each as `$`.
@@ -18,7 +19,7 @@ fn value_onto(out: &mut ByteText, value: &Value) -> Result<(), OutOfMemory> {
     Ok(())
 }
 
-/// Where the files of a level stand: `TEXT`, or `TEXT<PREFIX` for an alias.
+/// Where the files of a level are: `TEXT`, or `TEXT<PREFIX` for an alias.
 fn place_onto(out: &mut ByteText, place: &Place) -> Result<(), OutOfMemory> {
     match place {
         Place::Root(text) => value_onto(out, text),
@@ -105,38 +106,46 @@ fn read(alloc: Global, text: &[u8]) -> Result<ByteText, OutOfMemory> {
     }
 }
 
-#[test]
-fn a_site_is_read(rt: HostRuntime) -> Result<(), Fail> {
-    let cases: [(&[u8], &[u8]); 7] = [
-        (
-            b"user a; events { use epoll; } http { server { location /a { gzip_x 1; } listen [::]:81 default_server; listen 82; } }",
-            b"81 82 html text/html text/plain text/plain 1000 75000\n/a html text/html text/plain text/plain 1000 75000\n",
-        ),
-        (
-            b"http { keepalive_timeout 0 5m; default_type d/t; server { location /a { } location /b { keepalive_requests 7; } } }",
-            b"80 html text/html d/t d/t 1000 0\n/a html text/html d/t d/t 1000 0\n/b html text/html d/t d/t 7 0\n",
-        ),
-        (
-            b"http { types { m/n y Z; } server { types { o/p y; } types { q/r html; } location / { default_type u/v; } } server { listen 81; } }",
-            b"80 html q/r o/p text/plain 1000 75000\n/ html q/r o/p u/v 1000 75000\n81 html text/plain m/n text/plain 1000 75000\n",
-        ),
-        (
-            b"http { server { return 404; location / { return 200 'a $uri'; return 201; types { } keepalive_timeout 1500ms; } } }",
-            b"80 html text/html text/plain text/plain 1000 75000 404\n/ html text/plain text/plain text/plain 1000 1500 200:a $\n",
-        ),
-        (
-            b"http { server { listen 80; location /b { } } keepalive_timeout 1h; server { listen 81; location /b { } location /a { } } }",
-            b"80 html text/html text/plain text/plain 1000 3600000\n/b html text/html text/plain text/plain 1000 3600000\n81 html text/html text/plain text/plain 1000 3600000\n/b html text/html text/plain text/plain 1000 3600000\n/a html text/html text/plain text/plain 1000 3600000\n",
-        ),
-        (
-            b"http { root /w; server { location /a { alias b$uri/; } location /c { root d; } location /e { } } }",
-            b"80 /w text/html text/plain text/plain 1000 75000\n/a b$/</a text/html text/plain text/plain 1000 75000\n/c d text/html text/plain text/plain 1000 75000\n/e /w text/html text/plain text/plain 1000 75000\n",
-        ),
-        (b"http { root a; server { set $b c; } }", b"set"),
-    ];
+/// Each configuration is read as this.
+fn all_are_read(rt: &impl Abort, alloc: Global, cases: &[(&[u8], &[u8])]) -> Result<(), Fail> {
     for (text, expected) in cases {
-        let found = read(rt.alloc(), text)?;
-        assert_eq!(rt; found.as_slice(), expected);
+        let found = read(alloc, *text)?;
+        assert_eq!(rt; found.as_slice(), *expected);
     }
     Ok(())
+}
+
+#[test]
+fn a_site_is_read(rt: HostRuntime) -> Result<(), Fail> {
+    all_are_read(
+        &rt,
+        rt.alloc(),
+        &[
+            (
+                b"user a; events { use epoll; } http { server { location /a { gzip_x 1; } listen [::]:81 default_server; listen 82; } }",
+                b"81 82 html text/html text/plain text/plain 1000 75000\n/a html text/html text/plain text/plain 1000 75000\n",
+            ),
+            (
+                b"http { keepalive_timeout 0 5m; default_type d/t; server { location /a { } location /b { keepalive_requests 7; } } }",
+                b"80 html text/html d/t d/t 1000 0\n/a html text/html d/t d/t 1000 0\n/b html text/html d/t d/t 7 0\n",
+            ),
+            (
+                b"http { types { m/n y Z; } server { types { o/p y; } types { q/r html; } location / { default_type u/v; } } server { listen 81; } }",
+                b"80 html q/r o/p text/plain 1000 75000\n/ html q/r o/p u/v 1000 75000\n81 html text/plain m/n text/plain 1000 75000\n",
+            ),
+            (
+                b"http { server { return 404; location / { return 200 'a $uri'; return 201; types { } keepalive_timeout 1500ms; } } }",
+                b"80 html text/html text/plain text/plain 1000 75000 404\n/ html text/plain text/plain text/plain 1000 1500 200:a $\n",
+            ),
+            (
+                b"http { server { listen 80; location /b { } } keepalive_timeout 1h; server { listen 81; location /b { } location /a { } } }",
+                b"80 html text/html text/plain text/plain 1000 3600000\n/b html text/html text/plain text/plain 1000 3600000\n81 html text/html text/plain text/plain 1000 3600000\n/b html text/html text/plain text/plain 1000 3600000\n/a html text/html text/plain text/plain 1000 3600000\n",
+            ),
+            (
+                b"http { root /w; server { location /a { alias b$uri/; } location /c { root d; } location /e { } } }",
+                b"80 /w text/html text/plain text/plain 1000 75000\n/a b$/</a text/html text/plain text/plain 1000 75000\n/c d text/html text/plain text/plain 1000 75000\n/e /w text/html text/plain text/plain 1000 75000\n",
+            ),
+            (b"http { root a; server { set $b c; } }", b"set"),
+        ],
+    )
 }

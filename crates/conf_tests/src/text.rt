@@ -1,6 +1,7 @@
 use byte_text::{ByteText, OutOfMemory};
 use conf_text::{ConfError, Directives, parse, split_block};
 use std::alloc::Global;
+use std::process::Abort;
 use std::test::Fail;
 
 fn put_number(out: &mut ByteText, number: u64) -> Result<(), OutOfMemory> {
@@ -9,7 +10,7 @@ fn put_number(out: &mut ByteText, number: u64) -> Result<(), OutOfMemory> {
     Ok(())
 }
 
-/// The directives as `DEPTH LINE name|arg|..` with `;` or `{` behind each, or a fault as `!KIND LINE`.
+/// The directives as `DEPTH LINE name|arg|..` with `;` or `{` after each, or a fault as `!KIND LINE`.
 fn shown(alloc: Global, text: &[u8]) -> Result<ByteText, OutOfMemory> {
     let mut out = ByteText::new(alloc);
     match parse(alloc, 7, text) {
@@ -35,74 +36,81 @@ fn shown(alloc: Global, text: &[u8]) -> Result<ByteText, OutOfMemory> {
     Ok(out)
 }
 
-#[test]
-fn words_are_those_of_the_documentation(rt: HostRuntime) -> Result<(), Fail> {
-    let cases: [(&[u8], &[u8]); 21] = [
-        (b"", b""),
-        (b" \t\r\n# a { ; }", b""),
-        (b"a b;c{d;}e;", b"0001a|b;0001c{0101d;0001e;"),
-        (b"\n\na\n b;\n\nc;", b"0003a|b;0006c;"),
-        (b"a#b #c;\nd;#e\nf;", b"0001a#b|d;0003f;"),
-        (b"a \"b c\" 'd\"e' \"\";", b"0001a|b c|d\"e|;"),
-        (b"\"a b\" c;", b"0001a b|c;"),
-        (
-            b"a \"x\\ty\\\"z\\q\" '\\\\\\r\\n';",
-            b"0001a|x\ty\"z\\q|\\\r\n;",
-        ),
-        (b"a \\;b \\t\\\"c;", b"0001a|\\;b|\t\"c;"),
-        (b"return 200 ${uri}x;", b"0001return|200|${uri}x;"),
-        (b"a $uri{b;}", b"0001a|$uri{0101b;"),
-        (b"a \\${b;}", b"0001a|\\${0101b;"),
-        (b"a $${b;", b"0001a|$${b;"),
-        (b"if ($x = \"b\"){c;}", b"0001if|($x|=|b|){0101c;"),
-        (b"a}b c;", b"0001a}b|c;"),
-        (b"a\rb\tc\n;", b"0001a|b|c;"),
-        (b"a \"b\nc\" d;e;", b"0001a|b\nc|d;0002e;"),
-        (b"a \\\nb;c;", b"0001a|\\\nb;0002c;"),
-        (b"a \x00\xff\xc3;", b"0001a|\x00\xff\xc3;"),
-        (b"a{b{c;}d{}}", b"0001a{0101b{0201c;0101d{"),
-        (b"a{}b;", b"0001a{0001b;"),
-    ];
-    for (text, words) in cases {
-        let found = shown(rt.alloc(), text)?;
-        assert_eq!(rt; found.as_slice(), words);
+/// Each text is shown as this.
+fn all_are_shown(rt: &impl Abort, alloc: Global, cases: &[(&[u8], &[u8])]) -> Result<(), Fail> {
+    for (text, expected) in cases {
+        let found = shown(alloc, *text)?;
+        assert_eq!(rt; found.as_slice(), *expected);
     }
     Ok(())
 }
 
 #[test]
+fn words_are_those_of_the_documentation(rt: HostRuntime) -> Result<(), Fail> {
+    all_are_shown(
+        &rt,
+        rt.alloc(),
+        &[
+            (b"", b""),
+            (b" \t\r\n# a { ; }", b""),
+            (b"a b;c{d;}e;", b"0001a|b;0001c{0101d;0001e;"),
+            (b"\n\na\n b;\n\nc;", b"0003a|b;0006c;"),
+            (b"a#b #c;\nd;#e\nf;", b"0001a#b|d;0003f;"),
+            (b"a \"b c\" 'd\"e' \"\";", b"0001a|b c|d\"e|;"),
+            (b"\"a b\" c;", b"0001a b|c;"),
+            (
+                b"a \"x\\ty\\\"z\\q\" '\\\\\\r\\n';",
+                b"0001a|x\ty\"z\\q|\\\r\n;",
+            ),
+            (b"a \\;b \\t\\\"c;", b"0001a|\\;b|\t\"c;"),
+            (b"return 200 ${uri}x;", b"0001return|200|${uri}x;"),
+            (b"a $uri{b;}", b"0001a|$uri{0101b;"),
+            (b"a \\${b;}", b"0001a|\\${0101b;"),
+            (b"a $${b;", b"0001a|$${b;"),
+            (b"if ($x = \"b\"){c;}", b"0001if|($x|=|b|){0101c;"),
+            (b"a}b c;", b"0001a}b|c;"),
+            (b"a\rb\tc\n;", b"0001a|b|c;"),
+            (b"a \"b\nc\" d;e;", b"0001a|b\nc|d;0002e;"),
+            (b"a \\\nb;c;", b"0001a|\\\nb;0002c;"),
+            (b"a \x00\xff\xc3;", b"0001a|\x00\xff\xc3;"),
+            (b"a{b{c;}d{}}", b"0001a{0101b{0201c;0101d{"),
+            (b"a{}b;", b"0001a{0001b;"),
+        ],
+    )
+}
+
+#[test]
 fn the_first_fault_is_told_with_its_line(rt: HostRuntime) -> Result<(), Fail> {
-    let cases: [(&[u8], &[u8]); 24] = [
-        (b"a", b"!0101"),
-        (b"a;\nb\n", b"!0103"),
-        (b"a;\nb {\n", b"!0103"),
-        (b"a \"b\n;", b"!0102"),
-        (b"a 'b;", b"!0101"),
-        (b"a \"b\"", b"!0101"),
-        (b"a b\\", b"!0101"),
-        (b"a;\n}", b"!0202"),
-        (b"a{b;}\n}", b"!0202"),
-        (b"a }", b"!0201"),
-        (b"a{b }", b"!0201"),
-        (b"{", b"!0201"),
-        (b"a;{b;}", b"!0201"),
-        (b";", b"!0301"),
-        (b"a;\n;\n", b"!0302"),
-        (b"a{;}", b"!0301"),
-        (b"a\n\"b\"c;", b"!0502"),
-        (b"a \"b\"\"c\";", b"!0501"),
-        (b"a \"b\"}", b"!0501"),
-        (b"a \"b\"#c;", b"!0501"),
-        (b"a \"b\"\\", b"!0501"),
-        (b"a \"b\"c;}", b"!0501"),
-        (b"}\"a\"b", b"!0201"),
-        (b"a{b{c", b"!0101"),
-    ];
-    for (text, fault) in cases {
-        let found = shown(rt.alloc(), text)?;
-        assert_eq!(rt; found.as_slice(), fault);
-    }
-    Ok(())
+    all_are_shown(
+        &rt,
+        rt.alloc(),
+        &[
+            (b"a", b"!0101"),
+            (b"a;\nb\n", b"!0103"),
+            (b"a;\nb {\n", b"!0103"),
+            (b"a \"b\n;", b"!0102"),
+            (b"a 'b;", b"!0101"),
+            (b"a \"b\"", b"!0101"),
+            (b"a b\\", b"!0101"),
+            (b"a;\n}", b"!0202"),
+            (b"a{b;}\n}", b"!0202"),
+            (b"a }", b"!0201"),
+            (b"a{b }", b"!0201"),
+            (b"{", b"!0201"),
+            (b"a;{b;}", b"!0201"),
+            (b";", b"!0301"),
+            (b"a;\n;\n", b"!0302"),
+            (b"a{;}", b"!0301"),
+            (b"a\n\"b\"c;", b"!0502"),
+            (b"a \"b\"\"c\";", b"!0501"),
+            (b"a \"b\"}", b"!0501"),
+            (b"a \"b\"#c;", b"!0501"),
+            (b"a \"b\"\\", b"!0501"),
+            (b"a \"b\"c;}", b"!0501"),
+            (b"}\"a\"b", b"!0201"),
+            (b"a{b{c", b"!0101"),
+        ],
+    )
 }
 
 /// A text of this many times `piece`, between two others.
@@ -121,35 +129,47 @@ fn repeated(
     Ok(text)
 }
 
-#[test]
-fn a_word_and_a_nest_have_their_limits(rt: HostRuntime) -> Result<(), Fail> {
-    let cases: [(&[u8], &[u8], u32, &[u8], &[u8]); 8] = [
-        (b"a \"", b"\\\"", 4097, b"\";", b"!0401"),
-        (b"a ", b"\\q", 2049, b";", b"!0401"),
-        (b"a ", b"x", 4097, b";", b"!0401"),
-        (b"a '\n", b"x", 4096, b"';", b"!0402"),
-        (b"a '", b"x", 5000, b"", b"!0401"),
-        (b"", b"a {", 33, b"", b"!1901"),
-        (b"", b"a {", 32, b"{", b"!0201"),
-        (b"", b"a {\n", 32, b"", b"!0133"),
-    ];
+/// Each text of this many times a piece, between two others, has this fault.
+fn all_are_too_long(
+    rt: &impl Abort,
+    alloc: Global,
+    cases: &[(&[u8], &[u8], u32, &[u8], &[u8])],
+) -> Result<(), Fail> {
     for (before, piece, count, after, fault) in cases {
-        let text = repeated(rt.alloc(), before, piece, count, after)?;
-        let found = shown(rt.alloc(), text.as_slice())?;
-        assert_eq!(rt; found.as_slice(), fault);
+        let text = repeated(alloc, *before, *piece, *count, *after)?;
+        let found = shown(alloc, text.as_slice())?;
+        assert_eq!(rt; found.as_slice(), *fault);
     }
-    let long = repeated(rt.alloc(), b"a ", b"\\\\", 4096, b";")?;
-    let found = shown(rt.alloc(), long.as_slice())?;
-    assert_eq!(rt; found.len(), 4103);
-    let deep = repeated(rt.alloc(), b"", b"a {", 32, b"b;")?;
-    let whole = repeated(rt.alloc(), deep.as_slice(), b"}", 32, b"")?;
-    let found = shown(rt.alloc(), whole.as_slice())?;
-    assert_eq!(rt; found.len(), 6 * 33);
     Ok(())
 }
 
 #[test]
-fn blocks_stand_behind_their_directives(rt: HostRuntime) -> Result<(), Fail> {
+fn a_word_and_a_nest_have_their_limits(rt: HostRuntime) -> Result<(), Fail> {
+    let alloc = rt.alloc();
+    all_are_too_long(
+        &rt,
+        alloc,
+        &[
+            (b"a \"", b"\\\"", 4097, b"\";", b"!0401"),
+            (b"a ", b"\\q", 2049, b";", b"!0401"),
+            (b"a ", b"x", 4097, b";", b"!0401"),
+            (b"a '\n", b"x", 4096, b"';", b"!0402"),
+            (b"a '", b"x", 5000, b"", b"!0401"),
+            (b"", b"a {", 33, b"", b"!1901"),
+            (b"", b"a {", 32, b"{", b"!0201"),
+            (b"", b"a {\n", 32, b"", b"!0133"),
+        ],
+    )?;
+    let long = repeated(alloc, b"a ", b"\\\\", 4096, b";")?;
+    assert_eq!(rt; shown(alloc, long.as_slice())?.len(), 4103);
+    let deep = repeated(alloc, b"", b"a {", 32, b"b;")?;
+    let whole = repeated(alloc, deep.as_slice(), b"}", 32, b"")?;
+    assert_eq!(rt; shown(alloc, whole.as_slice())?.len(), 6 * 33);
+    Ok(())
+}
+
+#[test]
+fn blocks_follow_their_directives(rt: HostRuntime) -> Result<(), Fail> {
     let directives = parse(rt.alloc(), 3, b"a{b{c;}d;}e;")?;
     assert_eq!(rt; directives.len(), 5);
     assert!(rt; !directives.is_empty());
@@ -166,7 +186,7 @@ fn blocks_stand_behind_their_directives(rt: HostRuntime) -> Result<(), Fail> {
     Ok(())
 }
 
-/// Words as they stand in the configuration that Debian's package brings, and in a site's.
+/// Words of the configuration that Debian's package brings, and in a site's.
 const MAIN: &[u8] = b"user www-data;
 worker_processes auto;
 include /etc/nginx/modules-enabled/*.conf;

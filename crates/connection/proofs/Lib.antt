@@ -6,3 +6,4 @@ pub mod Flows
 pub mod Moves
 pub mod Begins
 pub mod Sound
+pub mod Exact

@@ -86,6 +86,7 @@ wrote_went service cause flow flow' out out' journal closing ended body held nex
   moved = record {
     starts = sym (append-nil (map start_of journal));
     raceless = refl;
+    timed = refl;
     bytes = λ trees is more later.
         let tail : Rest → List ℕ = λ r. r.bytes ++ bytes_in (cond (closes_behind r closing) [] (past_body body (held ++ more) (λ input. responses service (length journal) trees input later))) in
         ap (λ p. p ++ tail (flow_rest flow trees)) (sym (take-append-drop n out)) ∙ append_assoc (take n out) (drop n out) (tail (flow_rest flow trees))
@@ -232,6 +233,7 @@ arrived_went service cause flow out journal closing closing' ended body body' he
   moved = record {
     starts = sym (append-nil (map start_of journal));
     raceless = refl;
+    timed = refl;
     bytes = λ trees is more later. ap (λ x. out ++ ((flow_rest flow trees).bytes ++ bytes_in x)) (same trees more later);
     logs = λ trees is more later. ap (λ x. logged_in journal ++ ((flow_rest flow trees).logs ++ logs_in x)) (same trees more later);
     heavy = λ trees is more later h. h;
@@ -433,6 +435,7 @@ ran_went stays refused fits service now cause flow' out out' journal journal' en
       moved = record {
         starts = ap (map start_of) j ∙ map-append start_of journal (entry ∷ []) ∙ ap (λ x. map start_of journal ++ x ∷ []) s;
         raceless = refl;
+        timed = refl;
         bytes = λ trees is more later. said_bytes service trees now flow' out out' journal journal' closing closing' body body' held held' log more later (said trees more later);
         logs = λ trees is more later. said_logs service trees now flow' out out' journal journal' closing closing' body body' held held' log more later
             (ap logged_in j ∙ entered_logs journal entry ∙ ap (λ x. logged_in journal ++ logged_by x) g) (said trees more later);
@@ -504,6 +507,7 @@ goes_went ground service cause flow flow' out out' journal journal' closing clos
   moved = record {
     starts = m ∙ sym (append-nil (map start_of journal));
     raceless = refl;
+    timed = refl;
     bytes = λ trees is more later. goes_bytes service trees flow flow' out out' journal journal' closing closing' body held more later log n (g trees is);
     logs = λ trees is more later. goes_logs service trees flow flow' out out' journal journal' closing closing' body held more later log n e (g trees is);
     heavy = λ trees is more later h. h;

@@ -85,7 +85,7 @@ waits_by [] true body next p e = refl
 waits_by [] false body next p e = ap not e
 waits_by (b ∷ out) closing body next p e = cc
 
-idle_parts : (out : List ℕ) (closing : Bool) (body : Option BodyState) (next : HeadStep) → (no_bytes (take shown_most out) && no_nodes (cond (starts_at false closing out body next) (0 ∷ []) []) && true) ≡ true → Idle out closing body next
+pub idle_parts : (out : List ℕ) (closing : Bool) (body : Option BodyState) (next : HeadStep) → (no_bytes (take shown_most out) && no_nodes (cond (starts_at false closing out body next) (0 ∷ []) []) && true) ≡ true → Idle out closing body next
 idle_parts out closing body next h =
     let nodes = no_nodes (cond (starts_at false closing out body next) (0 ∷ []) []) in
     let both = and_left (no_bytes (take shown_most out) && nodes) true h in
@@ -95,7 +95,7 @@ idle_parts out closing body next h =
       waits = waits_by out closing body next unsent (unstarted (starts_at false closing out body next) (and_right (no_bytes (take shown_most out)) nodes both));
     }
 
-shut_parts : (out : List ℕ) (closing ended : Bool) (body : Option BodyState) (next : HeadStep) → shut_at false None closing ended out body next ≡ true → Idle out closing body next
+pub shut_parts : (out : List ℕ) (closing ended : Bool) (body : Option BodyState) (next : HeadStep) → shut_at false None closing ended out body next ≡ true → Idle out closing body next
 shut_parts [] true ended body next h = record { unsent = refl; waits = refl }
 shut_parts [] false true (Some state) next h = record { unsent = refl; waits = refl }
 shut_parts [] false true None More h = record { unsent = refl; waits = refl }
@@ -208,7 +208,7 @@ idle_shown service None None out journal closing ended body held next fits =
     idle_none out closing body next ∙ ap (λ b. b && no_nodes (cond (starts_at false closing out body next) (0 ∷ []) []) && true) (sym (shown_none out))
 idle_shown service None (Some flow) out journal closing ended body held next fits = sym (is_false _ (busy flow out fits))
 
-unshut : (closing ended : Bool) → ((closing || ended) && false) ≡ true → ⊥
+pub unshut : (closing ended : Bool) → ((closing || ended) && false) ≡ true → ⊥
 unshut true ended e = cc
 unshut false true e = cc
 unshut false false e = cc

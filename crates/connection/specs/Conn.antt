@@ -1,7 +1,7 @@
 -- What a connection shows.
-use Rattle.std.specs.Prelude.{◌≡◌, ◌≤◌, ◌⊎◌, ℕ, ◌+◌, ◌-◌, ◌*◌, ◌^◌, take, nat_le, Bool, true, false, not, ◌&&◌, ◌||◌, is_some, List, [], ◌∷◌, ◌++◌, Option, None, Some, length, map, if◌then◌else◌}
+use Rattle.std.specs.Prelude.{◌≡◌, ◌≢◌, ◌≤◌, ◌⊎◌, ℕ, ◌+◌, ◌-◌, ◌*◌, ◌^◌, take, nat_le, Bool, true, false, not, ◌&&◌, ◌||◌, is_some, List, [], ◌∷◌, ◌++◌, Option, None, Some, length, map, if◌then◌else◌}
 use Rattle.file_tree.specs.Tree.{Trees}
-use Rattle.ngx_outside.specs.Views.{ConnView, Course, start_of, log_of, Log, Start, StepsOwn, LeftBy, TakesNone, IsSound, no_bytes}
+use Rattle.ngx_outside.specs.Views.{ConnView, Course, start_of, log_of, Log, Start, StepsOwn, LeftBy, TakesNone, IsSound, is_idle, is_live, no_bytes}
 use Rattle.ngx_outside.specs.declared.event.Event.{Event}
 use Rattle.ngx_outside.specs.declared.event.Event.TheVariants.{Ended}
 use Rattle.ngx_outside.specs.declared.event.StepAnswer.{StepAnswer}
@@ -20,7 +20,7 @@ use Rattle.connection.specs.Steps.{starts, past_body, logged_in}
 
 -- what is to come on a connection that is opened now, with these ends
 abbrev pub fresh_course : Site → Addr → Addr → Course
-fresh_course site local peer = record { bytes = λ trees more later. answers (service_of site local peer) 0 trees more later; logs = λ trees more later. answer_logs (service_of site local peer) 0 trees more later; heavy = λ trees more later. false; raceless = true }
+fresh_course site local peer = record { bytes = λ trees more later. answers (service_of site local peer) 0 trees more later; logs = λ trees more later. answer_logs (service_of site local peer) 0 trees more later; heavy = λ trees more later. false; raceless = true; timed = false }
 
 -- the responses behind the one in flight: those to what stands behind the body that is dropped, unless the connection closes
 abbrev pub after_at : Service → (Trees → Rest) → List Entry → Bool → Option BodyState → List ℕ → Trees → List ℕ → List Start → List Response
@@ -75,7 +75,7 @@ view_at service cause flow out journal closing ended body held next =
       pending = pending_at flow out;
       starts = map start_of journal;
       logs = map log_of journal;
-      course = record { bytes = bytes_at service (flow_rest flow) out journal closing body held; logs = logs_at service (flow_rest flow) journal closing body held; heavy = λ trees more later. false; raceless = true };
+      course = record { bytes = bytes_at service (flow_rest flow) out journal closing body held; logs = logs_at service (flow_rest flow) journal closing body held; heavy = λ trees more later. false; raceless = true; timed = false };
       room = room_at (is_some cause) closing ended held;
       ready = if ready_at (is_some cause) flow closing out body next then 0 ∷ [] else [];
       jobs = jobs_of flow;
@@ -127,6 +127,19 @@ pub record StepsConn (site : Site) (now : Start) (e : Event) (a : StepAnswer) (o
 -- what each connection shows is sound
 abbrev pub AllSound : Type 0
 AllSound = (site : Site) (conn : Conn) → IsSound (view_of site conn)
+
+-- What is shown of a live connection is no more and no less than what is left. One that is to be closed is idle; one that is
+-- idle after the end of its input is to be closed; and where one isn't idle, either bytes are still to come, if a further
+-- request starts, or some request isn't logged yet.
+pub record IsExact (v : ConnView) : Type 0 where
+  pub rests : is_live v ≡ true → v.shut ≡ true → is_idle v ≡ true
+  pub ends : is_idle v ≡ true → v.ended ≡ true → v.shut ≡ true
+  pub busy : is_live v ≡ true → is_idle v ≡ false → (trees : Trees) (start : Start) (later : List Start) →
+      v.course.bytes trees [] (start ∷ later) ≡ [] → v.logs ≢ map (λ l. Some l) (v.course.logs trees [] (start ∷ later))
+
+-- what each connection shows is exact
+abbrev pub AllExact : Type 0
+AllExact = (site : Site) (conn : Conn) → IsExact (view_of site conn)
 
 -- no connection holds more bytes of its input than these, nor keeps more for its peer
 abbrev pub AllBounded : Type 0

@@ -1,5 +1,5 @@
 // Laws of connections, which those that hold many rest on.
-ghost use Rattle.connection.specs.Conn.{AllSound, AllBounded};
+ghost use Rattle.connection.specs.Conn.{AllSound, AllExact, AllBounded};
 
 use req_head::full_decides;
 
@@ -11,6 +11,12 @@ pub fn connections_are_sound()
 {
     full_decides();
 }
+
+/// What a live connection shows is no more and no less than what is left of it: it is idle only where nothing is, and isn't
+/// only where bytes are still to come or a request isn't logged yet; and after the end of its input an idle one is to be closed.
+pub fn connections_are_exact()
+    ensures { AllExact }
+{}
 
 /// Whatever is served, and however slowly a peer reads: a connection holds no more than 8192 bytes of its input, and keeps no
 /// more than 114688 bytes for its peer.

@@ -9,5 +9,5 @@ mod respond;
 
 pub use conn::Conn;
 pub use flow::{Flow, Stage, Wish};
-pub use law::{connections_are_bounded, connections_are_sound};
+pub use law::{connections_are_bounded, connections_are_exact, connections_are_sound};
 pub use respond::{Answered, Sent, Workspace, put_answer, put_page};

@@ -1,12 +1,12 @@
 -- A connection is held, or let go.
-use Rattle.std.proofs.Common.{◌≡◌, ◌≢◌, inl, inr, ℕ, ◌+◌, ◌*◌, ◌<◌, ◌≤◌, Bool, true, false, cond, eqb, not, ◌&&◌, List, [], ◌∷◌, ◌++◌, length, get_or, refl, sym, ap, ◌∙◌, subst, arith, length-append, suc, zero}
+use Rattle.std.proofs.Common.{◌≡◌, ◌≢◌, inl, inr, ℕ, ◌+◌, ◌*◌, ◌<◌, ◌≤◌, Bool, true, false, cond, eqb, not, ◌&&◌, ◌||◌, List, [], ◌∷◌, ◌++◌, length, get_or, refl, sym, ap, ◌∙◌, subst, arith, length-append, suc, zero}
 use Rattle.std.specs.Borrow.{Bor}
 use Rattle.std.specs.Prelude.{nat_lt, ◌↔◌, ◌⊎◌, Option, None, Some, IfSome, option_copied}
 use Rattle.std.specs.List.{AllByRecursion, Contains, insert, remove}
 use Rattle.std.specs.List.Sorted.{IsStrictlyIncreasing}
 use Rattle.std.proofs.lemmas.Bool.Decides.{nat_tests}
 use Rattle.std.proofs.lemmas.List.Sums.{sum_by-append}
-use Rattle.ngx_outside.specs.Views.{ConnView, Start, StepsOwn, OneSteps, Fresh, nobody, ask_in}
+use Rattle.ngx_outside.specs.Views.{ConnView, Start, StepsOwn, OneSteps, OpensIf, Fresh, nobody, ask_in}
 use Rattle.ngx_outside.specs.Wants.{wants_at}
 use Rattle.http_types.specs.declared.words.Addr.{Addr}
 use Rattle.ngx_outside.specs.declared.event.Want.{Want}
@@ -15,7 +15,7 @@ use Rattle.file_tree.specs.declared.job.Ask.{Ask}
 use Rattle.ngx_outside.specs.declared.event.Event.{Event}
 use Rattle.ngx_outside.specs.declared.event.StepAnswer.{StepAnswer}
 use Rattle.ngx_outside.specs.declared.event.Event.TheVariants as ev
-use Rattle.ngx_outside.specs.declared.event.StepAnswer.TheVariants.{Done, Skipped}
+use Rattle.ngx_outside.specs.declared.event.StepAnswer.TheVariants.{Done, Skipped, OutOfMemory}
 use Rattle.site_model.specs.declared.site.Site.{Site}
 use Rattle.connection.specs.declared.conn.Conn.{Conn}
 use Rattle.connection.specs.declared.flow.Flow.{Flow}
@@ -235,6 +235,28 @@ stands site (id ∷ ids) (conn ∷ conns) c h = stands_if site id ids conn conns
 
 pub held_as : (site : Site) (ids : List ℕ) (conns : List Conn) → length conns ≡ length ids → (c : ℕ) → Contains ids c ↔ ((view_in site ids conns c).held ≡ true)
 held_as site ids conns e c = (λ h. shows site ids conns c h.0 e h.1 h.2, stands site ids conns c)
+
+-- a number is among those that are held where its connection is
+among_held : (site : Site) (ids : List ℕ) (conns : List Conn) (c : ℕ) → length conns ≡ length ids → is_among c ids ≡ (view_in site ids conns c).held
+among_held site [] conns c e = refl
+among_held site (id ∷ ids) [] c e = cc
+among_held site (id ∷ ids) (conn ∷ conns) c e =
+    let rest : length conns ≡ length ids = omega (arith, e) in
+    elim (eqb id c) as (λ t. (t || is_among c ids) ≡ (cond t (view_of site conn) (view_in site ids conns c)).held) [ true ↦ refl | false ↦ among_held site ids conns c rest ]
+
+-- a number can be taken where its connection isn't held
+pub opens_as : (site : Site) (ids : List ℕ) (conns : List Conn) → length conns ≡ length ids → (c : ℕ) (local peer : Addr) (a : StepAnswer) → OpensIf (opens_in site ids) (ev.Opened c local peer) a →
+    OpensIf (λ q end. not (view_in site ids conns q).held && (nat_lt (length ids) most_held && listens_there site end)) (ev.Opened c local peer) a
+opens_as site ids conns even c local peer a h = by_answer a h
+  where
+    same : (not (view_in site ids conns c).held && (nat_lt (length ids) most_held && listens_there site local)) ≡ opens_in site ids c local
+    same = ap (λ t. not t && (nat_lt (length ids) most_held && listens_there site local)) (sym (among_held site ids conns c even))
+
+    by_answer : (a : StepAnswer) → OpensIf (opens_in site ids) (ev.Opened c local peer) a →
+        OpensIf (λ q end. not (view_in site ids conns q).held && (nat_lt (length ids) most_held && listens_there site end)) (ev.Opened c local peer) a
+    by_answer Skipped h = same ∙ h
+    by_answer (Done taken) h = same ∙ h
+    by_answer OutOfMemory h = same ∙ h
 
 -- no job asks of a newer tree
 pub known_of_two : (tree : ℕ) (front back : List Conn) → AllKnown tree front → AllKnown tree back → AllKnown tree (front ++ back)

@@ -4,7 +4,7 @@ use Rattle.std.specs.Prelude.{map}
 use Rattle.ngx_outside.specs.Views.{start_of, log_of, IsSound, nobody}
 use Rattle.site_model.specs.declared.site.Site.{Site}
 use Rattle.connection.specs.declared.conn.Conn.{Conn}
-use Rattle.connection.specs.Conn.{view_of, AllSound}
+use Rattle.connection.specs.Conn.{view_of, AllSound, AllExact, IsExact}
 use Rattle.connection_core.specs.Table.{view_in, journal_in}
 
 nobody_sound : IsSound nobody
@@ -30,6 +30,19 @@ sound_in all site [] conns c = nobody_sound
 sound_in all site (id ∷ ids) [] c = nobody_sound
 sound_in all site (id ∷ ids) (conn ∷ conns) c =
     elim (eqb id c) as (λ t. IsSound (cond t (view_of site conn) (view_in site ids conns c))) [ true ↦ all site conn | false ↦ sound_in all site ids conns c ]
+
+nobody_exact : IsExact nobody
+nobody_exact = record {
+  rests = λ l s. cc;
+  ends = λ i e. cc;
+  busy = λ l b trees start later none logs. cc;
+}
+
+pub exact_in : AllExact → (site : Site) (ids : List ℕ) (conns : List Conn) (c : ℕ) → IsExact (view_in site ids conns c)
+exact_in all site [] conns c = nobody_exact
+exact_in all site (id ∷ ids) [] c = nobody_exact
+exact_in all site (id ∷ ids) (conn ∷ conns) c =
+    elim (eqb id c) as (λ t. IsExact (cond t (view_of site conn) (view_in site ids conns c))) [ true ↦ all site conn | false ↦ exact_in all site ids conns c ]
 
 pub started_in : (site : Site) (ids : List ℕ) (conns : List Conn) (c : ℕ) → map start_of (journal_in ids conns c) ≡ (view_in site ids conns c).starts
 started_in site [] conns c = refl

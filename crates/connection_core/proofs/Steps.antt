@@ -90,12 +90,6 @@ gone_counts course now c (Done taken) n old new s = refl
 gone_counts course now c Skipped n old new s = refl
 gone_counts course now c OutOfMemory n old new s = absurd s.own
 
--- an opening doesn't count
-pub opened_counts : (c : ℕ) (local peer : Addr) (a : StepAnswer) (n : ℕ) → CountsRefused (ev.Opened c local peer) a n n
-opened_counts c local peer (Done taken) n = refl
-opened_counts c local peer Skipped n = refl
-opened_counts c local peer OutOfMemory n = refl
-
 same_number : (c : ℕ) → eqb c c ≡ true
 same_number c = grind (arith, nat_tests)
 

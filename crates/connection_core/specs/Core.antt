@@ -1,11 +1,12 @@
 -- What the core shows.
-use Rattle.std.specs.Prelude.{◌≡◌, ℕ, Bool, true, List, map, Option, None}
+use Rattle.std.specs.Prelude.{◌≡◌, ℕ, true, List, map, None}
 use Rattle.http_types.specs.declared.words.Addr.{Addr}
 use Rattle.ngx_outside.specs.Views.{ConnView, Course, Start, start_of, log_of, IsSound}
 use Rattle.ngx_outside.specs.declared.event.Entry.{Entry}
-use Rattle.ngx_outside.specs.Records.{Given}
-use Rattle.connection.specs.Conn.{fresh_course}
-use Rattle.connection_core.specs.Table.{view_in, journal_in, left_in, opens_in, price_each}
+use Rattle.ngx_outside.specs.Seen.{Terms, CoreSeen}
+use Rattle.connection.specs.Conn.{fresh_course, IsExact}
+use Rattle.connection_core.specs.Table.{view_in, journal_in, left_in, listens_there, most_held, price_each}
+use Rattle.site_model.specs.declared.site.Site.{Site}
 use Rattle.connection_core.specs.declared.hub.Hub.{Hub}
 
 -- what it shows of each connection
@@ -24,9 +25,6 @@ conns_held h = h.table.ids.items
 abbrev pub fresh_at : Hub → Addr → Addr → Course
 fresh_at h local peer = fresh_course h.table.site local peer
 
-abbrev pub opens_at : Hub → ℕ → Addr → Bool
-opens_at h = opens_in h.table.site h.table.ids.items
-
 abbrev pub now_at : Hub → Start
 now_at h = record { moment = h.moment; tree = h.tree }
 
@@ -39,14 +37,33 @@ price_at h = price_each
 abbrev pub refused_at : Hub → ℕ
 refused_at h = h.refused
 
--- it doesn't tell the events that it was given
-abbrev pub events_at : Hub → Option (List Given)
-events_at h = None
+-- What a core of a site keeps to: each connection is served by the site at its two ends, where one of the site's servers
+-- listens at its local end; at most 512 are held at once.
+abbrev pub site_terms : Site → Terms
+site_terms site = record { fresh = fresh_course site; serves = listens_there site; limit = most_held; price = price_each }
 
--- what is so of each connection that a core shows: it is sound, its journal tells when its requests started and what is logged
+-- what it keeps to
+abbrev pub terms_at : Hub → Terms
+terms_at h = site_terms h.table.site
+
+-- all that it shows; it doesn't tell the events that it was given
+abbrev pub seen_at : Hub → CoreSeen
+seen_at h =
+    record {
+      view = view_at h;
+      conns = conns_held h;
+      terms = terms_at h;
+      now = now_at h;
+      left = left_at h;
+      refused = refused_at h;
+      events = None;
+    }
+
+-- what is so of each connection that a core shows: it is sound and exact, its journal tells when its requests started and what is logged
 -- of each, and the order of steps can't change its bytes
 pub record IsShown (h : Hub) (c : ℕ) : Type 0 where
   pub sound : IsSound (view_at h c)
+  pub exact : IsExact (view_at h c)
   pub started : map start_of (journal_at h c) ≡ (view_at h c).starts
   pub logged : map log_of (journal_at h c) ≡ (view_at h c).logs
   pub raceless : (view_at h c).raceless ≡ true

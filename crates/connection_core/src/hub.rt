@@ -40,18 +40,18 @@ pub struct Hub {
 }
 
 impl Hub {
-    ghost use Rattle.std.specs.Prelude.{◌≡◌, ◌↔◌, ℕ, Bool, true, IfOk, Contains};
+    ghost use Rattle.std.specs.Prelude.{◌≡◌, ◌↔◌, ℕ, Bool, [], true, IfOk, Contains};
     ghost use Rattle.std.specs.List.Sorted.{IsStrictlyIncreasing};
     ghost use Rattle.http_types.specs.declared.words.Addr.{Addr as End};
     ghost use Rattle.ngx_outside.specs.Views.{Steps, OpensIf, LeftBy, CountsRefused, TakesNone, Course, now_after, ended_after, nobody, is_idle as idle_in};
-    ghost use Rattle.connection.specs.Conn.{fresh_course};
     ghost use Rattle.connection_core.specs.Table.{is_own, event_conn, price_each};
-    ghost use Rattle.connection_core.specs.Core.{view_at, journal_at, conns_held, fresh_at, now_at, left_at, refused_at};
+    ghost use Rattle.connection_core.specs.Core.{view_at, journal_at, conns_held, terms_at, site_terms, now_at, left_at, refused_at};
 
     /// A core that holds no connection, at moment 0 and tree 0.
     pub fn new(alloc: Global, site: Site) -> Result<Self, OutOfMemory>
         ensures empty { IfOk result (λ hub. (c : ℕ) → view_at hub c ≡ nobody) }
-        ensures fresh { IfOk result (λ hub. fresh_at hub ≡ fresh_course site) }
+        ensures none { IfOk result (λ hub. conns_held hub ≡ []) }
+        ensures terms { IfOk result (λ hub. terms_at hub ≡ site_terms site) }
         ensures now { IfOk result (λ hub. now_at hub ≡ record { moment = 0; tree = 0 }) }
         ensures left { IfOk result (λ hub. left_at hub ≡ 0) }
         ensures refused { IfOk result (λ hub. refused_at hub ≡ 0) }
@@ -127,6 +127,7 @@ impl Hub {
         ensures left { LeftBy price_each event.entry result (left_at self.old) (left_at self.new) }
         ensures refused { CountsRefused event.entry result (refused_at self.old) (refused_at self.new) }
         ensures site { self.new.table.site ≡ self.old.table.site }
+        ensures ids { self.new.table.ids.items ≡ self.old.table.ids.items }
     {
         let answer = self
             .table
@@ -137,32 +138,18 @@ impl Hub {
 }
 
 impl EventCore for Hub {
-    ghost use Rattle.connection_core.specs.Core.{view_at, conns_held, fresh_at, opens_at, now_at, left_at, price_at, refused_at, events_at};
+    ghost use Rattle.connection_core.specs.Core.{seen_at};
 
-    ghost view = { view_at };
-
-    ghost conns = { conns_held };
-
-    ghost fresh = { fresh_at };
-
-    ghost opens = { opens_at };
-
-    ghost now = { now_at };
-
-    ghost left = { left_at };
-
-    ghost price = { price_at };
-
-    ghost refused = { refused_at };
-
-    ghost events = { events_at };
+    ghost seen = { seen_at };
 
     fn step(&mut self, event: Event) -> StepAnswer {
         cores_are_sound();
         match event {
-            Event::Opened { conn, local, peer } => self
-                .table
-                .open(self.space.alloc, conn, local, peer),
+            Event::Opened { conn, local, peer } => {
+                let answer = self.table.open(self.space.alloc, conn, local, peer);
+                count(&mut self.refused, answer);
+                answer
+            }
             Event::Arrived { conn, bytes: _ } => self.own(conn, event),
             Event::Ended { conn } => self.own(conn, event),
             Event::Wrote { conn, count: _ } => self.own(conn, event),
@@ -210,5 +197,9 @@ impl EventCore for Hub {
             Some(held) => held.ask(node),
             None => None,
         }
+    }
+
+    fn refused(&self) -> u64 {
+        self.refused
     }
 }

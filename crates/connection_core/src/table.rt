@@ -57,7 +57,7 @@ pub(crate) struct Table {
 impl Table {
     ghost use Rattle.std.specs.Prelude.{◌≡◌, ◌≢◌, ◌+◌, ◌*◌, ◌<◌, ◌≤◌, ℕ, List, [], true, false, IfOk, IfSome, OnOk, MatchOption, length, insert, vec_len, vec_capacity};
     ghost use Rattle.http_types.specs.declared.words.Addr.{Addr as End};
-    ghost use Rattle.ngx_outside.specs.Views.{Start, Steps, StepsOwn, OneSteps, LeftBy, OpensIf, TakesNone, Course, Fresh, nobody};
+    ghost use Rattle.ngx_outside.specs.Views.{Start, Steps, StepsOwn, OneSteps, LeftBy, OpensIf, TakesNone, CountsHeld, Course, Fresh, nobody};
     ghost use Rattle.ngx_outside.specs.Wants.{wants_at};
     ghost use Rattle.ngx_outside.specs.declared.event.Event.TheVariants.{Opened, Gone};
     ghost use Rattle.connection.specs.Conn.{view_of, fresh_course, left_of, weight, asked_of, ended_by};
@@ -157,6 +157,7 @@ impl Table {
     pub(crate) fn open(&mut self, alloc: Global, conn: u32, local: Addr, peer: Addr) -> StepAnswer
         ensures steps { (now : Start) → OneSteps conn (StepsOwn (fresh_course self.old.site local peer) now (Opened conn local peer) result) (view_in self.old.site self.old.ids.items self.old.conns.items) (view_in self.new.site self.new.ids.items self.new.conns.items) }
         ensures opens { OpensIf (opens_in self.old.site self.old.ids.items) (Opened conn local peer) result }
+        ensures held { CountsHeld (Opened conn local peer) result (length self.old.ids.items) (length self.new.ids.items) }
         ensures taken { TakesNone (Opened conn local peer) result }
         ensures known { (tree : ℕ) → AllKnown tree self.old.conns.items → AllKnown tree self.new.conns.items }
         ensures left { LeftBy price_each (Opened conn local peer) result (left_in self.old.conns.items) (left_in self.new.conns.items) }
@@ -219,6 +220,7 @@ impl Table {
     /// Lets a connection go, whose link is to be closed.
     pub(crate) fn close(&mut self, conn: u32) -> StepAnswer
         ensures steps { (now : Start) → OneSteps conn (StepsOwn nobody.course now (Gone conn) result) (view_in self.old.site self.old.ids.items self.old.conns.items) (view_in self.new.site self.new.ids.items self.new.conns.items) }
+        ensures held { CountsHeld (Gone conn) result (length self.old.ids.items) (length self.new.ids.items) }
         ensures taken { TakesNone (Gone conn) result }
         ensures known { (tree : ℕ) → AllKnown tree self.old.conns.items → AllKnown tree self.new.conns.items }
         ensures left { LeftBy price_each (Gone conn) result (left_in self.old.conns.items) (left_in self.new.conns.items) }

@@ -6,6 +6,3 @@ mod page;
 
 pub use laws::page_has_length;
 pub use page::{page_len, page_text};
-
-#[cfg(test)]
-mod tests;

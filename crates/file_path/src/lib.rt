@@ -7,6 +7,3 @@ mod locate;
 
 pub use laws::{located_settles, paths_stay_in_root, settles_behind_located};
 pub use locate::{path_of, path_under};
-
-#[cfg(test)]
-mod tests;

@@ -6,6 +6,3 @@ mod types;
 
 pub use path::extension;
 pub use types::{TypeEntry, Types};
-
-#[cfg(test)]
-mod tests;

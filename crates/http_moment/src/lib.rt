@@ -9,6 +9,3 @@ mod laws;
 pub use date::{DateCache, LAST_SECOND, date_text, read_date};
 pub use format::{DEFAULT_FORMAT, is_time_format, shown};
 pub use laws::{calendar_is_right, date_is_visible, date_reads_back};
-
-#[cfg(test)]
-mod tests;

@@ -5,14 +5,14 @@ use Rattle.std.proofs.Math.Seq.{take-add}
 use Rattle.std.proofs.lemmas.Bool.Decides.{nat_tests}
 use Rattle.http_types.specs.declared.words.Addr.{Addr}
 use Rattle.ngx_outside.specs.Causes.{Rose}
-use Rattle.ngx_outside.specs.Linked.{LinkView, Updated, Marked, Same, Unchanged, HasRead, HasWritten, PutsNothing, begun}
+use Rattle.ngx_outside.specs.Linked.{LinkView, Updated, Marked, Same, Unchanged, HasRead, HasWritten, PutsNothing, CrowdCloses, begun}
 use Rattle.ngx_outside.specs.declared.links.Notice.TheVariants as notice
 use Rattle.ngx_outside.specs.declared.links.Input.{Input}
 use Rattle.ngx_outside.specs.declared.links.Input.TheVariants as input
 use Rattle.ngx_outside.specs.declared.links.Output.{Output}
 use Rattle.ngx_outside.specs.declared.links.Output.TheVariants as output
 use Rattle.memory_outside.specs.declared.peer.Peer.{Peer}
-use Rattle.memory_outside.specs.Peers.{view_of, after_read, after_write, at_id, unopened, links_in, used_in, held_in, faults_in, Changes, IsAbsent, IsAt, Reports}
+use Rattle.memory_outside.specs.Peers.{view_of, after_read, after_write, at_id, unopened, links_in, used_in, held_in, faults_in, crowd_in, tally, Changes, IsAbsent, IsAt, Reports}
 
 -- what was read is a longer front of the input
 pub taken_more : (input slice rest : List ℕ) (start count : ℕ) (buf : List ℕ) → slice ≡ input → rest ≡ drop start slice → take count buf ≡ take count rest →
@@ -107,6 +107,39 @@ later_set peers i p d h le id = pick (same_or_apart id (i + 1))
         let same : faults_in (set peers i p) id ≡ faults_in peers id = at_other (λ q. q.faults) 0 peers i p id n in
         omega arith
 
+-- how many are open where one link changes
+pub crowd_set : (peers : List Peer) (i : ℕ) (p d : Peer) → i < length peers → crowd_in (set peers i p) + tally (get_or peers i d).held ≡ crowd_in peers + tally p.held
+unfolding crowd_in
+crowd_set [] i p d h = absurd (omega arith)
+crowd_set (q ∷ peers) zero p d h = let a = tally p.held in let b = crowd_in peers in let c = tally q.held in omega arith
+crowd_set (q ∷ peers) (suc i) p d h =
+    let rest : crowd_in (set peers i p) + tally (get_or peers i d).held ≡ crowd_in peers + tally p.held = crowd_set peers i p d (omega arith) in
+    omega (arith, rest)
+
+pub crowd_none : (peers : List Peer) → peers ≡ [] → crowd_in peers ≡ 0
+unfolding crowd_in
+crowd_none peers e = ap crowd_in e
+
+crowd_same : (peers : List Peer) (i : ℕ) (p d : Peer) → i < length peers → p.held ≡ (get_or peers i d).held → crowd_in (set peers i p) ≡ crowd_in peers
+crowd_same peers i p d h e =
+    let a = crowd_set peers i p d h in
+    let b : tally p.held ≡ tally (get_or peers i d).held = ap tally e in
+    omega (arith, a, b)
+
+pub crowd_closes : (peers : List Peer) (i : ℕ) (p d : Peer) → i < length peers → p.held ≡ false → CrowdCloses (held_in peers (i + 1)) (crowd_in peers) (crowd_in (set peers i p))
+crowd_closes peers i p d h e =
+    subst (λ (b : Bool). CrowdCloses b (crowd_in peers) (crowd_in (set peers i p))) (sym (at_own (λ q. q.held) false peers i d (i + 1) h refl))
+    (by_held (get_or peers i d).held (crowd_set peers i p d h ∙ ap (λ b. crowd_in peers + tally b) e))
+  where
+    by_held : (b : Bool) → crowd_in (set peers i p) + tally b ≡ crowd_in peers + 0 → CrowdCloses b (crowd_in peers) (crowd_in (set peers i p))
+    by_held true c = omega (arith, c)
+    by_held false c = omega (arith, c)
+
+crowd_push : (peers : List Peer) (p : Peer) → crowd_in (peers ++ p ∷ []) ≡ crowd_in peers + tally p.held
+unfolding crowd_in
+crowd_push [] p = omega arith
+crowd_push (q ∷ peers) p = let rest = crowd_push peers p in omega (arith, rest)
+
 -- one link changes, is held as before, and its count doesn't fall
 pub changes_set : (peers : List Peer) (i : ℕ) (p d : Peer) (F : LinkView → LinkView) → i < length peers →
     view_of p ≡ F (view_of (get_or peers i d)) → p.held ≡ (get_or peers i d).held → (get_or peers i d).faults ≤ p.faults → Changes (i + 1) F peers (set peers i p)
@@ -114,6 +147,7 @@ changes_set peers i p d F h v held le = record {
   told = updated_set peers i p d (i + 1) F h refl v;
   used = same_set (λ q. true) false peers i p d h refl;
   held = same_set (λ q. q.held) false peers i p d h held;
+  crowd = crowd_same peers i p d h held;
   later = later_set peers i p d h le;
 }
 
@@ -153,9 +187,9 @@ push_other {A} f none (q ∷ peers) p id h =
     apart e n = omega arith
 
 -- an id that is reported
-pub begun_push : (peers : List Peer) (p : Peer) (id : ℕ) (local peer : Addr) → id ≡ length peers + 1 → view_of p ≡ begun local peer unopened →
-    Updated id (begun local peer) (links_in peers) (links_in (peers ++ p ∷ []))
-begun_push peers p id local peer e is = record {
+pub begun_push : (peers : List Peer) (p : Peer) (id : ℕ) (local peer : Addr) (among : ℕ) → id ≡ length peers + 1 → view_of p ≡ begun local peer among unopened →
+    Updated id (begun local peer among) (links_in peers) (links_in (peers ++ p ∷ []))
+begun_push peers p id local peer among e is = record {
   own = push_own view_of unopened peers p id e ∙ is;
   others = λ c ne. push_other view_of unopened peers p c (λ n. ne (n ∙ sym e));
 }
@@ -266,10 +300,11 @@ absent_none peers id e = subst (λ (xs : List Peer). IsAbsent xs id) (sym e) (ab
 
 -- a peer that connects
 pub reports_push : (peers new : List Peer) (p : Peer) (id faults : ℕ) → id ≡ length peers + 1 → new ≡ peers ++ p ∷ [] →
-    view_of p ≡ begun p.local p.peer unopened → p.held ≡ true → Reports (notice.Opened id p.local p.peer) peers new faults faults
-reports_push peers new p id faults e is v held =
+    view_of p ≡ begun p.local p.peer p.among unopened → p.among ≡ crowd_in peers → p.held ≡ true → Reports (notice.Opened id p.local p.peer) peers new faults faults
+reports_push peers new p id faults e is v among held =
     subst (λ (xs : List Peer). Reports (notice.Opened id p.local p.peer) peers xs faults faults) (sym is) record {
-      told = begun_push peers p id p.local p.peer e v;
+      told = subst (λ (n : ℕ). Updated id (begun p.local p.peer n) (links_in peers) (links_in (peers ++ p ∷ []))) among (begun_push peers p id p.local p.peer p.among e v);
+      crowd = crowd_push peers p ∙ ap (λ b. crowd_in peers + tally b) held;
       ids = (used.0, used.1, opens.0, opens.1);
       link_faults = later_push peers p;
       later = omega arith;

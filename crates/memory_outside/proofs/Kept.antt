@@ -32,6 +32,10 @@ pub event_added : (a : GivenEvent) (b : Given) (whole whole' : Bool) (kept kept'
 event_added a b whole whole' kept kept' e h =
     subst (λ (c : Given). Adds c (told_by given_event whole kept) (told_by given_event whole' kept')) e (added given_event a whole whole' kept kept' h)
 
+pub number_added : (a : ℕ) (whole whole' : Bool) (kept kept' : List ℕ) →
+    (whole' ≡ true → (whole ≡ true) × (kept' ≡ kept ++ a ∷ [])) → Adds a (told_by (λ n. n) whole kept) (told_by (λ n. n) whole' kept')
+number_added a whole whole' kept kept' h = added (λ n. n) a whole whole' kept kept' h
+
 -- nothing is told any more
 pub links_stopped : (b : LinkAnswer) (old : Option (List LinkAnswer)) (whole : Bool) (kept : List LinkTold) → whole ≡ false → Adds b old (told_by link_answer whole kept)
 links_stopped b old false kept e = λ later n. cc

@@ -1,5 +1,5 @@
 -- What links and files in memory tell of their answers.
-use Rattle.std.specs.Prelude.{Bool, true, false, List, map, Option, None, Some}
+use Rattle.std.specs.Prelude.{ℕ, Bool, true, false, List, map, Option, None, Some}
 use Rattle.ngx_outside.specs.Records.{LinkAnswer, Noticed, Read, Written, FileAnswer, Stood, Held, Failed}
 use Rattle.memory_outside.specs.declared.answers.Answers.{Answers}
 use Rattle.memory_outside.specs.declared.answers.LinkTold.{LinkTold}
@@ -27,3 +27,7 @@ links_told a = told_by link_answer a.whole a.kept.items
 
 abbrev pub files_told : Answers FileTold → Option (List FileAnswer)
 files_told a = told_by file_answer a.whole a.kept.items
+
+-- numbers that were told, where all were kept
+abbrev pub numbers_told : Answers ℕ → Option (List ℕ)
+numbers_told a = told_by (λ n. n) a.whole a.kept.items

@@ -1,11 +1,11 @@
 -- What links in memory tell.
-use Rattle.std.specs.Prelude.{◌≡◌, ◌≢◌, ℕ, ◌-◌, ◌==◌, ◌≤◌, Bool, true, false, List, [], ◌∷◌, ◌++◌, take, drop, if◌then◌else◌, ◌⊎◌}
+use Rattle.std.specs.Prelude.{◌≡◌, ◌≢◌, ℕ, ◌+◌, ◌-◌, ◌==◌, ◌≤◌, Bool, true, false, List, [], ◌∷◌, ◌++◌, take, drop, if◌then◌else◌, ◌⊎◌}
 use Rattle.std.specs.declared.net.ip_addr.IpAddr.TheVariants.{V4}
 use Rattle.http_types.specs.declared.words.Addr.{Addr}
 use Rattle.ngx_outside.specs.Causes.{Rose}
 use Rattle.ngx_outside.specs.declared.links.Notice.{Notice}
 use Rattle.ngx_outside.specs.declared.links.Notice.TheVariants as notice
-use Rattle.ngx_outside.specs.Linked.{LinkView, Updated, Same, Noticed, Opens, got, put, set_due, set_full, set_ended}
+use Rattle.ngx_outside.specs.Linked.{LinkView, Updated, Same, Noticed, Opens, crowd_after, got, put, set_due, set_full, set_ended}
 use Rattle.ngx_outside.specs.declared.links.Input.{Input}
 use Rattle.ngx_outside.specs.declared.links.Input.TheVariants as input
 use Rattle.ngx_outside.specs.declared.links.Output.{Output}
@@ -14,7 +14,7 @@ use Rattle.memory_outside.specs.declared.peer.Peer.{Peer}
 
 -- what a link shows
 abbrev pub view_of : Peer → LinkView
-view_of p = record { local = p.local; peer = p.peer; taken = take p.start p.input; sent = p.sent; due = p.due; full = p.full; ended = p.ended }
+view_of p = record { local = p.local; peer = p.peer; among = p.among; taken = take p.start p.input; sent = p.sent; due = p.due; full = p.full; ended = p.ended }
 
 -- what a read makes of a link
 abbrev pub after_read : Input → List ℕ → LinkView → LinkView
@@ -40,7 +40,7 @@ abbrev pub nowhere : Addr
 nowhere = record { ip = V4 (record { octets = 0 ∷ 0 ∷ 0 ∷ 0 ∷ [] }); port = 0 }
 
 abbrev pub unopened : LinkView
-unopened = record { local = nowhere; peer = nowhere; taken = []; sent = []; due = false; full = false; ended = false }
+unopened = record { local = nowhere; peer = nowhere; among = 0; taken = []; sent = []; due = false; full = false; ended = false }
 
 -- what is so of the link of an id; the first link has the id 1
 unfoldable pub at_id : {A : Type 0} → (Peer → A) → A → List Peer → ℕ → A
@@ -58,6 +58,16 @@ held_in = at_id (λ p. p.held) false
 
 abbrev pub faults_in : List Peer → ℕ → ℕ
 faults_in = at_id (λ p. p.faults) 0
+
+-- one where a test holds
+abbrev pub tally : Bool → ℕ
+tally true = 1
+tally false = 0
+
+-- how many links are open
+unfoldable pub crowd_in : List Peer → ℕ
+crowd_in [] = 0
+crowd_in (p ∷ peers) = tally p.held + crowd_in peers
 
 -- what a peer still sends, and whether it then ends
 pub record Sends : Type 0 where
@@ -114,11 +124,13 @@ pub record Changes (id : ℕ) (f : LinkView → LinkView) (old new : List Peer) 
   pub told : Updated id f (links_in old) (links_in new)
   pub used : Same (used_in old) (used_in new)
   pub held : Same (held_in old) (held_in new)
+  pub crowd : crowd_in new ≡ crowd_in old
   pub later : (c : ℕ) → faults_in old c ≤ faults_in new c
 
 -- what a notice of the script makes of the links, and of the count of faults
 pub record Reports (n : Notice) (old new : List Peer) (faults faults' : ℕ) : Type 0 where
-  pub told : Noticed n (links_in old) (links_in new)
+  pub told : Noticed n (crowd_in old) (links_in old) (links_in new)
+  pub crowd : crowd_in new ≡ crowd_after n (crowd_in old)
   pub ids : Opens n (used_in old) (used_in new) (held_in old) (held_in new)
   pub link_faults : (c : ℕ) → faults_in old c ≤ faults_in new c
   pub later : faults ≤ faults'
@@ -135,7 +147,8 @@ is_of_links notice.Failed = false
 
 -- the same of such a notice
 pub record Heard (n : Notice) (old new : List Peer) : Type 0 where
-  pub told : Noticed n (links_in old) (links_in new)
+  pub told : Noticed n (crowd_in old) (links_in old) (links_in new)
+  pub crowd : crowd_in new ≡ crowd_after n (crowd_in old)
   pub ids : Opens n (used_in old) (used_in new) (held_in old) (held_in new)
   pub link_faults : (c : ℕ) → faults_in old c ≤ faults_in new c
   pub on : is_of_links n ≡ true

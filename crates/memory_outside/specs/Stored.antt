@@ -1,8 +1,9 @@
 -- What stands where in the files of memory.
-use Rattle.std.specs.Prelude.{◌≡◌, ℕ, nat_le, Bool, ◌&&◌, List, [], ◌∷◌, Option, if◌then◌else◌}
+use Rattle.std.specs.Prelude.{◌≡◌, ℕ, nat_le, Bool, true, ◌&&◌, List, [], ◌∷◌, Option, if◌then◌else◌}
 use Rattle.std.specs.Str.{bytes_eq}
 use Rattle.ngx_outside.specs.Records.{FileAnswer}
-use Rattle.memory_outside.specs.Answered.{files_told}
+use Rattle.ngx_outside.specs.Seen.{FilesSeen}
+use Rattle.memory_outside.specs.Answered.{files_told, numbers_told}
 use Rattle.file_tree.specs.Tree.{Item, AFile, AFolder, ALocked, Nothing, Trees}
 use Rattle.memory_outside.specs.declared.files.StoredItem.{StoredItem}
 use Rattle.memory_outside.specs.declared.files.Stored.{Stored}
@@ -50,3 +51,19 @@ file_answers_of f = files_told f.answers
 -- the calls that are to fail
 abbrev pub failing_of : MemoryFiles → List FileCall
 failing_of f = f.failing.items
+
+-- the numbers that were told as the newest, as far as they are told
+abbrev pub versions_of : MemoryFiles → Option (List ℕ)
+versions_of f = numbers_told f.versions
+
+-- all that they show
+abbrev pub files_shown : MemoryFiles → FilesSeen
+files_shown f =
+    record {
+      tells = true;
+      trees = trees_of f;
+      newest = newest_of f;
+      versions = versions_of f;
+      answers = file_answers_of f;
+      faults = file_faults_of f;
+    }

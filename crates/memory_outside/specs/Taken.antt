@@ -1,6 +1,7 @@
 -- What a sink in memory has taken, and how often a put has failed.
-use Rattle.std.specs.Prelude.{ℕ, ◌==◌, Bool, List}
+use Rattle.std.specs.Prelude.{ℕ, ◌==◌, Bool, true, List}
 use Rattle.std.specs.List.{list_any}
+use Rattle.ngx_outside.specs.Seen.{SinkSeen}
 use Rattle.memory_outside.specs.declared.sink.MemorySink.{MemorySink}
 
 abbrev pub taken_of : MemorySink → List ℕ
@@ -19,3 +20,7 @@ puts_of s = s.calls
 -- the next put is one that is to fail
 abbrev pub is_next_failing : MemorySink → Bool
 is_next_failing s = list_any (λ n. n == puts_of s) (put_failing_of s)
+
+-- all that it shows
+abbrev pub sink_shown : MemorySink → SinkSeen
+sink_shown s = record { tells = true; written = taken_of s; faults = put_faults_of s }

@@ -1,7 +1,7 @@
 // What links and files answered, as far as there is memory to keep it.
 ghost use Rattle.std.specs.Prelude.{◌≡◌, ◌++◌, ◌∷◌, [], true, false};
 ghost use Rattle.ngx_outside.specs.Records.{Adds, Noticed, Read, Written, Stood, Held, Failed as FileFailed, got_of};
-ghost use Rattle.memory_outside.specs.Answered.{links_told, files_told};
+ghost use Rattle.memory_outside.specs.Answered.{links_told, files_told, numbers_told};
 
 use byte_text::{ByteText, OutOfMemory};
 use file_tree::Node;
@@ -141,4 +141,12 @@ pub(crate) fn tell_failed(answers: &mut Answers<FileTold>)
     ensures { Adds FileFailed (files_told answers.old) (files_told answers.new) }
 {
     answers.add(FileTold::Failed);
+}
+
+/// Keeps a number.
+#[tactic(auto, using(crate::proofs::Kept::number_added))]
+pub(crate) fn tell_number(numbers: &mut Answers<u64>, number: u64)
+    ensures { Adds number (numbers_told numbers.old) (numbers_told numbers.new) }
+{
+    numbers.add(number);
 }

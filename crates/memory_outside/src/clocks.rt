@@ -13,9 +13,7 @@ pub struct FixedClock {
 }
 
 impl Clock for FixedClock {
-    ghost tells = { λ c. false };
-
-    ghost told = { λ c. [] };
+    ghost seen = { λ c. record { tells = false; told = [] } };
 
     fn now(&mut self) -> u64
         ensures told { result ≡ self.old.moment }
@@ -86,9 +84,7 @@ impl<L: Ledger> ListClock<L> {
 }
 
 impl<L: Ledger> Clock for ListClock<L> {
-    ghost tells = { λ c. true };
-
-    ghost told = { λ c. moments_told c.moments.items c.calls };
+    ghost seen = { λ c. record { tells = true; told = moments_told c.moments.items c.calls } };
 
     fn now(&mut self) -> u64 {
         let moment = moment_of(self.moments.as_slice(), self.at);

@@ -5,9 +5,9 @@ ghost use Rattle.ngx_outside.specs.Records.{Adds, ReadTold, stat_answer};
 ghost use Rattle.ngx_outside.specs.Outside.{Grow, Stats, Reads, Lists};
 ghost use Rattle.ngx_outside.specs.declared.files.FileFault.TheVariants.{Failed as ReadFailed};
 ghost use Rattle.file_tree.specs.Tree.{Nothing, AFile, AFolder, HoldsBytes, node_of};
-ghost use Rattle.memory_outside.specs.Stored.{item_in, item_of, is_at as is_stored_at, Replaces, trees_of, newest_of, file_faults_of, file_answers_of, failing_of};
+ghost use Rattle.memory_outside.specs.Stored.{item_in, item_of, is_at as is_stored_at, Replaces, trees_of, newest_of, file_faults_of, file_answers_of, failing_of, versions_of, files_shown};
 
-use crate::answers::{Answers, FileTold, tell_bytes, tell_failed, tell_node};
+use crate::answers::{Answers, FileTold, tell_bytes, tell_failed, tell_node, tell_number};
 use crate::names::add_names;
 use byte_text::{ByteText, ByteTexts, OutOfMemory};
 use file_tree::Node;
@@ -53,6 +53,7 @@ pub struct MemoryFiles {
     reads: u64,
     lists: u64,
     faults: u64,
+    versions: Answers<u64>,
     answers: Answers<FileTold>,
 }
 
@@ -181,6 +182,7 @@ impl MemoryFiles {
             reads: 0,
             lists: 0,
             faults: 0,
+            versions: Answers::new(alloc),
             answers: Answers::new(alloc),
         }
     }
@@ -239,6 +241,7 @@ impl MemoryFiles {
 
     // Counts a fault where a call is one that is to fail.
     fn fails(&mut self, call: FileCall) -> bool
+        ensures versions { versions_of self.new ≡ versions_of self.old }
         ensures items { trees_of self.new ≡ trees_of self.old }
         ensures version { newest_of self.new ≡ newest_of self.old }
         ensures failing { failing_of self.new ≡ failing_of self.old }
@@ -257,6 +260,7 @@ impl MemoryFiles {
     }
 
     fn count_fault(&mut self)
+        ensures versions { versions_of self.new ≡ versions_of self.old }
         ensures items { trees_of self.new ≡ trees_of self.old }
         ensures version { newest_of self.new ≡ newest_of self.old }
         ensures failing { failing_of self.new ≡ failing_of self.old }
@@ -269,21 +273,23 @@ impl MemoryFiles {
 }
 
 impl Files for MemoryFiles {
-    ghost tells = { λ f. true };
+    ghost seen = { files_shown };
 
-    ghost trees = { trees_of };
-
-    ghost newest = { newest_of };
-
-    ghost answers = { file_answers_of };
-
-    ghost faults = { file_faults_of };
-
-    fn version(&self) -> u64 {
+    fn version(&mut self) -> u64
+        ensures number { result ≡ newest_of self.old }
+        ensures failing { failing_of self.new ≡ failing_of self.old }
+        ensures versions { Adds result (versions_of self.old) (versions_of self.new) }
+        ensures same { trees_of self.new ≡ trees_of self.old }
+        ensures newest { newest_of self.new ≡ newest_of self.old }
+        ensures answers { file_answers_of self.new ≡ file_answers_of self.old }
+        ensures faults { file_faults_of self.new ≡ file_faults_of self.old }
+    {
+        tell_number(&mut self.versions, self.version);
         self.version
     }
 
     fn stat(&mut self, path: &[u8], of: u64) -> Result<Node, Failed>
+        ensures versions { versions_of self.new ≡ versions_of self.old }
         ensures node { Stats true (trees_of self.old of) path.now result }
         ensures same { trees_of self.new ≡ trees_of self.old }
         ensures version { newest_of self.new ≡ newest_of self.old }
@@ -312,6 +318,7 @@ impl Files for MemoryFiles {
         of: u64,
         out: &mut ByteText,
     ) -> Result<(), FileFault>
+        ensures versions { versions_of self.new ≡ versions_of self.old }
         ensures bytes { Reads true (trees_of self.old of) path.now start count out.old out.new result }
         ensures same { trees_of self.new ≡ trees_of self.old }
         ensures version { newest_of self.new ≡ newest_of self.old }

@@ -17,6 +17,3 @@ pub use files::{FileCall, MemoryFiles, StoredItem};
 pub use links::{LinkCall, MemoryLinks, ScriptedNotice};
 pub use sink::MemorySink;
 pub use telling::{GivenEvent, TellingCore};
-
-#[cfg(test)]
-mod tests;

@@ -2,13 +2,13 @@
 ghost use Rattle.std.specs.Prelude.{◌≡◌, ◌≢◌, ◌≤◌, ◌<◌, ◌+◌, ◌-◌, ◌^◌, ◌↔◌, ◌∷◌, ◌++◌, ℕ, List, [], Some, MatchOption, OnOk, OnErr, true, false, length, reverse, vec_len, if◌then◌else◌};
 ghost use Rattle.ngx_outside.specs.Causes.{HasCause, Rose};
 ghost use Rattle.ngx_outside.specs.Records.{Adds, Noticed as NoticeGiven, Read as ReadGiven, Written as WriteGiven, got_of};
-ghost use Rattle.ngx_outside.specs.Linked.{GotWithin, PutWithin, PutsNothing, HasRead, HasWritten, Marked, Same, Noticed, Opens, Unchanged, set_due, set_full, begun};
+ghost use Rattle.ngx_outside.specs.Linked.{GotWithin, PutWithin, PutsNothing, HasRead, HasWritten, Marked, Same, Noticed, Opens, Unchanged, CrowdCloses, crowd_after, notices_after, set_due, set_full, begun};
 ghost use Rattle.ngx_outside.specs.declared.links.Notice.TheVariants.{Failed as NextFailed, Ended as AllEnded, Readable, Writable, Nothing};
 ghost use Rattle.ngx_outside.specs.declared.links.Input.TheVariants.{Failed as ReadFails, NotYet};
 ghost use Rattle.ngx_outside.specs.declared.links.Output.TheVariants.{Failed as WriteFails};
-ghost use Rattle.memory_outside.specs.Told.{links_of, used_of, open_of, listening_of, over_of, sends_told, failing_calls_of, no_notices, answers_of, next_faults_of, link_faults_of};
+ghost use Rattle.memory_outside.specs.Told.{links_of, used_of, open_of, listening_of, over_of, sends_told, failing_calls_of, no_notices, answers_of, next_faults_of, link_faults_of, crowd_of, notices_of, refused_of, links_shown};
 ghost use Rattle.memory_outside.specs.Scripted.{scripted_of, IsOpened, SendsFrom, Reported, Plays};
-ghost use Rattle.memory_outside.specs.Peers.{links_in, used_in, held_in, faults_in, Changes, after_read, after_write, view_of, unopened, Reports, Heard, IsAbsent, IsAt, SendSame, OneGives, sends_of, sends_in, PutsSome};
+ghost use Rattle.memory_outside.specs.Peers.{links_in, used_in, held_in, faults_in, Changes, after_read, after_write, view_of, unopened, Reports, Heard, IsAbsent, IsAt, SendSame, OneGives, sends_of, sends_in, PutsSome, crowd_in};
 
 use crate::answers::{Answers, LinkTold, tell_notice, tell_read, tell_written};
 use crate::peer::Peer;
@@ -71,6 +71,8 @@ pub struct MemoryLinks {
     reads: u64,
     writes: u64,
     faults: u64,
+    notices: u64,
+    refused: u64,
     answers: Answers<LinkTold>,
 }
 
@@ -158,6 +160,7 @@ fn close_at(peers: &mut [Peer], at: usize)
     requires { at < length peers.old }
     ensures told { Unchanged (links_in peers.old) (links_in peers.new) }
     ensures used { Same (used_in peers.old) (used_in peers.new) }
+    ensures crowd { CrowdCloses (held_in peers.old (at + 1)) (crowd_in peers.old) (crowd_in peers.new) }
     ensures held { Marked (at + 1) false (held_in peers.old) (held_in peers.new) }
     ensures later { (c : ℕ) → faults_in peers.old c ≤ faults_in peers.new c }
     ensures sends { SendSame (sends_in peers.old) (sends_in peers.new) }
@@ -166,16 +169,33 @@ fn close_at(peers: &mut [Peer], at: usize)
     peer.close();
 }
 
+// How many links are open.
+#[tactic(auto, unfolding(crate::specs::Peers::crowd_in))]
+fn crowd(peers: &[Peer]) -> usize
+    ensures count { result ≡ crowd_in peers.now }
+    ensures few { result ≤ length peers.now }
+{
+    match peers {
+        [peer, rest @ ..] => {
+            let others = crowd(rest);
+            if peer.held { others + 1 } else { others }
+        }
+        [] => 0,
+    }
+}
+
 // The link that the next id has.
 fn new_peer(
     alloc: Global,
     local: Addr,
     peer: Addr,
+    among: usize,
     input: ByteText,
     ends: bool,
     window: usize,
 ) -> Peer
-    ensures told { view_of result ≡ begun local peer unopened }
+    ensures told { view_of result ≡ begun local peer among unopened }
+    ensures among { result.among ≡ among }
     ensures ends { (result.local ≡ local) × (result.peer ≡ peer) }
     ensures sends { sends_of result ≡ record { coming = input; ends = ends } }
     ensures held { result.held ≡ true }
@@ -183,6 +203,7 @@ fn new_peer(
     Peer {
         local,
         peer,
+        among,
         input,
         start: 0,
         ends,
@@ -207,7 +228,8 @@ fn push_peer(peers: &mut Vec<Peer>, peer: Peer) -> Result<(), OutOfMemory>
 // Reports a peer, where there is memory for its link.
 fn open_next(peers: &mut Vec<Peer>, faults: &mut u64, peer: Peer) -> Notice
     requires few { vec_len peers.old < 2 ^ 32 - 1 }
-    requires fresh { view_of peer ≡ begun peer.local peer.peer unopened }
+    requires fresh { view_of peer ≡ begun peer.local peer.peer peer.among unopened }
+    requires among { peer.among ≡ crowd_in peers.old.items }
     requires held { peer.held ≡ true }
     ensures reports { Reports result peers.old.items peers.new.items faults.old faults.new }
     ensures goes { result ≢ AllEnded }
@@ -294,15 +316,36 @@ fn report(
                 ends,
                 window,
             },
-        ) => open_next(
-            peers,
-            faults,
-            new_peer(alloc, local, peer, input, ends, window),
-        ),
+        ) => {
+            let among = crowd(peers.as_slice());
+            open_next(
+                peers,
+                faults,
+                new_peer(alloc, local, peer, among, input, ends, window),
+            )
+        }
         Some(ScriptedNotice::Readable { id }) => hear(peers, id),
         Some(ScriptedNotice::Writable { id, more }) => widen(peers, id, more),
         Some(ScriptedNotice::Nothing) => Notice::Nothing,
         None => Notice::Ended,
+    }
+}
+
+// Counts a notice.
+fn count_notice(notices: &mut u64, notice: Notice)
+    ensures { notices.new ≡ notices_after notice notices.old }
+{
+    match notice {
+        Notice::Opened {
+            id: _,
+            local: _,
+            peer: _,
+        } => *notices = notices.saturating_add(1),
+        Notice::Readable { id: _ } => *notices = notices.saturating_add(1),
+        Notice::Writable { id: _ } => *notices = notices.saturating_add(1),
+        Notice::Nothing => *notices = notices.saturating_add(1),
+        Notice::Ended => {}
+        Notice::Failed => {}
     }
 }
 
@@ -316,6 +359,8 @@ impl MemoryLinks {
         ensures listening { listening_of result ≡ [] }
         ensures faults { next_faults_of result ≡ 0 }
         ensures answers { answers_of result ≡ Some [] }
+        ensures crowd { crowd_of result ≡ 0 }
+        ensures notices { notices_of result ≡ 0 }
         ensures script { scripted_of result ≡ script.items }
         ensures over { over_of result ≡ no_notices script.items }
         ensures failing { failing_calls_of result ≡ failing.items }
@@ -333,6 +378,8 @@ impl MemoryLinks {
             reads: 0,
             writes: 0,
             faults: 0,
+            notices: 0,
+            refused: 0,
             answers: Answers::new(alloc),
         }
     }
@@ -393,29 +440,14 @@ impl MemoryLinks {
 }
 
 impl Links for MemoryLinks {
-    ghost tells = { λ s. true };
-
-    ghost link = { links_of };
-
-    ghost used = { used_of };
-
-    ghost is_open = { open_of };
-
-    ghost listening = { listening_of };
-
-    ghost over = { over_of };
-
-    ghost answers = { answers_of };
-
-    ghost faults = { next_faults_of };
-
-    ghost link_faults = { link_faults_of };
+    ghost seen = { links_shown };
 
     fn listen(&mut self, addr: Addr) -> Result<(), Failed>
         ensures told { Unchanged (links_of self.old) (links_of self.new) }
         ensures ids { Same (used_of self.old) (used_of self.new) × Same (open_of self.old) (open_of self.new) }
         ensures listens { OnOk result (listening_of self.new ≡ listening_of self.old ++ addr ∷ []) }
         ensures fails { OnErr result (listening_of self.new ≡ listening_of self.old) }
+        ensures counts { (crowd_of self.new ≡ crowd_of self.old) × (notices_of self.new ≡ notices_of self.old) }
         ensures answers { answers_of self.new ≡ answers_of self.old }
         ensures stays_over { over_of self.old ≡ true → over_of self.new ≡ true }
         ensures link_faults { (c : ℕ) → link_faults_of self.old c ≤ link_faults_of self.new c }
@@ -434,9 +466,11 @@ impl Links for MemoryLinks {
     }
 
     fn next(&mut self, _wants: &[Want]) -> Notice
-        ensures told { Noticed result (links_of self.old) (links_of self.new) }
+        ensures told { Noticed result (crowd_of self.old) (links_of self.old) (links_of self.new) }
         ensures ids { Opens result (used_of self.old) (used_of self.new) (open_of self.old) (open_of self.new) }
         ensures listens { listening_of self.new ≡ listening_of self.old }
+        ensures crowd { crowd_of self.new ≡ crowd_after result (crowd_of self.old) }
+        ensures notices { notices_of self.new ≡ notices_after result (notices_of self.old) }
         ensures answers { Adds (NoticeGiven result) (answers_of self.old) (answers_of self.new) }
         ensures stays_over { over_of self.old ≡ true → over_of self.new ≡ true }
         ensures later { next_faults_of self.old ≤ next_faults_of self.new }
@@ -462,6 +496,7 @@ impl Links for MemoryLinks {
             fails,
         );
         tell_notice(&mut self.answers, notice);
+        count_notice(&mut self.notices, notice);
         notice
     }
 
@@ -470,6 +505,7 @@ impl Links for MemoryLinks {
         ensures told { open_of self.old id ≡ true → HasRead id result buf.new (links_of self.old) (links_of self.new) }
         ensures ids { Same (used_of self.old) (used_of self.new) × Same (open_of self.old) (open_of self.new) }
         ensures listens { listening_of self.new ≡ listening_of self.old }
+        ensures counts { (crowd_of self.new ≡ crowd_of self.old) × (notices_of self.new ≡ notices_of self.old) }
         ensures answers { Adds (ReadGiven id result (got_of result buf.new)) (answers_of self.old) (answers_of self.new) }
         ensures stays_over { over_of self.old ≡ true → over_of self.new ≡ true }
         ensures later { next_faults_of self.old ≤ next_faults_of self.new }
@@ -502,6 +538,7 @@ impl Links for MemoryLinks {
         ensures told { open_of self.old id ≡ true → HasWritten id result bytes.now (links_of self.old) (links_of self.new) }
         ensures ids { Same (used_of self.old) (used_of self.new) × Same (open_of self.old) (open_of self.new) }
         ensures listens { listening_of self.new ≡ listening_of self.old }
+        ensures counts { (crowd_of self.new ≡ crowd_of self.old) × (notices_of self.new ≡ notices_of self.old) }
         ensures answers { Adds (WriteGiven id result) (answers_of self.old) (answers_of self.new) }
         ensures stays_over { over_of self.old ≡ true → over_of self.new ≡ true }
         ensures later { next_faults_of self.old ≤ next_faults_of self.new }
@@ -535,6 +572,8 @@ impl Links for MemoryLinks {
         ensures told { Unchanged (links_of self.old) (links_of self.new) }
         ensures ids { Same (used_of self.old) (used_of self.new) × Marked id false (open_of self.old) (open_of self.new) }
         ensures listens { listening_of self.new ≡ listening_of self.old }
+        ensures crowd { CrowdCloses (open_of self.old id) (crowd_of self.old) (crowd_of self.new) }
+        ensures notices { notices_of self.new ≡ notices_of self.old }
         ensures answers { answers_of self.new ≡ answers_of self.old }
         ensures stays_over { over_of self.old ≡ true → over_of self.new ≡ true }
         ensures later { next_faults_of self.old ≤ next_faults_of self.new }
@@ -546,5 +585,9 @@ impl Links for MemoryLinks {
         if let Some(at) = place(&self.peers, id) {
             close_at(&mut self.peers, at);
         }
+    }
+
+    fn tell_refused(&mut self, count: u64) {
+        self.refused = count;
     }
 }

@@ -10,12 +10,13 @@ use byte_text::ByteText;
 use http_types::Addr;
 use ngx_outside::{Input, Output};
 
-// A link: what its peer sends and how far it was read, whether the peer then ends and whether that was read, what was
+// A link: its ends and how many were open when it was reported, what its peer sends and how far it was read, whether the peer then ends and whether that was read, what was
 // written and how many more bytes are taken now.
 #[derive(Drop)]
 pub(crate) struct Peer {
     pub(crate) local: Addr,
     pub(crate) peer: Addr,
+    pub(crate) among: usize,
     pub(crate) input: ByteText,
     pub(crate) start: usize,
     pub(crate) ends: bool,

@@ -2,7 +2,7 @@
 ghost use Rattle.std.specs.Prelude.{◌≡◌, ◌≤◌, ◌+◌, ◌-◌, ◌^◌, ℕ, List, [], true, false, min, IsErr, OnErr};
 ghost use Rattle.ngx_outside.specs.Causes.{HasCause, Rose};
 ghost use Rattle.ngx_outside.specs.Outside.{Puts};
-ghost use Rattle.memory_outside.specs.Taken.{taken_of, put_faults_of, put_failing_of, puts_of, is_next_failing};
+ghost use Rattle.memory_outside.specs.Taken.{taken_of, put_faults_of, put_failing_of, puts_of, is_next_failing, sink_shown};
 
 use byte_text::ByteText;
 use ngx_outside::{Failed, Sink};
@@ -63,11 +63,7 @@ impl MemorySink {
 }
 
 impl Sink for MemorySink {
-    ghost tells = { λ s. true };
-
-    ghost written = { taken_of };
-
-    ghost faults = { put_faults_of };
+    ghost seen = { sink_shown };
 
     fn put(&mut self, bytes: &[u8]) -> Result<(), Failed>
         ensures bytes { Puts true (taken_of self.old) (taken_of self.new) bytes.now result }

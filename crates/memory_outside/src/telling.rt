@@ -142,25 +142,9 @@ impl<E: Drop> TellingCore<E> {
 }
 
 impl<E: EventCore + Drop> EventCore for TellingCore<E> {
-    ghost use Rattle.memory_outside.specs.Core.{core_of, events_of};
+    ghost use Rattle.memory_outside.specs.Core.{core_of, events_of, seen_of};
 
-    ghost view = { λ t. E.view (core_of t) };
-
-    ghost conns = { λ t. E.conns (core_of t) };
-
-    ghost fresh = { λ t. E.fresh (core_of t) };
-
-    ghost opens = { λ t. E.opens (core_of t) };
-
-    ghost now = { λ t. E.now (core_of t) };
-
-    ghost left = { λ t. E.left (core_of t) };
-
-    ghost price = { λ t. E.price (core_of t) };
-
-    ghost refused = { λ t. E.refused (core_of t) };
-
-    ghost events = { λ t. events_of t };
+    ghost seen = { λ t. seen_of (E.seen (core_of t)) (events_of t) };
 
     fn step(&mut self, event: Event) -> StepAnswer {
         tell_event(self.alloc, &mut self.given, event);
@@ -181,5 +165,9 @@ impl<E: EventCore + Drop> EventCore for TellingCore<E> {
 
     fn ask(&self, conn: u32, node: u32) -> Option<&Ask> {
         self.core.ask(conn, node)
+    }
+
+    fn refused(&self) -> u64 {
+        self.core.refused()
     }
 }

@@ -2,30 +2,86 @@
 #![tactic(auto)]
 
 use ngx_cli::ngx;
-use socket_links::{SocketLinks, SystemClock};
+use socket_links::{ListenFault, SocketLinks, SystemClock};
+use std::fs::Files;
+use std::io::{Eprint, ErrorKind};
+use std::net::SocketAddr;
 use std::process::ExitCode;
-use std::{env, io};
+use std::{env, fs, io};
 use std_outside::{HostFiles, HostSink};
 
-/// The exit statuses where memory runs out and where there are no sockets, before the program begins.
+/// The exit statuses where a configuration has a fault, where the words are no command, where the files fail, where
+/// listening does, and where memory runs out.
+const CONF_FAULT: u8 = 1;
+
+const USAGE: u8 = 2;
+
+const FILES_FAULT: u8 = 4;
+
+const LISTEN_FAULT: u8 = 6;
+
 const OUT_OF_MEMORY: u8 = 7;
 
-const NO_SOCKETS: u8 = 6;
+// Says why a file can't be read, if it can't.
+fn tell_unread<R: Files + Eprint>(rt: &R, path: &str) -> io::Result<()> {
+    let found = match fs::metadata(rt, path) {
+        Ok(found) => found,
+        Err(error) => return eprintln!(rt; "ngx: {path}: {error}"),
+    };
+    if !found.is_file() {
+        return eprintln!(rt; "ngx: {path}: not a file");
+    }
+    match fs::open(rt, path) {
+        Ok(_) => Ok(()),
+        Err(error) => eprintln!(rt; "ngx: {path}: {error}"),
+    }
+}
+
+// Says why an address isn't listened on.
+fn tell_unheard<R: Eprint>(rt: &R, fault: ListenFault) -> io::Result<()> {
+    let addr = SocketAddr::new(fault.addr.ip, fault.addr.port);
+    let error = fault.error;
+    eprintln!(rt; "ngx: listening on {addr}: {error}")
+}
+
+// Says on standard error what the system said, where the program ended for that.
+fn tell_why<R: Files + Eprint>(
+    rt: &R,
+    code: u8,
+    path: Option<&String>,
+    unheard: Option<ListenFault>,
+) -> io::Result<()> {
+    match (code, path, unheard) {
+        (CONF_FAULT | FILES_FAULT, Some(path), _) => tell_unread(rt, path.as_str()),
+        (LISTEN_FAULT, _, Some(fault)) => tell_unheard(rt, fault),
+        _ => Ok(()),
+    }
+}
 
 fn main(rt: HostRuntime) -> io::Result<ExitCode> {
     let alloc = rt.alloc();
     let mut words = Vec::new(alloc);
-    for word in env::args(&rt)? {
-        words.push(word)?;
+    let given = match env::args(&rt) {
+        Ok(given) => given,
+        Err(error) if error.kind() == ErrorKind::OutOfMemory => {
+            return Ok(ExitCode::from(OUT_OF_MEMORY));
+        }
+        Err(_) => return Ok(ExitCode::from(USAGE)),
+    };
+    for word in given {
+        if words.push(word).is_err() {
+            return Ok(ExitCode::from(OUT_OF_MEMORY));
+        }
     }
     let Ok(mut files) = HostFiles::new(rt.clone()?) else {
         return Ok(ExitCode::from(OUT_OF_MEMORY));
     };
     let Ok(mut links) = SocketLinks::new(alloc, &rt) else {
-        return Ok(ExitCode::from(NO_SOCKETS));
+        return Ok(ExitCode::from(OUT_OF_MEMORY));
     };
     let mut clock = SystemClock::new(&rt);
     let mut out = HostSink::new(rt.clone()?);
     let code = ngx(alloc, &words, &mut files, &mut links, &mut clock, &mut out);
+    let _told = tell_why(&rt, code, words.get(2), links.listen_fault());
     Ok(ExitCode::from(code))
 }

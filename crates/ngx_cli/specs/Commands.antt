@@ -1,8 +1,8 @@
 -- What the program ends with, and when.
 use Rattle.std.specs.Prelude.{◌≡◌, ◌⊎◌, ℕ, ◌+◌, ◌-◌, ◌^◌, min, length, ◌∷◌, Bool, true, List, [], ◌++◌, Option, None, Some, Result, Ok, Err}
-use Rattle.file_tree.specs.Tree.{Tree, text_of}
+use Rattle.file_tree.specs.Tree.{text_of}
 use Rattle.ngx_outside.specs.Causes.{Rose}
-use Rattle.ready_loop.specs.Seen.{FilesSeen}
+use Rattle.ngx_outside.specs.Seen.{FilesSeen, SinkSeen}
 use Rattle.ready_loop.specs.declared.service.Ending.{Ending}
 use Rattle.ready_loop.specs.declared.service.Ending.TheVariants as ending
 use Rattle.replay_text.specs.declared.faults.ScriptFault.{ScriptFault}
@@ -19,7 +19,7 @@ use Rattle.ngx_cli.specs.declared.script.Outcome.TheVariants as outcome
 use Rattle.ngx_cli.specs.declared.status.Status.{Status}
 use Rattle.ngx_cli.specs.declared.status.Status.TheVariants as status
 use Rattle.ngx_cli.specs.Running.{Replays}
-use Rattle.ngx_cli.specs.Sites.{site_at}
+use Rattle.ngx_cli.specs.Sites.{site_at, Reading}
 use Rattle.site_service.specs.Serving.{Outside, Serving}
 use Rattle.ngx_cli.specs.Words.{Request, Check, Replay, Serve}
 
@@ -47,60 +47,73 @@ served_status ending.TurnsUsed = status.TurnsUsed
 served_status ending.ListenFault = status.LinksFault
 served_status ending.NextFault = status.LinksFault
 
--- the output: whether it tells what it takes, and that and its count of faults before a call and behind it
+-- the output before a call and after it
 pub record Output : Type 0 where
-  pub tells : Bool
-  pub written : List ℕ
-  pub written' : List ℕ
-  pub faults : ℕ
-  pub faults' : ℕ
+  pub before : SinkSeen
+  pub after : SinkSeen
 
--- what was printed
+-- this was printed
 abbrev pub Printed : Output → List ℕ → Type 0
-Printed out text = out.tells ≡ true → out.written' ≡ out.written ++ text
+Printed out text = out.before.tells ≡ true → out.after.written ≡ out.before.written ++ text
 
--- The script at a path came to this, and the text of that was printed.
-pub record Played (files_tell : Bool) (tree : Tree) (out : Output) (path : List ℕ) (o : Outcome) : Type 0 where
-  pub bytes : List ℕ
-  pub read : files_tell ≡ true → bytes ≡ text_of (tree path)
+-- a front of this was printed
+abbrev pub PrintedFront : Output → List ℕ → Type 0
+PrintedFront out text =
+    out.before.tells ≡ true → (part : List ℕ) × (rest : List ℕ) × (text ≡ part ++ rest) × (out.after.written ≡ out.before.written ++ part)
+
+-- The output failed while a text was printed that was due: a front of it is there.
+pub record CutShort (IsDue : List ℕ → Type 0) (out : Output) : Type 0 where
+  pub rose : Rose out.before.faults out.after.faults
   pub text : List ℕ
+  pub due : IsDue text
+  pub front : PrintedFront out text
+
+-- The script at a path comes to this, of which this text is to be printed.
+pub record ComesTo (files : FilesSeen) (path : List ℕ) (o : Outcome) (text : List ℕ) : Type 0 where
+  pub bytes : List ℕ
+  pub read : files.tells ≡ true → bytes ≡ text_of (files.trees files.newest path)
   pub replays : Replays bytes o text
+
+-- and was printed
+pub record Played (files : FilesSeen) (out : Output) (path : List ℕ) (o : Outcome) : Type 0 where
+  pub text : List ℕ
+  pub comes : ComesTo files path o text
   pub printed : Printed out text
 
 -- When each status of a replay comes. A run, and a fault of the script or of its configuration, are what the script's bytes
--- come to, and their text is printed whole; a fault of the files or of the output is counted by these; want of memory alone
--- has no cause.
-abbrev pub ReplayEnds : (files_tell : Bool) → Tree → (faults faults' : ℕ) → Output → (path : List ℕ) → Status → Type 0
-ReplayEnds tell tree faults faults' out path status.Done = Played tell tree out path outcome.Done
-ReplayEnds tell tree faults faults' out path status.ConfFault = Played tell tree out path outcome.ConfFault
-ReplayEnds tell tree faults faults' out path status.ScriptFault = (fault : ScriptFault) × Played tell tree out path (outcome.ScriptFault fault)
-ReplayEnds tell tree faults faults' out path status.FilesFault = Rose faults faults' × Printed out []
-ReplayEnds tell tree faults faults' out path status.SinkFault = Rose out.faults out.faults'
-ReplayEnds tell tree faults faults' out path status.OutOfMemory = Printed out []
-ReplayEnds tell tree faults faults' out path s = ⊥
+-- come to, and their text is printed whole, or a front of it where the output failed; a fault of the files or of the output is
+-- counted by these; want of memory alone has no cause.
+abbrev pub ReplayEnds : (files files' : FilesSeen) → Output → (path : List ℕ) → Status → Type 0
+ReplayEnds files files' out path status.Done = Played files out path outcome.Done
+ReplayEnds files files' out path status.ConfFault = Played files out path outcome.ConfFault
+ReplayEnds files files' out path status.ScriptFault = (fault : ScriptFault) × Played files out path (outcome.ScriptFault fault)
+ReplayEnds files files' out path status.FilesFault = Rose files.faults files'.faults × Printed out []
+ReplayEnds files files' out path status.SinkFault = CutShort (λ text. (o : Outcome) × ComesTo files path o text) out
+ReplayEnds files files' out path status.OutOfMemory = Printed out []
+ReplayEnds files files' out path s = ⊥
 
--- The configuration at a path comes to this, as far as the files tell and their newest tree stays.
-abbrev pub Describes : (tell : Bool) → (files files' : FilesSeen) → List ℕ → Result SiteView (ConfFault × List ℕ) → Type 0
-Describes tell files files' path outcome =
-    tell ≡ true → files'.newest ≡ files.newest → (names : Names) → IsNaming (files.trees files.newest) names →
-    site_at (files.trees files.newest) names path ≡ outcome
+-- The configuration at a path comes to this, as far as the files tell and their newest tree stays while it is read.
+pub record Describes (files reading : FilesSeen) (path : List ℕ) (outcome : Result SiteView (ConfFault × List ℕ)) : Type 0 where
+  pub reads : Reading files reading
+  pub is : files.tells ≡ true → reading.newest ≡ files.newest → (names : Names) → IsNaming (files.trees files.newest) names →
+      site_at (files.trees files.newest) names path ≡ outcome
 
--- The site of the configuration at a path was served. Nothing was printed.
-pub record Served (o : Outside) (out : Output) (path : List ℕ) (turns : ℕ) (e : Ending) : Type 0 where
-  pub site : Site
-  pub described : Describes o.files_tell o.files o.files' path (Ok (seen site))
-  pub serving : Serving site turns e o
-  pub printed : Printed out []
+-- what is to be printed of a configuration that can't be served: its first fault, with the path of its file; or that a file
+-- couldn't be read, with the path of the file that names it
+pub data IsFaultLine (files files' : FilesSeen) (path text : List ℕ) : Type 0 where
+  OfFault : (fault : ConfFault) (at : List ℕ) → Describes files files' path (Err (fault, at)) → text ≡ ended (conf_fault_line at fault) → IsFaultLine files files' path text
+  OfFiles : (fault : ConfFault) (at : List ℕ) → fault.kind ≡ ReadFault → Rose files.faults files'.faults → text ≡ ended (conf_fault_line at fault) → IsFaultLine files files' path text
 
 -- the configuration at a path has this first fault, which was printed with the path of its file
-pub record Faulty (tell : Bool) (files files' : FilesSeen) (out : Output) (path : List ℕ) : Type 0 where
+pub record Faulty (files files' : FilesSeen) (out : Output) (path : List ℕ) : Type 0 where
   pub fault : ConfFault
   pub at : List ℕ
-  pub described : Describes tell files files' path (Err (fault, at))
+  pub described : Describes files files' path (Err (fault, at))
   pub printed : Printed out (ended (conf_fault_line at fault))
 
 -- a file couldn't be read, which was printed, with the path of the file that names it
-pub record Unread (out : Output) : Type 0 where
+pub record Unread (files files' : FilesSeen) (out : Output) : Type 0 where
+  pub rose : Rose files.faults files'.faults
   pub fault : ConfFault
   pub at : List ℕ
   pub kind : fault.kind ≡ ReadFault
@@ -111,52 +124,66 @@ unfoldable pub locations_of : List ServerView → ℕ
 locations_of [] = 0
 locations_of (server ∷ servers) = length server.locations + locations_of servers
 
--- The configuration at a path describes a site, and how many servers and locations it has was printed, as far as 64 bits
--- count them.
-pub record Counted (tell : Bool) (files files' : FilesSeen) (out : Output) (path : List ℕ) : Type 0 where
+-- the counts of a site, as far as 64 bits count them
+abbrev pub counts_of : SiteView → List ℕ
+counts_of site = counts_text (length site.servers) (min (locations_of site.servers) (2 ^ 64 - 1))
+
+-- The configuration at a path describes a site, and how many servers and locations it has was printed.
+pub record Counted (files files' : FilesSeen) (out : Output) (path : List ℕ) : Type 0 where
   pub site : Site
-  pub described : Describes tell files files' path (Ok (seen site))
-  pub printed : Printed out (counts_text (length (seen site).servers) (min (locations_of (seen site).servers) (2 ^ 64 - 1)))
+  pub described : Describes files files' path (Ok (seen site))
+  pub printed : Printed out (counts_of (seen site))
+
+-- what is to be printed of a check
+pub data IsCheckLine (files files' : FilesSeen) (path text : List ℕ) : Type 0 where
+  OfSite : (site : Site) → Describes files files' path (Ok (seen site)) → text ≡ counts_of (seen site) → IsCheckLine files files' path text
+  OfNoSite : IsFaultLine files files' path text → IsCheckLine files files' path text
 
 -- When each status of a check comes.
-abbrev pub CheckEnds : (tell : Bool) → (files files' : FilesSeen) → Output → (path : List ℕ) → Status → Type 0
-CheckEnds tell files files' out path status.Done = Counted tell files files' out path
-CheckEnds tell files files' out path status.ConfFault = Faulty tell files files' out path
-CheckEnds tell files files' out path status.FilesFault = Rose files.faults files'.faults × Unread out
-CheckEnds tell files files' out path status.SinkFault = Rose out.faults out.faults'
-CheckEnds tell files files' out path status.OutOfMemory = Printed out []
-CheckEnds tell files files' out path s = ⊥
+abbrev pub CheckEnds : (files files' : FilesSeen) → Output → (path : List ℕ) → Status → Type 0
+CheckEnds files files' out path status.Done = Counted files files' out path
+CheckEnds files files' out path status.ConfFault = Faulty files files' out path
+CheckEnds files files' out path status.FilesFault = Unread files files' out
+CheckEnds files files' out path status.SinkFault = CutShort (IsCheckLine files files' path) out
+CheckEnds files files' out path status.OutOfMemory = Printed out []
+CheckEnds files files' out path s = ⊥
 
--- When each status of serving comes: at 0 no notice will come any more, for which `over` stands; at 9 all turns were taken; a
--- fault of the files while the configuration was read, of the links themselves, or of the output is counted by these.
-abbrev pub ServeEnds : (over : Bool) → Outside → Output → (path : List ℕ) → (turns : ℕ) → Status → Type 0
-ServeEnds over o out path turns status.Done = (over ≡ true) × Served o out path turns ending.Ended
-ServeEnds over o out path turns status.TurnsUsed = Served o out path turns ending.TurnsUsed
-ServeEnds over o out path turns status.ConfFault = Faulty o.files_tell o.files o.files' out path
-ServeEnds over o out path turns status.FilesFault = Rose o.files.faults o.files'.faults × Unread out
-ServeEnds over o out path turns status.LinksFault =
-    Rose o.links_faults o.links_faults' × (Served o out path turns ending.ListenFault ⊎ Served o out path turns ending.NextFault)
-ServeEnds over o out path turns status.SinkFault = Rose out.faults out.faults'
-ServeEnds over o out path turns status.OutOfMemory = Printed out []
-ServeEnds over o out path turns s = ⊥
+-- The site of the configuration at a path was served from then on, as the files were once it was read, whatever they tell
+-- later. Nothing was printed.
+pub record Served (o : Outside) (out : Output) (path : List ℕ) (turns : ℕ) (e : Ending) : Type 0 where
+  pub site : Site
+  pub reading : FilesSeen
+  pub described : Describes o.files reading path (Ok (seen site))
+  pub serving : Serving site turns e (record o { files = reading })
+  pub printed : Printed out []
+
+-- When each status of serving comes: at 0 no notice will come any more; at 9 all turns were taken; a fault of the files while
+-- the configuration was read, of the links themselves, or of the output is counted by these.
+abbrev pub ServeEnds : Outside → Output → (path : List ℕ) → (turns : ℕ) → Status → Type 0
+ServeEnds o out path turns status.Done = (o.links'.over ≡ true) × Served o out path turns ending.Ended
+ServeEnds o out path turns status.TurnsUsed = Served o out path turns ending.TurnsUsed
+ServeEnds o out path turns status.ConfFault = Faulty o.files o.files' out path
+ServeEnds o out path turns status.FilesFault = Unread o.files o.files' out
+ServeEnds o out path turns status.LinksFault =
+    Rose o.links.faults o.links'.faults × (Served o out path turns ending.ListenFault ⊎ Served o out path turns ending.NextFault)
+ServeEnds o out path turns status.SinkFault = CutShort (IsFaultLine o.files o.files' path) out
+ServeEnds o out path turns status.OutOfMemory = Printed out []
+ServeEnds o out path turns s = ⊥
 
 -- When each status comes, by what the words ask for. Words that are no command print nothing.
-abbrev pub Ends : (over : Bool) → Option Request → Outside → Output → Status → Type 0
-Ends over None o out s = (s ≡ status.Usage) × Printed out []
-Ends over (Some (Check path)) o out s = CheckEnds o.files_tell o.files o.files' out path s
-Ends over (Some (Replay path)) o out s = ReplayEnds o.files_tell (o.files.trees o.files.newest) o.files.faults o.files'.faults out path s
-Ends over (Some (Serve path turns)) o out s = ServeEnds over o out path turns s
+abbrev pub Ends : Option Request → Outside → Output → Status → Type 0
+Ends None o out s = (s ≡ status.Usage) × Printed out []
+Ends (Some (Check path)) o out s = CheckEnds o.files o.files' out path s
+Ends (Some (Replay path)) o out s = ReplayEnds o.files o.files' out path s
+Ends (Some (Serve path turns)) o out s = ServeEnds o out path turns s
 
--- the line of a fault was printed, or the output failed, or memory ran out
-abbrev pub PutsFault : Output → (at : List ℕ) → ConfFault → Result (Unit {0}) Status → Type 0
-PutsFault out at fault (Ok u) = Printed out (ended (conf_fault_line at fault))
-PutsFault out at fault (Err status.SinkFault) = Rose out.faults out.faults'
-PutsFault out at fault (Err status.OutOfMemory) = Printed out []
-PutsFault out at fault (Err s) = ⊥
+-- the program ends with a status that has its cause
+abbrev pub EndsWith : Option Request → Outside → Output → ℕ → Type 0
+EndsWith request o out code = (s : Status) × (code ≡ code_of s) × Ends request o out s
 
--- the counts of a site were printed, or the output failed, or memory ran out
-abbrev pub PutsCounts : Output → SiteView → Status → Type 0
-PutsCounts out site status.Done = Printed out (counts_text (length site.servers) (min (locations_of site.servers) (2 ^ 64 - 1)))
-PutsCounts out site status.SinkFault = Rose out.faults out.faults'
-PutsCounts out site status.OutOfMemory = Printed out []
-PutsCounts out site s = ⊥
+-- a text was printed, or a front of it where the output failed, or memory ran out
+abbrev pub PutsText : Output → (text : List ℕ) → Result (Unit {0}) Status → Type 0
+PutsText out text (Ok u) = Printed out text
+PutsText out text (Err status.SinkFault) = Rose out.before.faults out.after.faults × PrintedFront out text
+PutsText out text (Err status.OutOfMemory) = Printed out []
+PutsText out text (Err s) = ⊥

@@ -1,5 +1,5 @@
 -- A run of a script, from its bytes to what is printed of it.
-use Rattle.std.specs.Prelude.{◌≡◌, ℕ, true, false, is_some, List, [], ◌∷◌, ◌++◌, map, Contains, None, Some, Result, Ok, Err, if◌then◌else◌}
+use Rattle.std.specs.Prelude.{◌≡◌, ◌≢◌, ℕ, true, false, is_some, List, [], ◌∷◌, ◌++◌, map, Contains, None, Some, Result, Ok, Err, if◌then◌else◌}
 use Rattle.file_tree.specs.Tree.{Trees}
 use Rattle.ngx_outside.specs.Views.{ConnView, Start, Logged, start_of, log_of, is_idle, nobody}
 use Rattle.ngx_outside.specs.Runs.{IsPrefixOf, Agree}
@@ -20,7 +20,7 @@ use Rattle.replay_confs.specs.Confs.{conf_tree}
 use Rattle.site_model.specs.Levels.{SiteView, seen}
 use Rattle.site_model.specs.declared.site.Site.{Site}
 use Rattle.connection.specs.Answers.{answers, answer_logs, service_of}
-use Rattle.connection.specs.Conn.{fresh_course}
+use Rattle.connection_core.specs.Core.{site_terms}
 use Rattle.report_text.specs.declared.report.ConnState.{ConnState}
 use Rattle.report_text.specs.declared.report.ConnState.TheVariants.{Stopped, Idle, Busy}
 use Rattle.report_text.specs.Report.{Report, run_text}
@@ -67,7 +67,9 @@ report_in s journals c = record {
 -- ends, by the requests that were started; while no cause stops the connection, what was emitted and what is still to come
 -- are the answers, however it goes on; where it is idle, all has been emitted; and where it is to be closed before the core was
 -- told that its input has ended, that is so whatever else would come. What is logged of its requests are the statuses and the
--- lengths of bodies of these answers, of each but at most the last; where it is idle, of each.
+-- lengths of bodies of these answers, of each but at most the last; where it is idle, of each. And it is no more and no less
+-- than what is left: where it is busy, with a further request some of the answers are still to be emitted or logged; one that is
+-- to be closed is idle, and one that is idle after the end of its input is to be closed.
 pub record Answered (site : Site) (told : Told) (v : ConnView) (lane : Lane) (sent : List ℕ) : Type 0 where
   pub ends : LinkEnds
   pub opened : lane.ends ≡ Some ends
@@ -81,6 +83,11 @@ pub record Answered (site : Site) (told : Told) (v : ConnView) (lane : Lane) (se
       answers (service_of site ends.local ends.peer) 0 trees (came ++ more) (v.starts ++ later) ≡ lane.went
   pub logged : (trees : Trees) → Agree told.trees told.newest trees → Logged v.logs (answer_logs (service_of site ends.local ends.peer) 0 trees came v.starts)
   pub all_logged : is_idle v ≡ true → (trees : Trees) → Agree told.trees told.newest trees → (later : List Start) → v.logs ≡ map (λ l. Some l) (answer_logs (service_of site ends.local ends.peer) 0 trees came (v.starts ++ later))
+  pub busy : v.cause ≡ None → is_idle v ≡ false → (trees : Trees) → Agree told.trees told.newest trees → (start : Start) (later : List Start) →
+      answers (service_of site ends.local ends.peer) 0 trees came (v.starts ++ start ∷ later) ≡ lane.went →
+      v.logs ≢ map (λ l. Some l) (answer_logs (service_of site ends.local ends.peer) 0 trees came (v.starts ++ start ∷ later))
+  pub rests : v.cause ≡ None → v.shut ≡ true → is_idle v ≡ true
+  pub ends_shut : is_idle v ≡ true → is_given lane.tail ≡ true → v.shut ≡ true
 
 -- A run of a script's lines, over its tree, on a new core of a site, and the text that is printed of it: a report on each connection, by
 -- number, and the counts of the lines that were skipped and refused. The ends of each connection are those of a line that
@@ -91,7 +98,7 @@ pub record Ran (site : Site) (tree : List TreeLine) (events : List EventLine) (t
   pub skipped : ℕ
   pub refused : ℕ
   pub begins : IsNew first
-  pub plays : Plays (fresh_course site) events (told_first tree) first 0 0 last skipped refused
+  pub plays : Plays (site_terms site) events (told_first tree) first 0 0 last skipped refused
   pub conns : List ℕ
   pub held : AreHeld conns last.view
   pub journals : ℕ → List Entry

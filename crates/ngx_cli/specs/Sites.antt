@@ -1,7 +1,9 @@
 -- The site that a configuration describes.
-use Rattle.std.specs.Prelude.{◌≡◌, ℕ, List, [], slice_index_or, Result, Ok, Err}
+use Rattle.std.specs.Prelude.{◌≡◌, ℕ, List, [], ◌∷◌, ◌++◌, slice_index_or, Some, Result, Ok, Err}
 use Rattle.file_tree.specs.Tree.{Tree}
 use Rattle.ngx_outside.specs.Causes.{Rose}
+use Rattle.ngx_outside.specs.Seen.{FilesSeen}
+use Rattle.ready_loop.specs.Seen.{Grown}
 use Rattle.conf_text.specs.declared.directive.Directive.{Directive}
 use Rattle.conf_text.specs.declared.fault.ConfFault.{ConfFault}
 use Rattle.conf_text.specs.declared.fault.FaultKind.TheVariants.{ReadFault}
@@ -28,6 +30,13 @@ site_in folder (Err fault) = Err fault
 unfoldable pub site_at : Tree → Names → List ℕ → Result SiteView (ConfFault × List ℕ)
 site_at tree names main = site_in (folder_of main) (expansion tree names main)
 
+-- A configuration was read: the number of the newest tree was told when the reading began and when it was over.
+pub record Reading (files files' : FilesSeen) : Type 0 where
+  pub tells : files'.tells ≡ files.tells
+  pub grown : Grown files files'
+  pub told : (told : List ℕ) → files'.versions ≡ Some told →
+      (before : List ℕ) × (files.versions ≡ Some before) × (told ≡ before ++ files.newest ∷ files'.newest ∷ [])
+
 -- A site is the one that is described, and a fault is the first one, unless the files failed or memory ran out.
 abbrev pub Describes : Result Site ExpandError → Result SiteView (ConfFault × List ℕ) → Type 0
 Describes (Ok site) outcome = outcome ≡ Ok (seen site)
@@ -40,6 +49,13 @@ abbrev pub OnFault : ExpandError → (ConfFault → List ℕ → Type 0) → Typ
 OnFault (error.Fault placed) P = P placed.fault placed.path
 OnFault (error.Failed placed) P = Unit {0}
 OnFault error.OutOfMemory P = Unit {0}
+
+-- an outcome other than want of memory and failed files was read whole
+abbrev pub OnRead : {A : Type 0} → Result A ExpandError → Type 0 → Type 0
+OnRead (Ok site) P = P
+OnRead (Err (error.Fault placed)) P = P
+OnRead (Err (error.Failed placed)) P = Unit {0}
+OnRead (Err error.OutOfMemory) P = Unit {0}
 
 -- the files are said to have failed only where their count of faults rose
 abbrev pub FailsIf : {A : Type 0} → Result A ExpandError → ℕ → ℕ → Type 0

@@ -1,5 +1,5 @@
 -- What the program's words ask for.
-use Rattle.std.specs.Prelude.{ℕ, ◌+◌, ◌*◌, ◌-◌, nat_le, Bool, ◌&&◌, List, [], ◌∷◌, Option, None, Some, codes, bytes_eq, if◌then◌else◌}
+use Rattle.std.specs.Prelude.{ℕ, ◌+◌, ◌*◌, ◌-◌, ◌^◌, nat_le, Bool, ◌&&◌, List, [], ◌∷◌, Option, None, Some, codes, bytes_eq, if◌then◌else◌}
 use Rattle.std.specs.List.{list_all}
 use Rattle.ngx_cli.specs.declared.words.Command.{Command}
 use Rattle.ngx_cli.specs.declared.words.Command.TheVariants as command
@@ -13,9 +13,12 @@ value_behind n (b ∷ bs) = value_behind (n * 10 + (b - 48)) bs
 abbrev pub is_digit : ℕ → Bool
 is_digit b = nat_le 48 b && nat_le b 57
 
--- the most turns, and as many as are taken where none are said
+-- the most turns that can be asked for, and as many as are taken where none are said
 unfoldable pub most_turns : ℕ
 most_turns = 1000000000
+
+unfoldable pub all_turns : ℕ
+all_turns = 2 ^ 64 - 1
 
 -- how many turns a word of decimal digits asks for: from 1 to the most
 unfoldable pub turns_of : List ℕ → Option ℕ
@@ -42,7 +45,7 @@ request_of (command.Serve conf turns) = Serve conf.now turns
 abbrev pub request_for : (command path : List ℕ) → Option Request
 request_for command path =
     if bytes_eq command (codes "check") then Some (Check path)
-    else (if bytes_eq command (codes "replay") then Some (Replay path) else (if bytes_eq command (codes "serve") then Some (Serve path most_turns) else None))
+    else (if bytes_eq command (codes "replay") then Some (Replay path) else (if bytes_eq command (codes "serve") then Some (Serve path all_turns) else None))
 
 -- the program's name and one of these, or `serve PATH --turns N`
 abbrev pub request_in : List (List ℕ) → Option Request

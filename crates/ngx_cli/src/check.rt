@@ -1,15 +1,14 @@
 // The check of a configuration.
-ghost use Rattle.std.specs.Prelude.{◌≡◌, ◌-◌, ◌^◌, min};
-ghost use Rattle.ready_loop.specs.Seen.{files_seen};
+ghost use Rattle.std.specs.Prelude.{◌≡◌, ◌++◌, ◌-◌, ◌^◌, min, OnOk};
 ghost use Rattle.site_model.specs.Levels.{seen};
-ghost use Rattle.ngx_cli.specs.Commands.{CheckEnds, PutsCounts, locations_of};
+ghost use Rattle.ngx_cli.specs.Commands.{CheckEnds, PutsText, counts_of, locations_of};
 
-use crate::command::put_fault;
+use crate::command::{put_fault, put_text};
 use crate::site::site_at;
 use crate::status::Status;
 use byte_text::{ByteText, OutOfMemory};
 use conf_include::ExpandError;
-use ngx_outside::{Failed, Files, Sink};
+use ngx_outside::{Files, Sink};
 use report_text::counts_text;
 use site_model::Site;
 use std::alloc::Global;
@@ -25,17 +24,22 @@ fn locations_in(site: &Site) -> u64
     count
 }
 
+// The line of a site's counts.
+fn counts_line(site: &Site, out: &mut ByteText) -> Result<(), OutOfMemory>
+    ensures { OnOk result (out.new ≡ out.old ++ counts_of (seen site.now)) }
+{
+    counts_text(site.servers.len() as u64, locations_in(site), out)?;
+    Ok(())
+}
+
 // Prints how many servers and locations a site has.
-fn put_counts<O: Sink>(alloc: Global, site: &Site, out: &mut O) -> Status
-    ensures { PutsCounts (record { tells = O.tells out.old; written = O.written out.old; written' = O.written out.new; faults = O.faults out.old; faults' = O.faults out.new }) (seen site.now) result }
+fn put_counts<O: Sink>(alloc: Global, site: &Site, out: &mut O) -> Result<(), Status>
+    ensures { PutsText (record { before = O.seen out.old; after = O.seen out.new }) (counts_of (seen site.now)) result }
 {
     let mut text = ByteText::new(alloc);
-    match counts_text(site.servers.len() as u64, locations_in(site), &mut text) {
-        Ok(()) => match out.put(text.as_slice()) {
-            Ok(()) => Status::Done,
-            Err(Failed) => Status::SinkFault,
-        },
-        Err(OutOfMemory) => Status::OutOfMemory,
+    match counts_line(site, &mut text) {
+        Ok(()) => put_text(text.as_slice(), out),
+        Err(OutOfMemory) => Err(Status::OutOfMemory),
     }
 }
 
@@ -46,10 +50,13 @@ pub(crate) fn run_check<F: Files, O: Sink>(
     files: &mut F,
     out: &mut O,
 ) -> Status
-    ensures { CheckEnds (F.tells files.old) (files_seen (F.trees files.old) (F.newest files.old) (F.faults files.old)) (files_seen (F.trees files.new) (F.newest files.new) (F.faults files.new)) (record { tells = O.tells out.old; written = O.written out.old; written' = O.written out.new; faults = O.faults out.old; faults' = O.faults out.new }) path.now result }
+    ensures { CheckEnds (F.seen files.old) (F.seen files.new) (record { before = O.seen out.old; after = O.seen out.new }) path.now result }
 {
     match site_at(alloc, files, path) {
-        Ok(site) => put_counts(alloc, &site, out),
+        Ok(site) => match put_counts(alloc, &site, out) {
+            Ok(()) => Status::Done,
+            Err(status) => status,
+        },
         Err(ExpandError::Fault(placed)) => match put_fault(alloc, &placed, out) {
             Ok(()) => Status::ConfFault,
             Err(status) => status,

@@ -1,9 +1,10 @@
 // The program.
-ghost use Rattle.std.specs.Prelude.{◌≡◌, ℕ, [], true, false, map, string_bytes};
-ghost use Rattle.ready_loop.specs.Seen.{links_seen, files_seen, clock_seen};
+ghost use Rattle.std.specs.Prelude.{map, string_bytes};
+ghost use Rattle.report_text.specs.Lines.{ended};
+ghost use Rattle.report_text.specs.Faults.{conf_fault_line};
+ghost use Rattle.site_service.specs.Serving.{AreNew, Outside};
 ghost use Rattle.ngx_cli.specs.Words.{request_in};
-ghost use Rattle.ngx_cli.specs.Commands.{Ends, ReplayEnds, ServeEnds, PutsFault, code_of};
-ghost use Rattle.ngx_cli.specs.declared.status.Status.{Status as Ended};
+ghost use Rattle.ngx_cli.specs.Commands.{Ends, EndsWith, Output, ReplayEnds, ServeEnds, PutsText};
 
 use crate::check::run_check;
 use crate::script::{placed_fault_text, replay};
@@ -14,12 +15,22 @@ use crate::words::{Command, command_of};
 use byte_text::{ByteText, OutOfMemory};
 use conf_include::{ExpandError, PlacedFault};
 use ngx_outside::{Clock, Failed, FileFault, Files, Links, Sink};
-use site_service::{files_may_fail_before, serve_site};
+use site_service::serve_site;
 use std::alloc::Global;
+
+/// Prints a text; where that fails, what the program ends with.
+pub(crate) fn put_text<O: Sink>(text: &[u8], out: &mut O) -> Result<(), Status>
+    ensures { PutsText (record { before = O.seen out.old; after = O.seen out.new }) text.now result }
+{
+    match out.put(text) {
+        Ok(()) => Ok(()),
+        Err(Failed) => Err(Status::SinkFault),
+    }
+}
 
 // Runs a script and prints what it came to.
 fn run_script<F: Files, O: Sink>(alloc: Global, path: &[u8], files: &mut F, out: &mut O) -> Status
-    ensures { ReplayEnds (F.tells files.old) (F.trees files.old (F.newest files.old)) (F.faults files.old) (F.faults files.new) (record { tells = O.tells out.old; written = O.written out.old; written' = O.written out.new; faults = O.faults out.old; faults' = O.faults out.new }) path.now result }
+    ensures { ReplayEnds (F.seen files.old) (F.seen files.new) (record { before = O.seen out.old; after = O.seen out.new }) path.now result }
 {
     let script = match read_text(alloc, files, path) {
         Ok(script) => script,
@@ -28,9 +39,9 @@ fn run_script<F: Files, O: Sink>(alloc: Global, path: &[u8], files: &mut F, out:
     };
     let mut text = ByteText::new(alloc);
     match replay(alloc, script.as_slice(), &mut text) {
-        Ok(outcome) => match out.put(text.as_slice()) {
+        Ok(outcome) => match put_text(text.as_slice(), out) {
             Ok(()) => status_of(outcome),
-            Err(Failed) => Status::SinkFault,
+            Err(status) => status,
         },
         Err(OutOfMemory) => Status::OutOfMemory,
     }
@@ -42,14 +53,11 @@ pub(crate) fn put_fault<O: Sink>(
     placed: &PlacedFault,
     out: &mut O,
 ) -> Result<(), Status>
-    ensures { PutsFault (record { tells = O.tells out.old; written = O.written out.old; written' = O.written out.new; faults = O.faults out.old; faults' = O.faults out.new }) placed.now.path placed.now.fault result }
+    ensures { PutsText (record { before = O.seen out.old; after = O.seen out.new }) (ended (conf_fault_line placed.now.path placed.now.fault)) result }
 {
     let mut text = ByteText::new(alloc);
     match placed_fault_text(placed, &mut text) {
-        Ok(()) => match out.put(text.as_slice()) {
-            Ok(()) => Ok(()),
-            Err(Failed) => Err(Status::SinkFault),
-        },
+        Ok(()) => put_text(text.as_slice(), out),
         Err(OutOfMemory) => Err(Status::OutOfMemory),
     }
 }
@@ -64,30 +72,30 @@ fn run_site<F: Files, L: Links, C: Clock, O: Sink>(
     clock: &mut C,
     out: &mut O,
 ) -> Status
-    requires links { (id : ℕ) → (L.used links.old id ≡ false) × (L.is_open links.old id ≡ false) }
-    requires clock { C.tells clock.old ≡ true → C.told clock.old ≡ [] }
-    ensures { ServeEnds (L.over links.new) (record { files_tell = F.tells files.old; files = files_seen (F.trees files.old) (F.newest files.old) (F.faults files.old); files' = files_seen (F.trees files.new) (F.newest files.new) (F.faults files.new); links_tell = L.tells links.old; links = links_seen (L.link links.old) (L.used links.old) (L.is_open links.old) (L.link_faults links.old); links' = links_seen (L.link links.new) (L.used links.new) (L.is_open links.new) (L.link_faults links.new); listening = L.listening links.old; listening' = L.listening links.new; links_faults = L.faults links.old; links_faults' = L.faults links.new; clock = clock_seen (C.tells clock.old) (C.told clock.old); clock' = clock_seen (C.tells clock.new) (C.told clock.new) }) (record { tells = O.tells out.old; written = O.written out.old; written' = O.written out.new; faults = O.faults out.old; faults' = O.faults out.new }) path.now turns result }
+    requires links { AreNew (L.seen links.old) }
+    ensures { ServeEnds (record {
+      files = F.seen files.old;
+      files' = F.seen files.new;
+      links = L.seen links.old;
+      links' = L.seen links.new;
+      clock = C.seen clock.old;
+      clock' = C.seen clock.new;
+    }) (record { before = O.seen out.old; after = O.seen out.new }) path.now turns result }
 {
-    let site = match site_at(alloc, files, path) {
-        Ok(site) => site,
-        Err(ExpandError::Fault(placed)) => {
-            return match put_fault(alloc, &placed, out) {
-                Ok(()) => Status::ConfFault,
-                Err(status) => status,
-            };
-        }
-        Err(ExpandError::Failed(placed)) => {
-            return match put_fault(alloc, &placed, out) {
-                Ok(()) => Status::FilesFault,
-                Err(status) => status,
-            };
-        }
-        Err(ExpandError::OutOfMemory) => return Status::OutOfMemory,
-    };
-    files_may_fail_before();
-    match serve_site(alloc, site, files, links, clock, turns) {
-        Ok(ending) => served_status(ending),
-        Err(OutOfMemory) => Status::OutOfMemory,
+    match site_at(alloc, files, path) {
+        Ok(site) => match serve_site(alloc, site, files, links, clock, turns) {
+            Ok(ending) => served_status(ending),
+            Err(OutOfMemory) => Status::OutOfMemory,
+        },
+        Err(ExpandError::Fault(placed)) => match put_fault(alloc, &placed, out) {
+            Ok(()) => Status::ConfFault,
+            Err(status) => status,
+        },
+        Err(ExpandError::Failed(placed)) => match put_fault(alloc, &placed, out) {
+            Ok(()) => Status::FilesFault,
+            Err(status) => status,
+        },
+        Err(ExpandError::OutOfMemory) => Status::OutOfMemory,
     }
 }
 
@@ -100,9 +108,15 @@ fn run<F: Files, L: Links, C: Clock, O: Sink>(
     clock: &mut C,
     out: &mut O,
 ) -> Status
-    requires links { (id : ℕ) → (L.used links.old id ≡ false) × (L.is_open links.old id ≡ false) }
-    requires clock { C.tells clock.old ≡ true → C.told clock.old ≡ [] }
-    ensures { Ends (L.over links.new) (request_in (map string_bytes words.now)) (record { files_tell = F.tells files.old; files = files_seen (F.trees files.old) (F.newest files.old) (F.faults files.old); files' = files_seen (F.trees files.new) (F.newest files.new) (F.faults files.new); links_tell = L.tells links.old; links = links_seen (L.link links.old) (L.used links.old) (L.is_open links.old) (L.link_faults links.old); links' = links_seen (L.link links.new) (L.used links.new) (L.is_open links.new) (L.link_faults links.new); listening = L.listening links.old; listening' = L.listening links.new; links_faults = L.faults links.old; links_faults' = L.faults links.new; clock = clock_seen (C.tells clock.old) (C.told clock.old); clock' = clock_seen (C.tells clock.new) (C.told clock.new) }) (record { tells = O.tells out.old; written = O.written out.old; written' = O.written out.new; faults = O.faults out.old; faults' = O.faults out.new }) result }
+    requires links { AreNew (L.seen links.old) }
+    ensures { Ends (request_in (map string_bytes words.now)) (record {
+      files = F.seen files.old;
+      files' = F.seen files.new;
+      links = L.seen links.old;
+      links' = L.seen links.new;
+      clock = C.seen clock.old;
+      clock' = C.seen clock.new;
+    }) (record { before = O.seen out.old; after = O.seen out.new }) result }
 {
     match command_of(words) {
         None => Status::Usage,
@@ -115,14 +129,14 @@ fn run<F: Files, L: Links, C: Clock, O: Sink>(
 }
 
 /// The program: does what its words ask for, with these files, links, clock and output, and answers the exit status of the
-/// process. The links and the clock are new.
+/// process. No link was reported yet.
 ///
 /// The words are the program's name and one of these. `check CONF`: the configuration is read with what it includes, and
 /// `servers N locations M` is printed, M being the locations of all its servers; nothing is printed of variables, since no
 /// directive that is served sets one. `replay SCRIPT`: the script is run on a new core of the site that its configuration
 /// describes, and what each connection came to is printed. `serve CONF`, or `serve CONF --turns N`: the site that the
-/// configuration describes is served on its addresses, until no notice comes any more, or for N turns, from 1 to 1000000000,
-/// which is also how many are taken where none are said. Serving prints nothing but faults.
+/// configuration describes is served on its addresses, until no notice comes any more, or for N turns, from 1 to 1000000000.
+/// Serving prints nothing but faults.
 ///
 /// 0: done; of serving, no notice will come any more. 1: the configuration has a fault, which is printed. 2: the words are no
 /// command. 4: the files failed; where a configuration was read, that is printed. 5: the output failed. 6: listening or the
@@ -142,9 +156,15 @@ pub fn ngx<F: Files, L: Links, C: Clock, O: Sink>(
     clock: &mut C,
     out: &mut O,
 ) -> u8
-    requires links { (id : ℕ) → (L.used links.old id ≡ false) × (L.is_open links.old id ≡ false) }
-    requires clock { C.tells clock.old ≡ true → C.told clock.old ≡ [] }
-    ensures { (s : Ended) × (result ≡ code_of s) × Ends (L.over links.new) (request_in (map string_bytes words.now)) (record { files_tell = F.tells files.old; files = files_seen (F.trees files.old) (F.newest files.old) (F.faults files.old); files' = files_seen (F.trees files.new) (F.newest files.new) (F.faults files.new); links_tell = L.tells links.old; links = links_seen (L.link links.old) (L.used links.old) (L.is_open links.old) (L.link_faults links.old); links' = links_seen (L.link links.new) (L.used links.new) (L.is_open links.new) (L.link_faults links.new); listening = L.listening links.old; listening' = L.listening links.new; links_faults = L.faults links.old; links_faults' = L.faults links.new; clock = clock_seen (C.tells clock.old) (C.told clock.old); clock' = clock_seen (C.tells clock.new) (C.told clock.new) }) (record { tells = O.tells out.old; written = O.written out.old; written' = O.written out.new; faults = O.faults out.old; faults' = O.faults out.new }) s }
+    requires links { AreNew (L.seen links.old) }
+    ensures { EndsWith (request_in (map string_bytes words.now)) (record {
+      files = F.seen files.old;
+      files' = F.seen files.new;
+      links = L.seen links.old;
+      links' = L.seen links.new;
+      clock = C.seen clock.old;
+      clock' = C.seen clock.new;
+    }) (record { before = O.seen out.old; after = O.seen out.new }) result }
 {
     run(alloc, words, files, links, clock, out).code()
 }

@@ -17,6 +17,3 @@ pub use script::{Outcome, replay};
 pub use site::site_at;
 pub use status::Status;
 pub use words::Command;
-
-#[cfg(test)]
-mod tests;

@@ -1,7 +1,9 @@
 // The site of a configuration.
-ghost use Rattle.std.specs.Prelude.{◌≡◌, ◌≤◌, true, slice_index_or, []};
+ghost use Rattle.std.specs.Prelude.{◌≡◌, true, slice_index_or, []};
+ghost use Rattle.ngx_outside.specs.Records.{Adds};
+ghost use Rattle.ready_loop.specs.Seen.{Grown};
 ghost use Rattle.conf_include.specs.Listings.{Names, IsNaming};
-ghost use Rattle.ngx_cli.specs.Sites.{Describes, FailsIf, site_at as site_found};
+ghost use Rattle.ngx_cli.specs.Sites.{Describes, FailsIf, Reading, site_at as site_found};
 
 use byte_text::{ByteText, ByteTexts};
 use conf_include::{ExpandError, PlacedFault, expand, folder_of};
@@ -24,19 +26,16 @@ fn path_at(alloc: Global, paths: ByteTexts, number: u32) -> ByteText
     }
 }
 
-/// The site that a configuration describes, from its main file and the files that it includes.
-///
-/// # Errors
-///
-/// `Fault` for the first fault of its files' texts, or of its directives. `Failed` only where the files failed in this call.
-/// `OutOfMemory`.
+// The same, with the number of the newest tree asked for at the beginning alone.
 #[tactic(auto, unfolding(crate::specs::Sites::site_at))]
-pub fn site_at<F: Files>(alloc: Global, files: &mut F, path: &[u8]) -> Result<Site, ExpandError>
-    ensures exact { F.tells files.old ≡ true → F.newest files.new ≡ F.newest files.old → (names : Names) → IsNaming (F.trees files.old (F.newest files.old)) names → Describes result (site_found (F.trees files.old (F.newest files.old)) names path.now) }
-    ensures cause { FailsIf result (F.faults files.old) (F.faults files.new) }
-    ensures tells { F.tells files.new ≡ F.tells files.old }
-    ensures newest { F.newest files.old ≤ F.newest files.new }
-    ensures later { F.faults files.old ≤ F.faults files.new }
+fn site_read<F: Files>(alloc: Global, files: &mut F, path: &[u8]) -> Result<Site, ExpandError>
+    ensures exact { (F.seen files.old).tells ≡ true → (F.seen files.new).newest ≡ (F.seen files.old).newest → (names : Names) →
+        IsNaming ((F.seen files.old).trees (F.seen files.old).newest) names →
+        Describes result (site_found ((F.seen files.old).trees (F.seen files.old).newest) names path.now) }
+    ensures cause { FailsIf result (F.seen files.old).faults (F.seen files.new).faults }
+    ensures versions { Adds (F.seen files.old).newest (F.seen files.old).versions (F.seen files.new).versions }
+    ensures tells { (F.seen files.new).tells ≡ (F.seen files.old).tells }
+    ensures grown { Grown (F.seen files.old) (F.seen files.new) }
 {
     let read = match expand(alloc, files, path) {
         Ok(read) => read,
@@ -50,4 +49,23 @@ pub fn site_at<F: Files>(alloc: Global, files: &mut F, path: &[u8]) -> Result<Si
         }
         Err(ConfError::OutOfMemory) => Err(ExpandError::OutOfMemory),
     }
+}
+
+/// The site that a configuration describes, from its main file and the files that it includes, where the files' newest tree
+/// stays the newest until it is read. The number of the newest tree is asked for at the beginning and at the end.
+///
+/// # Errors
+///
+/// `Fault` for the first fault of its files' texts, or of its directives. `Failed` only where the files failed in this call.
+/// `OutOfMemory`.
+pub fn site_at<F: Files>(alloc: Global, files: &mut F, path: &[u8]) -> Result<Site, ExpandError>
+    ensures exact { (F.seen files.old).tells ≡ true → (F.seen files.new).newest ≡ (F.seen files.old).newest → (names : Names) →
+        IsNaming ((F.seen files.old).trees (F.seen files.old).newest) names →
+        Describes result (site_found ((F.seen files.old).trees (F.seen files.old).newest) names path.now) }
+    ensures cause { FailsIf result (F.seen files.old).faults (F.seen files.new).faults }
+    ensures reading { Reading (F.seen files.old) (F.seen files.new) }
+{
+    let outcome = site_read(alloc, files, path);
+    files.version();
+    outcome
 }

@@ -3,8 +3,11 @@ ghost use Rattle.std.specs.Prelude.{◌≡◌, ◌≤◌, ◌^◌, MatchOption};
 ghost use Rattle.std.specs.List.{list_all};
 ghost use Rattle.ngx_cli.specs.Words.{is_digit, value_behind, most_turns, turns_of as turns_for};
 
-/// So many turns are taken at most, and where no number is said.
-pub const MOST_TURNS: u64 = 1000000000;
+/// No more turns can be asked for.
+const MOST_TURNS: u64 = 1000000000;
+
+/// So many turns are taken where no number is said: serving goes on.
+pub const ALL_TURNS: u64 = 18446744073709551615;
 
 fn are_digits(word: &[u8]) -> bool
     ensures { result ≡ list_all is_digit word.now }

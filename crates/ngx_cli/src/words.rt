@@ -2,7 +2,7 @@
 ghost use Rattle.std.specs.Prelude.{◌≡◌, option_map, map, string_bytes};
 ghost use Rattle.ngx_cli.specs.Words.{request_in, request_for, request_of, serve_after, turns_of as turns_for};
 
-use crate::turns::{MOST_TURNS, turns_of};
+use crate::turns::{ALL_TURNS, turns_of};
 
 /// What the words ask for.
 #[derive(Clone, Copy)]
@@ -25,7 +25,7 @@ fn serve_for<'a>(conf: &'a str, turns: &str) -> Option<Command<'a>>
 }
 
 // What a command with a path alone asks for.
-#[tactic(auto, unfolding(crate::specs::Words::most_turns))]
+#[tactic(auto, unfolding(crate::specs::Words::all_turns))]
 fn command_for<'a>(command: &str, path: &'a str) -> Option<Command<'a>>
     ensures { option_map request_of result ≡ request_for command.now path.now }
 {
@@ -36,7 +36,7 @@ fn command_for<'a>(command: &str, path: &'a str) -> Option<Command<'a>>
     } else if command == "serve" {
         Some(Command::Serve {
             conf: path,
-            turns: MOST_TURNS,
+            turns: ALL_TURNS,
         })
     } else {
         None

@@ -14,6 +14,7 @@ logs_none logs all e = record { over = []; later = all; first = refl; told = inl
 pub tracks_begin : TracksBegin
 tracks_begin whole told newest v f = record {
   raceless = f.raceless;
+  timed = λ live. ap (λ (c : Course). c.timed) f.comes;
   front = λ raceless trees agree. (whole.bytes trees [] v.starts, refl);
   on = λ live raceless trees agree more later.
       ap (λ s. whole.bytes trees more (s ++ later)) f.starts ∙ ap (λ (c : Course). c.bytes trees more later) (sym f.comes);
@@ -42,6 +43,7 @@ logged_of whole trees v came on l =
 pub steps_keep_track : StepsKeepTrack
 steps_keep_track whole told newest ground old new came went came' went' started holds t w = record {
   raceless = m.raceless ∙ t.raceless;
+  timed = λ live. m.timed ∙ t.timed w.before;
   front = λ raceless trees agree. front_of whole trees new (came ++ came') (went ++ went') (go raceless trees agree);
   on = λ live raceless trees agree. go raceless trees agree;
   logged = λ raceless trees agree. logged_of whole trees new (came ++ came') (same raceless trees agree) (w.logged trees [] []);
@@ -89,6 +91,7 @@ dead v cause is e f h = let k : is_live v ≡ true = sym e ∙ h in clash v.held
 pub stops_keep_track : StopsKeepTrack
 stops_keep_track whole told newest cause old new came went more started t s = record {
   raceless = s.raceless ∙ t.raceless;
+  timed = λ live. absurd (stopped live);
   front = λ raceless trees agree.
       (old.course.bytes trees more started, ap (λ x. whole.bytes trees (came ++ more) x) s.starts ∙ t.on s.before raceless trees agree more started);
   on = λ live. absurd (stopped live);
@@ -111,6 +114,7 @@ narrow told told' newest newest' g trees a = record {
 pub tracks_narrow : TracksNarrow
 tracks_narrow whole told told' newest newest' v came went g t = record {
   raceless = t.raceless;
+  timed = t.timed;
   front = λ raceless trees agree. t.front raceless trees (narrow told told' newest newest' g trees agree);
   on = λ live raceless trees agree. t.on live raceless trees (narrow told told' newest newest' g trees agree);
   logged = λ raceless trees agree. t.logged raceless trees (narrow told told' newest newest' g trees agree);

@@ -5,3 +5,4 @@ pub mod Runs
 pub mod Outside
 pub mod Linked
 pub mod Records
+pub mod Seen

@@ -1,7 +1,7 @@
 -- What links tell, by id.
-use Rattle.std.specs.Prelude.{◌≡◌, ◌≢◌, ℕ, ◌<◌, ◌≤◌, Bool, true, false, List, [], ◌++◌, take}
+use Rattle.std.specs.Prelude.{◌≡◌, ◌≢◌, ℕ, ◌+◌, ◌<◌, ◌≤◌, Bool, true, false, List, [], ◌++◌, take, if◌then◌else◌}
 use Rattle.http_types.specs.declared.words.Addr.{Addr}
-use Rattle.ngx_outside.specs.Causes.{Rose}
+use Rattle.ngx_outside.specs.Causes.{Rose, next_count}
 use Rattle.ngx_outside.specs.declared.links.Notice.{Notice}
 use Rattle.ngx_outside.specs.declared.links.Notice.TheVariants.{Opened, Readable, Writable, Nothing, Ended, Failed}
 use Rattle.ngx_outside.specs.declared.links.Input.{Input}
@@ -9,11 +9,13 @@ use Rattle.ngx_outside.specs.declared.links.Input.TheVariants as input
 use Rattle.ngx_outside.specs.declared.links.Output.{Output}
 use Rattle.ngx_outside.specs.declared.links.Output.TheVariants as output
 
--- A link: its two ends, what was read of it and written to it, whether it was reported readable and not read since, whether
--- its last write found no room and no room was reported since, and whether a read found the end of its input.
+-- A link: its two ends, how many others were open when it was reported, what was read of it and written to it, whether it was
+-- reported readable and not read since, whether its last write found no room and no room was reported since, and whether a
+-- read found the end of its input.
 pub record LinkView : Type 0 where
   pub local : Addr
   pub peer : Addr
+  pub among : ℕ
   pub taken : List ℕ
   pub sent : List ℕ
   pub due : Bool
@@ -25,35 +27,57 @@ pub record Updated (c : ℕ) (f : LinkView → LinkView) (old new : ℕ → Link
   pub own : new c ≡ f (old c)
   pub others : (d : ℕ) → d ≢ c → new d ≡ old d
 
-abbrev pub begun : Addr → Addr → LinkView → LinkView
-begun local peer v = record { local = local; peer = peer; taken = []; sent = []; due = false; full = false; ended = false }
+abbrev pub begun : Addr → Addr → ℕ → LinkView → LinkView
+begun local peer among v = record { local = local; peer = peer; among = among; taken = []; sent = []; due = false; full = false; ended = false }
 
 abbrev pub set_due : Bool → LinkView → LinkView
-set_due b v = record { local = v.local; peer = v.peer; taken = v.taken; sent = v.sent; due = b; full = v.full; ended = v.ended }
+set_due b v = record { local = v.local; peer = v.peer; among = v.among; taken = v.taken; sent = v.sent; due = b; full = v.full; ended = v.ended }
 
 abbrev pub set_full : Bool → LinkView → LinkView
-set_full b v = record { local = v.local; peer = v.peer; taken = v.taken; sent = v.sent; due = v.due; full = b; ended = v.ended }
+set_full b v = record { local = v.local; peer = v.peer; among = v.among; taken = v.taken; sent = v.sent; due = v.due; full = b; ended = v.ended }
 
 abbrev pub got : List ℕ → LinkView → LinkView
-got bytes v = record { local = v.local; peer = v.peer; taken = v.taken ++ bytes; sent = v.sent; due = false; full = v.full; ended = v.ended }
+got bytes v = record { local = v.local; peer = v.peer; among = v.among; taken = v.taken ++ bytes; sent = v.sent; due = false; full = v.full; ended = v.ended }
 
 abbrev pub put : List ℕ → LinkView → LinkView
-put bytes v = record { local = v.local; peer = v.peer; taken = v.taken; sent = v.sent ++ bytes; due = v.due; full = v.full; ended = v.ended }
+put bytes v = record { local = v.local; peer = v.peer; among = v.among; taken = v.taken; sent = v.sent ++ bytes; due = v.due; full = v.full; ended = v.ended }
 
 abbrev pub set_ended : LinkView → LinkView
-set_ended v = record { local = v.local; peer = v.peer; taken = v.taken; sent = v.sent; due = false; full = v.full; ended = true }
+set_ended v = record { local = v.local; peer = v.peer; among = v.among; taken = v.taken; sent = v.sent; due = false; full = v.full; ended = true }
 
 abbrev pub Unchanged : (ℕ → LinkView) → (ℕ → LinkView) → Type 0
 Unchanged old new = (c : ℕ) → new c ≡ old c
 
--- what a notice says of the links
-abbrev pub Noticed : Notice → (ℕ → LinkView) → (ℕ → LinkView) → Type 0
-Noticed (Opened id local peer) old new = Updated id (begun local peer) old new
-Noticed (Readable id) old new = Updated id (set_due true) old new
-Noticed (Writable id) old new = Updated id (set_full false) old new
-Noticed Nothing old new = Unchanged old new
-Noticed Ended old new = Unchanged old new
-Noticed Failed old new = Unchanged old new
+-- what a notice says of the links, of which so many are open
+abbrev pub Noticed : Notice → ℕ → (ℕ → LinkView) → (ℕ → LinkView) → Type 0
+Noticed (Opened id local peer) crowd old new = Updated id (begun local peer crowd) old new
+Noticed (Readable id) crowd old new = Updated id (set_due true) old new
+Noticed (Writable id) crowd old new = Updated id (set_full false) old new
+Noticed Nothing crowd old new = Unchanged old new
+Noticed Ended crowd old new = Unchanged old new
+Noticed Failed crowd old new = Unchanged old new
+
+-- how many links are open after a notice
+abbrev pub crowd_after : Notice → ℕ → ℕ
+crowd_after (Opened id local peer) crowd = crowd + 1
+crowd_after (Readable id) crowd = crowd
+crowd_after (Writable id) crowd = crowd
+crowd_after Nothing crowd = crowd
+crowd_after Ended crowd = crowd
+crowd_after Failed crowd = crowd
+
+-- how many are open after a close, of one that was open or not
+abbrev pub CrowdCloses : Bool → ℕ → ℕ → Type 0
+CrowdCloses was_open old new = old ≡ (if was_open then new + 1 else new)
+
+-- how many notices were told: none is where no notice will come any more, or where the call failed
+abbrev pub notices_after : Notice → ℕ → ℕ
+notices_after (Opened id local peer) n = next_count n
+notices_after (Readable id) n = next_count n
+notices_after (Writable id) n = next_count n
+notices_after Nothing n = next_count n
+notices_after Ended n = n
+notices_after Failed n = n
 
 -- a test of ids that changes at one
 pub record Marked (id : ℕ) (b : Bool) (old new : ℕ → Bool) : Type 0 where

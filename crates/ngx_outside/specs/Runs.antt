@@ -13,12 +13,13 @@ pub record Agree (told : Trees) (newest : ℕ) (trees : Trees) : Type 0 where
   pub same : (of : ℕ) → of ≤ newest → (path : List ℕ) → trees of path ≡ told of path
 
 -- On a connection on which `whole` was to come at its opening these bytes came and those went. Whether the order of steps
--- can't change the bytes is known from its opening. Where it can't, for all trees that agree with what was told: what went is
+-- can't change the bytes is known from its opening, and so is whether it may be given up. Where it can't, for all trees that agree with what was told: what went is
 -- the beginning of what was to come; while the connection is live, what went and what is still to come is all that was to
 -- come, however it goes on; what is logged of its requests are the logs of the responses that were to come; and what is
 -- foreseen of subrequests now was foreseen at its opening.
 pub record Tracked (whole : Course) (told : Trees) (newest : ℕ) (v : ConnView) (came went : List ℕ) : Type 0 where
   pub raceless : v.raceless ≡ whole.raceless
+  pub timed : is_live v ≡ true → v.course.timed ≡ whole.timed
   pub front : whole.raceless ≡ true → (trees : Trees) → Agree told newest trees → IsPrefixOf went (whole.bytes trees came v.starts)
   pub on : is_live v ≡ true → whole.raceless ≡ true → (trees : Trees) → Agree told newest trees → (more : List ℕ) (later : List Start) →
       whole.bytes trees (came ++ more) (v.starts ++ later) ≡ went ++ v.course.bytes trees more later

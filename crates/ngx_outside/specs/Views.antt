@@ -32,12 +32,13 @@ log_of e = e.log
 -- What comes of a connection if its jobs are answered from these trees, these bytes arrive and further requests start so: the
 -- bytes that are still to come; the logs of all its responses, one after another, of those that are over too; and whether a
 -- request then asks for more subrequests than are made for one. And whether the order of the connection's steps can't change
--- its bytes.
+-- its bytes, and whether it may be given up when a moment comes.
 pub record Course : Type 0 where
   pub bytes : Trees → List ℕ → List Start → List ℕ
   pub logs : Trees → List ℕ → List Start → List Log
   pub heavy : Trees → List ℕ → List Start → Bool
   pub raceless : Bool
+  pub timed : Bool
 
 -- a job that waits for its answer
 pub record Job : Type 0 where
@@ -92,7 +93,7 @@ nobody =
       pending = [];
       starts = [];
       logs = [];
-      course = record { bytes = λ trees more later. []; logs = λ trees more later. []; heavy = λ trees more later. false; raceless = true };
+      course = record { bytes = λ trees more later. []; logs = λ trees more later. []; heavy = λ trees more later. false; raceless = true; timed = false };
       room = None;
       ready = [];
       jobs = [];
@@ -134,6 +135,7 @@ pub record Logged (logs : List (Option Log)) (all : List Log) : Type 0 where
 pub record Moved (ground : Ground) (old new : ConnView) (came went : List ℕ) (started : List Start) : Type 0 where
   pub starts : new.starts ≡ old.starts ++ started
   pub raceless : new.raceless ≡ old.raceless
+  pub timed : new.course.timed ≡ old.course.timed
   pub bytes : (trees : Trees) → Holds ground trees → (more : List ℕ) (later : List Start) →
       old.course.bytes trees (came ++ more) (started ++ later) ≡ went ++ new.course.bytes trees more later
   pub logs : (trees : Trees) → Holds ground trees → (more : List ℕ) (later : List Start) →
@@ -244,7 +246,7 @@ kept_moment moment = min moment 253402300799
 
 -- what the clock's telling does to a connection: it is given up where its moment has come, and stays as it is elsewhere
 pub data Ticked (now : ℕ) (old new : ConnView) : Type 0 where
-  GivesUp : (due : ℕ) → old.deadline ≡ Some due → due ≤ now → Stopped (stop.Deadline due now) old new [] → Ticked now old new
+  GivesUp : (due : ℕ) → old.course.timed ≡ true → old.deadline ≡ Some due → due ≤ now → Stopped (stop.Deadline due now) old new [] → Ticked now old new
   Waits : ((due : ℕ) → old.deadline ≡ Some due → now < due) → new ≡ old → Ticked now old new
 
 -- what a step does to all connections
@@ -277,6 +279,12 @@ ended_after (Ended conn) (Done taken) c ended = if c == conn then true else ende
 ended_after (Gone conn) (Done taken) c ended = if c == conn then false else ended
 ended_after e a c ended = ended
 
+-- one more connection is held after an opening that was done, and one fewer after a closing
+abbrev pub CountsHeld : Event → StepAnswer → ℕ → ℕ → Type 0
+CountsHeld (Opened conn local peer) (Done taken) old new = new ≡ old + 1
+CountsHeld (Gone conn) (Done taken) old new = old ≡ new + 1
+CountsHeld e a old new = new ≡ old
+
 -- bytes are taken by an arrival, and by nothing else
 abbrev pub TakesNone : Event → StepAnswer → Type 0
 TakesNone (Arrived conn bytes) a = Unit {0}
@@ -303,9 +311,8 @@ LeftBy price (Tick moment) (Done taken) old new = new ≤ old
 LeftBy price (Tree to) (Done taken) old new = new ≤ old
 LeftBy price e a old new = new < old
 
--- each refused event but an opening raises the count of the refused, and nothing else does
+-- each refused event raises the count of the refused, and nothing else does
 abbrev pub CountsRefused : Event → StepAnswer → ℕ → ℕ → Type 0
-CountsRefused (Opened conn local peer) OutOfMemory old new = new ≡ old
 CountsRefused e OutOfMemory old new = Rose old new
 CountsRefused e a old new = new ≡ old
 

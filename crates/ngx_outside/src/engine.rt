@@ -1,10 +1,10 @@
 // A core, by what its events do.
-ghost use Rattle.std.specs.Prelude.{◌≡◌, ◌≤◌, ◌<◌, ◌^◌, ◌↔◌, ℕ, Bool, true, List, Option, Contains, IfSome, option_copied};
+ghost use Rattle.std.specs.Prelude.{◌≡◌, ◌≤◌, ◌↔◌, ℕ, true, length, Contains, IfSome, option_copied};
 ghost use Rattle.file_tree.specs.Tree.{tree_of};
 ghost use Rattle.std.specs.List.Sorted.{IsStrictlyIncreasing};
-ghost use Rattle.http_types.specs.declared.words.Addr.{Addr as End};
-ghost use Rattle.ngx_outside.specs.Views.{ConnView, Course, Start, Steps, OpensIf, LeftBy, CountsRefused, TakesNone, IsSound, now_after, ended_after, ask_in};
-ghost use Rattle.ngx_outside.specs.Records.{Given, Adds, given_of};
+ghost use Rattle.ngx_outside.specs.Views.{Steps, OpensIf, LeftBy, CountsRefused, CountsHeld, TakesNone, IsSound, now_after, ended_after, ask_in};
+ghost use Rattle.ngx_outside.specs.Records.{Adds, given_of};
+ghost use Rattle.ngx_outside.specs.Seen.{CoreSeen, opens_at};
 ghost use Rattle.ngx_outside.specs.Wants.{wants_at, wants_in};
 
 use crate::{Event, StepAnswer, Want};
@@ -14,61 +14,43 @@ use file_tree::Ask;
 /// it wants next. Contracts see a connection, by its number, as what it shows (`ConnView`): what is pending on it and
 /// what is still to come.
 pub trait EventCore {
-    /// What the core shows of each connection.
-    ghost view: { Self → ℕ → ConnView };
-
-    /// The numbers of the connections that are held, in their order.
-    ghost conns: { Self → List ℕ };
-
-    /// What is to come on a connection that is opened now, by its local end and its peer.
-    ghost fresh: { Self → End → End → Course };
-
-    /// Whether a connection of a number can be opened at a local end.
-    ghost opens: { Self → ℕ → End → Bool };
-
-    /// When a request starts that is started now.
-    ghost now: { Self → Start };
-
-    /// The work that is left, and how much an opening and each byte that arrives may add to it.
-    ghost left: { Self → ℕ };
-
-    ghost price: { Self → ℕ };
-
-    /// How many events other than openings were refused for want of memory.
-    ghost refused: { Self → ℕ };
-
-    /// The events that were given, where that is told.
-    ghost events: { Self → Option (List Given) };
+    /// What the core shows.
+    ghost seen: { Self → CoreSeen };
 
     /// Gives the core one event. The events Ended, Wrote, LinkFailed, JobFailed, Tick, Tree and Gone take no memory.
     fn step(&mut self, event: Event) -> StepAnswer
-        ensures steps { Steps (fresh self.old) (now self.old) event.entry result (view self.old) (view self.new) }
-        ensures opens { OpensIf (opens self.old) event.entry result }
-        ensures ended { (c : ℕ) → (view self.new c).ended ≡ ended_after event.entry result c (view self.old c).ended }
+        ensures steps { Steps (seen self.old).terms.fresh (seen self.old).now event.entry result (seen self.old).view (seen self.new).view }
+        ensures opens { OpensIf (opens_at (seen self.old)) event.entry result }
+        ensures held { CountsHeld event.entry result (length (seen self.old).conns) (length (seen self.new).conns) }
+        ensures ended { (c : ℕ) → ((seen self.new).view c).ended ≡ ended_after event.entry result c ((seen self.old).view c).ended }
         ensures taken { TakesNone event.entry result }
-        ensures now { now self.new ≡ now_after (now self.old) event.entry result }
-        ensures left { LeftBy (price self.old) event.entry result (left self.old) (left self.new) }
-        ensures refused { CountsRefused event.entry result (refused self.old) (refused self.new) }
-        ensures events { Adds (given_of event.entry) (events self.old) (events self.new) }
-        ensures steady { (fresh self.new ≡ fresh self.old) × (price self.new ≡ price self.old) };
+        ensures now { (seen self.new).now ≡ now_after (seen self.old).now event.entry result }
+        ensures left { LeftBy (seen self.old).terms.price event.entry result (seen self.old).left (seen self.new).left }
+        ensures refused { CountsRefused event.entry result (seen self.old).refused (seen self.new).refused }
+        ensures events { Adds (given_of event.entry) (seen self.old).events (seen self.new).events }
+        ensures steady { (seen self.new).terms ≡ (seen self.old).terms };
 
     /// The bytes that are to be written next on a connection; none where it isn't held.
     fn pending(&self, conn: u32) -> &[u8]
-        ensures { result.now ≡ (view self.now conn).pending };
+        ensures { result.now ≡ ((seen self.now).view conn).pending };
 
     /// What is to be done next on all connections, by their numbers.
     fn wants(&self) -> &[Want]
-        ensures wants { result.now ≡ wants_in (conns self.now) (view self.now) }
-        ensures order { IsStrictlyIncreasing (conns self.now) }
-        ensures held { (c : ℕ) → Contains (conns self.now) c ↔ ((view self.now c).held ≡ true) };
+        ensures wants { result.now ≡ wants_in (seen self.now).conns (seen self.now).view }
+        ensures order { IsStrictlyIncreasing (seen self.now).conns }
+        ensures held { (c : ℕ) → Contains (seen self.now).conns c ↔ (((seen self.now).view c).held ≡ true) };
 
     /// What is to be done next on one connection.
     fn wants_of(&self, conn: u32) -> &[Want]
-        ensures wants { result.now ≡ wants_at conn (view self.now conn) }
-        ensures sound { IsSound (view self.now conn) };
+        ensures wants { result.now ≡ wants_at conn ((seen self.now).view conn) }
+        ensures sound { IsSound ((seen self.now).view conn) };
 
     /// The job of a node; none where it has no job that waits. No job asks of a tree that is newer than the core's.
     fn ask(&self, conn: u32, node: u32) -> Option<&Ask>
-        ensures job { option_copied result ≡ ask_in (view self.now conn).jobs node }
-        ensures known { IfSome result (λ ask. tree_of ask.now ≤ (now self.now).tree) };
+        ensures job { option_copied result ≡ ask_in ((seen self.now).view conn).jobs node }
+        ensures known { IfSome result (λ ask. tree_of ask.now ≤ (seen self.now).now.tree) };
+
+    /// How many events were refused for want of memory. The count stays at its type's end.
+    fn refused(&self) -> u64
+        ensures { result ≡ (seen self.now).refused };
 }

@@ -1,9 +1,9 @@
 // What reads files.
-ghost use Rattle.std.specs.Prelude.{◌≡◌, ◌≤◌, ℕ, Bool, true, List, Option};
-ghost use Rattle.file_tree.specs.Tree.{Trees};
+ghost use Rattle.std.specs.Prelude.{◌≡◌, ◌≤◌};
 ghost use Rattle.ngx_outside.specs.Causes.{HasCause};
-ghost use Rattle.ngx_outside.specs.Records.{FileAnswer, Adds, ReadTold, stat_answer};
+ghost use Rattle.ngx_outside.specs.Records.{Adds, ReadTold, stat_answer};
 ghost use Rattle.ngx_outside.specs.Outside.{Grow, Stats, Reads, Lists};
+ghost use Rattle.ngx_outside.specs.Seen.{FilesSeen};
 ghost use Rattle.ngx_outside.specs.declared.sink.Failed.{Failed};
 ghost use Rattle.ngx_outside.specs.declared.files.FileFault.TheVariants.{OutOfMemory as NoMemory, Failed as ReadFailed};
 
@@ -47,32 +47,28 @@ pub enum Listing {
 /// Files, of which there may be several versions: the tree may change while requests run, and a job asks of the tree
 /// with the number that was newest when its request started.
 pub trait Files {
-    /// Whether it tells what stands where, and the tree of each number.
-    ghost tells: { Self → Bool };
-
-    ghost trees: { Self → Trees };
-
-    /// The number of the newest tree.
-    ghost newest: { Self → ℕ };
-
-    /// What stats and reads answered, one after another, where that is told.
-    ghost answers: { Self → Option (List FileAnswer) };
-
-    /// How often a call has failed.
-    ghost faults: { Self → ℕ };
+    /// What the files show.
+    ghost seen: { Self → FilesSeen };
 
     /// The number of the newest tree. It never falls.
-    fn version(&self) -> u64
-        ensures { result ≡ newest self.now };
+    fn version(&mut self) -> u64
+        ensures number { result ≡ (seen self.old).newest }
+        ensures versions { Adds result (seen self.old).versions (seen self.new).versions }
+        ensures same { (seen self.new).trees ≡ (seen self.old).trees }
+        ensures newest { (seen self.new).newest ≡ (seen self.old).newest }
+        ensures tells { (seen self.new).tells ≡ (seen self.old).tells }
+        ensures answers { (seen self.new).answers ≡ (seen self.old).answers }
+        ensures faults { (seen self.new).faults ≡ (seen self.old).faults };
 
-    /// What stands at a path in the tree of a number.
+    /// What is at a path in the tree of a number.
     fn stat(&mut self, path: &[u8], of: u64) -> Result<Node, Failed>
-        requires { of ≤ newest self.old }
-        ensures node { Stats (tells self.old) (trees self.old of) path.now result }
-        ensures answers { Adds (stat_answer result) (answers self.old) (answers self.new) }
-        ensures tells { tells self.new ≡ tells self.old }
-        ensures grow { Grow (newest self.old) (newest self.new) (trees self.old) (trees self.new) }
-        ensures cause { HasCause (faults self.old) (faults self.new) result (record {}) };
+        requires { of ≤ (seen self.old).newest }
+        ensures node { Stats (seen self.old).tells ((seen self.old).trees of) path.now result }
+        ensures answers { Adds (stat_answer result) (seen self.old).answers (seen self.new).answers }
+        ensures tells { (seen self.new).tells ≡ (seen self.old).tells }
+        ensures versions { (seen self.new).versions ≡ (seen self.old).versions }
+        ensures grow { Grow (seen self.old).newest (seen self.new).newest (seen self.old).trees (seen self.new).trees }
+        ensures cause { HasCause (seen self.old).faults (seen self.new).faults result (record {}) };
 
     /// Adds exactly `count` bytes of a file, from `start` on, in the tree of a number. A file that doesn't hold them is a
     /// failure. After a failure nothing is added.
@@ -84,18 +80,20 @@ pub trait Files {
         of: u64,
         out: &mut ByteText,
     ) -> Result<(), FileFault>
-        requires { of ≤ newest self.old }
-        ensures bytes { Reads (tells self.old) (trees self.old of) path.now start count out.old out.new result }
-        ensures answers { ReadTold out.old out.new result (answers self.old) (answers self.new) }
-        ensures tells { tells self.new ≡ tells self.old }
-        ensures grow { Grow (newest self.old) (newest self.new) (trees self.old) (trees self.new) }
-        ensures cause { HasCause (faults self.old) (faults self.new) result ReadFailed };
+        requires { of ≤ (seen self.old).newest }
+        ensures bytes { Reads (seen self.old).tells ((seen self.old).trees of) path.now start count out.old out.new result }
+        ensures answers { ReadTold out.old out.new result (seen self.old).answers (seen self.new).answers }
+        ensures tells { (seen self.new).tells ≡ (seen self.old).tells }
+        ensures versions { (seen self.new).versions ≡ (seen self.old).versions }
+        ensures grow { Grow (seen self.old).newest (seen self.new).newest (seen self.old).trees (seen self.new).trees }
+        ensures cause { HasCause (seen self.old).faults (seen self.new).faults result ReadFailed };
 
     /// Adds the names of a folder of the newest tree, in any order. After a failure some may have been added.
     fn list(&mut self, folder: &[u8], out: &mut ByteTexts) -> Result<Listing, FileFault>
-        ensures names { Lists (tells self.old) (trees self.old (newest self.old)) folder.now out.old out.new result }
-        ensures answers { answers self.new ≡ answers self.old }
-        ensures tells { tells self.new ≡ tells self.old }
-        ensures grow { Grow (newest self.old) (newest self.new) (trees self.old) (trees self.new) }
-        ensures cause { HasCause (faults self.old) (faults self.new) result ReadFailed };
+        ensures names { Lists (seen self.old).tells ((seen self.old).trees (seen self.old).newest) folder.now out.old out.new result }
+        ensures answers { (seen self.new).answers ≡ (seen self.old).answers }
+        ensures tells { (seen self.new).tells ≡ (seen self.old).tells }
+        ensures versions { (seen self.new).versions ≡ (seen self.old).versions }
+        ensures grow { Grow (seen self.old).newest (seen self.new).newest (seen self.old).trees (seen self.new).trees }
+        ensures cause { HasCause (seen self.old).faults (seen self.new).faults result ReadFailed };
 }

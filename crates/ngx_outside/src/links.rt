@@ -1,9 +1,9 @@
 // The links to peers, and the clock.
-ghost use Rattle.std.specs.Prelude.{◌≡◌, ◌≤◌, ◌∷◌, ◌++◌, ◌↔◌, ℕ, Bool, List, [], Option, true, false, length, OnOk, OnErr};
-ghost use Rattle.http_types.specs.declared.words.Addr.{Addr as End};
+ghost use Rattle.std.specs.Prelude.{◌≡◌, ◌≤◌, ◌∷◌, ◌++◌, ◌↔◌, ℕ, [], true, false, length, OnOk, OnErr};
 ghost use Rattle.ngx_outside.specs.Causes.{Rose, HasCause};
-ghost use Rattle.ngx_outside.specs.Records.{LinkAnswer, Noticed as NoticeGiven, Read as ReadGiven, Written as WriteGiven, Adds, got_of};
-ghost use Rattle.ngx_outside.specs.Linked.{LinkView, Noticed, Opens, Marked, Same, HasRead, HasWritten, GotWithin, PutWithin, PutsNothing, Unchanged};
+ghost use Rattle.ngx_outside.specs.Records.{Noticed as NoticeGiven, Read as ReadGiven, Written as WriteGiven, Adds, got_of};
+ghost use Rattle.ngx_outside.specs.Linked.{Noticed, Opens, Marked, Same, HasRead, HasWritten, GotWithin, PutWithin, PutsNothing, Unchanged, CrowdCloses, crowd_after, notices_after};
+ghost use Rattle.ngx_outside.specs.Seen.{LinksSeen, ClockSeen};
 ghost use Rattle.ngx_outside.specs.declared.links.Notice.TheVariants.{Failed as NextFailed, Ended as AllEnded};
 ghost use Rattle.ngx_outside.specs.declared.links.Input.TheVariants.{Failed as ReadFails};
 ghost use Rattle.ngx_outside.specs.declared.links.Output.TheVariants.{Failed as WriteFails};
@@ -49,102 +49,90 @@ pub enum Output {
 
 /// The links to the peers, each under an id that is never used twice.
 pub trait Links {
-    /// Whether it tells what was read and written, and that, by id.
-    ghost tells: { Self → Bool };
-
-    ghost link: { Self → ℕ → LinkView };
-
-    /// The ids that were reported, those of them that aren't closed, and the addresses that are listened on; these it
-    /// always tells.
-    ghost used: { Self → ℕ → Bool };
-
-    ghost is_open: { Self → ℕ → Bool };
-
-    ghost listening: { Self → List End };
-
-    /// Whether no notice will come any more; it stays so.
-    ghost over: { Self → Bool };
-
-    /// What notices, reads and writes answered, one after another, where that is told.
-    ghost answers: { Self → Option (List LinkAnswer) };
-
-    /// How often listen or next failed, and how often the link of an id.
-    ghost faults: { Self → ℕ };
-
-    ghost link_faults: { Self → ℕ → ℕ };
+    /// What the links show.
+    ghost seen: { Self → LinksSeen };
 
     /// Listens on an address for peers.
     fn listen(&mut self, addr: Addr) -> Result<(), Failed>
-        ensures told { tells self.old ≡ true → Unchanged (link self.old) (link self.new) }
-        ensures ids { Same (used self.old) (used self.new) × Same (is_open self.old) (is_open self.new) }
-        ensures listens { OnOk result (listening self.new ≡ listening self.old ++ addr ∷ []) }
-        ensures fails { OnErr result (listening self.new ≡ listening self.old) }
-        ensures tells { tells self.new ≡ tells self.old }
-        ensures answers { answers self.new ≡ answers self.old }
-        ensures stays_over { over self.old ≡ true → over self.new ≡ true }
-        ensures link_faults { (id : ℕ) → link_faults self.old id ≤ link_faults self.new id }
-        ensures cause { HasCause (faults self.old) (faults self.new) result (record {}) };
+        ensures told { (seen self.old).tells ≡ true → Unchanged (seen self.old).link (seen self.new).link }
+        ensures ids { Same (seen self.old).used (seen self.new).used × Same (seen self.old).is_open (seen self.new).is_open }
+        ensures listens { OnOk result ((seen self.new).listening ≡ (seen self.old).listening ++ addr ∷ []) }
+        ensures fails { OnErr result ((seen self.new).listening ≡ (seen self.old).listening) }
+        ensures counts { (seen self.old).tells ≡ true → ((seen self.new).crowd ≡ (seen self.old).crowd) × ((seen self.new).notices ≡ (seen self.old).notices) }
+        ensures tells { (seen self.new).tells ≡ (seen self.old).tells }
+        ensures answers { (seen self.new).answers ≡ (seen self.old).answers }
+        ensures stays_over { (seen self.old).over ≡ true → (seen self.new).over ≡ true }
+        ensures link_faults { (id : ℕ) → (seen self.old).link_faults id ≤ (seen self.new).link_faults id }
+        ensures cause { HasCause (seen self.old).faults (seen self.new).faults result (record {}) };
 
     /// The next notice. The wants say which links are waited for.
     fn next(&mut self, wants: &[Want]) -> Notice
-        ensures told { tells self.old ≡ true → Noticed result (link self.old) (link self.new) }
-        ensures ids { Opens result (used self.old) (used self.new) (is_open self.old) (is_open self.new) }
-        ensures listens { listening self.new ≡ listening self.old }
-        ensures tells { tells self.new ≡ tells self.old }
-        ensures answers { Adds (NoticeGiven result) (answers self.old) (answers self.new) }
-        ensures stays_over { over self.old ≡ true → over self.new ≡ true }
-        ensures over { (result ≡ AllEnded) ↔ (over self.old ≡ true) }
-        ensures later { faults self.old ≤ faults self.new }
-        ensures link_faults { (id : ℕ) → link_faults self.old id ≤ link_faults self.new id }
-        ensures cause { result ≡ NextFailed → Rose (faults self.old) (faults self.new) };
+        ensures told { (seen self.old).tells ≡ true → Noticed result (seen self.old).crowd (seen self.old).link (seen self.new).link }
+        ensures ids { Opens result (seen self.old).used (seen self.new).used (seen self.old).is_open (seen self.new).is_open }
+        ensures listens { (seen self.new).listening ≡ (seen self.old).listening }
+        ensures crowd { (seen self.old).tells ≡ true → (seen self.new).crowd ≡ crowd_after result (seen self.old).crowd }
+        ensures notices { (seen self.old).tells ≡ true → (seen self.new).notices ≡ notices_after result (seen self.old).notices }
+        ensures tells { (seen self.new).tells ≡ (seen self.old).tells }
+        ensures answers { Adds (NoticeGiven result) (seen self.old).answers (seen self.new).answers }
+        ensures stays_over { (seen self.old).over ≡ true → (seen self.new).over ≡ true }
+        ensures over { (result ≡ AllEnded) ↔ ((seen self.old).over ≡ true) }
+        ensures later { (seen self.old).faults ≤ (seen self.new).faults }
+        ensures link_faults { (id : ℕ) → (seen self.old).link_faults id ≤ (seen self.new).link_faults id }
+        ensures cause { result ≡ NextFailed → Rose (seen self.old).faults (seen self.new).faults };
 
     /// Reads a link, into a front of the buffer.
     fn read(&mut self, id: u32, buf: &mut [u8]) -> Input
         ensures count { GotWithin result (length buf.new) }
-        ensures told { tells self.old ≡ true → is_open self.old id ≡ true → HasRead id result buf.new (link self.old) (link self.new) }
-        ensures ids { Same (used self.old) (used self.new) × Same (is_open self.old) (is_open self.new) }
-        ensures listens { listening self.new ≡ listening self.old }
-        ensures tells { tells self.new ≡ tells self.old }
-        ensures answers { Adds (ReadGiven id result (got_of result buf.new)) (answers self.old) (answers self.new) }
-        ensures stays_over { over self.old ≡ true → over self.new ≡ true }
-        ensures later { faults self.old ≤ faults self.new }
-        ensures link_faults { (c : ℕ) → link_faults self.old c ≤ link_faults self.new c }
-        ensures cause { result ≡ ReadFails → Rose (link_faults self.old id) (link_faults self.new id) };
+        ensures told { (seen self.old).tells ≡ true → (seen self.old).is_open id ≡ true → HasRead id result buf.new (seen self.old).link (seen self.new).link }
+        ensures ids { Same (seen self.old).used (seen self.new).used × Same (seen self.old).is_open (seen self.new).is_open }
+        ensures listens { (seen self.new).listening ≡ (seen self.old).listening }
+        ensures counts { (seen self.old).tells ≡ true → ((seen self.new).crowd ≡ (seen self.old).crowd) × ((seen self.new).notices ≡ (seen self.old).notices) }
+        ensures tells { (seen self.new).tells ≡ (seen self.old).tells }
+        ensures answers { Adds (ReadGiven id result (got_of result buf.new)) (seen self.old).answers (seen self.new).answers }
+        ensures stays_over { (seen self.old).over ≡ true → (seen self.new).over ≡ true }
+        ensures later { (seen self.old).faults ≤ (seen self.new).faults }
+        ensures link_faults { (c : ℕ) → (seen self.old).link_faults c ≤ (seen self.new).link_faults c }
+        ensures cause { result ≡ ReadFails → Rose ((seen self.old).link_faults id) ((seen self.new).link_faults id) };
 
     /// Writes to a link, a front of these bytes.
     fn write(&mut self, id: u32, bytes: &[u8]) -> Output
         ensures count { PutWithin result (length bytes.now) }
-        ensures told { tells self.old ≡ true → is_open self.old id ≡ true → HasWritten id result bytes.now (link self.old) (link self.new) }
-        ensures ids { Same (used self.old) (used self.new) × Same (is_open self.old) (is_open self.new) }
-        ensures listens { listening self.new ≡ listening self.old }
-        ensures tells { tells self.new ≡ tells self.old }
-        ensures answers { Adds (WriteGiven id result) (answers self.old) (answers self.new) }
-        ensures stays_over { over self.old ≡ true → over self.new ≡ true }
-        ensures later { faults self.old ≤ faults self.new }
-        ensures link_faults { (c : ℕ) → link_faults self.old c ≤ link_faults self.new c }
-        ensures cause { result ≡ WriteFails → Rose (link_faults self.old id) (link_faults self.new id) }
-        ensures nothing { PutsNothing result bytes.now (link_faults self.old id) (link_faults self.new id) };
+        ensures told { (seen self.old).tells ≡ true → (seen self.old).is_open id ≡ true → HasWritten id result bytes.now (seen self.old).link (seen self.new).link }
+        ensures ids { Same (seen self.old).used (seen self.new).used × Same (seen self.old).is_open (seen self.new).is_open }
+        ensures listens { (seen self.new).listening ≡ (seen self.old).listening }
+        ensures counts { (seen self.old).tells ≡ true → ((seen self.new).crowd ≡ (seen self.old).crowd) × ((seen self.new).notices ≡ (seen self.old).notices) }
+        ensures tells { (seen self.new).tells ≡ (seen self.old).tells }
+        ensures answers { Adds (WriteGiven id result) (seen self.old).answers (seen self.new).answers }
+        ensures stays_over { (seen self.old).over ≡ true → (seen self.new).over ≡ true }
+        ensures later { (seen self.old).faults ≤ (seen self.new).faults }
+        ensures link_faults { (c : ℕ) → (seen self.old).link_faults c ≤ (seen self.new).link_faults c }
+        ensures cause { result ≡ WriteFails → Rose ((seen self.old).link_faults id) ((seen self.new).link_faults id) }
+        ensures nothing { PutsNothing result bytes.now ((seen self.old).link_faults id) ((seen self.new).link_faults id) };
 
     /// Closes a link.
     fn close(&mut self, id: u32)
-        ensures told { tells self.old ≡ true → Unchanged (link self.old) (link self.new) }
-        ensures ids { Same (used self.old) (used self.new) × Marked id false (is_open self.old) (is_open self.new) }
-        ensures listens { listening self.new ≡ listening self.old }
-        ensures tells { tells self.new ≡ tells self.old }
-        ensures answers { answers self.new ≡ answers self.old }
-        ensures stays_over { over self.old ≡ true → over self.new ≡ true }
-        ensures later { faults self.old ≤ faults self.new }
-        ensures link_faults { (c : ℕ) → link_faults self.old c ≤ link_faults self.new c };
+        ensures told { (seen self.old).tells ≡ true → Unchanged (seen self.old).link (seen self.new).link }
+        ensures ids { Same (seen self.old).used (seen self.new).used × Marked id false (seen self.old).is_open (seen self.new).is_open }
+        ensures listens { (seen self.new).listening ≡ (seen self.old).listening }
+        ensures crowd { (seen self.old).tells ≡ true → CrowdCloses ((seen self.old).is_open id) (seen self.old).crowd (seen self.new).crowd }
+        ensures notices { (seen self.old).tells ≡ true → (seen self.new).notices ≡ (seen self.old).notices }
+        ensures tells { (seen self.new).tells ≡ (seen self.old).tells }
+        ensures answers { (seen self.new).answers ≡ (seen self.old).answers }
+        ensures stays_over { (seen self.old).over ≡ true → (seen self.new).over ≡ true }
+        ensures later { (seen self.old).faults ≤ (seen self.new).faults }
+        ensures link_faults { (c : ℕ) → (seen self.old).link_faults c ≤ (seen self.new).link_faults c };
+
+    /// Is told how many events the core has refused for want of memory.
+    fn tell_refused(&mut self, count: u64)
+        ensures { (seen self.new) ≡ record (seen self.old) { refused = count } };
 }
 
 /// A clock of seconds since 1970.
 pub trait Clock {
-    /// Whether it tells the moments that it has told, and these.
-    ghost tells: { Self → Bool };
-
-    ghost told: { Self → List ℕ };
+    /// What the clock shows.
+    ghost seen: { Self → ClockSeen };
 
     fn now(&mut self) -> u64
-        ensures told { tells self.old ≡ true → told self.new ≡ told self.old ++ result ∷ [] }
-        ensures tells { tells self.new ≡ tells self.old };
+        ensures told { (seen self.old).tells ≡ true → (seen self.new).told ≡ (seen self.old).told ++ result ∷ [] }
+        ensures tells { (seen self.new).tells ≡ (seen self.old).tells };
 }

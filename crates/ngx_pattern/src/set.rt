@@ -1,13 +1,9 @@
 // The set of a configuration's patterns.
-ghost use Rattle.std.specs.Prelude.{◌≡◌, ◌≢◌, ◌<◌, ◌≤◌, ◌==◌, ℕ, [], ◌∷◌, ◌++◌, length, None, IsSome, is_some, IfOk, OnOk, OnErr, IsErrOf, MatchResult};
-ghost use Rattle.regex.specs.Patterns.{find};
-ghost use Rattle.regex.specs.Bytes.{regex_pattern};
-ghost use Rattle.ngx_pattern.specs.Pattern.{as_pattern, expression_of, is_match, spans_of, spans_in, pattern_at, AllLieWithin};
+ghost use Rattle.std.specs.Prelude.{◌≡◌, ◌≢◌, ◌≤◌, ◌==◌, ℕ, false, [], ◌∷◌, ◌++◌, length, None, IsSome, IfOk, OnOk, OnErr, IsErrOf, MatchResult};
+ghost use Rattle.ngx_pattern.specs.Pattern.{as_pattern, expression_of, is_match, spans_in, pattern_at, AllLieWithin};
 ghost use Rattle.ngx_pattern.specs.Makers.{Rose};
 
-use crate::{MakeFault, PatternMaker, Spans};
-use byte_text::OutOfMemory;
-use regex::bytes::Regex;
+use crate::{Expression, MakeFault, PatternMaker, Spans};
 use std::alloc::{AllocFailed, Global};
 use std::marker::Model;
 use std::str;
@@ -65,19 +61,17 @@ impl<T: Drop> From<AllocFailed<T>> for PatternFault {
 /// Patterns, each under its number. Contracts see the list of their texts, each with whether letters match in either case.
 #[derive(Drop)]
 pub struct PatternSet {
-    regexes: Vec<Regex>,
+    expressions: Vec<Expression>,
 }
 
 impl Model for PatternSet {
     ghost use Rattle.std.specs.Prelude.{List};
     ghost use Rattle.ngx_pattern.specs.Pattern.{Pattern};
-    ghost use Rattle.ngx_pattern.specs.Sets.{patterns_of, AreMade};
+    ghost use Rattle.ngx_pattern.specs.Sets.{patterns_of};
 
     ghost Value = { List Pattern };
 
-    ghost view = { λ s. patterns_of s.regexes.items };
-
-    ghost invariant = { λ s. AreMade s.regexes.items };
+    ghost view = { λ s. patterns_of s.expressions.items };
 }
 
 impl PatternSet {
@@ -86,20 +80,20 @@ impl PatternSet {
         ensures { result ≡ [] }
     {
         PatternSet {
-            regexes: Vec::new(alloc),
+            expressions: Vec::new(alloc),
         }
     }
 
     pub fn len(&self) -> usize
         ensures { result ≡ length self.now }
     {
-        self.regexes.len()
+        self.expressions.len()
     }
 
     pub fn is_empty(&self) -> bool
         ensures { result ≡ (length self.now == 0) }
     {
-        self.regexes.is_empty()
+        self.expressions.is_empty()
     }
 
     /// Adds a pattern, of any bytes, under the next number. With `nocase` letters match in either case. An `Err` leaves
@@ -116,13 +110,15 @@ impl PatternSet {
         ensures kept { OnErr result (self.new ≡ self.old) }
 
         // When each fault comes; want of memory may come at any call.
-        ensures bad { IsErrOf result PatternFault.Bad → expression_of (as_pattern text.now nocase) ≡ None }
-        ensures too_big { IsErrOf result PatternFault.TooBig → Rose (M.refusals maker.old) (M.refusals maker.new) }
+        ensures bad { IsErrOf result PatternFault.Bad
+            → expression_of (as_pattern text.now nocase) ≡ None }
+        ensures too_big { IsErrOf result PatternFault.TooBig
+            → Rose (M.refusals maker.old) (M.refusals maker.new) }
         ensures count { M.refusals maker.old ≤ M.refusals maker.new }
         ensures spared { MatchResult result (λ _. M.refusals maker.new ≡ M.refusals maker.old)
             (λ e. e ≢ PatternFault.TooBig → M.refusals maker.new ≡ M.refusals maker.old) }
     {
-        let number = match u32::try_from(self.regexes.len()) {
+        let number = match u32::try_from(self.expressions.len()) {
             Ok(number) => number,
             Err(_) => return Err(PatternFault::OutOfMemory),
         };
@@ -130,52 +126,29 @@ impl PatternSet {
             Ok(text) => text,
             Err(_) => return Err(PatternFault::Bad),
         };
-        let regex = maker.make(*self.regexes.allocator(), text, nocase)?;
-        self.regexes.push(regex)?;
+        let expression = maker.make(*self.expressions.allocator(), text, nocase)?;
+        self.expressions.push(expression)?;
         Ok(PatternId { number })
     }
 
     /// Whether a pattern matches somewhere in these bytes, and where: the leftmost match, and of those that begin there the
     /// first by the order of the pattern's alternatives and the greed of its repetitions, as in Perl. Where it doesn't match
-    /// no span is there; an `Err` leaves the spans as they were.
-    pub fn matches(
-        &self,
-        id: PatternId,
-        bytes: &[u8],
-        spans: &mut Spans,
-    ) -> Result<bool, OutOfMemory>
-        requires { id < length self.now }
-        ensures found { IfOk result (λ found. found ≡ is_match (pattern_at self.now id) bytes.now) }
-        ensures spans { OnOk result (spans.new ≡ spans_in (pattern_at self.now id) bytes.now) }
-        ensures within { OnOk result (AllLieWithin (length bytes.now) spans.new) }
-        ensures kept { OnErr result (spans.new ≡ spans.old) }
+    /// no span is there. A number that no pattern of this set has matches nothing.
+    ///
+    /// No search fails. What one works out of the pattern is kept for the next, in tables of bounded size; where there's no
+    /// memory for them a slower engine searches, which had its own when the pattern was added.
+    pub fn matches(&mut self, id: PatternId, bytes: &[u8], spans: &mut Spans) -> bool
+        ensures found { result ≡ is_match (pattern_at self.old id) bytes.now }
+        ensures spans { spans.new ≡ spans_in (pattern_at self.old id) bytes.now }
+        ensures within { AllLieWithin (length bytes.now) spans.new }
+        ensures unknown { length self.old ≤ id → result ≡ false }
+        ensures kept { self.new ≡ self.old }
     {
-        let regex = &self.regexes[id.number as usize];
-        search(*self.regexes.allocator(), regex, bytes, spans)
-    }
-}
-
-// Searches for a regex, by a matcher of this call's own.
-fn search(
-    alloc: Global,
-    regex: &Regex,
-    bytes: &[u8],
-    spans: &mut Spans,
-) -> Result<bool, OutOfMemory>
-    ensures found { IfOk result (λ found. found ≡ is_some (find (regex_pattern regex.now) bytes.now 0)) }
-    ensures spans { OnOk result (spans.new ≡ spans_of (find (regex_pattern regex.now) bytes.now 0)) }
-    ensures within { OnOk result (AllLieWithin (length bytes.now) spans.new) }
-    ensures kept { OnErr result (spans.new ≡ spans.old) }
-{
-    let mut matcher = regex.matcher(alloc)?;
-    match matcher.captures(bytes) {
-        Some(captures) => {
-            spans.read(&captures);
-            Ok(true)
-        }
-        None => {
+        let place = id.number as usize;
+        if place >= self.expressions.len() {
             spans.clear();
-            Ok(false)
+            return false;
         }
+        self.expressions[place].search(bytes, spans)
     }
 }

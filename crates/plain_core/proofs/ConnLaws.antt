@@ -41,6 +41,12 @@ deadline_is reply input output life.Absent journal ended due h = cc
 deadline_is reply input output life.Live journal ended due h = refl
 deadline_is reply input output (life.Stopped cause) journal ended due h = cc
 
+-- a live connection may be given up
+pub timed_is : (reply input output : List ℕ) (l : Life) (journal : List Request) (ended : Bool) (due : ℕ) → is_live_at l ≡ true → (shown_at reply l input output journal ended due).course.timed ≡ true
+timed_is reply input output life.Absent journal ended due h = cc
+timed_is reply input output life.Live journal ended due h = refl
+timed_is reply input output (life.Stopped cause) journal ended due h = cc
+
 -- pending bytes that go
 pub writes : (reply input output output' : List ℕ) (l : Life) (journal : List Request) (ended : Bool) (due due' count : ℕ) → 0 < count →
     count ≤ length (shown_at reply l input output journal ended due).pending → output' ≡ drop count output →
@@ -54,6 +60,7 @@ writes reply input output output' life.Live journal ended due due' count some wi
   moved = record {
     starts = sym (append-nil (starts_in journal));
     raceless = refl;
+    timed = refl;
     bytes = λ trees holds more later.
         ap (λ xs. xs ++ answers reply (requests (input ++ more) later)) (sym (take-append-drop count output))
         ∙ append_assoc (take count output) (drop count output) (answers reply (requests (input ++ more) later))
@@ -78,6 +85,7 @@ run_live reply input input' output output' journal journal' ended ended' due due
     moved = record {
       starts = s;
       raceless = refl;
+      timed = refl;
       bytes = λ trees holds more later.
           ap (λ xs. xs ++ answers reply (requests (input ++ more) (now ∷ later))) none
           ∙ ap (answers reply) (asked more later)

@@ -1,12 +1,17 @@
 -- The connection under its number, and nobody elsewhere.
 use Rattle.std.proofs.Common.{◌≡◌, ◌≢◌, ℕ, ◌<◌, min, Bool, true, false, ◌&&◌, eqb, cond, List, [], ◌∷◌, ◌++◌, length, refl, sym, ap, subst, ◌∙◌, arith}
-use Rattle.std.specs.Prelude.{Option, None, Some, not, map}
+use Rattle.std.specs.Prelude.{Option, None, Some, not, map, nat_lt}
 use Rattle.std.proofs.lemmas.Bool.Decides.{nat_tests}
 use Rattle.std.proofs.lemmas.List.{append-nil}
 use Rattle.file_tree.specs.Tree.{is_fitting}
 use Rattle.file_tree.specs.declared.job.Ask.{Ask}
 use Rattle.file_tree.specs.declared.job.JobAnswer.{JobAnswer}
-use Rattle.ngx_outside.specs.Views.{ConnView, Course, Fresh, OneSteps, Ticked, Waits, Unmoved, IsSound, Start, Log, kept_moment, nobody, ask_in, no_bytes, no_nodes}
+use Rattle.http_types.specs.declared.words.Addr.{Addr}
+use Rattle.ngx_outside.specs.declared.event.Event.{Event}
+use Rattle.ngx_outside.specs.declared.event.Event.TheVariants as ev
+use Rattle.ngx_outside.specs.declared.event.StepAnswer.{StepAnswer}
+use Rattle.ngx_outside.specs.declared.event.StepAnswer.TheVariants.{Done, Skipped, OutOfMemory}
+use Rattle.ngx_outside.specs.Views.{ConnView, Course, Fresh, OpensIf, OneSteps, Ticked, Waits, Unmoved, IsSound, Start, Log, kept_moment, nobody, ask_in, no_bytes, no_nodes}
 use Rattle.ngx_outside.specs.Wants.{wants_at, wants_in, read_want}
 use Rattle.plain_core.specs.declared.conn.Request.{Request}
 use Rattle.ngx_outside.specs.declared.event.Want.{Want}
@@ -14,7 +19,7 @@ use Rattle.ngx_outside.specs.declared.event.Want.TheVariants as want
 use Rattle.plain_core.specs.declared.conn.Life.{Life}
 use Rattle.plain_core.specs.declared.conn.Life.TheVariants as life
 use Rattle.plain_core.specs.Lines.{has_line, requests, answers, logs}
-use Rattle.plain_core.specs.Shown.{shown_at, logs_in, is_absent_at, reads_at, can_run_at, is_shut_at}
+use Rattle.plain_core.specs.Shown.{shown_at, logs_in, is_absent_at, reads_at, can_run_at, is_shut_at, crowd_of}
 use Rattle.plain_core.specs.Held.{at_conn, conns_at, want_if}
 use Rattle.plain_core.proofs.LineLaws.{requests-none}
 
@@ -248,3 +253,40 @@ all_wants n v absent =
 
 pub other_wants : (n c : ℕ) (v : ConnView) → c ≢ n → wants_at c (at_conn n v c) ≡ []
 other_wants n c v e = ap (wants_at c) (at_other n c v e) ∙ wants_nobody c
+
+-- how many are held, by what the connection is
+pub crowd_is : (n : ℕ) (reply input output : List ℕ) (l : Life) (journal : List Request) (ended : Bool) (due : ℕ) → length (conns_at n (shown_at reply l input output journal ended due)) ≡ crowd_of l
+crowd_is n reply input output life.Absent journal ended due = refl
+crowd_is n reply input output life.Live journal ended due = refl
+crowd_is n reply input output (life.Stopped cause) journal ended due = refl
+
+-- a connection can be opened where none is held
+pub opens_is : (n c : ℕ) (reply input output : List ℕ) (l : Life) (journal : List Request) (ended : Bool) (due : ℕ) →
+    (not (at_conn n (shown_at reply l input output journal ended due) c).held && (nat_lt (length (conns_at n (shown_at reply l input output journal ended due))) 1 && true)) ≡ is_absent_at l
+opens_is n c reply input output life.Absent journal ended due =
+    elim (eqb c n) as (λ b. (not (cond b nobody nobody).held && (nat_lt 0 1 && true)) ≡ true) [ true ↦ refl | false ↦ refl ]
+opens_is n c reply input output life.Live journal ended due = never (not (at_conn n (shown_at reply life.Live input output journal ended due) c).held)
+  where
+    never : (t : Bool) → (t && (nat_lt 1 1 && true)) ≡ false
+    never true = refl
+    never false = refl
+opens_is n c reply input output (life.Stopped cause) journal ended due = never (not (at_conn n (shown_at reply (life.Stopped cause) input output journal ended due) c).held)
+  where
+    never : (t : Bool) → (t && (nat_lt 1 1 && true)) ≡ false
+    never true = refl
+    never false = refl
+
+pub opens_like : (f g : ℕ → Addr → Bool) → ((c : ℕ) (local : Addr) → g c local ≡ f c local) → (e : Event) (a : StepAnswer) → OpensIf f e a → OpensIf g e a
+opens_like f g same (ev.Opened conn local peer) Skipped h = same conn local ∙ h
+opens_like f g same (ev.Opened conn local peer) (Done taken) h = same conn local ∙ h
+opens_like f g same (ev.Opened conn local peer) OutOfMemory h = same conn local ∙ h
+opens_like f g same (ev.Arrived conn bytes) a h = tt
+opens_like f g same (ev.Ended conn) a h = tt
+opens_like f g same (ev.Wrote conn count) a h = tt
+opens_like f g same (ev.LinkFailed conn) a h = tt
+opens_like f g same (ev.FileDone conn node answer) a h = tt
+opens_like f g same (ev.JobFailed conn node) a h = tt
+opens_like f g same (ev.Run conn node) a h = tt
+opens_like f g same (ev.Tick moment) a h = tt
+opens_like f g same (ev.Tree to) a h = tt
+opens_like f g same (ev.Gone conn) a h = tt

@@ -34,4 +34,5 @@ course_of reply past held pending =
       logs = λ trees more later. past ++ logs reply (requests (held ++ more) later);
       heavy = λ trees more later. false;
       raceless = true;
+      timed = true;
     }

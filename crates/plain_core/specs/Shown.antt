@@ -82,6 +82,24 @@ shown_at reply life.Live input output journal ended due =
 abbrev pub shown : Conn → ConnView
 shown c = shown_at c.reply c.life c.input c.output c.journal.items c.ended c.due
 
+-- how many connections are held, by what this one is
+abbrev pub crowd_of : Life → ℕ
+crowd_of life.Absent = 0
+crowd_of life.Live = 1
+crowd_of (life.Stopped cause) = 1
+
+-- one that goes isn't held any more
+abbrev pub Leaves : StepAnswer → ℕ → ℕ → Type 0
+Leaves (Done taken) old new = old ≡ new + 1
+Leaves Skipped old new = new ≡ old
+Leaves OutOfMemory old new = new ≡ old
+
+-- one that is opened is held from then on
+abbrev pub Joins : StepAnswer → ℕ → ℕ → Type 0
+Joins (Done taken) old new = new ≡ old + 1
+Joins Skipped old new = new ≡ old
+Joins OutOfMemory old new = new ≡ old
+
 -- its input has ended where it had before
 abbrev pub KeepsEnd : ConnView → ConnView → Type 0
 KeepsEnd old new = new.ended ≡ old.ended

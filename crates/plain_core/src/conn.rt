@@ -2,7 +2,7 @@
 ghost use Rattle.std.specs.Prelude.{◌≡◌, ◌≤◌, ◌<◌, ◌+◌, ◌*◌, ◌++◌, ◌∷◌, ℕ, List, [], true, false, length, drop, OnOk, OnErr};
 ghost use Rattle.ngx_outside.specs.Views.{Start, Fresh, Ticked, Stopped};
 ghost use Rattle.plain_core.specs.Lines.{has_line, course_of};
-ghost use Rattle.plain_core.specs.Shown.{shown, starts_in, logs_in, work_of, price_of, is_live_at, is_absent_at, is_quiet_at, reads_at, can_run_at, is_shut_at, Arrives, Ends, Writes, Fails, Runs, Goes, LeftTaken, LeftLower, LeftKept, KeepsEnd, EndsBy, TakesNo};
+ghost use Rattle.plain_core.specs.Shown.{shown, starts_in, logs_in, work_of, price_of, is_live_at, is_absent_at, is_quiet_at, reads_at, can_run_at, is_shut_at, Arrives, Ends, Writes, Fails, Runs, Goes, LeftTaken, LeftLower, LeftKept, KeepsEnd, EndsBy, TakesNo, Leaves, crowd_of};
 
 use crate::lines::line_size;
 use byte_text::{ByteQueue, ByteText, OutOfMemory};
@@ -135,6 +135,7 @@ impl Conn {
         ensures stopped { Stopped cause (shown self.old) (shown self.new) [] }
         ensures ended { KeepsEnd (shown self.old) (shown self.new) }
         ensures left { work_of self.new ≡ 1 }
+        ensures held { crowd_of self.new.life ≡ crowd_of self.old.life }
         ensures reply { self.new.reply ≡ self.old.reply }
     {
         self.life = Life::Stopped(cause);
@@ -146,6 +147,7 @@ impl Conn {
     pub(crate) fn open(&mut self, moment: u64)
         ensures fresh { Fresh (course_of self.old.reply [] [] []) (shown self.new) }
         ensures left { work_of self.new ≡ 2 }
+        ensures held { crowd_of self.new.life ≡ 1 }
         ensures reply { self.new.reply ≡ self.old.reply }
     {
         self.life = Life::Live;
@@ -160,6 +162,7 @@ impl Conn {
         ensures steps { (now : Start) → Arrives now bytes.now result (shown self.old) (shown self.new) }
         ensures ended { KeepsEnd (shown self.old) (shown self.new) }
         ensures left { LeftTaken (price_of self.old.reply) result (work_of self.old) (work_of self.new) }
+        ensures held { crowd_of self.new.life ≡ crowd_of self.old.life }
         ensures reply { self.new.reply ≡ self.old.reply }
     {
         if !self.reads() {
@@ -186,6 +189,7 @@ impl Conn {
         ensures ended { EndsBy result (shown self.old) (shown self.new) }
         ensures taken { TakesNo result }
         ensures left { LeftKept result (work_of self.old) (work_of self.new) }
+        ensures held { crowd_of self.new.life ≡ crowd_of self.old.life }
         ensures reply { self.new.reply ≡ self.old.reply }
     {
         if !self.reads() {
@@ -200,6 +204,7 @@ impl Conn {
         ensures ended { KeepsEnd (shown self.old) (shown self.new) }
         ensures taken { TakesNo result }
         ensures left { LeftLower result (work_of self.old) (work_of self.new) }
+        ensures held { crowd_of self.new.life ≡ crowd_of self.old.life }
         ensures reply { self.new.reply ≡ self.old.reply }
     {
         if count == 0 {
@@ -218,6 +223,7 @@ impl Conn {
         ensures ended { KeepsEnd (shown self.old) (shown self.new) }
         ensures taken { TakesNo result }
         ensures left { LeftLower result (work_of self.old) (work_of self.new) }
+        ensures held { crowd_of self.new.life ≡ crowd_of self.old.life }
         ensures reply { self.new.reply ≡ self.old.reply }
     {
         if !self.is_live() {
@@ -252,6 +258,7 @@ impl Conn {
         ensures ended { KeepsEnd (shown self.old) (shown self.new) }
         ensures taken { TakesNo result }
         ensures left { LeftLower result (work_of self.old) (work_of self.new) }
+        ensures held { crowd_of self.new.life ≡ crowd_of self.old.life }
         ensures reply { self.new.reply ≡ self.old.reply }
     {
         if node != 0 {
@@ -276,6 +283,7 @@ impl Conn {
         ensures steps { Goes result (shown self.old) (shown self.new) }
         ensures taken { TakesNo result }
         ensures left { LeftLower result (work_of self.old) (work_of self.new) }
+        ensures held { Leaves result (crowd_of self.old.life) (crowd_of self.new.life) }
         ensures reply { self.new.reply ≡ self.old.reply }
     {
         if !self.is_shut() {
@@ -290,6 +298,7 @@ impl Conn {
         ensures ticked { Ticked now (shown self.old) (shown self.new) }
         ensures ended { KeepsEnd (shown self.old) (shown self.new) }
         ensures left { work_of self.new ≤ work_of self.old }
+        ensures held { crowd_of self.new.life ≡ crowd_of self.old.life }
         ensures reply { self.new.reply ≡ self.old.reply }
     {
         if self.is_live() && self.due <= now {

@@ -8,6 +8,3 @@ mod plain;
 mod state;
 
 pub use plain::PlainCore;
-
-#[cfg(test)]
-mod tests;

@@ -75,26 +75,9 @@ impl PlainCore {
 }
 
 impl EventCore for PlainCore {
-    ghost use Rattle.std.specs.Prelude.{None};
-    ghost use Rattle.plain_core.specs.Core.{view_at, conns_held, fresh_at, opens_at, now_at, left_at, price_now, refused_at};
+    ghost use Rattle.plain_core.specs.Core.{seen_at};
 
-    ghost view = { view_at };
-
-    ghost conns = { conns_held };
-
-    ghost fresh = { fresh_at };
-
-    ghost opens = { opens_at };
-
-    ghost now = { now_at };
-
-    ghost left = { left_at };
-
-    ghost price = { price_now };
-
-    ghost refused = { refused_at };
-
-    ghost events = { λ core. None };
+    ghost seen = { seen_at };
 
     fn step(&mut self, event: Event) -> StepAnswer {
         let answer = self.state.happen(event);
@@ -124,5 +107,9 @@ impl EventCore for PlainCore {
 
     fn ask(&self, _conn: u32, _node: u32) -> Option<&Ask> {
         None
+    }
+
+    fn refused(&self) -> u64 {
+        self.state.refused
     }
 }

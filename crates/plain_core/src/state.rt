@@ -1,9 +1,9 @@
 // The connection under its number, the clock and the tree.
 ghost use Rattle.std.specs.Prelude.{◌≡◌, ◌≤◌, ◌<◌, ℕ, Bool, true, false, [], List};
-ghost use Rattle.ngx_outside.specs.Views.{Steps, OpensIf, LeftBy, CountsRefused, OneSteps, Ticked, TakesNone, now_after, kept_moment, ended_after};
+ghost use Rattle.ngx_outside.specs.Views.{Steps, OpensIf, CountsHeld, LeftBy, CountsRefused, OneSteps, Ticked, TakesNone, now_after, kept_moment, ended_after};
 ghost use Rattle.ngx_outside.specs.declared.event.StepAnswer.TheVariants.{Skipped};
 ghost use Rattle.plain_core.specs.Lines.{course_of};
-ghost use Rattle.plain_core.specs.Shown.{Arrives, Ends, Writes, Fails, Runs, Goes, LeftTaken, LeftLower, LeftKept, TakesNo, is_absent_at};
+ghost use Rattle.plain_core.specs.Shown.{Arrives, Ends, Writes, Fails, Runs, Goes, LeftTaken, LeftLower, LeftKept, TakesNo, Joins, Leaves, crowd_of, is_absent_at};
 ghost use Rattle.plain_core.specs.Held.{view_of, now_of, fresh_of, opens_of, left_of, price_at, refused_of, Begins, LeftBegun, RefusedBy, KeepsEnds, Ending};
 
 use crate::conn::Conn;
@@ -41,8 +41,9 @@ impl State {
         ensures done { (result ≡ Skipped → ⊥) → is_absent_at self.old.conn.life ≡ true }
         ensures left { LeftBegun (price_at self.old) result (left_of self.old) (left_of self.new) }
         ensures now { now_of self.new ≡ now_of self.old }
+        ensures held { Joins result (crowd_of self.old.conn.life) (crowd_of self.new.conn.life) }
         ensures reply { self.new.conn.reply ≡ self.old.conn.reply }
-        ensures refused { self.new.refused ≡ self.old.refused }
+        ensures refused { RefusedBy result self.old.refused self.new.refused }
     {
         if !self.conn.is_absent() {
             return StepAnswer::Skipped;
@@ -57,6 +58,7 @@ impl State {
         ensures ended { KeepsEnds (view_of self.old) (view_of self.new) }
         ensures left { LeftTaken (price_at self.old) result (left_of self.old) (left_of self.new) }
         ensures now { now_of self.new ≡ now_of self.old }
+        ensures held { crowd_of self.new.conn.life ≡ crowd_of self.old.conn.life }
         ensures reply { self.new.conn.reply ≡ self.old.conn.reply }
         ensures refused { RefusedBy result self.old.refused self.new.refused }
     {
@@ -74,6 +76,7 @@ impl State {
         ensures taken { TakesNo result }
         ensures left { LeftKept result (left_of self.old) (left_of self.new) }
         ensures now { now_of self.new ≡ now_of self.old }
+        ensures held { crowd_of self.new.conn.life ≡ crowd_of self.old.conn.life }
         ensures reply { self.new.conn.reply ≡ self.old.conn.reply }
         ensures refused { self.new.refused ≡ self.old.refused }
     {
@@ -89,6 +92,7 @@ impl State {
         ensures taken { TakesNo result }
         ensures left { LeftLower result (left_of self.old) (left_of self.new) }
         ensures now { now_of self.new ≡ now_of self.old }
+        ensures held { crowd_of self.new.conn.life ≡ crowd_of self.old.conn.life }
         ensures reply { self.new.conn.reply ≡ self.old.conn.reply }
         ensures refused { self.new.refused ≡ self.old.refused }
     {
@@ -104,6 +108,7 @@ impl State {
         ensures taken { TakesNo result }
         ensures left { LeftLower result (left_of self.old) (left_of self.new) }
         ensures now { now_of self.new ≡ now_of self.old }
+        ensures held { crowd_of self.new.conn.life ≡ crowd_of self.old.conn.life }
         ensures reply { self.new.conn.reply ≡ self.old.conn.reply }
         ensures refused { self.new.refused ≡ self.old.refused }
     {
@@ -119,6 +124,7 @@ impl State {
         ensures taken { TakesNo result }
         ensures left { LeftLower result (left_of self.old) (left_of self.new) }
         ensures now { now_of self.new ≡ now_of self.old }
+        ensures held { crowd_of self.new.conn.life ≡ crowd_of self.old.conn.life }
         ensures reply { self.new.conn.reply ≡ self.old.conn.reply }
         ensures refused { RefusedBy result self.old.refused self.new.refused }
     {
@@ -136,6 +142,7 @@ impl State {
         ensures taken { TakesNo result }
         ensures left { LeftLower result (left_of self.old) (left_of self.new) }
         ensures now { now_of self.new ≡ now_of self.old }
+        ensures held { Leaves result (crowd_of self.old.conn.life) (crowd_of self.new.conn.life) }
         ensures reply { self.new.conn.reply ≡ self.old.conn.reply }
         ensures refused { self.new.refused ≡ self.old.refused }
     {
@@ -150,6 +157,7 @@ impl State {
         ensures ended { KeepsEnds (view_of self.old) (view_of self.new) }
         ensures left { left_of self.new ≤ left_of self.old }
         ensures now { (self.new.moment ≡ kept_moment now) × (self.new.tree ≡ self.old.tree) }
+        ensures held { crowd_of self.new.conn.life ≡ crowd_of self.old.conn.life }
         ensures reply { self.new.conn.reply ≡ self.old.conn.reply }
         ensures refused { self.new.refused ≡ self.old.refused }
     {
@@ -167,6 +175,7 @@ impl State {
         ensures now { now_of self.new ≡ now_after (now_of self.old) event.entry result }
         ensures left { LeftBy (price_at self.old) event.entry result (left_of self.old) (left_of self.new) }
         ensures refused { CountsRefused event.entry result (refused_of self.old) (refused_of self.new) }
+        ensures held { CountsHeld event.entry result (crowd_of self.old.conn.life) (crowd_of self.new.conn.life) }
         ensures reply { self.new.conn.reply ≡ self.old.conn.reply }
     {
         match event {

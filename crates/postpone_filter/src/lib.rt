@@ -8,6 +8,3 @@ mod part;
 
 pub use laws::tree_order;
 pub use order::Order;
-
-#[cfg(test)]
-mod tests;

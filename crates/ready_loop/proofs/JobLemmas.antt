@@ -7,7 +7,8 @@ use Rattle.file_tree.specs.declared.job.Ask.TheVariants as ask
 use Rattle.file_tree.specs.declared.job.JobAnswer.{JobAnswer}
 use Rattle.file_tree.specs.declared.job.JobAnswer.TheVariants as answer
 use Rattle.ngx_outside.specs.Runs.{Agree}
-use Rattle.ready_loop.specs.Seen.{FilesSeen, Grown}
+use Rattle.ngx_outside.specs.Seen.{FilesSeen}
+use Rattle.ready_loop.specs.Seen.{Grown}
 use Rattle.ready_loop.specs.Turns.{Gives}
 use Rattle.ready_loop.specs.declared.jobs.Found.TheVariants as found
 use Rattle.ready_loop.proofs.AccountLemmas.{agree_narrow}

@@ -6,3 +6,5 @@ pub mod WantLemmas
 pub mod RestLemmas
 pub mod BesideLemmas
 pub mod LawProofs
+pub mod ThroughLemmas
+pub mod EndLemmas

@@ -252,7 +252,7 @@ pub rests_ticked : (heard tells : Type 0) (moment : ℕ) (view view' : ℕ → C
 rests_ticked h t moment view view' link ticked all c held = go (ticked c)
   where
     go : Ticked moment (view c) (view' c) → AtRest h t (view' c) (link c) ⊎ (Unit {0} × IsGivenUp (view' c))
-    go (GivesUp due is before s) = inr (tt, (due, moment, s.why))
+    go (GivesUp due timed is before s) = inr (tt, (due, moment, s.why))
     go (Waits not same) = subst (λ v. AtRest h t v (link c) ⊎ (Unit {0} × IsGivenUp v)) (sym same) (all c (ap (λ (x : ConnView). x.held) (sym same) ∙ held))
 
 -- all that want something are remembered

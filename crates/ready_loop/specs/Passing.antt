@@ -8,14 +8,14 @@ use Rattle.ngx_outside.specs.declared.links.Input.TheVariants as input
 use Rattle.ngx_outside.specs.declared.event.StopCause.{StopCause}
 use Rattle.ngx_outside.specs.declared.event.StopCause.TheVariants as stop
 
--- What stands behind a cause: the link failed, the files failed, an event was refused, a request asked for too many
--- subrequests, or the moment had come.
-abbrev pub Behind : (link files refused heavy : Type 0) → StopCause → Type 0
-Behind link files refused heavy stop.LinkFault = link
-Behind link files refused heavy stop.FileFault = files
-Behind link files refused heavy stop.Memory = refused
-Behind link files refused heavy (stop.SubLimit started) = heavy
-Behind link files refused heavy (stop.Deadline due now) = due ≤ now
+-- What a cause comes of: the link failed, the files failed, an event was refused, a request asked for too many
+-- subrequests, or the moment had come of a connection that may be given up.
+abbrev pub Behind : (link files refused heavy timed : Type 0) → StopCause → Type 0
+Behind link files refused heavy timed stop.LinkFault = link
+Behind link files refused heavy timed stop.FileFault = files
+Behind link files refused heavy timed stop.Memory = refused
+Behind link files refused heavy timed (stop.SubLimit started) = heavy
+Behind link files refused heavy timed (stop.Deadline due now) = timed × (due ≤ now)
 
 -- where the order of steps can't change the bytes, too many subrequests were foreseen
 abbrev pub Foreseen : ConnView → List Start → Type 0
@@ -24,7 +24,7 @@ Foreseen v started = v.raceless ≡ true → (trees : Trees) (more : List ℕ) (
 -- Such an event goes on by a ground, or stops its connection for a cause with this behind it.
 pub data Passed (now : Start) (ground : Ground) (link files refused : Type 0) (old new : ConnView) (came went : List ℕ) : Type 0 where
   Goes : (started : List Start) → IsStart now started → Went ground old new came went started → Passed now ground link files refused old new came went
-  Stops : (cause : StopCause) (started : List Start) → IsStart now started → Behind link files refused (Foreseen old started) cause → went ≡ [] → Stopped cause old new started →
+  Stops : (cause : StopCause) (started : List Start) → IsStart now started → Behind link files refused (Foreseen old started) (old.course.timed ≡ true) cause → went ≡ [] → Stopped cause old new started →
       Passed now ground link files refused old new came went
 
 -- a count of refused events stands still or rises

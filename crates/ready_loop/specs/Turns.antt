@@ -1,5 +1,5 @@
 -- What is left to do on a connection, and at the end of a turn.
-use Rattle.std.specs.Prelude.{◌≡◌, ◌≢◌, ◌⊎◌, ℕ, ◌+◌, ◌*◌, ◌<◌, ◌≤◌, Bool, true, false, not, List, [], if◌then◌else◌, Option, Some, None}
+use Rattle.std.specs.Prelude.{◌≡◌, ◌≢◌, ◌⊎◌, ℕ, ◌+◌, ◌*◌, ◌-◌, ◌^◌, min, ◌<◌, ◌≤◌, Bool, true, false, not, List, [], if◌then◌else◌, Option, Some, None}
 use Rattle.std.specs.List.{All, Contains}
 use Rattle.file_tree.specs.Tree.{Trees, node_of, HoldsBytes}
 use Rattle.file_tree.specs.declared.job.Ask.{Ask}
@@ -12,7 +12,8 @@ use Rattle.ngx_outside.specs.declared.event.Want.{Want}
 use Rattle.ngx_outside.specs.declared.event.Want.TheVariants.{Read, Run, Job, Write, Close}
 use Rattle.std.specs.Prelude.{length}
 use Rattle.ready_loop.specs.Ids.{has}
-use Rattle.ready_loop.specs.Seen.{Elsewhere}
+use Rattle.ngx_outside.specs.Causes.{next_count}
+use Rattle.ready_loop.specs.Seen.{Elsewhere, Tick}
 use Rattle.ready_loop.specs.declared.hear.Heard.{Heard}
 use Rattle.ready_loop.specs.declared.hear.Heard.TheVariants as heard
 use Rattle.ready_loop.specs.declared.ticks.Told.{Told}
@@ -82,6 +83,17 @@ HeardAs heard.Nothing is_open link unread = IsHeard is_open link unread
 HeardAs heard.Ended is_open link unread = IsHeard is_open link unread
 HeardAs heard.Failed is_open link unread = IsHeard is_open link unread
 
+-- the tick that was told
+abbrev pub tick_at : Told → Tick
+tick_at told = record { moment = told.moment; tree = told.tree }
+
+-- how many notices the links have told after one more, where one was heard
+abbrev pub HeardCounts : Heard → (before after : ℕ) → Type 0
+HeardCounts (heard.At conn due) before after = after ≡ next_count before
+HeardCounts heard.Nothing before after = after ≡ next_count before
+HeardCounts heard.Ended before after = after ≡ before
+HeardCounts heard.Failed before after = after ≡ before
+
 -- this moment was told last
 abbrev pub WasTold : Option Told → ℕ → Type 0
 WasTold None moment = ⊥
@@ -119,9 +131,17 @@ pub record IsRested (tells : Type 0) (due : Bool) (c : ℕ) (v : ConnView) (l : 
   pub told : tells → full ≡ true → l.full ≡ true
   pub none : All (λ w. doable due full w ≡ false) (wants_at c v)
 
--- How many turns there were, by how long the list of the clock's moments was before and after: each reads the clock once.
+-- how serving ends where this was heard, if it does
+abbrev pub ending_of : Heard → Option Ending
+ending_of (heard.At conn due) = None
+ending_of heard.Nothing = None
+ending_of heard.Ended = Some ending.Ended
+ending_of heard.Failed = Some ending.NextFault
+
+-- How many turns there were, by how many notices the links had told before and after: each turn handles one. At Ended and where
+-- the call for the next one failed there were fewer.
 abbrev pub TurnsTaken : Ending → (turns before after : ℕ) → Type 0
-TurnsTaken ending.Ended turns before after = (before < after) × (after ≤ before + turns)
-TurnsTaken ending.TurnsUsed turns before after = after ≡ before + turns
+TurnsTaken ending.Ended turns before after = (before ≤ after) × (after < before + turns)
+TurnsTaken ending.TurnsUsed turns before after = after ≡ min (before + turns) (2 ^ 64 - 1)
 TurnsTaken ending.ListenFault turns before after = after ≡ before
-TurnsTaken ending.NextFault turns before after = (before < after) × (after ≤ before + turns)
+TurnsTaken ending.NextFault turns before after = (before ≤ after) × (after < before + turns)

@@ -1,11 +1,9 @@
 // Serves connections one after another, and remembers which links are still to be read.
 ghost use Rattle.std.specs.Prelude.{◌≡◌, ◌≢◌, ◌≤◌, ◌⊎◌, ◌||◌, ℕ, [], true, false, List, All, OnOk, nat_eq, Option};
 ghost use Rattle.std.specs.List.{list_any};
-ghost use Rattle.http_types.specs.declared.words.Addr.{Addr as End};
-ghost use Rattle.ngx_outside.specs.Views.{Course};
 ghost use Rattle.ready_loop.specs.Ids.{has};
-ghost use Rattle.ready_loop.specs.Seen.{Elsewhere, ClockSeen, core_seen, links_seen, files_seen};
-ghost use Rattle.ready_loop.specs.Standing.{Marks, Kept, IsMatched};
+ghost use Rattle.ready_loop.specs.Seen.{Elsewhere};
+ghost use Rattle.ready_loop.specs.Standing.{Keeps, IsMatched};
 ghost use Rattle.ready_loop.specs.Turns.{AtRest, IsHeard, IsHeardBut, conn_of as conn_in};
 ghost use Rattle.ready_loop.specs.Tellings.{StandBeside};
 
@@ -49,20 +47,22 @@ pub fn serve_one<E: EventCore, F: Files, L: Links>(
     conn: u32,
     due: bool,
 ) -> Result<(), OutOfMemory>
-    requires matched { IsMatched (E.view core.old) (L.is_open links.old) }
-    requires known { (E.now core.old).tree ≤ F.newest files.old }
-    ensures kept { OnOk result (L.tells links.old ≡ true → F.tells files.old ≡ true → (marks : Marks) (whole : ℕ → End → End → Course) (clock : ClockSeen) → Kept marks whole (core_seen (E.view core.old) (E.fresh core.old) (E.now core.old) (E.refused core.old)) (links_seen (L.link links.old) (L.used links.old) (L.is_open links.old) (L.link_faults links.old)) (files_seen (F.trees files.old) (F.newest files.old) (F.faults files.old)) clock → Kept marks whole (core_seen (E.view core.new) (E.fresh core.new) (E.now core.new) (E.refused core.new)) (links_seen (L.link links.new) (L.used links.new) (L.is_open links.new) (L.link_faults links.new)) (files_seen (F.trees files.new) (F.newest files.new) (F.faults files.new)) clock) }
-    ensures views { Elsewhere conn (E.view core.old) (E.view core.new) }
-    ensures links { L.tells links.old ≡ true → Elsewhere conn (L.link links.old) (L.link links.new) }
-    ensures matched { OnOk result (IsMatched (E.view core.new) (L.is_open links.new)) }
-    ensures heard { L.tells links.old ≡ true → IsHeardBut conn due (L.is_open links.old) (L.link links.old) memory.old.unread → OnOk result (IsHeard (L.is_open links.new) (L.link links.new) memory.new.unread) }
-    ensures rests { OnOk result ((E.view core.new conn).held ≡ true → AtRest ((L.tells links.old ≡ true) × IsHeardBut conn due (L.is_open links.old) (L.link links.old) memory.old.unread) (L.tells links.old ≡ true) (E.view core.new conn) (L.link links.new conn)) }
-    ensures beside { OnOk result ((clock : Option (List ℕ)) → StandBeside (E.events core.old) (E.events core.new) (L.answers links.old) (L.answers links.new) (F.answers files.old) (F.answers files.new) clock clock) }
-    ensures steady { (E.fresh core.new ≡ E.fresh core.old) × (E.price core.new ≡ E.price core.old) × (E.now core.new ≡ E.now core.old) }
-    ensures later { L.faults links.old ≤ L.faults links.new }
-    ensures stays_over { L.over links.old ≡ true → L.over links.new ≡ true }
-    ensures tells { (L.tells links.new ≡ L.tells links.old) × (L.listening links.new ≡ L.listening links.old) × (F.tells files.new ≡ F.tells files.old) }
-    ensures grown { F.newest files.old ≤ F.newest files.new }
+    requires matched { IsMatched (E.seen core.old).view (L.seen links.old).is_open }
+    requires known { (E.seen core.old).now.tree ≤ (F.seen files.old).newest }
+    ensures kept { OnOk result (Keeps (E.seen core.old) (E.seen core.new) (L.seen links.old) (L.seen links.new) (F.seen files.old) (F.seen files.new)) }
+    ensures views { Elsewhere conn (E.seen core.old).view (E.seen core.new).view }
+    ensures links { (L.seen links.old).tells ≡ true → Elsewhere conn (L.seen links.old).link (L.seen links.new).link }
+    ensures matched { OnOk result (IsMatched (E.seen core.new).view (L.seen links.new).is_open) }
+    ensures heard { (L.seen links.old).tells ≡ true → IsHeardBut conn due (L.seen links.old).is_open (L.seen links.old).link memory.old.unread → OnOk result (IsHeard (L.seen links.new).is_open (L.seen links.new).link memory.new.unread) }
+    ensures rests { OnOk result (((E.seen core.new).view conn).held ≡ true → AtRest (((L.seen links.old).tells ≡ true) × IsHeardBut conn due (L.seen links.old).is_open (L.seen links.old).link memory.old.unread) ((L.seen links.old).tells ≡ true) ((E.seen core.new).view conn) ((L.seen links.new).link conn)) }
+    ensures beside { OnOk result ((clock : Option (List ℕ)) → StandBeside (E.seen core.old).events (E.seen core.new).events (L.seen links.old).answers (L.seen links.new).answers (F.seen files.old).answers (F.seen files.new).answers clock clock) }
+    ensures steady { ((E.seen core.new).terms ≡ (E.seen core.old).terms) × ((E.seen core.new).now ≡ (E.seen core.old).now) }
+    ensures later { (L.seen links.old).faults ≤ (L.seen links.new).faults }
+    ensures stays_over { (L.seen links.old).over ≡ true → (L.seen links.new).over ≡ true }
+    ensures notices { (L.seen links.old).tells ≡ true → (L.seen links.new).notices ≡ (L.seen links.old).notices }
+    ensures versions { (F.seen files.new).versions ≡ (F.seen files.old).versions }
+    ensures tells { ((L.seen links.new).tells ≡ (L.seen links.old).tells) × ((L.seen links.new).listening ≡ (L.seen links.old).listening) × ((F.seen files.new).tells ≡ (F.seen files.old).tells) }
+    ensures grown { (F.seen files.old).newest ≤ (F.seen files.new).newest }
 {
     let due = either(due, memory.unread.has(conn));
     let still_due = drain(core, files, links, &mut memory.buffers, conn, due)?;
@@ -131,18 +131,20 @@ pub fn serve_all<E: EventCore, F: Files, L: Links>(
     memory: &mut Memory,
     conns: &mut Vec<u32>,
 ) -> Result<(), OutOfMemory>
-    requires matched { IsMatched (E.view core.old) (L.is_open links.old) }
-    requires known { (E.now core.old).tree ≤ F.newest files.old }
-    ensures kept { OnOk result (L.tells links.old ≡ true → F.tells files.old ≡ true → (marks : Marks) (whole : ℕ → End → End → Course) (clock : ClockSeen) → Kept marks whole (core_seen (E.view core.old) (E.fresh core.old) (E.now core.old) (E.refused core.old)) (links_seen (L.link links.old) (L.used links.old) (L.is_open links.old) (L.link_faults links.old)) (files_seen (F.trees files.old) (F.newest files.old) (F.faults files.old)) clock → Kept marks whole (core_seen (E.view core.new) (E.fresh core.new) (E.now core.new) (E.refused core.new)) (links_seen (L.link links.new) (L.used links.new) (L.is_open links.new) (L.link_faults links.new)) (files_seen (F.trees files.new) (F.newest files.new) (F.faults files.new)) clock) }
-    ensures matched { OnOk result (IsMatched (E.view core.new) (L.is_open links.new)) }
-    ensures heard { L.tells links.old ≡ true → IsHeard (L.is_open links.old) (L.link links.old) memory.old.unread → OnOk result (IsHeard (L.is_open links.new) (L.link links.new) memory.new.unread) }
-    ensures rests { OnOk result ((c : ℕ) → (E.view core.new c).held ≡ true → AtRest ((L.tells links.old ≡ true) × IsHeard (L.is_open links.old) (L.link links.old) memory.old.unread) (L.tells links.old ≡ true) (E.view core.new c) (L.link links.new c)) }
-    ensures beside { OnOk result ((clock : Option (List ℕ)) → StandBeside (E.events core.old) (E.events core.new) (L.answers links.old) (L.answers links.new) (F.answers files.old) (F.answers files.new) clock clock) }
-    ensures steady { OnOk result ((E.fresh core.new ≡ E.fresh core.old) × (E.price core.new ≡ E.price core.old) × (E.now core.new ≡ E.now core.old)) }
-    ensures later { OnOk result (L.faults links.old ≤ L.faults links.new) }
-    ensures stays_over { OnOk result (L.over links.old ≡ true → L.over links.new ≡ true) }
-    ensures tells { OnOk result ((L.tells links.new ≡ L.tells links.old) × (L.listening links.new ≡ L.listening links.old) × (F.tells files.new ≡ F.tells files.old)) }
-    ensures grown { OnOk result (F.newest files.old ≤ F.newest files.new) }
+    requires matched { IsMatched (E.seen core.old).view (L.seen links.old).is_open }
+    requires known { (E.seen core.old).now.tree ≤ (F.seen files.old).newest }
+    ensures kept { OnOk result (Keeps (E.seen core.old) (E.seen core.new) (L.seen links.old) (L.seen links.new) (F.seen files.old) (F.seen files.new)) }
+    ensures matched { OnOk result (IsMatched (E.seen core.new).view (L.seen links.new).is_open) }
+    ensures heard { (L.seen links.old).tells ≡ true → IsHeard (L.seen links.old).is_open (L.seen links.old).link memory.old.unread → OnOk result (IsHeard (L.seen links.new).is_open (L.seen links.new).link memory.new.unread) }
+    ensures rests { OnOk result ((c : ℕ) → ((E.seen core.new).view c).held ≡ true → AtRest (((L.seen links.old).tells ≡ true) × IsHeard (L.seen links.old).is_open (L.seen links.old).link memory.old.unread) ((L.seen links.old).tells ≡ true) ((E.seen core.new).view c) ((L.seen links.new).link c)) }
+    ensures beside { OnOk result ((clock : Option (List ℕ)) → StandBeside (E.seen core.old).events (E.seen core.new).events (L.seen links.old).answers (L.seen links.new).answers (F.seen files.old).answers (F.seen files.new).answers clock clock) }
+    ensures steady { OnOk result (((E.seen core.new).terms ≡ (E.seen core.old).terms) × ((E.seen core.new).now ≡ (E.seen core.old).now)) }
+    ensures later { OnOk result ((L.seen links.old).faults ≤ (L.seen links.new).faults) }
+    ensures stays_over { OnOk result ((L.seen links.old).over ≡ true → (L.seen links.new).over ≡ true) }
+    ensures notices { OnOk result ((L.seen links.old).tells ≡ true → (L.seen links.new).notices ≡ (L.seen links.old).notices) }
+    ensures versions { OnOk result ((F.seen files.new).versions ≡ (F.seen files.old).versions) }
+    ensures tells { OnOk result (((L.seen links.new).tells ≡ (L.seen links.old).tells) × ((L.seen links.new).listening ≡ (L.seen links.old).listening) × ((F.seen files.new).tells ≡ (F.seen files.old).tells)) }
+    ensures grown { OnOk result ((F.seen files.old).newest ≤ (F.seen files.new).newest) }
 {
     list_conns(conns, core.wants())?;
     for conn in conns.as_slice() {

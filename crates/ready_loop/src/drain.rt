@@ -1,9 +1,8 @@
 // Serves the wants of a connection.
 ghost use Rattle.std.specs.Prelude.{◌≡◌, ◌≢◌, ◌+◌, ◌*◌, ◌<◌, ◌≤◌, ℕ, [], true, false, List, All, Contains, IfSome, IfNone, OnOk, IfOk, vec_len, Option};
-ghost use Rattle.http_types.specs.declared.words.Addr.{Addr as End};
-ghost use Rattle.ngx_outside.specs.Views.{Course, IsSound};
-ghost use Rattle.ready_loop.specs.Seen.{Elsewhere, ClockSeen, core_seen, links_seen, files_seen};
-ghost use Rattle.ready_loop.specs.Standing.{Marks, Kept};
+ghost use Rattle.ngx_outside.specs.Views.{IsSound};
+ghost use Rattle.ready_loop.specs.Seen.{Elsewhere};
+ghost use Rattle.ready_loop.specs.Standing.{Keeps};
 ghost use Rattle.ready_loop.specs.Turns.{IsRested, IsWanted, doable, work};
 ghost use Rattle.ready_loop.specs.Tellings.{StandBeside};
 
@@ -62,25 +61,27 @@ fn serve_want<E: EventCore, F: Files, L: Links>(
     want: Want,
     ready: Readiness,
 ) -> Result<Readiness, OutOfMemory>
-    requires wanted { IsWanted (E.view core.old conn) conn want }
+    requires wanted { IsWanted ((E.seen core.old).view conn) conn want }
     requires doable { doable ready.due ready.full want ≡ true }
-    requires sound { IsSound (E.view core.old conn) }
-    requires matched { (E.view core.old conn).held ≡ L.is_open links.old conn }
-    requires known { (E.now core.old).tree ≤ F.newest files.old }
-    ensures kept { OnOk result (L.tells links.old ≡ true → F.tells files.old ≡ true → (marks : Marks) (whole : ℕ → End → End → Course) (clock : ClockSeen) → Kept marks whole (core_seen (E.view core.old) (E.fresh core.old) (E.now core.old) (E.refused core.old)) (links_seen (L.link links.old) (L.used links.old) (L.is_open links.old) (L.link_faults links.old)) (files_seen (F.trees files.old) (F.newest files.old) (F.faults files.old)) clock → Kept marks whole (core_seen (E.view core.new) (E.fresh core.new) (E.now core.new) (E.refused core.new)) (links_seen (L.link links.new) (L.used links.new) (L.is_open links.new) (L.link_faults links.new)) (files_seen (F.trees files.new) (F.newest files.new) (F.faults files.new)) clock) }
-    ensures views { Elsewhere conn (E.view core.old) (E.view core.new) }
-    ensures links { L.tells links.old ≡ true → Elsewhere conn (L.link links.old) (L.link links.new) }
-    ensures opens { Elsewhere conn (L.is_open links.old) (L.is_open links.new) }
-    ensures matched { OnOk result ((E.view core.new conn).held ≡ L.is_open links.new conn) }
-    ensures due { L.tells links.old ≡ true → (L.is_open links.old conn ≡ true → (L.link links.old conn).due ≡ true → ready.due ≡ true) → IfOk result (λ r. L.is_open links.new conn ≡ true → (L.link links.new conn).due ≡ true → r.due ≡ true) }
-    ensures full { L.tells links.old ≡ true → (ready.full ≡ true → (L.link links.old conn).full ≡ true) → IfOk result (λ r. r.full ≡ true → (L.link links.new conn).full ≡ true) }
-    ensures falls { IfOk result (λ r. work (E.price core.old) (vec_len buffers.old.input) r.due r.full (E.left core.new) < work (E.price core.old) (vec_len buffers.old.input) ready.due ready.full (E.left core.old)) }
-    ensures beside { OnOk result ((clock : Option (List ℕ)) → StandBeside (E.events core.old) (E.events core.new) (L.answers links.old) (L.answers links.new) (F.answers files.old) (F.answers files.new) clock clock) }
-    ensures steady { (E.fresh core.new ≡ E.fresh core.old) × (E.price core.new ≡ E.price core.old) × (E.now core.new ≡ E.now core.old) }
-    ensures later { L.faults links.old ≤ L.faults links.new }
-    ensures stays_over { L.over links.old ≡ true → L.over links.new ≡ true }
-    ensures tells { (L.tells links.new ≡ L.tells links.old) × (L.listening links.new ≡ L.listening links.old) × (F.tells files.new ≡ F.tells files.old) }
-    ensures grown { F.newest files.old ≤ F.newest files.new }
+    requires sound { IsSound ((E.seen core.old).view conn) }
+    requires matched { ((E.seen core.old).view conn).held ≡ (L.seen links.old).is_open conn }
+    requires known { (E.seen core.old).now.tree ≤ (F.seen files.old).newest }
+    ensures kept { OnOk result (Keeps (E.seen core.old) (E.seen core.new) (L.seen links.old) (L.seen links.new) (F.seen files.old) (F.seen files.new)) }
+    ensures views { Elsewhere conn (E.seen core.old).view (E.seen core.new).view }
+    ensures links { (L.seen links.old).tells ≡ true → Elsewhere conn (L.seen links.old).link (L.seen links.new).link }
+    ensures opens { Elsewhere conn (L.seen links.old).is_open (L.seen links.new).is_open }
+    ensures matched { OnOk result (((E.seen core.new).view conn).held ≡ (L.seen links.new).is_open conn) }
+    ensures due { (L.seen links.old).tells ≡ true → ((L.seen links.old).is_open conn ≡ true → ((L.seen links.old).link conn).due ≡ true → ready.due ≡ true) → IfOk result (λ r. (L.seen links.new).is_open conn ≡ true → ((L.seen links.new).link conn).due ≡ true → r.due ≡ true) }
+    ensures full { (L.seen links.old).tells ≡ true → (ready.full ≡ true → ((L.seen links.old).link conn).full ≡ true) → IfOk result (λ r. r.full ≡ true → ((L.seen links.new).link conn).full ≡ true) }
+    ensures falls { IfOk result (λ r. work (E.seen core.old).terms.price (vec_len buffers.old.input) r.due r.full (E.seen core.new).left < work (E.seen core.old).terms.price (vec_len buffers.old.input) ready.due ready.full (E.seen core.old).left) }
+    ensures beside { OnOk result ((clock : Option (List ℕ)) → StandBeside (E.seen core.old).events (E.seen core.new).events (L.seen links.old).answers (L.seen links.new).answers (F.seen files.old).answers (F.seen files.new).answers clock clock) }
+    ensures steady { ((E.seen core.new).terms ≡ (E.seen core.old).terms) × ((E.seen core.new).now ≡ (E.seen core.old).now) }
+    ensures later { (L.seen links.old).faults ≤ (L.seen links.new).faults }
+    ensures stays_over { (L.seen links.old).over ≡ true → (L.seen links.new).over ≡ true }
+    ensures notices { (L.seen links.old).tells ≡ true → (L.seen links.new).notices ≡ (L.seen links.old).notices }
+    ensures versions { (F.seen files.new).versions ≡ (F.seen files.old).versions }
+    ensures tells { ((L.seen links.new).tells ≡ (L.seen links.old).tells) × ((L.seen links.new).listening ≡ (L.seen links.old).listening) × ((F.seen files.new).tells ≡ (F.seen files.old).tells) }
+    ensures grown { (F.seen files.old).newest ≤ (F.seen files.new).newest }
     ensures size { vec_len buffers.new.input ≡ vec_len buffers.old.input }
 {
     match want {
@@ -123,21 +124,23 @@ pub fn drain<E: EventCore, F: Files, L: Links>(
     conn: u32,
     due: bool,
 ) -> Result<bool, OutOfMemory>
-    requires matched { (E.view core.old conn).held ≡ L.is_open links.old conn }
-    requires known { (E.now core.old).tree ≤ F.newest files.old }
-    ensures kept { OnOk result (L.tells links.old ≡ true → F.tells files.old ≡ true → (marks : Marks) (whole : ℕ → End → End → Course) (clock : ClockSeen) → Kept marks whole (core_seen (E.view core.old) (E.fresh core.old) (E.now core.old) (E.refused core.old)) (links_seen (L.link links.old) (L.used links.old) (L.is_open links.old) (L.link_faults links.old)) (files_seen (F.trees files.old) (F.newest files.old) (F.faults files.old)) clock → Kept marks whole (core_seen (E.view core.new) (E.fresh core.new) (E.now core.new) (E.refused core.new)) (links_seen (L.link links.new) (L.used links.new) (L.is_open links.new) (L.link_faults links.new)) (files_seen (F.trees files.new) (F.newest files.new) (F.faults files.new)) clock) }
-    ensures views { Elsewhere conn (E.view core.old) (E.view core.new) }
-    ensures links { L.tells links.old ≡ true → Elsewhere conn (L.link links.old) (L.link links.new) }
-    ensures opens { Elsewhere conn (L.is_open links.old) (L.is_open links.new) }
-    ensures matched { OnOk result ((E.view core.new conn).held ≡ L.is_open links.new conn) }
-    ensures rests { IfOk result (λ due'. IsRested (L.tells links.old ≡ true) due' conn (E.view core.new conn) (L.link links.new conn)) }
-    ensures due { L.tells links.old ≡ true → (L.is_open links.old conn ≡ true → (L.link links.old conn).due ≡ true → due ≡ true) → IfOk result (λ due'. L.is_open links.new conn ≡ true → (L.link links.new conn).due ≡ true → due' ≡ true) }
-    ensures beside { OnOk result ((clock : Option (List ℕ)) → StandBeside (E.events core.old) (E.events core.new) (L.answers links.old) (L.answers links.new) (F.answers files.old) (F.answers files.new) clock clock) }
-    ensures steady { (E.fresh core.new ≡ E.fresh core.old) × (E.price core.new ≡ E.price core.old) × (E.now core.new ≡ E.now core.old) }
-    ensures later { L.faults links.old ≤ L.faults links.new }
-    ensures stays_over { L.over links.old ≡ true → L.over links.new ≡ true }
-    ensures tells { (L.tells links.new ≡ L.tells links.old) × (L.listening links.new ≡ L.listening links.old) × (F.tells files.new ≡ F.tells files.old) }
-    ensures grown { F.newest files.old ≤ F.newest files.new }
+    requires matched { ((E.seen core.old).view conn).held ≡ (L.seen links.old).is_open conn }
+    requires known { (E.seen core.old).now.tree ≤ (F.seen files.old).newest }
+    ensures kept { OnOk result (Keeps (E.seen core.old) (E.seen core.new) (L.seen links.old) (L.seen links.new) (F.seen files.old) (F.seen files.new)) }
+    ensures views { Elsewhere conn (E.seen core.old).view (E.seen core.new).view }
+    ensures links { (L.seen links.old).tells ≡ true → Elsewhere conn (L.seen links.old).link (L.seen links.new).link }
+    ensures opens { Elsewhere conn (L.seen links.old).is_open (L.seen links.new).is_open }
+    ensures matched { OnOk result (((E.seen core.new).view conn).held ≡ (L.seen links.new).is_open conn) }
+    ensures rests { IfOk result (λ due'. IsRested ((L.seen links.old).tells ≡ true) due' conn ((E.seen core.new).view conn) ((L.seen links.new).link conn)) }
+    ensures due { (L.seen links.old).tells ≡ true → ((L.seen links.old).is_open conn ≡ true → ((L.seen links.old).link conn).due ≡ true → due ≡ true) → IfOk result (λ due'. (L.seen links.new).is_open conn ≡ true → ((L.seen links.new).link conn).due ≡ true → due' ≡ true) }
+    ensures beside { OnOk result ((clock : Option (List ℕ)) → StandBeside (E.seen core.old).events (E.seen core.new).events (L.seen links.old).answers (L.seen links.new).answers (F.seen files.old).answers (F.seen files.new).answers clock clock) }
+    ensures steady { ((E.seen core.new).terms ≡ (E.seen core.old).terms) × ((E.seen core.new).now ≡ (E.seen core.old).now) }
+    ensures later { (L.seen links.old).faults ≤ (L.seen links.new).faults }
+    ensures stays_over { (L.seen links.old).over ≡ true → (L.seen links.new).over ≡ true }
+    ensures notices { (L.seen links.old).tells ≡ true → (L.seen links.new).notices ≡ (L.seen links.old).notices }
+    ensures versions { (F.seen files.new).versions ≡ (F.seen files.old).versions }
+    ensures tells { ((L.seen links.new).tells ≡ (L.seen links.old).tells) × ((L.seen links.new).listening ≡ (L.seen links.old).listening) × ((F.seen files.new).tells ≡ (F.seen files.old).tells) }
+    ensures grown { (F.seen files.old).newest ≤ (F.seen files.new).newest }
 {
     let mut ready = Readiness { due, full: false };
     while let Some(want) = pick(core.wants_of(conn), ready) {

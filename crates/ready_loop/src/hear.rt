@@ -5,9 +5,10 @@ ghost use Rattle.ngx_outside.specs.Causes.{Rose};
 ghost use Rattle.ngx_outside.specs.Linked.{Unchanged};
 ghost use Rattle.ngx_outside.specs.Views.{Course};
 ghost use Rattle.ready_loop.specs.declared.ids.Ids.{Ids};
-ghost use Rattle.ready_loop.specs.Seen.{Elsewhere, LinksSeen, FilesSeen, ClockSeen, HasTold, OpenedAt, core_seen, links_seen};
-ghost use Rattle.ready_loop.specs.Standing.{Marks, Kept, IsMatched};
-ghost use Rattle.ready_loop.specs.Turns.{ChangedAs, HeardAs, IsHeard};
+ghost use Rattle.ngx_outside.specs.Seen.{LinksSeen, FilesSeen};
+ghost use Rattle.ready_loop.specs.Seen.{Elsewhere, Tick, HasTicked, OpenedAt};
+ghost use Rattle.ready_loop.specs.Standing.{Marks, Kept, KeepsTicked, IsMatched};
+ghost use Rattle.ready_loop.specs.Turns.{ChangedAs, HeardAs, HeardCounts, IsHeard};
 ghost use Rattle.ngx_outside.specs.Records.{Adds, FileAnswer, Opened as OpenedGiven};
 ghost use Rattle.ready_loop.specs.Tellings.{StandBeside};
 
@@ -27,19 +28,20 @@ pub enum Heard {
 
 // A link was opened: the core gets its connection, or it is closed.
 fn open_link<E: EventCore, L: Links>(core: &mut E, links: &mut L, id: u32, local: Addr, peer: Addr)
-    requires unheld { (E.view core.old id).held ≡ false }
-    requires open { L.is_open links.old id ≡ true }
-    ensures kept { L.tells links.old ≡ true → (marks : Marks) (whole : ℕ → End → End → Course) (before : LinksSeen) (files : FilesSeen) (clock : ClockSeen) → HasTold clock → OpenedAt id local peer before (links_seen (L.link links.old) (L.used links.old) (L.is_open links.old) (L.link_faults links.old)) → Kept marks whole (core_seen (E.view core.old) (E.fresh core.old) (E.now core.old) (E.refused core.old)) before files clock → Kept marks whole (core_seen (E.view core.new) (E.fresh core.new) (E.now core.new) (E.refused core.new)) (links_seen (L.link links.new) (L.used links.new) (L.is_open links.new) (L.link_faults links.new)) files clock }
-    ensures views { Elsewhere id (E.view core.old) (E.view core.new) }
-    ensures links { L.tells links.old ≡ true → Unchanged (L.link links.old) (L.link links.new) }
-    ensures opens { Elsewhere id (L.is_open links.old) (L.is_open links.new) }
-    ensures matched { (E.view core.new id).held ≡ L.is_open links.new id }
-    ensures given { Adds (OpenedGiven id local peer) (E.events core.old) (E.events core.new) }
-    ensures answers { L.answers links.new ≡ L.answers links.old }
-    ensures steady { (E.fresh core.new ≡ E.fresh core.old) × (E.price core.new ≡ E.price core.old) × (E.now core.new ≡ E.now core.old) }
-    ensures later { L.faults links.old ≤ L.faults links.new }
-    ensures stays_over { L.over links.old ≡ true → L.over links.new ≡ true }
-    ensures tells { (L.tells links.new ≡ L.tells links.old) × (L.listening links.new ≡ L.listening links.old) }
+    requires unheld { ((E.seen core.old).view id).held ≡ false }
+    requires open { (L.seen links.old).is_open id ≡ true }
+    ensures kept { (L.seen links.old).tells ≡ true → (marks : Marks) (whole : ℕ → End → End → Course) (before : LinksSeen) (files : FilesSeen) (ticks : List Tick) → HasTicked ticks → OpenedAt id local peer before (L.seen links.old) → Kept marks whole (E.seen core.old) before files ticks → Kept marks whole (E.seen core.new) (L.seen links.new) files ticks }
+    ensures views { Elsewhere id (E.seen core.old).view (E.seen core.new).view }
+    ensures links { (L.seen links.old).tells ≡ true → Unchanged (L.seen links.old).link (L.seen links.new).link }
+    ensures opens { Elsewhere id (L.seen links.old).is_open (L.seen links.new).is_open }
+    ensures matched { ((E.seen core.new).view id).held ≡ (L.seen links.new).is_open id }
+    ensures given { Adds (OpenedGiven id local peer) (E.seen core.old).events (E.seen core.new).events }
+    ensures answers { (L.seen links.new).answers ≡ (L.seen links.old).answers }
+    ensures steady { ((E.seen core.new).terms ≡ (E.seen core.old).terms) × ((E.seen core.new).now ≡ (E.seen core.old).now) }
+    ensures notices { (L.seen links.old).tells ≡ true → (L.seen links.new).notices ≡ (L.seen links.old).notices }
+    ensures later { (L.seen links.old).faults ≤ (L.seen links.new).faults }
+    ensures stays_over { (L.seen links.old).over ≡ true → (L.seen links.new).over ≡ true }
+    ensures tells { ((L.seen links.new).tells ≡ (L.seen links.old).tells) × ((L.seen links.new).listening ≡ (L.seen links.old).listening) }
 {
     if !opened(core, id, local, peer) {
         links.close(id);
@@ -48,19 +50,20 @@ fn open_link<E: EventCore, L: Links>(core: &mut E, links: &mut L, id: u32, local
 
 /// Takes the next notice: a link that was opened gets its connection, or is closed.
 pub fn hear<E: EventCore, L: Links>(core: &mut E, links: &mut L) -> Heard
-    requires matched { IsMatched (E.view core.old) (L.is_open links.old) }
-    ensures kept { L.tells links.old ≡ true → (marks : Marks) (whole : ℕ → End → End → Course) (files : FilesSeen) (clock : ClockSeen) → HasTold clock → Kept marks whole (core_seen (E.view core.old) (E.fresh core.old) (E.now core.old) (E.refused core.old)) (links_seen (L.link links.old) (L.used links.old) (L.is_open links.old) (L.link_faults links.old)) files clock → Kept marks whole (core_seen (E.view core.new) (E.fresh core.new) (E.now core.new) (E.refused core.new)) (links_seen (L.link links.new) (L.used links.new) (L.is_open links.new) (L.link_faults links.new)) files clock }
-    ensures matched { IsMatched (E.view core.new) (L.is_open links.new) }
-    ensures heard { L.tells links.old ≡ true → (unread : Ids) → IsHeard (L.is_open links.old) (L.link links.old) unread → HeardAs result (L.is_open links.new) (L.link links.new) unread }
-    ensures views { ChangedAs result (E.view core.old) (E.view core.new) }
-    ensures links { L.tells links.old ≡ true → ChangedAs result (L.link links.old) (L.link links.new) }
-    ensures ended { result ≡ Heard.Ended → L.over links.new ≡ true }
-    ensures failed { result ≡ Heard.Failed → Rose (L.faults links.old) (L.faults links.new) }
-    ensures beside { (files : Option (List FileAnswer)) (clock : Option (List ℕ)) → StandBeside (E.events core.old) (E.events core.new) (L.answers links.old) (L.answers links.new) files files clock clock }
-    ensures steady { (E.fresh core.new ≡ E.fresh core.old) × (E.price core.new ≡ E.price core.old) × (E.now core.new ≡ E.now core.old) }
-    ensures later { L.faults links.old ≤ L.faults links.new }
-    ensures stays_over { L.over links.old ≡ true → L.over links.new ≡ true }
-    ensures tells { (L.tells links.new ≡ L.tells links.old) × (L.listening links.new ≡ L.listening links.old) }
+    requires matched { IsMatched (E.seen core.old).view (L.seen links.old).is_open }
+    ensures kept { (files : FilesSeen) → KeepsTicked (E.seen core.old) (E.seen core.new) (L.seen links.old) (L.seen links.new) files }
+    ensures matched { IsMatched (E.seen core.new).view (L.seen links.new).is_open }
+    ensures heard { (L.seen links.old).tells ≡ true → (unread : Ids) → IsHeard (L.seen links.old).is_open (L.seen links.old).link unread → HeardAs result (L.seen links.new).is_open (L.seen links.new).link unread }
+    ensures views { ChangedAs result (E.seen core.old).view (E.seen core.new).view }
+    ensures links { (L.seen links.old).tells ≡ true → ChangedAs result (L.seen links.old).link (L.seen links.new).link }
+    ensures ended { result ≡ Heard.Ended → (L.seen links.new).over ≡ true }
+    ensures failed { result ≡ Heard.Failed → Rose (L.seen links.old).faults (L.seen links.new).faults }
+    ensures beside { (files : Option (List FileAnswer)) (clock : Option (List ℕ)) → StandBeside (E.seen core.old).events (E.seen core.new).events (L.seen links.old).answers (L.seen links.new).answers files files clock clock }
+    ensures steady { ((E.seen core.new).terms ≡ (E.seen core.old).terms) × ((E.seen core.new).now ≡ (E.seen core.old).now) }
+    ensures notices { (L.seen links.old).tells ≡ true → HeardCounts result (L.seen links.old).notices (L.seen links.new).notices }
+    ensures later { (L.seen links.old).faults ≤ (L.seen links.new).faults }
+    ensures stays_over { (L.seen links.old).over ≡ true → (L.seen links.new).over ≡ true }
+    ensures tells { ((L.seen links.new).tells ≡ (L.seen links.old).tells) × ((L.seen links.new).listening ≡ (L.seen links.old).listening) }
 {
     let notice = links.next(core.wants());
     match notice {

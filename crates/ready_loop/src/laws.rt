@@ -1,5 +1,5 @@
 // What the account of a connection comes to.
-ghost use Rattle.ready_loop.specs.Laws.{ClosedUnendedSentAll, ClosedUnstoppedSentAll, KeptBegins, MomentsWereTold};
+ghost use Rattle.ready_loop.specs.Laws.{ClosedUnendedSentAll, ClosedUnstoppedSentAll, KeptBegins, StartsWereTold};
 
 /// A loop's account begins where no link was reported yet and no connection is held: on each that is opened the core says
 /// what is to come.
@@ -18,7 +18,7 @@ pub fn closed_unended_sent_all()
     ensures { ClosedUnendedSentAll }
 {}
 
-/// Each request of a connection started at a moment that the clock told.
-pub fn moments_were_told()
-    ensures { MomentsWereTold }
+/// Each request of a connection started at a tick: at a moment that the clock told, with the tree that was the newest then.
+pub fn starts_were_told()
+    ensures { StartsWereTold }
 {}

@@ -13,10 +13,5 @@ mod service;
 mod ticks;
 mod turn;
 
-pub use laws::{
-    closed_unended_sent_all, closed_unstopped_sent_all, kept_begins, moments_were_told,
-};
+pub use laws::{closed_unended_sent_all, closed_unstopped_sent_all, kept_begins, starts_were_told};
 pub use service::{Ending, serve};
-
-#[cfg(test)]
-mod tests;

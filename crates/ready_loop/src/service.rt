@@ -1,12 +1,9 @@
 // Serves links, turn by turn.
-ghost use Rattle.std.specs.Prelude.{◌≡◌, ◌≢◌, ◌<◌, ◌≤◌, ◌+◌, ◌++◌, ◌∷◌, ℕ, [], true, false, Bool, List, length, OnOk, IfOk, Ok};
-ghost use Rattle.http_types.specs.declared.words.Addr.{Addr as End};
+ghost use Rattle.std.specs.Prelude.{◌≡◌, ◌≢◌, ◌<◌, ◌≤◌, ◌+◌, ◌-◌, ◌^◌, ◌++◌, ◌∷◌, ℕ, [], true, false, Bool, List, length, OnOk, IfOk, Ok};
 ghost use Rattle.ngx_outside.specs.Causes.{Rose};
 ghost use Rattle.ngx_outside.specs.Linked.{Same, Unchanged};
-ghost use Rattle.ngx_outside.specs.Views.{Course};
-ghost use Rattle.ready_loop.specs.Seen.{core_seen, links_seen, files_seen, clock_seen};
-ghost use Rattle.ready_loop.specs.Standing.{Marks, Kept, IsMatched};
-ghost use Rattle.ready_loop.specs.Turns.{AtRest, DueHasWants, IsHeard, TurnsTaken};
+ghost use Rattle.ready_loop.specs.Standing.{KeptThrough, IsMatched};
+ghost use Rattle.ready_loop.specs.Turns.{AtRest, DueHasWants, IsHeard, TurnsTaken, ending_of};
 ghost use Rattle.ready_loop.specs.Tellings.{StandBeside, moments_told};
 
 use crate::conns::{Memory, remember_all, serve_all};
@@ -37,15 +34,16 @@ const INPUT: usize = 8192;
 
 // Listens on each address, until one fails. Whether none did.
 fn listen_all<L: Links>(links: &mut L, addrs: &[Addr]) -> bool
-    ensures told { L.tells links.old ≡ true → Unchanged (L.link links.old) (L.link links.new) }
-    ensures ids { Same (L.used links.old) (L.used links.new) × Same (L.is_open links.old) (L.is_open links.new) }
-    ensures listens { result ≡ true → L.listening links.new ≡ L.listening links.old ++ addrs.now }
-    ensures tells { L.tells links.new ≡ L.tells links.old }
-    ensures answers { L.answers links.new ≡ L.answers links.old }
-    ensures link_faults { (id : ℕ) → L.link_faults links.old id ≤ L.link_faults links.new id }
-    ensures later { L.faults links.old ≤ L.faults links.new }
-    ensures stays_over { L.over links.old ≡ true → L.over links.new ≡ true }
-    ensures cause { result ≡ false → Rose (L.faults links.old) (L.faults links.new) }
+    ensures told { (L.seen links.old).tells ≡ true → Unchanged (L.seen links.old).link (L.seen links.new).link }
+    ensures ids { Same (L.seen links.old).used (L.seen links.new).used × Same (L.seen links.old).is_open (L.seen links.new).is_open }
+    ensures listens { result ≡ true → (L.seen links.new).listening ≡ (L.seen links.old).listening ++ addrs.now }
+    ensures counts { (L.seen links.old).tells ≡ true → ((L.seen links.new).crowd ≡ (L.seen links.old).crowd) × ((L.seen links.new).notices ≡ (L.seen links.old).notices) }
+    ensures tells { (L.seen links.new).tells ≡ (L.seen links.old).tells }
+    ensures answers { (L.seen links.new).answers ≡ (L.seen links.old).answers }
+    ensures link_faults { (id : ℕ) → (L.seen links.old).link_faults id ≤ (L.seen links.new).link_faults id }
+    ensures later { (L.seen links.old).faults ≤ (L.seen links.new).faults }
+    ensures stays_over { (L.seen links.old).over ≡ true → (L.seen links.new).over ≡ true }
+    ensures cause { result ≡ false → Rose (L.seen links.old).faults (L.seen links.new).faults }
 {
     for addr in addrs {
         match links.listen(*addr) {
@@ -54,6 +52,18 @@ fn listen_all<L: Links>(links: &mut L, addrs: &[Addr]) -> bool
         }
     }
     true
+}
+
+// How serving ends where this was heard, if it does.
+fn ending_by(heard: Heard) -> Option<Ending>
+    ensures { result ≡ ending_of heard }
+{
+    match heard {
+        Heard::At { conn: _, due: _ } => None,
+        Heard::Nothing => None,
+        Heard::Ended => Some(Ending::Ended),
+        Heard::Failed => Some(Ending::NextFault),
+    }
 }
 
 // Takes so many turns, or until no notice will come any more or the call for one failed.
@@ -66,32 +76,29 @@ fn take_turns<E: EventCore, F: Files, L: Links, C: Clock>(
     conns: &mut Vec<u32>,
     turns: u64,
 ) -> Result<Ending, OutOfMemory>
-    requires matched { IsMatched (E.view core.old) (L.is_open links.old) }
-    requires known { (E.now core.old).tree ≤ F.newest files.old }
-    ensures kept { OnOk result (L.tells links.old ≡ true → F.tells files.old ≡ true → (marks : Marks) (whole : ℕ → End → End → Course) → Kept marks whole (core_seen (E.view core.old) (E.fresh core.old) (E.now core.old) (E.refused core.old)) (links_seen (L.link links.old) (L.used links.old) (L.is_open links.old) (L.link_faults links.old)) (files_seen (F.trees files.old) (F.newest files.old) (F.faults files.old)) (clock_seen (C.tells clock.old) (C.told clock.old)) → Kept marks whole (core_seen (E.view core.new) (E.fresh core.new) (E.now core.new) (E.refused core.new)) (links_seen (L.link links.new) (L.used links.new) (L.is_open links.new) (L.link_faults links.new)) (files_seen (F.trees files.new) (F.newest files.new) (F.faults files.new)) (clock_seen (C.tells clock.new) (C.told clock.new))) }
-    ensures matched { OnOk result (IsMatched (E.view core.new) (L.is_open links.new)) }
-    ensures heard { L.tells links.old ≡ true → IsHeard (L.is_open links.old) (L.link links.old) memory.old.unread → OnOk result (IsHeard (L.is_open links.new) (L.link links.new) memory.new.unread) }
-    ensures known { OnOk result ((E.now core.new).tree ≤ F.newest files.new) }
-    ensures turns { IfOk result (λ e. C.tells clock.old ≡ true → TurnsTaken e turns (length (C.told clock.old)) (length (C.told clock.new))) }
+    requires matched { IsMatched (E.seen core.old).view (L.seen links.old).is_open }
+    requires known { (E.seen core.old).now.tree ≤ (F.seen files.old).newest }
+    ensures kept { OnOk result (KeptThrough (E.seen core.old) (E.seen core.new) (L.seen links.old) (L.seen links.new) (F.seen files.old) (F.seen files.new) (C.seen clock.old) (C.seen clock.new)) }
+    ensures matched { OnOk result (IsMatched (E.seen core.new).view (L.seen links.new).is_open) }
+    ensures heard { (L.seen links.old).tells ≡ true → IsHeard (L.seen links.old).is_open (L.seen links.old).link memory.old.unread → OnOk result (IsHeard (L.seen links.new).is_open (L.seen links.new).link memory.new.unread) }
+    ensures known { OnOk result ((E.seen core.new).now.tree ≤ (F.seen files.new).newest) }
+    ensures turns { IfOk result (λ e. (L.seen links.old).tells ≡ true → (L.seen links.old).notices ≤ 2 ^ 64 - 1 → TurnsTaken e turns (L.seen links.old).notices (L.seen links.new).notices) }
     ensures listened { IfOk result (λ e. e ≢ Ending.ListenFault) }
-    ensures ended { result ≡ Ok Ending.Ended → L.over links.new ≡ true }
-    ensures failed { result ≡ Ok Ending.NextFault → Rose (L.faults links.old) (L.faults links.new) }
-    ensures beside { OnOk result (StandBeside (E.events core.old) (E.events core.new) (L.answers links.old) (L.answers links.new) (F.answers files.old) (F.answers files.new) (moments_told (C.tells clock.old) (C.told clock.old)) (moments_told (C.tells clock.new) (C.told clock.new))) }
-    ensures steady { OnOk result ((E.fresh core.new ≡ E.fresh core.old) × (E.price core.new ≡ E.price core.old)) }
-    ensures grown { OnOk result (F.newest files.old ≤ F.newest files.new) }
-    ensures later { OnOk result (L.faults links.old ≤ L.faults links.new) }
-    ensures stays_over { OnOk result (L.over links.old ≡ true → L.over links.new ≡ true) }
-    ensures tells { OnOk result (((L.tells links.new ≡ L.tells links.old) × (L.listening links.new ≡ L.listening links.old) × (F.tells files.new ≡ F.tells files.old)) × (C.tells clock.new ≡ C.tells clock.old)) }
+    ensures ended { result ≡ Ok Ending.Ended → (L.seen links.new).over ≡ true }
+    ensures failed { result ≡ Ok Ending.NextFault → Rose (L.seen links.old).faults (L.seen links.new).faults }
+    ensures beside { OnOk result (StandBeside (E.seen core.old).events (E.seen core.new).events (L.seen links.old).answers (L.seen links.new).answers (F.seen files.old).answers (F.seen files.new).answers (moments_told (C.seen clock.old).tells (C.seen clock.old).told) (moments_told (C.seen clock.new).tells (C.seen clock.new).told)) }
+    ensures steady { OnOk result ((E.seen core.new).terms ≡ (E.seen core.old).terms) }
+    ensures grown { OnOk result ((F.seen files.old).newest ≤ (F.seen files.new).newest) }
+    ensures later { OnOk result ((L.seen links.old).faults ≤ (L.seen links.new).faults) }
+    ensures stays_over { OnOk result ((L.seen links.old).over ≡ true → (L.seen links.new).over ≡ true) }
+    ensures tells { OnOk result ((((L.seen links.new).tells ≡ (L.seen links.old).tells) × ((L.seen links.new).listening ≡ (L.seen links.old).listening) × ((F.seen files.new).tells ≡ (F.seen files.old).tells)) × ((C.seen clock.new).tells ≡ (C.seen clock.old).tells)) }
 {
     let mut last = None;
     for _turn in 0..turns {
         let taken = take_turn(core, files, links, clock, memory, conns, last)?;
         last = Some(taken.told);
-        match taken.heard {
-            Heard::At { conn: _, due: _ } => {}
-            Heard::Nothing => {}
-            Heard::Ended => return Ok(Ending::Ended),
-            Heard::Failed => return Ok(Ending::NextFault),
+        if let Some(ending) = ending_by(taken.heard) {
+            return Ok(ending);
         }
     }
     Ok(Ending::TurnsUsed)
@@ -106,22 +113,22 @@ fn serve_turns<E: EventCore, F: Files, L: Links, C: Clock>(
     clock: &mut C,
     turns: u64,
 ) -> Result<Ending, OutOfMemory>
-    requires matched { IsMatched (E.view core.old) (L.is_open links.old) }
-    requires known { (E.now core.old).tree ≤ F.newest files.old }
-    ensures kept { OnOk result (L.tells links.old ≡ true → F.tells files.old ≡ true → (marks : Marks) (whole : ℕ → End → End → Course) → Kept marks whole (core_seen (E.view core.old) (E.fresh core.old) (E.now core.old) (E.refused core.old)) (links_seen (L.link links.old) (L.used links.old) (L.is_open links.old) (L.link_faults links.old)) (files_seen (F.trees files.old) (F.newest files.old) (F.faults files.old)) (clock_seen (C.tells clock.old) (C.told clock.old)) → Kept marks whole (core_seen (E.view core.new) (E.fresh core.new) (E.now core.new) (E.refused core.new)) (links_seen (L.link links.new) (L.used links.new) (L.is_open links.new) (L.link_faults links.new)) (files_seen (F.trees files.new) (F.newest files.new) (F.faults files.new)) (clock_seen (C.tells clock.new) (C.told clock.new))) }
-    ensures matched { OnOk result (IsMatched (E.view core.new) (L.is_open links.new)) }
-    ensures rests { OnOk result ((c : ℕ) → (E.view core.new c).held ≡ true → AtRest ((L.tells links.old ≡ true) × DueHasWants (L.is_open links.old) (L.link links.old) (E.view core.old)) (L.tells links.old ≡ true) (E.view core.new c) (L.link links.new c)) }
-    ensures known { OnOk result ((E.now core.new).tree ≤ F.newest files.new) }
-    ensures turns { IfOk result (λ e. C.tells clock.old ≡ true → TurnsTaken e turns (length (C.told clock.old)) (length (C.told clock.new))) }
+    requires matched { IsMatched (E.seen core.old).view (L.seen links.old).is_open }
+    requires known { (E.seen core.old).now.tree ≤ (F.seen files.old).newest }
+    ensures kept { OnOk result (KeptThrough (E.seen core.old) (E.seen core.new) (L.seen links.old) (L.seen links.new) (F.seen files.old) (F.seen files.new) (C.seen clock.old) (C.seen clock.new)) }
+    ensures matched { OnOk result (IsMatched (E.seen core.new).view (L.seen links.new).is_open) }
+    ensures rests { OnOk result ((c : ℕ) → ((E.seen core.new).view c).held ≡ true → AtRest (((L.seen links.old).tells ≡ true) × DueHasWants (L.seen links.old).is_open (L.seen links.old).link (E.seen core.old).view) ((L.seen links.old).tells ≡ true) ((E.seen core.new).view c) ((L.seen links.new).link c)) }
+    ensures known { OnOk result ((E.seen core.new).now.tree ≤ (F.seen files.new).newest) }
+    ensures turns { IfOk result (λ e. (L.seen links.old).tells ≡ true → (L.seen links.old).notices ≤ 2 ^ 64 - 1 → TurnsTaken e turns (L.seen links.old).notices (L.seen links.new).notices) }
     ensures listened { IfOk result (λ e. e ≢ Ending.ListenFault) }
-    ensures ended { result ≡ Ok Ending.Ended → L.over links.new ≡ true }
-    ensures failed { result ≡ Ok Ending.NextFault → Rose (L.faults links.old) (L.faults links.new) }
-    ensures beside { OnOk result (StandBeside (E.events core.old) (E.events core.new) (L.answers links.old) (L.answers links.new) (F.answers files.old) (F.answers files.new) (moments_told (C.tells clock.old) (C.told clock.old)) (moments_told (C.tells clock.new) (C.told clock.new))) }
-    ensures steady { OnOk result ((E.fresh core.new ≡ E.fresh core.old) × (E.price core.new ≡ E.price core.old)) }
-    ensures grown { OnOk result (F.newest files.old ≤ F.newest files.new) }
-    ensures later { OnOk result (L.faults links.old ≤ L.faults links.new) }
-    ensures stays_over { OnOk result (L.over links.old ≡ true → L.over links.new ≡ true) }
-    ensures tells { OnOk result (((L.tells links.new ≡ L.tells links.old) × (L.listening links.new ≡ L.listening links.old) × (F.tells files.new ≡ F.tells files.old)) × (C.tells clock.new ≡ C.tells clock.old)) }
+    ensures ended { result ≡ Ok Ending.Ended → (L.seen links.new).over ≡ true }
+    ensures failed { result ≡ Ok Ending.NextFault → Rose (L.seen links.old).faults (L.seen links.new).faults }
+    ensures beside { OnOk result (StandBeside (E.seen core.old).events (E.seen core.new).events (L.seen links.old).answers (L.seen links.new).answers (F.seen files.old).answers (F.seen files.new).answers (moments_told (C.seen clock.old).tells (C.seen clock.old).told) (moments_told (C.seen clock.new).tells (C.seen clock.new).told)) }
+    ensures steady { OnOk result ((E.seen core.new).terms ≡ (E.seen core.old).terms) }
+    ensures grown { OnOk result ((F.seen files.old).newest ≤ (F.seen files.new).newest) }
+    ensures later { OnOk result ((L.seen links.old).faults ≤ (L.seen links.new).faults) }
+    ensures stays_over { OnOk result ((L.seen links.old).over ≡ true → (L.seen links.new).over ≡ true) }
+    ensures tells { OnOk result ((((L.seen links.new).tells ≡ (L.seen links.old).tells) × ((L.seen links.new).listening ≡ (L.seen links.old).listening) × ((F.seen files.new).tells ≡ (F.seen files.old).tells)) × ((C.seen clock.new).tells ≡ (C.seen clock.old).tells)) }
 {
     let mut memory = Memory {
         buffers: Buffers {
@@ -145,6 +152,8 @@ fn serve_turns<E: EventCore, F: Files, L: Links, C: Clock>(
 /// Where a moment is told that differs from the one before, and at the end, all connections are looked at, since a tick
 /// may have given some up.
 ///
+/// At the end the links are told how many events the core has refused for want of memory.
+///
 /// The connections that the core holds are to be those whose links are open, and are so at the end: a link whose
 /// connection is refused is closed at once.
 pub fn serve<E: EventCore, F: Files, L: Links, C: Clock>(
@@ -156,42 +165,42 @@ pub fn serve<E: EventCore, F: Files, L: Links, C: Clock>(
     addrs: &[Addr],
     turns: u64,
 ) -> Result<Ending, OutOfMemory>
-    requires matched { IsMatched (E.view core.old) (L.is_open links.old) }
-    requires known { (E.now core.old).tree ≤ F.newest files.old }
+    requires matched { IsMatched (E.seen core.old).view (L.seen links.old).is_open }
+    requires known { (E.seen core.old).now.tree ≤ (F.seen files.old).newest }
 
     // Where links and files tell what they do, what came and went on each connection stays accounted for.
-    ensures kept { OnOk result (L.tells links.old ≡ true → F.tells files.old ≡ true →
-        (marks : Marks) (whole : ℕ → End → End → Course) →
-        Kept marks whole (core_seen (E.view core.old) (E.fresh core.old) (E.now core.old) (E.refused core.old)) (links_seen (L.link links.old) (L.used links.old) (L.is_open links.old) (L.link_faults links.old)) (files_seen (F.trees files.old) (F.newest files.old) (F.faults files.old)) (clock_seen (C.tells clock.old) (C.told clock.old)) →
-        Kept marks whole (core_seen (E.view core.new) (E.fresh core.new) (E.now core.new) (E.refused core.new)) (links_seen (L.link links.new) (L.used links.new) (L.is_open links.new) (L.link_faults links.new)) (files_seen (F.trees files.new) (F.newest files.new) (F.faults files.new)) (clock_seen (C.tells clock.new) (C.told clock.new))) }
-    ensures matched { OnOk result (IsMatched (E.view core.new) (L.is_open links.new)) }
+    ensures kept { OnOk result (KeptThrough (E.seen core.old) (E.seen core.new) (L.seen links.old) (L.seen links.new) (F.seen files.old) (F.seen files.new) (C.seen clock.old) (C.seen clock.new)) }
+    ensures matched { OnOk result (IsMatched (E.seen core.new).view (L.seen links.new).is_open) }
 
     // What links and files answered and what the clock told, the core was given, each in its order: as far as it is told.
-    ensures beside { OnOk result (StandBeside (E.events core.old) (E.events core.new) (L.answers links.old) (L.answers links.new) (F.answers files.old) (F.answers files.new) (moments_told (C.tells clock.old) (C.told clock.old)) (moments_told (C.tells clock.new) (C.told clock.new))) }
+    ensures beside { OnOk result (StandBeside (E.seen core.old).events (E.seen core.new).events (L.seen links.old).answers (L.seen links.new).answers (F.seen files.old).answers (F.seen files.new).answers (moments_told (C.seen clock.old).tells (C.seen clock.old).told) (moments_told (C.seen clock.new).tells (C.seen clock.new).told)) }
 
     // Nothing is left to do. Of a link that was due at the start that is said where its connection had a want then.
-    ensures rests { IfOk result (λ e. e ≢ Ending.ListenFault → (c : ℕ) → (E.view core.new c).held ≡ true →
-        AtRest ((L.tells links.old ≡ true) × DueHasWants (L.is_open links.old) (L.link links.old) (E.view core.old))
-        (L.tells links.old ≡ true) (E.view core.new c) (L.link links.new c)) }
+    ensures rests { IfOk result (λ e. e ≢ Ending.ListenFault → (c : ℕ) → ((E.seen core.new).view c).held ≡ true →
+        AtRest (((L.seen links.old).tells ≡ true) × DueHasWants (L.seen links.old).is_open (L.seen links.old).link (E.seen core.old).view)
+        ((L.seen links.old).tells ≡ true) ((E.seen core.new).view c) ((L.seen links.new).link c)) }
 
-    // How it ends. Each turn reads the clock once.
-    ensures turns { IfOk result (λ e. C.tells clock.old ≡ true → TurnsTaken e turns (length (C.told clock.old)) (length (C.told clock.new))) }
-    ensures listens { IfOk result (λ e. e ≢ Ending.ListenFault → L.listening links.new ≡ L.listening links.old ++ addrs.now) }
-    ensures ended { result ≡ Ok Ending.Ended → L.over links.new ≡ true }
-    ensures listen_fault { result ≡ Ok Ending.ListenFault → Rose (L.faults links.old) (L.faults links.new) }
-    ensures next_fault { result ≡ Ok Ending.NextFault → Rose (L.faults links.old) (L.faults links.new) }
+    // How it ends. Each turn handles one notice.
+    ensures turns { IfOk result (λ e. (L.seen links.old).tells ≡ true → (L.seen links.old).notices ≤ 2 ^ 64 - 1 → TurnsTaken e turns (L.seen links.old).notices (L.seen links.new).notices) }
+    ensures listens { IfOk result (λ e. e ≢ Ending.ListenFault → (L.seen links.new).listening ≡ (L.seen links.old).listening ++ addrs.now) }
+    ensures ended { result ≡ Ok Ending.Ended → (L.seen links.new).over ≡ true }
+    ensures refused { OnOk result ((L.seen links.new).refused ≡ (E.seen core.new).refused) }
+    ensures listen_fault { result ≡ Ok Ending.ListenFault → Rose (L.seen links.old).faults (L.seen links.new).faults }
+    ensures next_fault { result ≡ Ok Ending.NextFault → Rose (L.seen links.old).faults (L.seen links.new).faults }
 
     // What stays, so that it can be served on.
-    ensures known { OnOk result ((E.now core.new).tree ≤ F.newest files.new) }
-    ensures grown { OnOk result (F.newest files.old ≤ F.newest files.new) }
-    ensures fresh { OnOk result (E.fresh core.new ≡ E.fresh core.old) }
-    ensures links_tell { OnOk result (L.tells links.new ≡ L.tells links.old) }
-    ensures files_tell { OnOk result (F.tells files.new ≡ F.tells files.old) }
-    ensures clock_tells { OnOk result (C.tells clock.new ≡ C.tells clock.old) }
+    ensures known { OnOk result ((E.seen core.new).now.tree ≤ (F.seen files.new).newest) }
+    ensures grown { OnOk result ((F.seen files.old).newest ≤ (F.seen files.new).newest) }
+    ensures terms { OnOk result ((E.seen core.new).terms ≡ (E.seen core.old).terms) }
+    ensures links_tell { OnOk result ((L.seen links.new).tells ≡ (L.seen links.old).tells) }
+    ensures files_tell { OnOk result ((F.seen files.new).tells ≡ (F.seen files.old).tells) }
+    ensures clock_tells { OnOk result ((C.seen clock.new).tells ≡ (C.seen clock.old).tells) }
 {
     if !listen_all(links, addrs) {
+        links.tell_refused(core.refused());
         return Ok(Ending::ListenFault);
     }
     let ending = serve_turns(alloc, core, files, links, clock, turns)?;
+    links.tell_refused(core.refused());
     Ok(ending)
 }

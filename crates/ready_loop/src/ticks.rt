@@ -1,28 +1,33 @@
 // Tells a core the clock's moment and the number of the newest tree.
-ghost use Rattle.std.specs.Prelude.{◌≡◌, ◌≤◌, ◌++◌, ◌∷◌, ℕ, [], true, false, IfSome, Some, None, Option, List};
+ghost use Rattle.std.specs.Prelude.{◌≡◌, ◌≤◌, ◌++◌, ◌∷◌, ℕ, [], true, false, length, IfSome, Some, None, Option, List};
 ghost use Rattle.http_types.specs.declared.words.Addr.{Addr as End};
 ghost use Rattle.ngx_outside.specs.Views.{Course, Ticked, kept_moment};
-ghost use Rattle.ready_loop.specs.Seen.{FilesSeen, LinksSeen, clock_seen, core_seen};
+ghost use Rattle.ngx_outside.specs.Seen.{LinksSeen};
+ghost use Rattle.ready_loop.specs.Seen.{Grown, Tick};
 ghost use Rattle.ready_loop.specs.Standing.{Kept, Marks};
-ghost use Rattle.ready_loop.specs.Turns.{WasTold};
+ghost use Rattle.ready_loop.specs.Turns.{WasTold, tick_at};
 ghost use Rattle.ready_loop.specs.declared.ticks.Told.{Told};
-ghost use Rattle.ngx_outside.specs.Records.{FileAnswer, LinkAnswer};
+ghost use Rattle.ngx_outside.specs.Records.{Adds, FileAnswer, LinkAnswer};
 ghost use Rattle.ready_loop.specs.Tellings.{StandBeside, moments_told};
 
 use crate::events::{ticked, tree_told};
 use ngx_outside::{Clock, EventCore, Files};
 
 // Tells the core the number of the newest tree, where it was told another before.
-fn tell_tree<E: EventCore, F: Files>(core: &mut E, files: &F, tree: Option<u64>) -> u64
-    requires known { (E.now core.old).tree ≤ F.newest files.now }
-    requires told { IfSome tree (λ to. (E.now core.old).tree ≡ to) }
-    ensures views { (c : ℕ) → E.view core.new c ≡ E.view core.old c }
-    ensures moment { (E.now core.new).moment ≡ (E.now core.old).moment }
-    ensures tree { (E.now core.new).tree ≡ F.newest files.now }
-    ensures told { result ≡ F.newest files.now }
-    ensures beside { (links : Option (List LinkAnswer)) (files : Option (List FileAnswer)) (clock : Option (List ℕ)) → StandBeside (E.events core.old) (E.events core.new) links links files files clock clock }
-    ensures steady { (E.fresh core.new ≡ E.fresh core.old) × (E.price core.new ≡ E.price core.old) }
-    ensures refused { E.refused core.new ≡ E.refused core.old }
+fn tell_tree<E: EventCore, F: Files>(core: &mut E, files: &mut F, tree: Option<u64>) -> u64
+    requires known { (E.seen core.old).now.tree ≤ (F.seen files.old).newest }
+    requires told { IfSome tree (λ to. (E.seen core.old).now.tree ≡ to) }
+    ensures views { (c : ℕ) → (E.seen core.new).view c ≡ (E.seen core.old).view c }
+    ensures moment { (E.seen core.new).now.moment ≡ (E.seen core.old).now.moment }
+    ensures tree { (E.seen core.new).now.tree ≡ result }
+    ensures told { result ≡ (F.seen files.new).newest }
+    ensures versions { Adds result (F.seen files.old).versions (F.seen files.new).versions }
+    ensures grown { Grown (F.seen files.old) (F.seen files.new) }
+    ensures same { ((F.seen files.new).tells ≡ (F.seen files.old).tells) × ((F.seen files.new).answers ≡ (F.seen files.old).answers) }
+    ensures beside { (links : Option (List LinkAnswer)) (files : Option (List FileAnswer)) (clock : Option (List ℕ)) →
+        StandBeside (E.seen core.old).events (E.seen core.new).events links links files files clock clock }
+    ensures steady { ((E.seen core.new).terms ≡ (E.seen core.old).terms) × (length (E.seen core.new).conns ≡ length (E.seen core.old).conns) }
+    ensures refused { (E.seen core.new).refused ≡ (E.seen core.old).refused }
 {
     let newest = files.version();
     if tree != Some(newest) {
@@ -51,19 +56,25 @@ fn tree_of(told: Option<Told>) -> Option<u64>
 /// Tells the core the clock's moment, and the number of the newest tree where it rose. What it was told last is answered.
 pub fn tick<E: EventCore, F: Files, C: Clock>(
     core: &mut E,
-    files: &F,
+    files: &mut F,
     clock: &mut C,
     last: Option<Told>,
 ) -> Told
-    requires known { (E.now core.old).tree ≤ F.newest files.now }
-    requires told { IfSome last (λ to. (E.now core.old).tree ≡ to.tree) }
-    ensures kept { (marks : Marks) (whole : ℕ → End → End → Course) (links : LinksSeen) (files : FilesSeen) → Kept marks whole (core_seen (E.view core.old) (E.fresh core.old) (E.now core.old) (E.refused core.old)) links files (clock_seen (C.tells clock.old) (C.told clock.old)) → Kept marks whole (core_seen (E.view core.new) (E.fresh core.new) (E.now core.new) (E.refused core.new)) links files (clock_seen (C.tells clock.new) (C.told clock.new)) }
-    ensures ticked { (c : ℕ) → Ticked (kept_moment result.moment) (E.view core.old c) (E.view core.new c) }
-    ensures tree { ((E.now core.new).tree ≡ F.newest files.now) × (result.tree ≡ F.newest files.now) }
-    ensures moments { C.tells clock.old ≡ true → C.told clock.new ≡ C.told clock.old ++ result.moment ∷ [] }
-    ensures tells { C.tells clock.new ≡ C.tells clock.old }
-    ensures beside { (links : Option (List LinkAnswer)) (files : Option (List FileAnswer)) → StandBeside (E.events core.old) (E.events core.new) links links files files (moments_told (C.tells clock.old) (C.told clock.old)) (moments_told (C.tells clock.new) (C.told clock.new)) }
-    ensures steady { (E.fresh core.new ≡ E.fresh core.old) × (E.price core.new ≡ E.price core.old) }
+    requires known { (E.seen core.old).now.tree ≤ (F.seen files.old).newest }
+    requires told { IfSome last (λ to. (E.seen core.old).now.tree ≡ to.tree) }
+    ensures kept { (marks : Marks) (whole : ℕ → End → End → Course) (links : LinksSeen) (ticks : List Tick) →
+        Kept marks whole (E.seen core.old) links (F.seen files.old) ticks → Kept marks whole (E.seen core.new) links (F.seen files.new) (ticks ++ tick_at result ∷ []) }
+    ensures ticked { (c : ℕ) → Ticked (kept_moment result.moment) ((E.seen core.old).view c) ((E.seen core.new).view c) }
+    ensures tree { ((E.seen core.new).now.tree ≡ result.tree) × (result.tree ≡ (F.seen files.new).newest) }
+    ensures moments { (C.seen clock.old).tells ≡ true → (C.seen clock.new).told ≡ (C.seen clock.old).told ++ result.moment ∷ [] }
+    ensures versions { Adds result.tree (F.seen files.old).versions (F.seen files.new).versions }
+    ensures tells { (C.seen clock.new).tells ≡ (C.seen clock.old).tells }
+    ensures same { ((F.seen files.new).tells ≡ (F.seen files.old).tells) × ((F.seen files.new).answers ≡ (F.seen files.old).answers) }
+    ensures grown { (F.seen files.old).newest ≤ (F.seen files.new).newest }
+    ensures beside { (links : Option (List LinkAnswer)) →
+        StandBeside (E.seen core.old).events (E.seen core.new).events links links (F.seen files.old).answers (F.seen files.new).answers
+        (moments_told (C.seen clock.old).tells (C.seen clock.old).told) (moments_told (C.seen clock.new).tells (C.seen clock.new).told) }
+    ensures steady { (E.seen core.new).terms ≡ (E.seen core.old).terms }
 {
     let moment = clock.now();
     ticked(core, moment);

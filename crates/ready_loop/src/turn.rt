@@ -1,11 +1,12 @@
 // Takes a turn.
-ghost use Rattle.std.specs.Prelude.{◌≡◌, ◌≤◌, ◌+◌, ℕ, true, false, Bool, List, length, OnOk, IfOk, IfSome, Some, Option};
+ghost use Rattle.std.specs.Prelude.{◌≡◌, ◌≤◌, ◌∷◌, ◌++◌, ℕ, [], true, false, Bool, List, OnOk, IfOk, IfSome, Some, Option};
+ghost use Rattle.ngx_outside.specs.Records.{Adds};
 ghost use Rattle.http_types.specs.declared.words.Addr.{Addr as End};
 ghost use Rattle.ngx_outside.specs.Causes.{Rose};
 ghost use Rattle.ngx_outside.specs.Views.{Course};
-ghost use Rattle.ready_loop.specs.Seen.{ClockSeen, clock_seen, core_seen, files_seen, links_seen};
-ghost use Rattle.ready_loop.specs.Standing.{IsMatched, Kept, Marks};
-ghost use Rattle.ready_loop.specs.Turns.{AllRest, HeardAs, IsHeard, RestsBut, WasTold};
+ghost use Rattle.ready_loop.specs.Seen.{Tick};
+ghost use Rattle.ready_loop.specs.Standing.{IsMatched, Keeps, Kept, Marks};
+ghost use Rattle.ready_loop.specs.Turns.{AllRest, HeardAs, HeardCounts, IsHeard, RestsBut, WasTold, tick_at};
 ghost use Rattle.ready_loop.specs.Tellings.{StandBeside, moments_told};
 
 use crate::conns::{Memory, serve_all, serve_one};
@@ -23,18 +24,20 @@ fn serve_late<E: EventCore, F: Files, L: Links>(
     conns: &mut Vec<u32>,
     is_late: bool,
 ) -> Result<(), OutOfMemory>
-    requires matched { IsMatched (E.view core.old) (L.is_open links.old) }
-    requires known { (E.now core.old).tree ≤ F.newest files.old }
-    ensures kept { OnOk result (L.tells links.old ≡ true → F.tells files.old ≡ true → (marks : Marks) (whole : ℕ → End → End → Course) (clock : ClockSeen) → Kept marks whole (core_seen (E.view core.old) (E.fresh core.old) (E.now core.old) (E.refused core.old)) (links_seen (L.link links.old) (L.used links.old) (L.is_open links.old) (L.link_faults links.old)) (files_seen (F.trees files.old) (F.newest files.old) (F.faults files.old)) clock → Kept marks whole (core_seen (E.view core.new) (E.fresh core.new) (E.now core.new) (E.refused core.new)) (links_seen (L.link links.new) (L.used links.new) (L.is_open links.new) (L.link_faults links.new)) (files_seen (F.trees files.new) (F.newest files.new) (F.faults files.new)) clock) }
-    ensures matched { OnOk result (IsMatched (E.view core.new) (L.is_open links.new)) }
-    ensures heard { L.tells links.old ≡ true → IsHeard (L.is_open links.old) (L.link links.old) memory.old.unread → OnOk result (IsHeard (L.is_open links.new) (L.link links.new) memory.new.unread) }
-    ensures rests { (h : Bool) → (h ≡ true → (L.tells links.old ≡ true) × IsHeard (L.is_open links.old) (L.link links.old) memory.old.unread) → AllRest (h ≡ true) (L.tells links.old ≡ true) (Unit {0}) (E.view core.old) (L.link links.old) → OnOk result (AllRest (h ≡ true) (L.tells links.old ≡ true) (is_late ≡ false) (E.view core.new) (L.link links.new)) }
-    ensures beside { OnOk result ((clock : Option (List ℕ)) → StandBeside (E.events core.old) (E.events core.new) (L.answers links.old) (L.answers links.new) (F.answers files.old) (F.answers files.new) clock clock) }
-    ensures steady { OnOk result ((E.fresh core.new ≡ E.fresh core.old) × (E.price core.new ≡ E.price core.old) × (E.now core.new ≡ E.now core.old)) }
-    ensures later { OnOk result (L.faults links.old ≤ L.faults links.new) }
-    ensures stays_over { OnOk result (L.over links.old ≡ true → L.over links.new ≡ true) }
-    ensures tells { OnOk result ((L.tells links.new ≡ L.tells links.old) × (L.listening links.new ≡ L.listening links.old) × (F.tells files.new ≡ F.tells files.old)) }
-    ensures grown { OnOk result (F.newest files.old ≤ F.newest files.new) }
+    requires matched { IsMatched (E.seen core.old).view (L.seen links.old).is_open }
+    requires known { (E.seen core.old).now.tree ≤ (F.seen files.old).newest }
+    ensures kept { OnOk result (Keeps (E.seen core.old) (E.seen core.new) (L.seen links.old) (L.seen links.new) (F.seen files.old) (F.seen files.new)) }
+    ensures matched { OnOk result (IsMatched (E.seen core.new).view (L.seen links.new).is_open) }
+    ensures heard { (L.seen links.old).tells ≡ true → IsHeard (L.seen links.old).is_open (L.seen links.old).link memory.old.unread → OnOk result (IsHeard (L.seen links.new).is_open (L.seen links.new).link memory.new.unread) }
+    ensures rests { (h : Bool) → (h ≡ true → ((L.seen links.old).tells ≡ true) × IsHeard (L.seen links.old).is_open (L.seen links.old).link memory.old.unread) → AllRest (h ≡ true) ((L.seen links.old).tells ≡ true) (Unit {0}) (E.seen core.old).view (L.seen links.old).link → OnOk result (AllRest (h ≡ true) ((L.seen links.old).tells ≡ true) (is_late ≡ false) (E.seen core.new).view (L.seen links.new).link) }
+    ensures beside { OnOk result ((clock : Option (List ℕ)) → StandBeside (E.seen core.old).events (E.seen core.new).events (L.seen links.old).answers (L.seen links.new).answers (F.seen files.old).answers (F.seen files.new).answers clock clock) }
+    ensures steady { OnOk result (((E.seen core.new).terms ≡ (E.seen core.old).terms) × ((E.seen core.new).now ≡ (E.seen core.old).now)) }
+    ensures later { OnOk result ((L.seen links.old).faults ≤ (L.seen links.new).faults) }
+    ensures stays_over { OnOk result ((L.seen links.old).over ≡ true → (L.seen links.new).over ≡ true) }
+    ensures notices { OnOk result ((L.seen links.old).tells ≡ true → (L.seen links.new).notices ≡ (L.seen links.old).notices) }
+    ensures versions { OnOk result ((F.seen files.new).versions ≡ (F.seen files.old).versions) }
+    ensures tells { OnOk result (((L.seen links.new).tells ≡ (L.seen links.old).tells) × ((L.seen links.new).listening ≡ (L.seen links.old).listening) × ((F.seen files.new).tells ≡ (F.seen files.old).tells)) }
+    ensures grown { OnOk result ((F.seen files.old).newest ≤ (F.seen files.new).newest) }
 {
     if is_late {
         serve_all(core, files, links, memory, conns)?;
@@ -50,18 +53,20 @@ fn serve_heard<E: EventCore, F: Files, L: Links>(
     memory: &mut Memory,
     heard: Heard,
 ) -> Result<(), OutOfMemory>
-    requires matched { IsMatched (E.view core.old) (L.is_open links.old) }
-    requires known { (E.now core.old).tree ≤ F.newest files.old }
-    ensures kept { OnOk result (L.tells links.old ≡ true → F.tells files.old ≡ true → (marks : Marks) (whole : ℕ → End → End → Course) (clock : ClockSeen) → Kept marks whole (core_seen (E.view core.old) (E.fresh core.old) (E.now core.old) (E.refused core.old)) (links_seen (L.link links.old) (L.used links.old) (L.is_open links.old) (L.link_faults links.old)) (files_seen (F.trees files.old) (F.newest files.old) (F.faults files.old)) clock → Kept marks whole (core_seen (E.view core.new) (E.fresh core.new) (E.now core.new) (E.refused core.new)) (links_seen (L.link links.new) (L.used links.new) (L.is_open links.new) (L.link_faults links.new)) (files_seen (F.trees files.new) (F.newest files.new) (F.faults files.new)) clock) }
-    ensures matched { OnOk result (IsMatched (E.view core.new) (L.is_open links.new)) }
-    ensures heard { L.tells links.old ≡ true → HeardAs heard (L.is_open links.old) (L.link links.old) memory.old.unread → OnOk result (IsHeard (L.is_open links.new) (L.link links.new) memory.new.unread) }
-    ensures rests { (h up : Bool) → (h ≡ true → (L.tells links.old ≡ true) × HeardAs heard (L.is_open links.old) (L.link links.old) memory.old.unread) → RestsBut heard (h ≡ true) (L.tells links.old ≡ true) (up ≡ true) (E.view core.old) (L.link links.old) → OnOk result (AllRest (h ≡ true) (L.tells links.old ≡ true) (up ≡ true) (E.view core.new) (L.link links.new)) }
-    ensures beside { OnOk result ((clock : Option (List ℕ)) → StandBeside (E.events core.old) (E.events core.new) (L.answers links.old) (L.answers links.new) (F.answers files.old) (F.answers files.new) clock clock) }
-    ensures steady { OnOk result ((E.fresh core.new ≡ E.fresh core.old) × (E.price core.new ≡ E.price core.old) × (E.now core.new ≡ E.now core.old)) }
-    ensures later { OnOk result (L.faults links.old ≤ L.faults links.new) }
-    ensures stays_over { OnOk result (L.over links.old ≡ true → L.over links.new ≡ true) }
-    ensures tells { OnOk result ((L.tells links.new ≡ L.tells links.old) × (L.listening links.new ≡ L.listening links.old) × (F.tells files.new ≡ F.tells files.old)) }
-    ensures grown { OnOk result (F.newest files.old ≤ F.newest files.new) }
+    requires matched { IsMatched (E.seen core.old).view (L.seen links.old).is_open }
+    requires known { (E.seen core.old).now.tree ≤ (F.seen files.old).newest }
+    ensures kept { OnOk result (Keeps (E.seen core.old) (E.seen core.new) (L.seen links.old) (L.seen links.new) (F.seen files.old) (F.seen files.new)) }
+    ensures matched { OnOk result (IsMatched (E.seen core.new).view (L.seen links.new).is_open) }
+    ensures heard { (L.seen links.old).tells ≡ true → HeardAs heard (L.seen links.old).is_open (L.seen links.old).link memory.old.unread → OnOk result (IsHeard (L.seen links.new).is_open (L.seen links.new).link memory.new.unread) }
+    ensures rests { (h up : Bool) → (h ≡ true → ((L.seen links.old).tells ≡ true) × HeardAs heard (L.seen links.old).is_open (L.seen links.old).link memory.old.unread) → RestsBut heard (h ≡ true) ((L.seen links.old).tells ≡ true) (up ≡ true) (E.seen core.old).view (L.seen links.old).link → OnOk result (AllRest (h ≡ true) ((L.seen links.old).tells ≡ true) (up ≡ true) (E.seen core.new).view (L.seen links.new).link) }
+    ensures beside { OnOk result ((clock : Option (List ℕ)) → StandBeside (E.seen core.old).events (E.seen core.new).events (L.seen links.old).answers (L.seen links.new).answers (F.seen files.old).answers (F.seen files.new).answers clock clock) }
+    ensures steady { OnOk result (((E.seen core.new).terms ≡ (E.seen core.old).terms) × ((E.seen core.new).now ≡ (E.seen core.old).now)) }
+    ensures later { OnOk result ((L.seen links.old).faults ≤ (L.seen links.new).faults) }
+    ensures stays_over { OnOk result ((L.seen links.old).over ≡ true → (L.seen links.new).over ≡ true) }
+    ensures notices { OnOk result ((L.seen links.old).tells ≡ true → (L.seen links.new).notices ≡ (L.seen links.old).notices) }
+    ensures versions { OnOk result ((F.seen files.new).versions ≡ (F.seen files.old).versions) }
+    ensures tells { OnOk result (((L.seen links.new).tells ≡ (L.seen links.old).tells) × ((L.seen links.new).listening ≡ (L.seen links.old).listening) × ((F.seen files.new).tells ≡ (F.seen files.old).tells)) }
+    ensures grown { OnOk result ((F.seen files.old).newest ≤ (F.seen files.new).newest) }
 {
     match heard {
         Heard::At { conn, due } => serve_one(core, files, links, memory, conn, due)?,
@@ -89,23 +94,27 @@ pub fn take_turn<E: EventCore, F: Files, L: Links, C: Clock>(
     conns: &mut Vec<u32>,
     last: Option<Told>,
 ) -> Result<Taken, OutOfMemory>
-    requires matched { IsMatched (E.view core.old) (L.is_open links.old) }
-    requires known { (E.now core.old).tree ≤ F.newest files.old }
-    requires told { IfSome last (λ to. (E.now core.old).tree ≡ to.tree) }
-    ensures kept { OnOk result (L.tells links.old ≡ true → F.tells files.old ≡ true → (marks : Marks) (whole : ℕ → End → End → Course) → Kept marks whole (core_seen (E.view core.old) (E.fresh core.old) (E.now core.old) (E.refused core.old)) (links_seen (L.link links.old) (L.used links.old) (L.is_open links.old) (L.link_faults links.old)) (files_seen (F.trees files.old) (F.newest files.old) (F.faults files.old)) (clock_seen (C.tells clock.old) (C.told clock.old)) → Kept marks whole (core_seen (E.view core.new) (E.fresh core.new) (E.now core.new) (E.refused core.new)) (links_seen (L.link links.new) (L.used links.new) (L.is_open links.new) (L.link_faults links.new)) (files_seen (F.trees files.new) (F.newest files.new) (F.faults files.new)) (clock_seen (C.tells clock.new) (C.told clock.new))) }
-    ensures matched { OnOk result (IsMatched (E.view core.new) (L.is_open links.new)) }
-    ensures heard { L.tells links.old ≡ true → IsHeard (L.is_open links.old) (L.link links.old) memory.old.unread → OnOk result (IsHeard (L.is_open links.new) (L.link links.new) memory.new.unread) }
-    ensures rests { (h : Bool) → (h ≡ true → (L.tells links.old ≡ true) × IsHeard (L.is_open links.old) (L.link links.old) memory.old.unread) → AllRest (h ≡ true) (L.tells links.old ≡ true) (Unit {0}) (E.view core.old) (L.link links.old) → IfOk result (λ t. AllRest (h ≡ true) (L.tells links.old ≡ true) (WasTold last t.told.moment) (E.view core.new) (L.link links.new)) }
-    ensures known { IfOk result (λ t. ((E.now core.new).tree ≡ t.told.tree) × ((E.now core.new).tree ≤ F.newest files.new)) }
-    ensures ended { IfOk result (λ t. t.heard ≡ Heard.Ended → L.over links.new ≡ true) }
-    ensures failed { IfOk result (λ t. t.heard ≡ Heard.Failed → Rose (L.faults links.old) (L.faults links.new)) }
-    ensures moments { OnOk result (C.tells clock.old ≡ true → length (C.told clock.new) ≡ length (C.told clock.old) + 1) }
-    ensures beside { OnOk result (StandBeside (E.events core.old) (E.events core.new) (L.answers links.old) (L.answers links.new) (F.answers files.old) (F.answers files.new) (moments_told (C.tells clock.old) (C.told clock.old)) (moments_told (C.tells clock.new) (C.told clock.new))) }
-    ensures steady { OnOk result ((E.fresh core.new ≡ E.fresh core.old) × (E.price core.new ≡ E.price core.old)) }
-    ensures grown { OnOk result (F.newest files.old ≤ F.newest files.new) }
-    ensures later { OnOk result (L.faults links.old ≤ L.faults links.new) }
-    ensures stays_over { OnOk result (L.over links.old ≡ true → L.over links.new ≡ true) }
-    ensures tells { OnOk result (((L.tells links.new ≡ L.tells links.old) × (L.listening links.new ≡ L.listening links.old) × (F.tells files.new ≡ F.tells files.old)) × (C.tells clock.new ≡ C.tells clock.old)) }
+    requires matched { IsMatched (E.seen core.old).view (L.seen links.old).is_open }
+    requires known { (E.seen core.old).now.tree ≤ (F.seen files.old).newest }
+    requires told { IfSome last (λ to. (E.seen core.old).now.tree ≡ to.tree) }
+    ensures kept { IfOk result (λ t. (L.seen links.old).tells ≡ true → (F.seen files.old).tells ≡ true →
+        (marks : Marks) (whole : ℕ → End → End → Course) (ticks : List Tick) →
+        Kept marks whole (E.seen core.old) (L.seen links.old) (F.seen files.old) ticks → Kept marks whole (E.seen core.new) (L.seen links.new) (F.seen files.new) (ticks ++ tick_at t.told ∷ [])) }
+    ensures versions { IfOk result (λ t. Adds t.told.tree (F.seen files.old).versions (F.seen files.new).versions) }
+    ensures notices { IfOk result (λ t. (L.seen links.old).tells ≡ true → HeardCounts t.heard (L.seen links.old).notices (L.seen links.new).notices) }
+    ensures matched { OnOk result (IsMatched (E.seen core.new).view (L.seen links.new).is_open) }
+    ensures heard { (L.seen links.old).tells ≡ true → IsHeard (L.seen links.old).is_open (L.seen links.old).link memory.old.unread → OnOk result (IsHeard (L.seen links.new).is_open (L.seen links.new).link memory.new.unread) }
+    ensures rests { (h : Bool) → (h ≡ true → ((L.seen links.old).tells ≡ true) × IsHeard (L.seen links.old).is_open (L.seen links.old).link memory.old.unread) → AllRest (h ≡ true) ((L.seen links.old).tells ≡ true) (Unit {0}) (E.seen core.old).view (L.seen links.old).link → IfOk result (λ t. AllRest (h ≡ true) ((L.seen links.old).tells ≡ true) (WasTold last t.told.moment) (E.seen core.new).view (L.seen links.new).link) }
+    ensures known { IfOk result (λ t. ((E.seen core.new).now.tree ≡ t.told.tree) × ((E.seen core.new).now.tree ≤ (F.seen files.new).newest)) }
+    ensures ended { IfOk result (λ t. t.heard ≡ Heard.Ended → (L.seen links.new).over ≡ true) }
+    ensures failed { IfOk result (λ t. t.heard ≡ Heard.Failed → Rose (L.seen links.old).faults (L.seen links.new).faults) }
+    ensures moments { IfOk result (λ t. (C.seen clock.old).tells ≡ true → (C.seen clock.new).told ≡ (C.seen clock.old).told ++ t.told.moment ∷ []) }
+    ensures beside { OnOk result (StandBeside (E.seen core.old).events (E.seen core.new).events (L.seen links.old).answers (L.seen links.new).answers (F.seen files.old).answers (F.seen files.new).answers (moments_told (C.seen clock.old).tells (C.seen clock.old).told) (moments_told (C.seen clock.new).tells (C.seen clock.new).told)) }
+    ensures steady { OnOk result ((E.seen core.new).terms ≡ (E.seen core.old).terms) }
+    ensures grown { OnOk result ((F.seen files.old).newest ≤ (F.seen files.new).newest) }
+    ensures later { OnOk result ((L.seen links.old).faults ≤ (L.seen links.new).faults) }
+    ensures stays_over { OnOk result ((L.seen links.old).over ≡ true → (L.seen links.new).over ≡ true) }
+    ensures tells { OnOk result ((((L.seen links.new).tells ≡ (L.seen links.old).tells) × ((L.seen links.new).listening ≡ (L.seen links.old).listening) × ((F.seen files.new).tells ≡ (F.seen files.old).tells)) × ((C.seen clock.new).tells ≡ (C.seen clock.old).tells)) }
 {
     let told = tick(core, files, clock, last);
     serve_late(

@@ -3,6 +3,7 @@ use Rattle.std.specs.Prelude.{ℕ, Bool, true, false, is_some, List, [], ◌∷�
 use Rattle.std.specs.List.{list_any}
 use Rattle.std.specs.Str.{bytes_eq}
 use Rattle.file_tree.specs.Tree.{Item, AFile, AFolder, Nothing, Tree, Trees}
+use Rattle.ngx_outside.specs.Seen.{FilesSeen}
 use Rattle.replay_text.specs.declared.parts.Conf.{Conf}
 use Rattle.replay_confs.specs.declared.files.ConfFiles.{ConfFiles}
 use Rattle.replay_confs.specs.Paths.{below, first_name}
@@ -50,3 +51,7 @@ trees_of f of = conf_tree (confs_of f)
 
 abbrev pub faults_of : ConfFiles → ℕ
 faults_of f = f.faults
+
+-- all that they show: there is one tree
+abbrev pub confs_shown : ConfFiles → FilesSeen
+confs_shown f = record { tells = true; trees = trees_of f; newest = 0; versions = None; answers = None; faults = faults_of f }

@@ -1,7 +1,7 @@
 // The configuration files of a script, as files.
-ghost use Rattle.std.specs.Prelude.{◌≡◌, ◌≤◌, true, None};
+ghost use Rattle.std.specs.Prelude.{◌≡◌, ◌≤◌};
 ghost use Rattle.ngx_outside.specs.Causes.{Rose};
-ghost use Rattle.replay_confs.specs.Confs.{confs_of, trees_of, faults_of};
+ghost use Rattle.replay_confs.specs.Confs.{confs_of, faults_of, confs_shown};
 
 use crate::confs::{add_names, node_at, part, text_at};
 use byte_text::{ByteText, ByteTexts};
@@ -43,17 +43,9 @@ impl<'a> ConfFiles<'a> {
 }
 
 impl<'a> Files for ConfFiles<'a> {
-    ghost tells = { λ f. true };
+    ghost seen = { confs_shown };
 
-    ghost trees = { trees_of };
-
-    ghost newest = { λ f. 0 };
-
-    ghost answers = { λ f. None };
-
-    ghost faults = { faults_of };
-
-    fn version(&self) -> u64 {
+    fn version(&mut self) -> u64 {
         0
     }
 

@@ -6,6 +6,3 @@ mod files;
 mod paths;
 
 pub use files::ConfFiles;
-
-#[cfg(test)]
-mod tests;

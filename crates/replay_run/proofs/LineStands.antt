@@ -13,6 +13,7 @@ use Rattle.ngx_outside.specs.declared.event.StepAnswer.TheVariants.{Done, Skippe
 use Rattle.ngx_outside.specs.declared.event.Want.{Want}
 use Rattle.ngx_outside.specs.declared.event.Want.TheVariants as want
 use Rattle.ngx_outside.specs.Runs.{Tracked}
+use Rattle.ngx_outside.specs.Seen.{Terms}
 use Rattle.replay_text.specs.declared.parts.EventLine.{EventLine}
 use Rattle.replay_text.specs.declared.parts.EventLine.TheVariants as line
 use Rattle.replay_run.specs.declared.lane.InputEnd.{InputEnd}
@@ -226,44 +227,44 @@ narrowed : (fresh : Addr → Addr → Course) (told told' : Told) (v : ConnView)
 narrowed fresh told told' v l sent g (Unopened h e n w q) = Unopened h e n w q
 narrowed fresh told told' v l sent g (Opened ends came h e n q t) = Opened ends came h e n q (tracks_narrow (fresh ends.local ends.peer) told.trees told'.trees told.newest told'.newest v came l.went g t)
 
-pub line_stands : (fresh : Addr → Addr → Course) (told : Told) (l : EventLine) (a : StepAnswer) (old new : Stage) (sent : ℕ → List ℕ) → LineDoes fresh told l a old new → AllStanding fresh told old sent → AllStanding fresh (told_after l told) new (behind sent l)
-line_stands fresh told (line.Open conn local peer) a old new sent s all =
-    nothing_sent fresh told new sent (behind sent (line.Open conn local peer)) (λ c. refl)
-    (opens_stand fresh told conn (record { local = local; peer = peer }) a old new sent s all)
-line_stands fresh told (line.Bytes conn bytes) a old new sent s all =
-    sends_stand fresh told conn bytes a old new sent (behind sent (line.Bytes conn bytes)) (ap (λ x. sent conn ++ x) (bytes_here conn bytes)) (λ d ne. ap (λ x. sent d ++ x) (bytes_elsewhere conn d bytes ne) ∙ append-nil (sent d)) s all
-line_stands fresh told (line.End conn) a old new sent s all =
-    nothing_sent fresh told new sent (behind sent (line.End conn)) (λ c. refl) (ends_stand fresh told conn a old new sent s all)
-line_stands fresh told (line.Room conn count) a old new sent s all =
-    nothing_sent fresh told new sent (behind sent (line.Room conn count)) (λ c. refl) (writes_stand_at fresh told conn count a old new sent s all)
-line_stands fresh told (line.File conn node) a old new sent s all =
-    nothing_sent fresh told new sent (behind sent (line.File conn node)) (λ c. refl) (job_stands fresh told conn node a old new sent s all)
-line_stands fresh told (line.FileFails conn node) a old new sent s all =
-    nothing_sent fresh told new sent (behind sent (line.FileFails conn node)) (λ c. refl)
-    (plain_one fresh told conn old new sent (passed_one fresh told (old.view conn) (new.view conn) (old.lanes conn) (sent conn) (job_failed_passed nobody.course old.now conn node a (old.view conn) (new.view conn) s.gives.steps.own) (s.gives.ended conn)) s.gives.steps.others s.lanes all)
-line_stands fresh told (line.Run conn node) a old new sent s all =
-    nothing_sent fresh told new sent (behind sent (line.Run conn node)) (λ c. refl)
-    (plain_one fresh told conn old new sent (passed_one fresh told (old.view conn) (new.view conn) (old.lanes conn) (sent conn) (run_passed nobody.course old.now conn node a (old.view conn) (new.view conn) s.gives.steps.own) (s.gives.ended conn)) s.gives.steps.others s.lanes all)
-line_stands fresh told (line.Tick now) a old new sent s all =
-    nothing_sent fresh told new sent (behind sent (line.Tick now)) (λ c. refl) (go a s)
+pub line_stands : (terms : Terms) (told : Told) (l : EventLine) (a : StepAnswer) (old new : Stage) (sent : ℕ → List ℕ) → LineDoes terms told l a old new → AllStanding terms.fresh told old sent → AllStanding terms.fresh (told_after l told) new (behind sent l)
+line_stands terms told (line.Open conn local peer) a old new sent s all =
+    nothing_sent terms.fresh told new sent (behind sent (line.Open conn local peer)) (λ c. refl)
+    (opens_stand terms.fresh told conn (record { local = local; peer = peer }) a old new sent s.0 all)
+line_stands terms told (line.Bytes conn bytes) a old new sent s all =
+    sends_stand terms.fresh told conn bytes a old new sent (behind sent (line.Bytes conn bytes)) (ap (λ x. sent conn ++ x) (bytes_here conn bytes)) (λ d ne. ap (λ x. sent d ++ x) (bytes_elsewhere conn d bytes ne) ∙ append-nil (sent d)) s all
+line_stands terms told (line.End conn) a old new sent s all =
+    nothing_sent terms.fresh told new sent (behind sent (line.End conn)) (λ c. refl) (ends_stand terms.fresh told conn a old new sent s all)
+line_stands terms told (line.Room conn count) a old new sent s all =
+    nothing_sent terms.fresh told new sent (behind sent (line.Room conn count)) (λ c. refl) (writes_stand_at terms.fresh told conn count a old new sent s all)
+line_stands terms told (line.File conn node) a old new sent s all =
+    nothing_sent terms.fresh told new sent (behind sent (line.File conn node)) (λ c. refl) (job_stands terms.fresh told conn node a old new sent s all)
+line_stands terms told (line.FileFails conn node) a old new sent s all =
+    nothing_sent terms.fresh told new sent (behind sent (line.FileFails conn node)) (λ c. refl)
+    (plain_one terms.fresh told conn old new sent (passed_one terms.fresh told (old.view conn) (new.view conn) (old.lanes conn) (sent conn) (job_failed_passed nobody.course old.now conn node a (old.view conn) (new.view conn) s.gives.steps.own) (s.gives.ended conn)) s.gives.steps.others s.lanes all)
+line_stands terms told (line.Run conn node) a old new sent s all =
+    nothing_sent terms.fresh told new sent (behind sent (line.Run conn node)) (λ c. refl)
+    (plain_one terms.fresh told conn old new sent (passed_one terms.fresh told (old.view conn) (new.view conn) (old.lanes conn) (sent conn) (run_passed nobody.course old.now conn node a (old.view conn) (new.view conn) s.gives.steps.own) (s.gives.ended conn)) s.gives.steps.others s.lanes all)
+line_stands terms told (line.Tick now) a old new sent s all =
+    nothing_sent terms.fresh told new sent (behind sent (line.Tick now)) (λ c. refl) (go a s)
   where
-    go : (a : StepAnswer) → Plain fresh (ev.Tick now) a old new → AllStanding fresh told new sent
-    go (Done taken) p c = subst (λ x. Standing fresh told (new.view c) x (sent c)) (sym (p.lanes c)) (passed_one fresh told (old.view c) (new.view c) (old.lanes c) (sent c) (ticked_passed _ (old.view c) (new.view c) (p.gives.steps c)) (p.gives.ended c) (all c))
+    go : (a : StepAnswer) → Plain terms.fresh (ev.Tick now) a old new → AllStanding terms.fresh told new sent
+    go (Done taken) p c = subst (λ x. Standing terms.fresh told (new.view c) x (sent c)) (sym (p.lanes c)) (passed_one terms.fresh told (old.view c) (new.view c) (old.lanes c) (sent c) (ticked_passed _ (old.view c) (new.view c) (p.gives.steps c)) (p.gives.ended c) (all c))
     go Skipped p c = absurd p.gives.steps
     go OutOfMemory p c = absurd p.gives.steps
-line_stands fresh told (line.Tree change) a old new sent s all =
+line_stands terms told (line.Tree change) a old new sent s all =
     let told' = told_after (line.Tree change) told in
-    nothing_sent fresh told' new sent (behind sent (line.Tree change)) (λ c. refl)
-    (λ c. narrowed fresh told told' (new.view c) (new.lanes c) (sent c) (grows (path_of change) (item_of change) told) (tree_stands fresh told _ a old new sent s all c))
-line_stands fresh told (line.TreeGone path) a old new sent s all =
+    nothing_sent terms.fresh told' new sent (behind sent (line.Tree change)) (λ c. refl)
+    (λ c. narrowed terms.fresh told told' (new.view c) (new.lanes c) (sent c) (grows (path_of change) (item_of change) told) (tree_stands terms.fresh told _ a old new sent s all c))
+line_stands terms told (line.TreeGone path) a old new sent s all =
     let told' = told_after (line.TreeGone path) told in
-    nothing_sent fresh told' new sent (behind sent (line.TreeGone path)) (λ c. refl)
-    (λ c. narrowed fresh told told' (new.view c) (new.lanes c) (sent c) (grows path Nothing told) (tree_stands fresh told _ a old new sent s all c))
-line_stands fresh told line.Drain a old new sent s all =
-    nothing_sent fresh told new sent (behind sent line.Drain) (λ c. refl) (drained_stand fresh told old new sent (s.1).path all)
+    nothing_sent terms.fresh told' new sent (behind sent (line.TreeGone path)) (λ c. refl)
+    (λ c. narrowed terms.fresh told told' (new.view c) (new.lanes c) (sent c) (grows path Nothing told) (tree_stands terms.fresh told _ a old new sent s all c))
+line_stands terms told line.Drain a old new sent s all =
+    nothing_sent terms.fresh told new sent (behind sent line.Drain) (λ c. refl) (drained_stand terms.fresh told old new sent (s.1).path all)
 
-pub plays_stand : (fresh : Addr → Addr → Course) (told : Told) (lines : List EventLine) (old new : Stage) (k r k' r' : ℕ) (sent : ℕ → List ℕ) → Plays fresh lines told old k r new k' r' → AllStanding fresh told old sent → AllStanding fresh (told_in lines told) new (λ c. sent c ++ sent_in lines c)
-plays_stand fresh told [] old new k r k' r' sent (Over t s skipped refused) all c = nothing_sent fresh told old sent (λ d. sent d ++ []) (λ d. refl) all c
-plays_stand fresh told (l ∷ lines) old new k r k' r' sent (Line m ms a t o mid last skipped refused skipped' refused' d p) all c =
-    subst (λ x. Standing fresh (told_in lines (told_after l told)) (new.view c) (new.lanes c) x) (append_assoc (sent c) (sent_by l c) (sent_in lines c))
-    (plays_stand fresh (told_after l told) lines mid new _ _ k' r' (behind sent l) p (line_stands fresh told l a old mid sent d all) c)
+pub plays_stand : (terms : Terms) (told : Told) (lines : List EventLine) (old new : Stage) (k r k' r' : ℕ) (sent : ℕ → List ℕ) → Plays terms lines told old k r new k' r' → AllStanding terms.fresh told old sent → AllStanding terms.fresh (told_in lines told) new (λ c. sent c ++ sent_in lines c)
+plays_stand terms told [] old new k r k' r' sent (Over t s skipped refused) all c = nothing_sent terms.fresh told old sent (λ d. sent d ++ []) (λ d. refl) all c
+plays_stand terms told (l ∷ lines) old new k r k' r' sent (Line m ms a t o mid last skipped refused skipped' refused' d p) all c =
+    subst (λ x. Standing terms.fresh (told_in lines (told_after l told)) (new.view c) (new.lanes c) x) (append_assoc (sent c) (sent_by l c) (sent_in lines c))
+    (plays_stand terms (told_after l told) lines mid new _ _ k' r' (behind sent l) p (line_stands terms told l a old mid sent d all) c)

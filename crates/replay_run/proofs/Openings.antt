@@ -4,6 +4,7 @@ use Rattle.std.specs.List.{Contains}
 use Rattle.std.proofs.lemmas.List.Elements.{Contains-append_left, Contains-append_right, Contains-push}
 use Rattle.std.proofs.lemmas.Bool.{cases_eq}
 use Rattle.http_types.specs.declared.words.Addr.{Addr}
+use Rattle.ngx_outside.specs.Seen.{Terms}
 use Rattle.ngx_outside.specs.Views.{ConnView, Course, Start}
 use Rattle.ngx_outside.specs.declared.event.StepAnswer.{StepAnswer}
 use Rattle.ngx_outside.specs.declared.event.StepAnswer.TheVariants.{Done, Skipped, OutOfMemory}
@@ -80,22 +81,22 @@ opens fresh conn local peer a old new s c ends e = go (cases_eq c conn)
     go (inl same) = answered a (sym (ap (λ (l : Lane). l.ends) (s.lanes.own ∙ s.does.keeps)) ∙ ap (λ k. (new.lanes k).ends) (sym same) ∙ e) same
     go (inr ne) = inl (sym (ap (λ (l : Lane). l.ends) (s.lanes.others c ne)) ∙ e)
 
-line_opens : (fresh : Addr → Addr → Course) (told : Told) (l : EventLine) (a : StepAnswer) (old new : Stage) → LineDoes fresh told l a old new → Opened l old new
-line_opens fresh told (line.Open conn local peer) a old new s = opens fresh conn local peer a old new s
-line_opens fresh told (line.Bytes conn bytes) a old new s = kept _ old new (sends_ends fresh conn bytes a old new s)
-line_opens fresh told (line.End conn) a old new s = kept _ old new (closes_ends fresh conn a old new s)
-line_opens fresh told (line.Room conn count) a old new s = kept _ old new (writes_ends fresh conn count a old new s)
-line_opens fresh told (line.File conn node) a old new s = kept _ old new (job_ends fresh told conn node a old new s)
-line_opens fresh told (line.FileFails conn node) a old new s = kept _ old new (λ d. ap (λ (l : Lane). l.ends) (s.lanes d))
-line_opens fresh told (line.Run conn node) a old new s = kept _ old new (λ d. ap (λ (l : Lane). l.ends) (s.lanes d))
-line_opens fresh told (line.Tick now) a old new s = kept _ old new (λ d. ap (λ (l : Lane). l.ends) (s.lanes d))
-line_opens fresh told (line.Tree change) a old new s = kept _ old new (λ d. ap (λ (l : Lane). l.ends) (s.lanes d))
-line_opens fresh told (line.TreeGone path) a old new s = kept _ old new (λ d. ap (λ (l : Lane). l.ends) (s.lanes d))
-line_opens fresh told line.Drain a old new s = kept _ old new (drained_ends fresh told old new (s.1).path)
+line_opens : (terms : Terms) (told : Told) (l : EventLine) (a : StepAnswer) (old new : Stage) → LineDoes terms told l a old new → Opened l old new
+line_opens terms told (line.Open conn local peer) a old new s = opens terms.fresh conn local peer a old new s.0
+line_opens terms told (line.Bytes conn bytes) a old new s = kept _ old new (sends_ends terms.fresh conn bytes a old new s)
+line_opens terms told (line.End conn) a old new s = kept _ old new (closes_ends terms.fresh conn a old new s)
+line_opens terms told (line.Room conn count) a old new s = kept _ old new (writes_ends terms.fresh conn count a old new s)
+line_opens terms told (line.File conn node) a old new s = kept _ old new (job_ends terms.fresh told conn node a old new s)
+line_opens terms told (line.FileFails conn node) a old new s = kept _ old new (λ d. ap (λ (l : Lane). l.ends) (s.lanes d))
+line_opens terms told (line.Run conn node) a old new s = kept _ old new (λ d. ap (λ (l : Lane). l.ends) (s.lanes d))
+line_opens terms told (line.Tick now) a old new s = kept _ old new (λ d. ap (λ (l : Lane). l.ends) (s.lanes d))
+line_opens terms told (line.Tree change) a old new s = kept _ old new (λ d. ap (λ (l : Lane). l.ends) (s.lanes d))
+line_opens terms told (line.TreeGone path) a old new s = kept _ old new (λ d. ap (λ (l : Lane). l.ends) (s.lanes d))
+line_opens terms told line.Drain a old new s = kept _ old new (drained_ends terms.fresh told old new (s.1).path)
 
-pub plays_open : (fresh : Addr → Addr → Course) (told : Told) (lines : List EventLine) (old new : Stage) (k r k' r' : ℕ) → Plays fresh lines told old k r new k' r' → AreOpenedBy lines old.lanes new.lanes
-plays_open fresh told [] old new k r k' r' (Over t s skipped refused) c ends e = inl e
-plays_open fresh told (l ∷ lines) old new k r k' r' (Line m ms a t o mid last skipped refused skipped' refused' d p) c ends e = go (plays_open fresh (told_after l told) lines mid new _ _ k' r' p c ends e)
+pub plays_open : (terms : Terms) (told : Told) (lines : List EventLine) (old new : Stage) (k r k' r' : ℕ) → Plays terms lines told old k r new k' r' → AreOpenedBy lines old.lanes new.lanes
+plays_open terms told [] old new k r k' r' (Over t s skipped refused) c ends e = inl e
+plays_open terms told (l ∷ lines) old new k r k' r' (Line m ms a t o mid last skipped refused skipped' refused' d p) c ends e = go (plays_open terms (told_after l told) lines mid new _ _ k' r' p c ends e)
   where
     this : EventLine
     this = line.Open c ends.local ends.peer
@@ -105,5 +106,5 @@ plays_open fresh told (l ∷ lines) old new k r k' r' (Line m ms a t o mid last 
     first (inr is) = inr (Contains-append_left (l ∷ []) lines this (subst (λ x. Contains (x ∷ []) this) (sym is) (Contains-push [] this)))
 
     go : ((mid.lanes c).ends ≡ Some ends) ⊎ Contains lines this → ((old.lanes c).ends ≡ Some ends) ⊎ Contains (l ∷ lines) this
-    go (inl e) = first (line_opens fresh told l a old mid d c ends e)
+    go (inl e) = first (line_opens terms told l a old mid d c ends e)
     go (inr there) = inr (Contains-append_right (l ∷ []) lines this there)

@@ -138,7 +138,7 @@ job_failed_passed course now conn node Skipped old new s = Stays refl refl s.sam
 job_failed_passed course now conn node OutOfMemory old new s = absurd s
 
 pub ticked_passed : {told : Told} (now : ℕ) (old new : ConnView) → Ticked now old new → Passed told old new [] []
-ticked_passed now old new (GivesUp due is before s) = Stops _ [] refl refl s
+ticked_passed now old new (GivesUp due timed is before s) = Stops _ [] refl refl s
 ticked_passed now old new (Waits not same) = Stays refl refl same
 
 -- a connection that is opened

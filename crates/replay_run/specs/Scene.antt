@@ -1,5 +1,5 @@
 -- A run of a script, between two of its lines.
-use Rattle.std.specs.Prelude.{◌≡◌, ◌≢◌, ℕ, ◌+◌, ◌*◌, ◌≤◌, ◌==◌, ◌||◌, min, Bool, true, false, List, [], ◌∷◌, ◌++◌, length, take, drop, sum_by, Option, None, Some, if◌then◌else◌}
+use Rattle.std.specs.Prelude.{◌≡◌, ◌≢◌, ℕ, ◌+◌, ◌*◌, ◌≤◌, ◌==◌, ◌||◌, ◌&&◌, not, nat_lt, min, Bool, true, false, List, [], ◌∷◌, ◌++◌, length, take, drop, sum_by, Option, None, Some, if◌then◌else◌}
 use Rattle.std.specs.List.{Contains}
 use Rattle.std.specs.Prelude.{◌↔◌}
 use Rattle.std.specs.List.Sorted.{IsStrictlyIncreasing}
@@ -8,7 +8,8 @@ use Rattle.file_tree.specs.Tree.{Trees, HoldsBytes, IsFrom, node_of, tree_of}
 use Rattle.file_tree.specs.declared.job.Ask.{Ask}
 use Rattle.file_tree.specs.declared.job.Ask.TheVariants as ask
 use Rattle.file_tree.specs.declared.job.JobAnswer.{JobAnswer}
-use Rattle.ngx_outside.specs.Views.{ConnView, Course, Start, Steps, now_after, ended_after, no_bytes, ask_in}
+use Rattle.ngx_outside.specs.Seen.{Terms}
+use Rattle.ngx_outside.specs.Views.{ConnView, Course, Start, Steps, OpensIf, now_after, ended_after, no_bytes, ask_in}
 use Rattle.ngx_outside.specs.Wants.{wants_in}
 use Rattle.ngx_outside.specs.declared.event.Event.{Event}
 use Rattle.ngx_outside.specs.declared.event.Event.TheVariants.{Opened, Arrived, Ended, Wrote, FileDone, JobFailed, Run}
@@ -149,6 +150,21 @@ pub record Opens (fresh : Addr → Addr → Course) (c : ℕ) (ends : LinkEnds) 
 abbrev pub longer_lane : Lane → List ℕ → Lane
 longer_lane l bytes = record { queue = l.queue ++ bytes; tail = l.tail; went = l.went; ends = l.ends }
 
+-- the connections that are held, by number
+pub record AreHeld (conns : List ℕ) (view : ℕ → ConnView) : Type 0 where
+  pub order : IsStrictlyIncreasing conns
+  pub held : (c : ℕ) → Contains conns c ↔ ((view c).held ≡ true)
+
+-- A connection can be opened exactly where its number isn't held, fewer connections than the limit are, and somebody answers at
+-- its local end: its opening is skipped exactly where it can't.
+abbrev pub can_open : Terms → List ℕ → (ℕ → ConnView) → ℕ → Addr → Bool
+can_open terms conns view conn local = not (view conn).held && (nat_lt (length conns) terms.limit && terms.serves local)
+
+pub record Openable (terms : Terms) (c : ℕ) (ends : LinkEnds) (a : StepAnswer) (view : ℕ → ConnView) : Type 0 where
+  pub conns : List ℕ
+  pub held : AreHeld conns view
+  pub opens : OpensIf (can_open terms conns view) (Opened c ends.local ends.peer) a
+
 -- Bytes are put behind those that wait, and all are offered; then the input ends where it is due.
 pub record Sends (fresh : Addr → Addr → Course) (c : ℕ) (bytes : List ℕ) (a : StepAnswer) (view : ℕ → ConnView) (now : Start) (view' : ℕ → ConnView) (now' : Start) (lane lane' : Lane) : Type 0 where
   pub first : StepAnswer
@@ -244,11 +260,6 @@ Serves fresh told (want.Run conn node) old new = (a : StepAnswer) × Plain fresh
 Serves fresh told (want.Job conn node) old new = (a : StepAnswer) × JobLine fresh told conn node a old new
 Serves fresh told (want.Write conn) old new = (a : StepAnswer) × WritesLine fresh conn (length (old.view conn).pending) a old new
 Serves fresh told (want.Close conn) old new = ⊥
-
--- the connections that are held, by number
-pub record AreHeld (conns : List ℕ) (view : ℕ → ConnView) : Type 0 where
-  pub order : IsStrictlyIncreasing conns
-  pub held : (c : ℕ) → Contains conns c ↔ ((view c).held ≡ true)
 
 -- Wants are served, each the first that can be.
 pub data Drained (fresh : Addr → Addr → Course) (told : Told) (old : Stage) : Stage → Type 0 where

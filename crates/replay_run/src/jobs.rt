@@ -60,9 +60,9 @@ fn give_found<E: EventCore>(
     found: Found,
     block: &ByteText,
 ) -> StepAnswer
-    ensures answers { (told : Told) (ask : AskOf) → ask_in (E.view core.old conn).jobs node ≡ Some ask → tree_of ask ≤ told.newest → IsFound told.trees ask found block.now → AnswersJob (E.fresh core.old) told conn node result (E.view core.old) (E.now core.old) (E.view core.new) (E.now core.new) }
-    ensures falls { (told : Told) (ask : AskOf) → ask_in (E.view core.old conn).jobs node ≡ Some ask → IsFound told.trees ask found block.now → E.left core.new < E.left core.old }
-    ensures steady { (E.fresh core.new ≡ E.fresh core.old) × (E.price core.new ≡ E.price core.old) }
+    ensures answers { (told : Told) (ask : AskOf) → ask_in ((E.seen core.old).view conn).jobs node ≡ Some ask → tree_of ask ≤ told.newest → IsFound told.trees ask found block.now → AnswersJob (E.seen core.old).terms.fresh told conn node result (E.seen core.old).view (E.seen core.old).now (E.seen core.new).view (E.seen core.new).now }
+    ensures falls { (told : Told) (ask : AskOf) → ask_in ((E.seen core.old).view conn).jobs node ≡ Some ask → IsFound told.trees ask found block.now → (E.seen core.new).left < (E.seen core.old).left }
+    ensures steady { (E.seen core.new).terms ≡ (E.seen core.old).terms }
 {
     match found {
         Found::Stands(stands) => core.step(Event::FileDone {
@@ -88,13 +88,13 @@ pub(crate) fn answer_job<E: EventCore>(
     conn: u32,
     node: u32,
 ) -> Result<StepAnswer, OutOfMemory>
-    requires newest { newest_of files.old ≡ (E.now core.old).tree }
+    requires newest { newest_of files.old ≡ (E.seen core.old).now.tree }
     requires sure { failing_of files.old ≡ [] }
-    ensures answers { IfOk result (λ a. AnswersJob (E.fresh core.old) (told_of files.old) conn node a (E.view core.old) (E.now core.old) (E.view core.new) (E.now core.new)) }
+    ensures answers { IfOk result (λ a. AnswersJob (E.seen core.old).terms.fresh (told_of files.old) conn node a (E.seen core.old).view (E.seen core.old).now (E.seen core.new).view (E.seen core.new).now) }
     ensures told { told_of files.new ≡ told_of files.old }
     ensures sure { failing_of files.new ≡ [] }
-    ensures falls { OnOk result (ask_in (E.view core.old conn).jobs node ≢ None → E.left core.new < E.left core.old) }
-    ensures steady { OnOk result ((E.fresh core.new ≡ E.fresh core.old) × (E.price core.new ≡ E.price core.old)) }
+    ensures falls { OnOk result (ask_in ((E.seen core.old).view conn).jobs node ≢ None → (E.seen core.new).left < (E.seen core.old).left) }
+    ensures steady { OnOk result ((E.seen core.new).terms ≡ (E.seen core.old).terms) }
 {
     let Some(ask) = core.ask(conn, node) else {
         return Ok(StepAnswer::Skipped);

@@ -13,6 +13,3 @@ pub use lane::{InputEnd, Lane, LinkEnds};
 pub use lines::{Counts, run_lines};
 pub use player::Player;
 pub use tree::files_of;
-
-#[cfg(test)]
-mod tests;

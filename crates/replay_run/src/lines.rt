@@ -1,9 +1,5 @@
 // Runs the lines of a script on a core.
 ghost use Rattle.std.specs.Prelude.{◌≡◌, ◌++◌, ℕ, List, [], OnOk, IfOk};
-ghost use Rattle.http_types.specs.declared.words.Addr.{Addr as End};
-ghost use Rattle.ngx_outside.specs.Views.{OpensIf};
-ghost use Rattle.ngx_outside.specs.declared.event.Event.TheVariants.{Opened};
-ghost use Rattle.replay_text.specs.declared.parts.EventLine.TheVariants.{Open as OpenLine};
 ghost use Rattle.memory_outside.specs.Stored.{newest_of, failing_of, item_of as stored_item};
 ghost use Rattle.replay_run.specs.Told.{told_of, told_after, told_in, told_next, next_number};
 ghost use Rattle.replay_run.specs.Scene.{stage, lane_in};
@@ -33,12 +29,12 @@ fn change_tree<E: EventCore>(
     path: &[u8],
     item: StoredItem,
 ) -> Result<StepAnswer, OutOfMemory>
-    requires { newest_of files.old ≡ (E.now core.old).tree }
-    ensures plain { IfOk result (λ a. ChangesTree (E.fresh core.old) (told_of files.old) a (stage (E.view core.old) (E.now core.old) player.now.lanes.items) (stage (E.view core.new) (E.now core.new) player.now.lanes.items)) }
+    requires { newest_of files.old ≡ (E.seen core.old).now.tree }
+    ensures plain { IfOk result (λ a. ChangesTree (E.seen core.old).terms.fresh (told_of files.old) a (stage (E.seen core.old).view (E.seen core.old).now player.now.lanes.items) (stage (E.seen core.new).view (E.seen core.new).now player.now.lanes.items)) }
     ensures told { OnOk result (told_of files.new ≡ told_next path.now (stored_item item) (told_of files.old)) }
     ensures sure { failing_of files.new ≡ failing_of files.old }
-    ensures newest { OnOk result (newest_of files.new ≡ (E.now core.new).tree) }
-    ensures steady { E.fresh core.new ≡ E.fresh core.old }
+    ensures newest { OnOk result (newest_of files.new ≡ (E.seen core.new).now.tree) }
+    ensures steady { (E.seen core.new).terms ≡ (E.seen core.old).terms }
 {
     let to = next_of(files.version());
     let answer = player.give(core, Event::Tree { to });
@@ -59,14 +55,13 @@ fn run_line<E: EventCore>(
     files: &mut MemoryFiles,
     line: &EventLine,
 ) -> Result<StepAnswer, OutOfMemory>
-    requires newest { newest_of files.old ≡ (E.now core.old).tree }
+    requires newest { newest_of files.old ≡ (E.seen core.old).now.tree }
     requires sure { failing_of files.old ≡ [] }
-    ensures does { IfOk result (λ a. LineDoes (E.fresh core.old) (told_of files.old) line.now a (stage (E.view core.old) (E.now core.old) player.old.lanes.items) (stage (E.view core.new) (E.now core.new) player.new.lanes.items)) }
-    ensures opens { (conn : ℕ) (local peer : End) → line.now ≡ OpenLine conn local peer → IfOk result (λ a. OpensIf (E.opens core.old) (Opened conn local peer) a) }
+    ensures does { IfOk result (λ a. LineDoes (E.seen core.old).terms (told_of files.old) line.now a (stage (E.seen core.old).view (E.seen core.old).now player.old.lanes.items) (stage (E.seen core.new).view (E.seen core.new).now player.new.lanes.items)) }
     ensures told { OnOk result (told_of files.new ≡ told_after line.now (told_of files.old)) }
     ensures sure { OnOk result (failing_of files.new ≡ []) }
-    ensures newest { OnOk result (newest_of files.new ≡ (E.now core.new).tree) }
-    ensures steady { OnOk result (E.fresh core.new ≡ E.fresh core.old) }
+    ensures newest { OnOk result (newest_of files.new ≡ (E.seen core.new).now.tree) }
+    ensures steady { OnOk result ((E.seen core.new).terms ≡ (E.seen core.old).terms) }
 {
     match line {
         EventLine::Open { conn, local, peer } => player.open(
@@ -146,12 +141,12 @@ pub fn run_lines<E: EventCore>(
     files: &mut MemoryFiles,
     lines: &[EventLine],
 ) -> Result<Counts, OutOfMemory>
-    requires newest { newest_of files.old ≡ (E.now core.old).tree }
+    requires newest { newest_of files.old ≡ (E.seen core.old).now.tree }
     requires sure { failing_of files.old ≡ [] }
-    ensures plays { IfOk result (λ counts. Plays (E.fresh core.old) lines.now (told_of files.old) (stage (E.view core.old) (E.now core.old) player.old.lanes.items) 0 0 (stage (E.view core.new) (E.now core.new) player.new.lanes.items) counts.skipped counts.refused) }
+    ensures plays { IfOk result (λ counts. Plays (E.seen core.old).terms lines.now (told_of files.old) (stage (E.seen core.old).view (E.seen core.old).now player.old.lanes.items) 0 0 (stage (E.seen core.new).view (E.seen core.new).now player.new.lanes.items) counts.skipped counts.refused) }
     ensures told { OnOk result (told_of files.new ≡ told_in lines.now (told_of files.old)) }
     ensures opened { OnOk result (AreOpenedBy lines.now (lane_in player.old.lanes.items) (lane_in player.new.lanes.items)) }
-    ensures stands { OnOk result ((sent : ℕ → List ℕ) → AllStanding (E.fresh core.old) (told_of files.old) (stage (E.view core.old) (E.now core.old) player.old.lanes.items) sent → AllStanding (E.fresh core.old) (told_in lines.now (told_of files.old)) (stage (E.view core.new) (E.now core.new) player.new.lanes.items) (λ c. sent c ++ sent_in lines.now c)) }
+    ensures stands { OnOk result ((sent : ℕ → List ℕ) → AllStanding (E.seen core.old).terms.fresh (told_of files.old) (stage (E.seen core.old).view (E.seen core.old).now player.old.lanes.items) sent → AllStanding (E.seen core.old).terms.fresh (told_in lines.now (told_of files.old)) (stage (E.seen core.new).view (E.seen core.new).now player.new.lanes.items) (λ c. sent c ++ sent_in lines.now c)) }
 {
     let mut counts = Counts {
         skipped: 0,

@@ -1,10 +1,10 @@
 // Runs lines on a core.
 ghost use Rattle.std.specs.Prelude.{◌≡◌, ◌<◌, ◌≤◌, ◌+◌, ◌*◌, ◌∷◌, ◌++◌, ◌≢◌, ℕ, [], Some, None, true, false, min, length, take, MatchOption, OnOk, IfOk, IfSome, IfNone, sum_by, Contains};
-ghost use Rattle.ngx_outside.specs.Views.{no_bytes, ask_in, OpensIf};
+ghost use Rattle.ngx_outside.specs.Views.{no_bytes, ask_in};
 ghost use Rattle.memory_outside.specs.Stored.{newest_of, failing_of};
 ghost use Rattle.replay_run.specs.Told.{told_of};
-ghost use Rattle.ngx_outside.specs.declared.event.Event.TheVariants.{Opened, JobFailed, Run, Tick, Tree};
-ghost use Rattle.replay_run.specs.Scene.{Stage, stage, lane_in, has_lane, LaneAt, SameLanes, OnLane, Plain, Gives, OpensLine, Sends, EndsIfDue, Writes, Reads, shown_lane, due_lane, empty_lane, either as either_of, is_read, is_served, first_served, Serves, Drains, Drained, SendsLine, EndsLine, WritesLine, JobLine, IsWanted, work, work_of};
+ghost use Rattle.ngx_outside.specs.declared.event.Event.TheVariants.{JobFailed, Run, Tick, Tree};
+ghost use Rattle.replay_run.specs.Scene.{Stage, stage, lane_in, has_lane, LaneAt, SameLanes, OnLane, Plain, Gives, Openable, OpensLine, Sends, EndsIfDue, Writes, Reads, shown_lane, due_lane, empty_lane, either as either_of, is_read, is_served, first_served, Serves, Drains, Drained, SendsLine, EndsLine, WritesLine, JobLine, IsWanted, work, work_of};
 
 use crate::jobs::answer_job;
 use crate::serve::{end_if_due, offer, open as open_on, write as write_on};
@@ -59,9 +59,9 @@ fn send_on<E: EventCore>(
     lane: &mut Lane,
     bytes: &[u8],
 ) -> Result<StepAnswer, OutOfMemory>
-    ensures sends { IfOk result (λ a. Sends (E.fresh core.old) lane.old.conn bytes.now a (E.view core.old) (E.now core.old) (E.view core.new) (E.now core.new) (shown_lane lane.old) (shown_lane lane.new)) }
+    ensures sends { IfOk result (λ a. Sends (E.seen core.old).terms.fresh lane.old.conn bytes.now a (E.seen core.old).view (E.seen core.old).now (E.seen core.new).view (E.seen core.new).now (shown_lane lane.old) (shown_lane lane.new)) }
     ensures conn { lane.new.conn ≡ lane.old.conn }
-    ensures steady { OnOk result ((E.fresh core.new ≡ E.fresh core.old) × (E.price core.new ≡ E.price core.old)) }
+    ensures steady { OnOk result ((E.seen core.new).terms ≡ (E.seen core.old).terms) }
 {
     lane.queue.append(bytes)?;
     let first = offer(core, lane);
@@ -71,9 +71,9 @@ fn send_on<E: EventCore>(
 
 // The input ends as soon as nothing waits.
 fn close_on<E: EventCore>(core: &mut E, lane: &mut Lane) -> StepAnswer
-    ensures ends { EndsIfDue (E.fresh core.old) lane.old.conn (due_lane (shown_lane lane.old)) (shown_lane lane.new) result (E.view core.old) (E.now core.old) (E.view core.new) (E.now core.new) }
+    ensures ends { EndsIfDue (E.seen core.old).terms.fresh lane.old.conn (due_lane (shown_lane lane.old)) (shown_lane lane.new) result (E.seen core.old).view (E.seen core.old).now (E.seen core.new).view (E.seen core.new).now }
     ensures conn { lane.new.conn ≡ lane.old.conn }
-    ensures steady { (E.fresh core.new ≡ E.fresh core.old) × (E.price core.new ≡ E.price core.old) }
+    ensures steady { (E.seen core.new).terms ≡ (E.seen core.old).terms }
 {
     match lane.tail {
         InputEnd::Open => lane.tail = InputEnd::Due,
@@ -85,10 +85,10 @@ fn close_on<E: EventCore>(core: &mut E, lane: &mut Lane) -> StepAnswer
 
 // What waits is offered, or where nothing waits its end is told.
 fn read_on<E: EventCore>(core: &mut E, lane: &mut Lane) -> StepAnswer
-    ensures reads { Reads (E.fresh core.old) lane.old.conn result (E.view core.old) (E.now core.old) (E.view core.new) (E.now core.new) (shown_lane lane.old) (shown_lane lane.new) }
+    ensures reads { Reads (E.seen core.old).terms.fresh lane.old.conn result (E.seen core.old).view (E.seen core.old).now (E.seen core.new).view (E.seen core.new).now (shown_lane lane.old) (shown_lane lane.new) }
     ensures conn { lane.new.conn ≡ lane.old.conn }
-    ensures falls { (room : ℕ) → is_read (shown_lane lane.old) ≡ true → (E.view core.old lane.old.conn).room ≡ Some room → E.left core.new + work_of (E.price core.old) lane.new < E.left core.old + work_of (E.price core.old) lane.old }
-    ensures steady { (E.fresh core.new ≡ E.fresh core.old) × (E.price core.new ≡ E.price core.old) }
+    ensures falls { (room : ℕ) → is_read (shown_lane lane.old) ≡ true → ((E.seen core.old).view lane.old.conn).room ≡ Some room → (E.seen core.new).left + work_of (E.seen core.old).terms.price lane.new < (E.seen core.old).left + work_of (E.seen core.old).terms.price lane.old }
+    ensures steady { (E.seen core.new).terms ≡ (E.seen core.old).terms }
 {
     if lane.queue.is_empty() {
         end_if_due(core, lane)
@@ -144,10 +144,10 @@ fn pick(wants: &[Want], lanes: &[Lane]) -> Option<Want>
 }
 
 fn run<E: EventCore>(core: &mut E, conn: u32, node: u32) -> StepAnswer
-    requires { Contains (E.view core.old conn).ready node }
-    ensures gives { Gives (E.fresh core.old) (Run conn node) result (E.view core.old) (E.now core.old) (E.view core.new) (E.now core.new) }
-    ensures falls { E.left core.new < E.left core.old }
-    ensures steady { (E.fresh core.new ≡ E.fresh core.old) × (E.price core.new ≡ E.price core.old) }
+    requires { Contains ((E.seen core.old).view conn).ready node }
+    ensures gives { Gives (E.seen core.old).terms.fresh (Run conn node) result (E.seen core.old).view (E.seen core.old).now (E.seen core.new).view (E.seen core.new).now }
+    ensures falls { (E.seen core.new).left < (E.seen core.old).left }
+    ensures steady { (E.seen core.new).terms ≡ (E.seen core.old).terms }
 {
     let answer = core.step(Event::Run { conn, node });
     match answer {
@@ -192,8 +192,8 @@ impl Player {
 
     /// Gives an event that needs nothing of what waits.
     pub fn give<E: EventCore>(&self, core: &mut E, event: Event) -> StepAnswer
-        ensures plain { Plain (E.fresh core.old) event.entry result (stage (E.view core.old) (E.now core.old) self.now.lanes.items) (stage (E.view core.new) (E.now core.new) self.now.lanes.items) }
-        ensures steady { (E.fresh core.new ≡ E.fresh core.old) × (E.price core.new ≡ E.price core.old) }
+        ensures plain { Plain (E.seen core.old).terms.fresh event.entry result (stage (E.seen core.old).view (E.seen core.old).now self.now.lanes.items) (stage (E.seen core.new).view (E.seen core.new).now self.now.lanes.items) }
+        ensures steady { (E.seen core.new).terms ≡ (E.seen core.old).terms }
     {
         core.step(event)
     }
@@ -205,10 +205,11 @@ impl Player {
         conn: u32,
         ends: LinkEnds,
     ) -> Result<StepAnswer, OutOfMemory>
-        ensures opens { IfOk result (λ a. OpensLine (E.fresh core.old) conn ends a (stage (E.view core.old) (E.now core.old) self.old.lanes.items) (stage (E.view core.new) (E.now core.new) self.new.lanes.items)) }
-        ensures why { IfOk result (λ a. OpensIf (E.opens core.old) (Opened conn ends.local ends.peer) a) }
-        ensures steady { OnOk result ((E.fresh core.new ≡ E.fresh core.old) × (E.price core.new ≡ E.price core.old)) }
+        ensures opens { IfOk result (λ a. OpensLine (E.seen core.old).terms.fresh conn ends a (stage (E.seen core.old).view (E.seen core.old).now self.old.lanes.items) (stage (E.seen core.new).view (E.seen core.new).now self.new.lanes.items)) }
+        ensures why { IfOk result (λ a. Openable (E.seen core.old).terms conn ends a (E.seen core.old).view) }
+        ensures steady { OnOk result ((E.seen core.new).terms ≡ (E.seen core.old).terms) }
     {
+        core.wants();
         let at = place_or_add(self.alloc, &mut self.lanes, conn)?;
         let lane = &mut self.lanes[at];
         let answer = open_on(core, lane, ends);
@@ -222,8 +223,8 @@ impl Player {
         conn: u32,
         bytes: &[u8],
     ) -> Result<StepAnswer, OutOfMemory>
-        ensures sends { IfOk result (λ a. SendsLine (E.fresh core.old) conn bytes.now a (stage (E.view core.old) (E.now core.old) self.old.lanes.items) (stage (E.view core.new) (E.now core.new) self.new.lanes.items)) }
-        ensures steady { OnOk result ((E.fresh core.new ≡ E.fresh core.old) × (E.price core.new ≡ E.price core.old)) }
+        ensures sends { IfOk result (λ a. SendsLine (E.seen core.old).terms.fresh conn bytes.now a (stage (E.seen core.old).view (E.seen core.old).now self.old.lanes.items) (stage (E.seen core.new).view (E.seen core.new).now self.new.lanes.items)) }
+        ensures steady { OnOk result ((E.seen core.new).terms ≡ (E.seen core.old).terms) }
     {
         let at = place_or_add(self.alloc, &mut self.lanes, conn)?;
         let lane = &mut self.lanes[at];
@@ -237,8 +238,8 @@ impl Player {
         core: &mut E,
         conn: u32,
     ) -> Result<StepAnswer, OutOfMemory>
-        ensures ends { IfOk result (λ a. EndsLine (E.fresh core.old) conn a (stage (E.view core.old) (E.now core.old) self.old.lanes.items) (stage (E.view core.new) (E.now core.new) self.new.lanes.items)) }
-        ensures steady { OnOk result ((E.fresh core.new ≡ E.fresh core.old) × (E.price core.new ≡ E.price core.old)) }
+        ensures ends { IfOk result (λ a. EndsLine (E.seen core.old).terms.fresh conn a (stage (E.seen core.old).view (E.seen core.old).now self.old.lanes.items) (stage (E.seen core.new).view (E.seen core.new).now self.new.lanes.items)) }
+        ensures steady { OnOk result ((E.seen core.new).terms ≡ (E.seen core.old).terms) }
     {
         let at = place_or_add(self.alloc, &mut self.lanes, conn)?;
         let lane = &mut self.lanes[at];
@@ -253,9 +254,9 @@ impl Player {
         conn: u32,
         most: u64,
     ) -> Result<StepAnswer, OutOfMemory>
-        ensures writes { IfOk result (λ a. WritesLine (E.fresh core.old) conn most a (stage (E.view core.old) (E.now core.old) self.old.lanes.items) (stage (E.view core.new) (E.now core.new) self.new.lanes.items)) }
-        ensures steady { OnOk result ((E.fresh core.new ≡ E.fresh core.old) × (E.price core.new ≡ E.price core.old)) }
-        ensures falls { OnOk result (length (E.view core.old conn).pending ≤ most → no_bytes (E.view core.old conn).pending ≡ false → work (E.price core.old) (E.left core.new) self.new.lanes.items < work (E.price core.old) (E.left core.old) self.old.lanes.items) }
+        ensures writes { IfOk result (λ a. WritesLine (E.seen core.old).terms.fresh conn most a (stage (E.seen core.old).view (E.seen core.old).now self.old.lanes.items) (stage (E.seen core.new).view (E.seen core.new).now self.new.lanes.items)) }
+        ensures steady { OnOk result ((E.seen core.new).terms ≡ (E.seen core.old).terms) }
+        ensures falls { OnOk result (length ((E.seen core.old).view conn).pending ≤ most → no_bytes ((E.seen core.old).view conn).pending ≡ false → work (E.seen core.old).terms.price (E.seen core.new).left self.new.lanes.items < work (E.seen core.old).terms.price (E.seen core.old).left self.old.lanes.items) }
     {
         let at = place_or_add(self.alloc, &mut self.lanes, conn)?;
         let lane = &mut self.lanes[at];
@@ -266,9 +267,9 @@ impl Player {
     // Offers what waits on a connection, or tells its end where nothing does.
     fn read<E: EventCore>(&mut self, core: &mut E, conn: u32) -> Result<StepAnswer, OutOfMemory>
         requires { is_read (lane_in self.old.lanes.items conn) ≡ true }
-        ensures reads { IfOk result (λ a. OnLane conn (Reads (E.fresh core.old) conn a (E.view core.old) (E.now core.old) (E.view core.new) (E.now core.new)) (lane_in self.old.lanes.items) (lane_in self.new.lanes.items)) }
-        ensures steady { OnOk result ((E.fresh core.new ≡ E.fresh core.old) × (E.price core.new ≡ E.price core.old)) }
-        ensures falls { (room : ℕ) → (E.view core.old conn).room ≡ Some room → OnOk result (work (E.price core.old) (E.left core.new) self.new.lanes.items < work (E.price core.old) (E.left core.old) self.old.lanes.items) }
+        ensures reads { IfOk result (λ a. OnLane conn (Reads (E.seen core.old).terms.fresh conn a (E.seen core.old).view (E.seen core.old).now (E.seen core.new).view (E.seen core.new).now) (lane_in self.old.lanes.items) (lane_in self.new.lanes.items)) }
+        ensures steady { OnOk result ((E.seen core.new).terms ≡ (E.seen core.old).terms) }
+        ensures falls { (room : ℕ) → ((E.seen core.old).view conn).room ≡ Some room → OnOk result (work (E.seen core.old).terms.price (E.seen core.new).left self.new.lanes.items < work (E.seen core.old).terms.price (E.seen core.old).left self.old.lanes.items) }
     {
         let at = place_or_add(self.alloc, &mut self.lanes, conn)?;
         let lane = &mut self.lanes[at];
@@ -284,13 +285,13 @@ impl Player {
         conn: u32,
         node: u32,
     ) -> Result<StepAnswer, OutOfMemory>
-        requires newest { newest_of files.old ≡ (E.now core.old).tree }
+        requires newest { newest_of files.old ≡ (E.seen core.old).now.tree }
         requires sure { failing_of files.old ≡ [] }
-        ensures answers { IfOk result (λ a. JobLine (E.fresh core.old) (told_of files.old) conn node a (stage (E.view core.old) (E.now core.old) self.old.lanes.items) (stage (E.view core.new) (E.now core.new) self.new.lanes.items)) }
+        ensures answers { IfOk result (λ a. JobLine (E.seen core.old).terms.fresh (told_of files.old) conn node a (stage (E.seen core.old).view (E.seen core.old).now self.old.lanes.items) (stage (E.seen core.new).view (E.seen core.new).now self.new.lanes.items)) }
         ensures told { told_of files.new ≡ told_of files.old }
         ensures sure { failing_of files.new ≡ [] }
-        ensures steady { OnOk result ((E.fresh core.new ≡ E.fresh core.old) × (E.price core.new ≡ E.price core.old)) }
-        ensures falls { OnOk result (ask_in (E.view core.old conn).jobs node ≢ None → work (E.price core.old) (E.left core.new) self.new.lanes.items < work (E.price core.old) (E.left core.old) self.old.lanes.items) }
+        ensures steady { OnOk result ((E.seen core.new).terms ≡ (E.seen core.old).terms) }
+        ensures falls { OnOk result (ask_in ((E.seen core.old).view conn).jobs node ≢ None → work (E.seen core.old).terms.price (E.seen core.new).left self.new.lanes.items < work (E.seen core.old).terms.price (E.seen core.old).left self.old.lanes.items) }
     {
         let answer = answer_job(core, files, &mut self.block, conn, node)?;
         Ok(answer)
@@ -302,15 +303,15 @@ impl Player {
         files: &mut MemoryFiles,
         want: Want,
     ) -> Result<(), OutOfMemory>
-        requires newest { newest_of files.old ≡ (E.now core.old).tree }
+        requires newest { newest_of files.old ≡ (E.seen core.old).now.tree }
         requires sure { failing_of files.old ≡ [] }
-        requires wanted { IsWanted (E.view core.old) want }
+        requires wanted { IsWanted (E.seen core.old).view want }
         requires served { is_served (lane_in self.old.lanes.items) want ≡ true }
-        ensures serves { OnOk result (Serves (E.fresh core.old) (told_of files.old) want (stage (E.view core.old) (E.now core.old) self.old.lanes.items) (stage (E.view core.new) (E.now core.new) self.new.lanes.items)) }
+        ensures serves { OnOk result (Serves (E.seen core.old).terms.fresh (told_of files.old) want (stage (E.seen core.old).view (E.seen core.old).now self.old.lanes.items) (stage (E.seen core.new).view (E.seen core.new).now self.new.lanes.items)) }
         ensures told { told_of files.new ≡ told_of files.old }
         ensures sure { failing_of files.new ≡ [] }
-        ensures steady { OnOk result ((E.fresh core.new ≡ E.fresh core.old) × (E.price core.new ≡ E.price core.old)) }
-        ensures falls { OnOk result (work (E.price core.old) (E.left core.new) self.new.lanes.items < work (E.price core.old) (E.left core.old) self.old.lanes.items) }
+        ensures steady { OnOk result ((E.seen core.new).terms ≡ (E.seen core.old).terms) }
+        ensures falls { OnOk result (work (E.seen core.old).terms.price (E.seen core.new).left self.new.lanes.items < work (E.seen core.old).terms.price (E.seen core.old).left self.old.lanes.items) }
     {
         match want {
             Want::Read { conn, room: _ } => {
@@ -340,13 +341,13 @@ impl Player {
         core: &mut E,
         files: &mut MemoryFiles,
     ) -> Result<(), OutOfMemory>
-        requires newest { newest_of files.old ≡ (E.now core.old).tree }
+        requires newest { newest_of files.old ≡ (E.seen core.old).now.tree }
         requires sure { failing_of files.old ≡ [] }
-        ensures drains { OnOk result (Drains (E.fresh core.old) (told_of files.old) (stage (E.view core.old) (E.now core.old) self.old.lanes.items) (stage (E.view core.new) (E.now core.new) self.new.lanes.items)) }
+        ensures drains { OnOk result (Drains (E.seen core.old).terms.fresh (told_of files.old) (stage (E.seen core.old).view (E.seen core.old).now self.old.lanes.items) (stage (E.seen core.new).view (E.seen core.new).now self.new.lanes.items)) }
         ensures told { OnOk result (told_of files.new ≡ told_of files.old) }
         ensures sure { OnOk result (failing_of files.new ≡ []) }
-        ensures newest { OnOk result (newest_of files.new ≡ (E.now core.new).tree) }
-        ensures steady { OnOk result ((E.fresh core.new ≡ E.fresh core.old) × (E.price core.new ≡ E.price core.old)) }
+        ensures newest { OnOk result (newest_of files.new ≡ (E.seen core.new).now.tree) }
+        ensures steady { OnOk result ((E.seen core.new).terms ≡ (E.seen core.old).terms) }
     {
         while let Some(want) = pick(core.wants(), &self.lanes) {
             self.serve(core, files, want)?;

@@ -13,6 +13,3 @@ pub use faults::{ScriptError, ScriptFault};
 pub use parts::{Conf, Confs, EventLine, EventLines, Script, TreeLine, TreeLines};
 pub use reading::read;
 pub use replay_words::FaultKind;
-
-#[cfg(test)]
-mod tests;

@@ -21,6 +21,3 @@ pub use words::{
     Keyword, Words, first_word, front, is_conf, is_dot, is_events, is_fail, is_tree, keyword_of,
     next_word, no_word, one_word, pieces_of, words_of,
 };
-
-#[cfg(test)]
-mod tests;

@@ -15,6 +15,3 @@ pub use counts::counts_text;
 pub use faults::{conf_fault_text, script_fault_text};
 pub use laws::{printed_bytes_read_back, what_was_sent_is_read_back};
 pub use report::{ConnReport, ConnState, conn_text, end_text};
-
-#[cfg(test)]
-mod tests;

@@ -14,6 +14,3 @@ mod rules;
 pub use head::{Head, HeadStep, read_head};
 pub use laws::{full_decides, grammar_decides, head_stays, refusal_stays, size_fits};
 pub use lines::may_decide;
-
-#[cfg(test)]
-mod tests;

@@ -10,6 +10,3 @@ mod values;
 pub use head::{HeadWriter, ReplyHead, head_text, head_text_dated};
 pub use laws::{head_is_whole, head_reads_back};
 pub use phrases::{page_phrase, phrase};
-
-#[cfg(test)]
-mod tests;

@@ -2,8 +2,17 @@
 #![tactic(auto)]
 
 mod listen;
+mod program;
 mod search;
 mod site;
+mod values;
 
 pub use listen::Listens;
-pub use site::{Level, Location, Return, Server, Site};
+pub use program::{FileTest, Flag, Program, RewriteStep, Test};
+pub use site::{
+    Level, Location, LocationKind, NamedLocation, Return, Rules, Server, ServerName, Site,
+};
+pub use values::{
+    AuthSet, AuthSets, IndexName, IndexNames, LastTry, MediaTypes, PageRule, PageRules, PageTarget,
+    Shown, Tries,
+};

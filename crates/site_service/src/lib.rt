@@ -2,7 +2,5 @@
 #![tactic(auto)]
 
 mod service;
-mod since;
 
 pub use service::serve_site;
-pub use since::files_may_fail_before;

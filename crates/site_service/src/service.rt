@@ -1,8 +1,7 @@
 // Serves a site over links.
-ghost use Rattle.std.specs.Prelude.{◌≡◌, ◌≤◌, ℕ, true, false, IfOk, OnOk, Ok, [], flat_map};
+ghost use Rattle.std.specs.Prelude.{◌≡◌, ◌≤◌, true, IfOk, OnOk, Ok, flat_map};
 ghost use Rattle.ngx_outside.specs.Causes.{Rose};
-ghost use Rattle.ready_loop.specs.Seen.{links_seen, files_seen, clock_seen};
-ghost use Rattle.site_service.specs.Serving.{Outside, Serving};
+ghost use Rattle.site_service.specs.Serving.{AreNew, Outside, Serving};
 
 use byte_text::OutOfMemory;
 use connection_core::{Hub, cores_are_sound};
@@ -23,7 +22,7 @@ fn addresses(alloc: Global, servers: &[Server]) -> Result<Vec<Addr>, OutOfMemory
     Ok(all)
 }
 
-/// Serves a site over new links, on all its addresses, for that many turns; the clock has told no moment yet.
+/// Serves a site over new links, on all its addresses, for that many turns.
 pub fn serve_site<F: Files, L: Links, C: Clock>(
     alloc: Global,
     site: Site,
@@ -32,13 +31,19 @@ pub fn serve_site<F: Files, L: Links, C: Clock>(
     clock: &mut C,
     turns: u64,
 ) -> Result<Ending, OutOfMemory>
-    requires links { (id : ℕ) → (L.used links.old id ≡ false) × (L.is_open links.old id ≡ false) }
-    requires clock { C.tells clock.old ≡ true → C.told clock.old ≡ [] }
-    ensures serving { IfOk result (λ e. Serving site turns e (record { files_tell = F.tells files.old; files = files_seen (F.trees files.old) (F.newest files.old) (F.faults files.old); files' = files_seen (F.trees files.new) (F.newest files.new) (F.faults files.new); links_tell = L.tells links.old; links = links_seen (L.link links.old) (L.used links.old) (L.is_open links.old) (L.link_faults links.old); links' = links_seen (L.link links.new) (L.used links.new) (L.is_open links.new) (L.link_faults links.new); listening = L.listening links.old; listening' = L.listening links.new; links_faults = L.faults links.old; links_faults' = L.faults links.new; clock = clock_seen (C.tells clock.old) (C.told clock.old); clock' = clock_seen (C.tells clock.new) (C.told clock.new) })) }
-    ensures newest { OnOk result (F.newest files.old ≤ F.newest files.new) }
-    ensures ended { result ≡ Ok Ending.Ended → L.over links.new ≡ true }
-    ensures listen_fault { result ≡ Ok Ending.ListenFault → Rose (L.faults links.old) (L.faults links.new) }
-    ensures next_fault { result ≡ Ok Ending.NextFault → Rose (L.faults links.old) (L.faults links.new) }
+    requires links { AreNew (L.seen links.old) }
+    ensures serving { IfOk result (λ e. Serving site turns e (record {
+      files = F.seen files.old;
+      files' = F.seen files.new;
+      links = L.seen links.old;
+      links' = L.seen links.new;
+      clock = C.seen clock.old;
+      clock' = C.seen clock.new;
+    })) }
+    ensures grown { OnOk result ((F.seen files.old).newest ≤ (F.seen files.new).newest) }
+    ensures ended { result ≡ Ok Ending.Ended → (L.seen links.new).over ≡ true }
+    ensures listen_fault { result ≡ Ok Ending.ListenFault → Rose (L.seen links.old).faults (L.seen links.new).faults }
+    ensures next_fault { result ≡ Ok Ending.NextFault → Rose (L.seen links.old).faults (L.seen links.new).faults }
 {
     kept_begins();
     closed_unstopped_sent_all();

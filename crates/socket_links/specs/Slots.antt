@@ -37,7 +37,7 @@ IsSomePut output.Failed bytes = Unit {0}
 
 -- nothing is told of a link
 abbrev pub untold : LinkView
-untold = record { local = nowhere; peer = nowhere; taken = []; sent = []; due = false; full = false; ended = false }
+untold = record { local = nowhere; peer = nowhere; taken = []; sent = []; among = 0; due = false; full = false; ended = false }
   where
     nowhere : Addr
     nowhere = record { ip = V4 (record { octets = 0 ∷ 0 ∷ 0 ∷ 0 ∷ [] }); port = 0 }

@@ -19,9 +19,7 @@ impl<'a, R> SystemClock<'a, R> {
 }
 
 impl<R: std::time::Clock> Clock for SystemClock<'_, R> {
-    ghost tells = { λ c. false };
-
-    ghost told = { λ c. [] };
+    ghost seen = { λ c. record { tells = false; told = [] } };
 
     fn now(&mut self) -> u64 {
         if let Ok(now) = SystemTime::now(self.rt) {

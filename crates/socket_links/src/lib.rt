@@ -2,13 +2,12 @@
 //! read, write and tell, and are tested besides.
 #![tactic(auto)]
 
+mod bind;
 mod clock;
+mod closing;
 mod notices;
 mod slots;
 mod sockets;
 
 pub use clock::SystemClock;
-pub use sockets::SocketLinks;
-
-#[cfg(test)]
-mod tests;
+pub use sockets::{ListenFault, SocketLinks};

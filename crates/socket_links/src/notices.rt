@@ -3,15 +3,18 @@ ghost use Rattle.std.specs.Prelude.{◌<◌, length, IfSome};
 ghost use Rattle.socket_links.specs.Slots.{IsReport};
 
 use crate::slots::{Link, is_open, slot_of};
+use http_types::Addr;
 use mio::Events;
 use mio::net::TcpListener;
 use ngx_outside::Notice;
 use std::collections::VecDeque;
 
-/// A listener: whether it may have a peer, and whether its last peer couldn't be accepted, as where no descriptor is left;
-/// then it is tried again once the poll was asked, so that it takes no time till then.
+/// A listener, with its number and its address: whether it may have a peer, and whether its last peer couldn't be accepted,
+/// as where no descriptor is left; then it is tried again once the poll was asked, so that it takes no time till then.
 #[derive(Drop)]
 pub struct Listener {
+    pub number: usize,
+    pub addr: Addr,
     pub socket: TcpListener,
     pub ready: bool,
     pub stuck: bool,
@@ -37,6 +40,8 @@ pub struct Mark {
     pub drained: bool,
     /// An event said that its peer sends no more.
     pub closed: bool,
+    /// A read found the end of what its peer sends.
+    pub ended: bool,
 }
 
 pub const UNMARKED: Mark = Mark {
@@ -44,7 +49,25 @@ pub const UNMARKED: Mark = Mark {
     again: false,
     drained: false,
     closed: false,
+    ended: false,
 };
+
+// The tokens of links are their ids, and those of listeners are counted down from the end.
+const LAST_TOKEN: usize = usize::MAX;
+
+/// The token of a listener of a number.
+pub fn token_of(number: usize) -> usize {
+    LAST_TOKEN.saturating_sub(number)
+}
+
+// A listener may have a peer.
+fn wake(listeners: &mut [Listener], token: usize) {
+    for listener in listeners.iter_mut() {
+        if token_of(listener.number) == token {
+            listener.ready = true;
+        }
+    }
+}
 
 /// The first listener that may have a peer.
 pub fn ready_listener(listeners: &[Listener]) -> Option<usize>
@@ -155,10 +178,7 @@ pub fn collect(events: &Events, batch: &mut Vec<Ready>, listeners: &mut [Listene
     for event in events.iter() {
         let token = usize::from(event.token());
         if token > 4294967295 {
-            let at = usize::MAX - token;
-            if at < listeners.len() {
-                listeners[at].ready = true;
-            }
+            wake(listeners, token);
         } else {
             // There is room for as many events as come at once.
             let _kept = batch.push(Ready {
@@ -171,22 +191,36 @@ pub fn collect(events: &Events, batch: &mut Vec<Ready>, listeners: &mut [Listene
     }
 }
 
-/// Has a link reported readable again, once, from which a read took all that was there, or as much as there was room for.
-/// What comes after a read that took all is an event of its own, and so is that the peer sends no more, unless it was told
-/// already (epoll(7), edge-triggered).
+/// Has a link reported readable again, once, from which a read took as much as there was room for. What comes after a read
+/// that took all is an event of its own, and so is that the peer sends no more, unless it was told already (epoll(7),
+/// edge-triggered): then the link isn't reported again, and isn't read.
 pub fn report_again(marks: &mut [Mark], again: &mut VecDeque<u32>, id: u32, all: bool) {
+    let mark = mark_of(marks, id);
+    let drained = all && !mark.closed;
+    set_mark(
+        marks,
+        id,
+        Mark {
+            again: mark.again || !drained,
+            drained,
+            ..mark
+        },
+    );
+    if !drained && !mark.again {
+        // Room for it was made before the link was read.
+        let _kept = again.push_back(id);
+    }
+}
+
+/// A read found the end of what a link's peer sends.
+pub fn end_input(marks: &mut [Mark], id: u32) {
     let mark = mark_of(marks, id);
     set_mark(
         marks,
         id,
         Mark {
-            again: true,
-            drained: all && !mark.closed,
+            ended: true,
             ..mark
         },
     );
-    if !mark.again {
-        // Room for it was made before the link was read.
-        let _kept = again.push_back(id);
-    }
 }

@@ -5,8 +5,8 @@ ghost use Rattle.socket_links.specs.Slots.{IsNext, IsSomePut, is_at, open_in, us
 
 use mio::net::TcpStream;
 use ngx_outside::{Input, Output};
-use std::io;
 use std::io::{Read, Write};
+use std::{io, mem};
 
 /// How many slots there are.
 pub const SLOTS: u32 = 1024;
@@ -85,15 +85,14 @@ pub fn open_at(counts: &mut [u32], links: &mut [Option<Link>], id: u32, stream: 
     links[slot] = Some(Link { id, stream });
 }
 
-/// Closes a link. Whether it was open.
-pub fn close_at(links: &mut [Option<Link>], id: u32) -> bool
+/// Takes a link out of its slot, if it is open.
+pub fn take_at(links: &mut [Option<Link>], id: u32) -> Option<Link>
     ensures { Marked id false (open_in links.old) (open_in links.new) }
 {
     if is_open(links, id) {
-        links[slot_of(id)] = None;
-        true
+        mem::replace(&mut links[slot_of(id)], None)
     } else {
-        false
+        None
     }
 }
 

@@ -5,13 +5,16 @@ ghost use Rattle.ngx_outside.specs.Causes.{Rose};
 ghost use Rattle.ngx_outside.specs.declared.links.Notice.TheVariants.{Failed as NextFailed};
 ghost use Rattle.socket_links.specs.Slots.{GoesOn, OpensIn, open_in, untold, used_in};
 
+use crate::bind::{is_covered, listen_on};
+use crate::closing::ClosingLinks;
 use crate::notices::{
-    Listener, Mark, Ready, UNMARKED, again_of, collect, mark_of, notice_of, ready_listener,
-    report_again, retry, set_mark,
+    Listener, Mark, Ready, UNMARKED, again_of, collect, end_input, mark_of, notice_of,
+    ready_listener, report_again, retry, set_mark, token_of,
 };
 use crate::slots::{
-    Link, SLOTS, close_at, has_ids, is_wait, next_id, open_at, read_at, slot_of, write_at,
+    Link, SLOTS, has_ids, is_open, is_wait, next_id, open_at, read_at, slot_of, take_at, write_at,
 };
+use byte_text::OutOfMemory;
 use http_types::Addr;
 use mio::net::TcpListener;
 use mio::{Events, Interest, Poll, Token};
@@ -20,7 +23,7 @@ use std::alloc::{AllocError, Global};
 use std::collections::VecDeque;
 use std::io;
 use std::net::{Net, SocketAddr};
-use std::time::Duration;
+use std::time::{Clock as Ticks, Duration, Instant};
 
 // How many events one call of the poll gives at most.
 const EVENTS: usize = 256;
@@ -30,16 +33,34 @@ const NOTICES: u32 = 64;
 
 const ACCEPTS: u32 = 4;
 
-/// The sockets of the system. A link is reported readable when bytes come, and again after each read that gave some, though a
-/// read behind one that took all that was there asks nothing of the system; and writable only after a write that found no
-/// room. Where there is nothing to report, `next` waits for a second at most. It tells nothing of what is read and written.
+/// Why an address isn't listened on.
+#[derive(Clone, Copy)]
+pub struct ListenFault {
+    pub addr: Addr,
+    pub error: io::Error,
+}
+
+/// The sockets of the system. A link is reported readable when bytes come, and again after each read that took as much as
+/// there was room for; and writable only after a write that found no room. Where there is nothing to report, `next` waits
+/// for a second at most. It tells nothing of what is read and written.
+///
+/// An address is listened on by a socket of its own, or by that of all addresses of its family at its port where there is
+/// one, as nginx has it: the local end of a link is where its peer connected in either case. An IPv6 socket takes no IPv4
+/// peers.
+///
+/// Nothing is asked of the system before an address is listened on or a notice is waited for. A link that is closed is
+/// written no more; its socket is closed once its peer is done, or after a while.
 #[derive(Drop)]
 pub struct SocketLinks<'a, R> {
     rt: &'a R,
-    poll: Poll,
+    alloc: Global,
+    poll: Option<Poll>,
     events: Events,
     listeners: Vec<Listener>,
+    bound: usize,
     listening: Vec<Addr>,
+    listen_fault: Option<ListenFault>,
+    closing: ClosingLinks,
     counts: Vec<u32>,
     links: Vec<Option<Link>>,
     marks: Vec<Mark>,
@@ -49,6 +70,7 @@ pub struct SocketLinks<'a, R> {
     notices: u32,
     faults: u64,
     link_faults: u64,
+    refused: u64,
 }
 
 fn addr_of(addr: SocketAddr) -> Addr {
@@ -132,14 +154,14 @@ fn is_opened(notice: Notice) -> bool {
     matches!(notice, Notice::Opened { .. })
 }
 
-impl<'a, R: Net> SocketLinks<'a, R> {
+impl<'a, R: Net + Ticks> SocketLinks<'a, R> {
     ghost use Rattle.std.specs.Prelude.{◌≡◌, ◌≢◌, ◌≤◌, ◌++◌, ◌∷◌, ℕ, [], false, IfNone, IfOk, IfSome, OnErr, OnOk};
     ghost use Rattle.ngx_outside.specs.Causes.{Rose};
     ghost use Rattle.socket_links.specs.Slots.{GoesOn, OpensIn};
     ghost use Rattle.socket_links.specs.Sockets.{is_open_in, is_used_in};
 
     /// No link and no listener yet.
-    pub fn new(alloc: Global, rt: &'a R) -> io::Result<Self>
+    pub fn new(alloc: Global, rt: &'a R) -> Result<Self, OutOfMemory>
         ensures none_used { IfOk result (λ s. (id : ℕ) → is_used_in s id ≡ false) }
         ensures none_open { IfOk result (λ s. (id : ℕ) → is_open_in s id ≡ false) }
     {
@@ -147,10 +169,14 @@ impl<'a, R: Net> SocketLinks<'a, R> {
         let counts = no_counts(alloc)?;
         Ok(SocketLinks {
             rt,
-            poll: Poll::new(rt)?,
+            alloc,
+            poll: None,
             events: Events::with_capacity(alloc, EVENTS)?,
             listeners: Vec::new(alloc),
+            bound: 0,
             listening: Vec::new(alloc),
+            listen_fault: None,
+            closing: ClosingLinks::new(alloc)?,
             counts,
             links,
             marks: Vec::from_elem(alloc, UNMARKED, SLOTS as usize)?,
@@ -160,28 +186,128 @@ impl<'a, R: Net> SocketLinks<'a, R> {
             notices: 0,
             faults: 0,
             link_faults: 0,
+            refused: 0,
         })
     }
 
-    // Listens at an address.
+    /// How many events the core has refused for want of memory, as it was told last.
+    pub fn refused(&self) -> u64 {
+        self.refused
+    }
+
+    /// Why the last call to listen failed, if one did.
+    pub fn listen_fault(&self) -> Option<ListenFault> {
+        self.listen_fault
+    }
+
+    // The poll is made where it is first asked for.
+    fn open_poll(&mut self) -> io::Result<()>
+        ensures listening { self.new.listening.items ≡ self.old.listening.items }
+        ensures same { (self.new.counts.items ≡ self.old.counts.items) × (self.new.links.items ≡ self.old.links.items) }
+        ensures faults { (self.new.faults ≡ self.old.faults) × (self.new.link_faults ≡ self.old.link_faults) }
+    {
+        if self.poll.is_none() {
+            self.poll = Some(Poll::new(self.rt)?);
+        }
+        Ok(())
+    }
+
+    // Makes a socket that listens on an address.
+    fn add_listener(&mut self, addr: Addr) -> io::Result<()>
+        ensures listening { self.new.listening.items ≡ self.old.listening.items }
+        ensures same { (self.new.counts.items ≡ self.old.counts.items) × (self.new.links.items ≡ self.old.links.items) }
+        ensures faults { (self.new.faults ≡ self.old.faults) × (self.new.link_faults ≡ self.old.link_faults) }
+    {
+        let Some(poll) = &self.poll else {
+            return Err(io::Error::from(io::ErrorKind::NotConnected));
+        };
+        let mut socket = listen_on(self.rt, addr)?;
+        let number = self.bound;
+        let token = Token(token_of(number));
+        poll.registry()
+            .register(&mut socket, token, Interest::READABLE)?;
+        self.bound = number.saturating_add(1);
+        self.listeners.push(Listener {
+            number,
+            addr,
+            socket,
+            ready: true,
+            stuck: false,
+        })?;
+        Ok(())
+    }
+
+    // Whether a socket listens on an address, or on all of its family, at its port.
+    fn is_listened_on(&self, addr: Addr) -> bool {
+        self.listeners
+            .iter()
+            .any(|listener| is_covered(addr, listener.addr))
+    }
+
+    // Closes the sockets of the addresses that one on another address is to cover, which are answered.
+    fn make_way(&mut self, addr: Addr) -> io::Result<Vec<Addr>>
+        ensures listening { self.new.listening.items ≡ self.old.listening.items }
+        ensures same { (self.new.counts.items ≡ self.old.counts.items) × (self.new.links.items ≡ self.old.links.items) }
+        ensures faults { (self.new.faults ≡ self.old.faults) × (self.new.link_faults ≡ self.old.link_faults) }
+    {
+        let mut covered = Vec::new(self.alloc);
+        for listener in &self.listeners {
+            if is_covered(listener.addr, addr) {
+                covered.push(listener.addr)?;
+            }
+        }
+        self.listeners
+            .retain(|listener| !is_covered(listener.addr, addr));
+        Ok(covered)
+    }
+
+    // Listens at an address, by a socket of its own or by one that covers it. Where a new socket is to cover others, the
+    // system makes it only once these are closed; if it doesn't, they are made again.
     fn bind(&mut self, addr: Addr) -> io::Result<()>
         ensures ok { OnOk result (self.new.listening.items ≡ self.old.listening.items ++ addr ∷ []) }
         ensures err { OnErr result (self.new.listening.items ≡ self.old.listening.items) }
         ensures same { (self.new.counts.items ≡ self.old.counts.items) × (self.new.links.items ≡ self.old.links.items) }
         ensures faults { (self.new.faults ≡ self.old.faults) × (self.new.link_faults ≡ self.old.link_faults) }
     {
-        let mut socket = TcpListener::bind(self.rt, SocketAddr::new(addr.ip, addr.port))?;
-        let token = Token(usize::MAX - self.listeners.len());
-        self.poll
-            .registry()
-            .register(&mut socket, token, Interest::READABLE)?;
-        self.listeners.push(Listener {
-            socket,
-            ready: true,
-            stuck: false,
-        })?;
+        self.open_poll()?;
+        if !self.is_listened_on(addr) {
+            let covered = self.make_way(addr)?;
+            if let Err(error) = self.add_listener(addr) {
+                self.add_again(&covered);
+                return Err(error);
+            }
+        }
         self.listening.push(addr)?;
         Ok(())
+    }
+
+    // Listens again on addresses whose sockets were closed, as far as the system lets it.
+    fn add_again(&mut self, addrs: &[Addr])
+        ensures listening { self.new.listening.items ≡ self.old.listening.items }
+        ensures same { (self.new.counts.items ≡ self.old.counts.items) × (self.new.links.items ≡ self.old.links.items) }
+        ensures faults { (self.new.faults ≡ self.old.faults) × (self.new.link_faults ≡ self.old.link_faults) }
+    {
+        for addr in addrs {
+            let _added = self.add_listener(*addr);
+        }
+    }
+
+    // A link may be read or written. Where it was closed, what it was sent is dropped.
+    fn take_event(&mut self, ready: Ready) -> Notice
+        ensures opens { OpensIn result self.old.counts.items self.new.counts.items self.old.links.items self.new.links.items }
+        ensures goes { GoesOn result }
+        ensures same { (self.new.listening.items ≡ self.old.listening.items) × (self.new.faults ≡ self.old.faults) × (self.new.link_faults ≡ self.old.link_faults) }
+    {
+        if !is_open(self.links.as_slice(), ready.id) {
+            self.closing.hear(ready.id);
+            return Notice::Nothing;
+        }
+        notice_of(
+            self.links.as_slice(),
+            self.marks.as_mut_slice(),
+            &mut self.batch,
+            ready,
+        )
     }
 
     // A peer of a listener that is ready.
@@ -191,10 +317,11 @@ impl<'a, R: Net> SocketLinks<'a, R> {
         ensures none { IfNone result ((self.new.counts.items ≡ self.old.counts.items) × (self.new.links.items ≡ self.old.links.items)) }
         ensures same { (self.new.listening.items ≡ self.old.listening.items) × (self.new.faults ≡ self.old.faults) × (self.new.link_faults ≡ self.old.link_faults) }
     {
+        let poll = self.poll.as_ref()?;
         let at = ready_listener(self.listeners.as_slice())?;
         let slot = last_of(self.free.as_slice());
         let accepted = accept(
-            &self.poll,
+            poll,
             self.counts.as_mut_slice(),
             self.links.as_mut_slice(),
             slot,
@@ -208,8 +335,13 @@ impl<'a, R: Net> SocketLinks<'a, R> {
                 Some(notice)
             }
             Err(error) => {
+                let is_stuck = !is_wait(&error);
                 self.listeners[at].ready = false;
-                self.listeners[at].stuck = !is_wait(&error);
+                self.listeners[at].stuck = is_stuck;
+                if is_stuck {
+                    // Maybe no descriptor is left.
+                    self.closing.give_up();
+                }
                 Some(Notice::Nothing)
             }
         }
@@ -223,12 +355,7 @@ impl<'a, R: Net> SocketLinks<'a, R> {
         ensures same { (self.new.listening.items ≡ self.old.listening.items) × (self.new.faults ≡ self.old.faults) × (self.new.link_faults ≡ self.old.link_faults) }
     {
         if let Some(ready) = self.batch.pop() {
-            return Some(notice_of(
-                self.links.as_slice(),
-                self.marks.as_mut_slice(),
-                &mut self.batch,
-                ready,
-            ));
+            return Some(self.take_event(ready));
         }
         if self.notices >= NOTICES {
             return None;
@@ -240,6 +367,27 @@ impl<'a, R: Net> SocketLinks<'a, R> {
             }
         }
         self.accept_some()
+    }
+
+    // Closes the links whose peers weren't done in time.
+    fn expire(&mut self)
+        ensures same { (self.new.counts.items ≡ self.old.counts.items) × (self.new.links.items ≡ self.old.links.items) × (self.new.listening.items ≡ self.old.listening.items) × (self.new.faults ≡ self.old.faults) × (self.new.link_faults ≡ self.old.link_faults) }
+    {
+        if !self.closing.is_empty() {
+            if let Ok(now) = Instant::now(self.rt) {
+                self.closing.expire(now);
+            }
+        }
+    }
+
+    fn ask_poll(&mut self, timeout: Duration) -> io::Result<()>
+        ensures same { (self.new.counts.items ≡ self.old.counts.items) × (self.new.links.items ≡ self.old.links.items) × (self.new.listening.items ≡ self.old.listening.items) × (self.new.faults ≡ self.old.faults) × (self.new.link_faults ≡ self.old.link_faults) }
+    {
+        self.open_poll()?;
+        match &mut self.poll {
+            Some(poll) => poll.poll(&mut self.events, Some(timeout)),
+            None => Ok(()),
+        }
     }
 
     // Asks the poll, which waits only where nothing is left to report.
@@ -258,18 +406,13 @@ impl<'a, R: Net> SocketLinks<'a, R> {
         } else {
             0
         };
-        let timeout = Duration::from_secs(seconds);
-        match self.poll.poll(&mut self.events, Some(timeout)) {
+        self.expire();
+        match self.ask_poll(Duration::from_secs(seconds)) {
             Ok(()) => {
                 collect(&self.events, &mut self.batch, self.listeners.as_mut_slice());
                 retry(self.listeners.as_mut_slice());
                 match self.batch.pop() {
-                    Some(ready) => notice_of(
-                        self.links.as_slice(),
-                        self.marks.as_mut_slice(),
-                        &mut self.batch,
-                        ready,
-                    ),
+                    Some(ready) => self.take_event(ready),
                     None => Notice::Nothing,
                 }
             }
@@ -290,29 +433,27 @@ impl<'a, R: Net> SocketLinks<'a, R> {
     }
 }
 
-impl<R: Net> Links for SocketLinks<'_, R> {
-    ghost tells = { λ s. false };
-
-    ghost link = { λ s id. untold };
-
-    ghost used = { λ s. used_in s.counts.items };
-
-    ghost is_open = { λ s. open_in s.links.items };
-
-    ghost listening = { λ s. s.listening.items };
-
-    ghost over = { λ s. false };
-
-    ghost answers = { λ s. None };
-
-    ghost faults = { λ s. s.faults };
-
-    ghost link_faults = { λ s id. s.link_faults };
+impl<R: Net + Ticks> Links for SocketLinks<'_, R> {
+    ghost seen = { λ s. record {
+      tells = false;
+      link = λ _. untold;
+      used = used_in s.counts.items;
+      is_open = open_in s.links.items;
+      listening = s.listening.items;
+      crowd = 0;
+      over = false;
+      notices = 0;
+      answers = None;
+      faults = s.faults;
+      link_faults = λ _. s.link_faults;
+      refused = s.refused;
+    } };
 
     fn listen(&mut self, addr: Addr) -> Result<(), Failed> {
         match self.bind(addr) {
             Ok(()) => Ok(()),
-            Err(_) => {
+            Err(error) => {
+                self.listen_fault = Some(ListenFault { addr, error });
                 self.faults = self.faults.saturating_add(1);
                 Err(Failed)
             }
@@ -345,7 +486,10 @@ impl<R: Net> Links for SocketLinks<'_, R> {
                 Input::Got(count)
             }
             Input::NotYet => Input::NotYet,
-            Input::End => Input::End,
+            Input::End => {
+                end_input(self.marks.as_mut_slice(), id);
+                Input::End
+            }
             Input::Failed => {
                 self.link_failed();
                 Input::Failed
@@ -369,12 +513,24 @@ impl<R: Net> Links for SocketLinks<'_, R> {
     }
 
     fn close(&mut self, id: u32) {
-        let was_open = close_at(self.links.as_mut_slice(), id);
+        let has_ended = mark_of(self.marks.as_slice(), id).ended;
+        let Some(link) = take_at(self.links.as_mut_slice(), id) else {
+            return;
+        };
         let slot = slot_of(id);
-        if was_open && has_ids(self.counts.as_slice(), slot) {
+        if has_ids(self.counts.as_slice(), slot) {
             set_mark(self.marks.as_mut_slice(), id, UNMARKED);
             // There is room for all slots.
             let _kept = self.free.push(slot as u32);
         }
+        if !has_ended {
+            if let Ok(now) = Instant::now(self.rt) {
+                self.closing.add(link, now);
+            }
+        }
+    }
+
+    fn tell_refused(&mut self, count: u64) {
+        self.refused = count;
     }
 }

@@ -11,6 +11,3 @@ mod state;
 pub use laws::{pieces_make_no_difference, what_is_held_is_open};
 pub use part::{Param, Params, Part};
 pub use state::SsiState;
-
-#[cfg(test)]
-mod tests;

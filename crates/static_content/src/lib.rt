@@ -5,6 +5,3 @@
 mod content;
 
 pub use content::{Content, decide, refusal_of};
-
-#[cfg(test)]
-mod tests;

@@ -3,16 +3,26 @@ ghost use Rattle.std.specs.Prelude.{◌≡◌, ◌+◌, ◌≤◌, ◌++◌, ℕ
 ghost use Rattle.ngx_outside.specs.Causes.{Rose};
 ghost use Rattle.ngx_outside.specs.declared.files.Listing.TheVariants.{Missing};
 
-use crate::kept::{Identity, KeptFile, KeptFiles};
+use crate::kept::{Identity, KeptFile, KeptFiles, MOST, Place, Sought};
 use byte_text::{ByteText, ByteTexts, OutOfMemory};
 use file_tree::Node;
+use libc::types::rlimit;
 use ngx_outside::{Failed, FileFault, Files, Listing};
 use std::alloc::Global;
 use std::fs::{Metadata, OpenFile};
 use std::io::ErrorKind;
 use std::os::unix::fs::{FileExt, MetadataExt};
 use std::rt::Files as Host;
-use std::{fs, mem, str};
+use std::{fs, io, mem, str};
+
+// The number of the error that the host has no descriptor left (errno(3)).
+const ENFILE: i32 = 23;
+
+// So many files are kept open at most where the limit of descriptors isn't known, and so many descriptors are neither a
+// file's nor a link's.
+const FEW: usize = 16;
+
+const DESCRIPTORS_BESIDE: u64 = 8;
 
 // What stands at a path: its date is in seconds since 1970, and 0 where the host doesn't say it or it was before. What is
 // neither a file nor a folder, as a socket, can't be read.
@@ -29,80 +39,160 @@ fn node_of(found: &Metadata) -> Node {
     }
 }
 
-// What an error of the host says of a path.
+// What an error of the host says of a path. Of what isn't said here the job fails.
 fn node_missed(kind: ErrorKind) -> Result<Node, Failed> {
     match kind {
-        ErrorKind::NotFound => Ok(Node::Missing),
-        ErrorKind::NotADirectory => Ok(Node::Missing),
-        ErrorKind::InvalidFilename => Ok(Node::Missing),
-        ErrorKind::PermissionDenied => Ok(Node::Locked),
+        ErrorKind::NotFound
+        | ErrorKind::NotADirectory
+        | ErrorKind::InvalidFilename
+        | ErrorKind::InvalidInput => Ok(Node::Missing),
+        ErrorKind::PermissionDenied | ErrorKind::FilesystemLoop => Ok(Node::Locked),
         _ => Err(Failed),
     }
 }
 
-// A file that is kept open, if it still stands at the path where it was opened, with the rights that it had.
-fn look_again<R: Host>(host: &R, kept: &KeptFiles<R::File>, path: &[u8]) -> Option<Node> {
-    let kept = kept.find(path)?;
-    let found = fs::metadata(host, kept.path.as_str()).ok()?;
-    if Identity::of(&found) == kept.identity {
-        Some(node_of(&found))
-    } else {
-        None
+// Whether a call failed since the process, or the host, has no descriptor left.
+fn is_full(error: &io::Error) -> bool {
+    match error.raw_os_error() {
+        Some(code) => code == libc::EMFILE || code == ENFILE,
+        None => false,
     }
 }
 
-// Opens a file, and keeps it open. What is told is told of what was opened, whatever stands at the path since. Where there is
-// no memory to keep it, it is opened again when it is read.
-fn open_file<R: Host>(
+// Opens a file. Where no descriptor is left, the kept files that nobody reads are given up, and the call is tried again.
+fn open_file<R: Host>(host: &R, kept: &mut KeptFiles<R::File>, path: &str) -> io::Result<R::File> {
+    match fs::open(host, path) {
+        Err(error) if is_full(&error) => {
+            kept.give_up_unread();
+            fs::open(host, path)
+        }
+        opened => opened,
+    }
+}
+
+// Opens a file for the tree of a number, and keeps it open. What is told is told of what was opened, whatever stands at
+// the path since.
+fn keep_file<R: Host>(
     alloc: Global,
     host: &R,
     kept: &mut KeptFiles<R::File>,
     path: &str,
+    of: u64,
 ) -> Result<Node, Failed> {
-    let file = match fs::open(host, path) {
+    let file = match open_file(host, kept, path) {
         Ok(file) => file,
         Err(error) => return node_missed(error.kind()),
     };
     let Ok(found) = file.metadata() else {
         return Err(Failed);
     };
-    if let Ok(path) = String::from_str(alloc, path) {
-        kept.keep(KeptFile {
-            path,
-            file,
-            identity: Identity::of(&found),
-        });
+    let node = node_of(&found);
+    if !found.is_file() {
+        return Ok(node);
     }
-    Ok(node_of(&found))
+    let Ok(path) = String::from_str(alloc, path) else {
+        return Err(Failed);
+    };
+    match kept.keep(KeptFile::new(path, file, Identity::of(&found), of)) {
+        Ok(()) => Ok(node),
+        Err(OutOfMemory) => Err(Failed),
+    }
 }
 
-// What stands at a path. Only a file that can be opened is one that can be read; nothing but a file is opened, since to open
-// what isn't one may have to wait.
-fn look<R: Host>(
+// What stands at a path where no kept file does. Only a file that can be opened is one that can be read. Nothing but a file
+// is opened, since to open what isn't one may have to wait.
+fn look_anew<R: Host>(
     alloc: Global,
     host: &R,
     kept: &mut KeptFiles<R::File>,
     path: &[u8],
+    of: u64,
 ) -> Result<Node, Failed> {
-    if let Some(node) = look_again(host, kept, path) {
-        return Ok(node);
-    }
-    kept.forget(path);
     let Ok(path) = str::from_utf8(path) else {
         return Ok(Node::Missing);
     };
     match fs::metadata(host, path) {
         Ok(found) => match node_of(&found) {
-            Node::File { len: _, date: _ } => open_file(alloc, host, kept, path),
+            Node::File { len: _, date: _ } => keep_file(alloc, host, kept, path, of),
             node => Ok(node),
         },
         Err(error) => node_missed(error.kind()),
     }
 }
 
-// Fills a text up by so many bytes that a file has from a place on.
-fn fill<F: FileExt>(
-    file: &F,
+// The kept file of a place, if it still is what stands at its path, with the rights that it had.
+fn look_again<R: Host>(
+    host: &R,
+    kept: &KeptFiles<R::File>,
+    place: Place,
+    path: &[u8],
+) -> Option<Node> {
+    let kept = kept.of_path(place, path)?;
+    let found = fs::metadata(host, kept.path.as_str()).ok()?;
+    if Identity::of(&found) == kept.identity {
+        Some(kept.node())
+    } else {
+        None
+    }
+}
+
+// The file of a place, if the tree of a number showed it at this path before.
+fn show_again<F: Drop>(
+    kept: &mut KeptFiles<F>,
+    place: Place,
+    path: &[u8],
+    of: u64,
+) -> Option<Node> {
+    let node = kept.shown(place, path, of)?.node();
+    kept.show(place, of);
+    Some(node)
+}
+
+// What the tree of a number shows at a path: the file that it showed there before, and else what stands there now. Where
+// it can show the file that stood there last, it has shown no other.
+fn look<R: Host>(
+    alloc: Global,
+    host: &R,
+    kept: &mut KeptFiles<R::File>,
+    path: &[u8],
+    of: u64,
+) -> Result<Node, Failed> {
+    let last = kept.find(path, Sought::Last);
+    let last = last.filter(|place| kept.can_show(*place, of));
+    let before = match last {
+        Some(place) => Some(place),
+        None => kept.find(path, Sought::ShownIn(of)),
+    };
+    if let Some(place) = before {
+        if let Some(node) = show_again(kept, place, path, of) {
+            return Ok(node);
+        }
+    }
+    if kept.has_lost(of) {
+        return Err(Failed);
+    }
+    if let Some(place) = last {
+        if let Some(node) = look_again(host, kept, place, path) {
+            kept.show(place, of);
+            return Ok(node);
+        }
+        kept.pass(place);
+    }
+    look_anew(alloc, host, kept, path, of)
+}
+
+// Whether a file has been neither written nor cut since it was opened.
+fn has_same_bytes<F: OpenFile>(file: &F, identity: &Identity) -> bool {
+    match file.metadata() {
+        Ok(found) => Identity::of(&found).has_bytes_of(identity),
+        Err(_) => false,
+    }
+}
+
+// Fills a text up by so many bytes that a file has from a place on. Where these aren't all of its bytes, it fails if the
+// file was written since it was opened: else a response could have bytes of two states of it.
+fn fill<F: FileExt + OpenFile + Drop>(
+    kept: &KeptFile<F>,
     start: u64,
     count: usize,
     bytes: &mut Vec<u8>,
@@ -117,17 +207,21 @@ fn fill<F: FileExt>(
     let Ok(()) = bytes.resize(size, 0) else {
         return Err(FileFault::OutOfMemory);
     };
-    match file.read_exact_at(&mut bytes[known..], start) {
-        Ok(()) => Ok(()),
-        Err(_) => Err(FileFault::Failed),
+    let Ok(()) = kept.file.read_exact_at(&mut bytes[known..], start) else {
+        return Err(FileFault::Failed);
+    };
+    if kept.is_whole(start, count as u64) || has_same_bytes(&kept.file, &kept.identity) {
+        Ok(())
+    } else {
+        Err(FileFault::Failed)
     }
 }
 
-// Adds so many bytes that a file has from a place on, with no copy between.
+// Adds so many bytes that a kept file has from a place on, with no copy between.
 #[tactic(auto, using(crate::proofs::Grown::grown))]
-fn add_bytes<F: FileExt>(
+fn add_bytes<F: FileExt + OpenFile + Drop>(
     alloc: Global,
-    file: &F,
+    kept: &KeptFile<F>,
     start: u64,
     count: u64,
     out: &mut ByteText,
@@ -137,7 +231,7 @@ fn add_bytes<F: FileExt>(
 {
     let known = out.len();
     let mut bytes = mem::replace(out, ByteText::new(alloc)).into_vec();
-    let filled = fill(file, start, count as usize, &mut bytes);
+    let filled = fill(kept, start, count as usize, &mut bytes);
     *out = ByteText::from_vec(bytes);
     match filled {
         Ok(()) => Ok(()),
@@ -148,52 +242,73 @@ fn add_bytes<F: FileExt>(
     }
 }
 
-// Adds bytes of the file that was found at a path. One that isn't kept open is opened.
-fn read_file<R: Host>(
+// Adds bytes of the file that the tree of a number showed at a path. One that isn't kept any more can't be read: another
+// may stand there.
+fn read_file<F: FileExt + OpenFile + Drop>(
     alloc: Global,
-    host: &R,
-    kept: &KeptFiles<R::File>,
+    kept: &mut KeptFiles<F>,
     path: &[u8],
     start: u64,
     count: u64,
+    of: u64,
     out: &mut ByteText,
 ) -> Result<(), FileFault>
-where
-    R::File: FileExt,
     ensures ok { OnOk result ((added : List ℕ) × (out.new ≡ out.old ++ added) × (length added ≡ count)) }
     ensures err { OnErr result (out.new ≡ out.old) }
 {
-    if let Some(kept) = kept.find(path) {
-        return add_bytes(alloc, &kept.file, start, count, out);
-    }
-    let Ok(path) = str::from_utf8(path) else {
+    let Some(place) = kept.find(path, Sought::ShownIn(of)) else {
         return Err(FileFault::Failed);
     };
-    match fs::open(host, path) {
-        Ok(file) => add_bytes(alloc, &file, start, count, out),
-        Err(_) => Err(FileFault::Failed),
+    let Some(file) = kept.shown(place, path, of) else {
+        return Err(FileFault::Failed);
+    };
+    match add_bytes(alloc, file, start, count, out) {
+        Ok(()) => {
+            kept.show(place, of);
+            kept.read(place, start, count, of);
+            Ok(())
+        }
+        Err(fault) => Err(fault),
     }
 }
 
-/// The files of the host, of which there is one version, the present one. It tells nothing of what the host holds. Each
-/// failing call raises the count of faults.
+// How many files may be kept open: half of the descriptors that the process may have, so that the others are left to links.
+fn most_kept() -> usize {
+    let mut limit = rlimit {
+        rlim_cur: 0,
+        rlim_max: 0,
+    };
+    if libc::getrlimit(libc::RLIMIT_NOFILE, &mut limit) < 0 {
+        return FEW;
+    }
+    let half = limit.rlim_cur / 2;
+    half.saturating_sub(DESCRIPTORS_BESIDE)
+        .max(1)
+        .min(MOST as u64) as usize
+}
+
+/// The files of the host. It tells nothing of what the host holds. Each failing call raises the count of faults.
 ///
-/// A few files stay open after they were found. Each stat asks the host anew what stands at the path, and opens what isn't
-/// the file that is open.
+/// Files stay open after they were found, and a request reads the file that its tree showed first, whatever stands at the
+/// path since. So the number of the newest tree rises whenever that tree has shown a file: a request that starts later asks
+/// of a tree that has shown none yet, and is told what stands there then. A read fails where its file isn't open any more,
+/// or was written since.
 #[derive(Drop)]
 pub struct HostFiles<R: Host + AllocGlobal + Clone + Drop> {
     host: R,
     kept: KeptFiles<R::File>,
+    newest: u64,
     faults: u64,
 }
 
 impl<R: Host + AllocGlobal + Clone + Drop> HostFiles<R> {
     /// The files of a host, none of which is open.
     pub fn new(host: R) -> Result<Self, OutOfMemory> {
-        let kept = KeptFiles::new(host.alloc())?;
+        let kept = KeptFiles::new(host.alloc(), most_kept())?;
         Ok(HostFiles {
             host,
             kept,
+            newest: 0,
             faults: 0,
         })
     }
@@ -201,8 +316,19 @@ impl<R: Host + AllocGlobal + Clone + Drop> HostFiles<R> {
     fn count_fault(&mut self)
         ensures rose { Rose self.old.faults self.new.faults }
         ensures later { self.old.faults ≤ self.new.faults }
+        ensures newest { self.new.newest ≡ self.old.newest }
     {
         self.faults = self.faults.saturating_add(1);
+    }
+
+    // The tree of a number has shown a file.
+    fn has_shown(&mut self, of: u64)
+        ensures newest { self.old.newest ≤ self.new.newest }
+        ensures faults { self.new.faults ≡ self.old.faults }
+    {
+        if of == self.newest {
+            self.newest = self.newest.saturating_add(1);
+        }
     }
 }
 
@@ -241,23 +367,27 @@ where
     ghost use Rattle.std.specs.Prelude.{false, None};
     ghost use Rattle.file_tree.specs.Tree.{Nothing};
 
-    ghost tells = { λ _. false };
+    ghost seen = { λ f. record {
+      tells = false;
+      trees = λ _ _. Nothing;
+      newest = f.newest;
+      versions = None;
+      answers = None;
+      faults = f.faults;
+    } };
 
-    ghost trees = { λ _ _ _. Nothing };
-
-    ghost newest = { λ _. 0 };
-
-    ghost answers = { λ _. None };
-
-    ghost faults = { λ f. f.faults };
-
-    fn version(&self) -> u64 {
-        0
+    fn version(&mut self) -> u64 {
+        self.newest
     }
 
-    fn stat(&mut self, path: &[u8], _of: u64) -> Result<Node, Failed> {
-        match look(self.host.alloc(), &self.host, &mut self.kept, path) {
-            Ok(node) => Ok(node),
+    fn stat(&mut self, path: &[u8], of: u64) -> Result<Node, Failed> {
+        match look(self.host.alloc(), &self.host, &mut self.kept, path, of) {
+            Ok(node) => {
+                if let Node::File { len: _, date: _ } = node {
+                    self.has_shown(of);
+                }
+                Ok(node)
+            }
             Err(Failed) => {
                 self.count_fault();
                 Err(Failed)
@@ -270,16 +400,16 @@ where
         path: &[u8],
         start: u64,
         count: u64,
-        _of: u64,
+        of: u64,
         out: &mut ByteText,
     ) -> Result<(), FileFault> {
         match read_file(
             self.host.alloc(),
-            &self.host,
-            &self.kept,
+            &mut self.kept,
             path,
             start,
             count,
+            of,
             out,
         ) {
             Ok(()) => Ok(()),

@@ -1,21 +1,30 @@
 // The host's files that stay open from one call to the next.
-ghost use Rattle.std.specs.Prelude.{◌≡◌, ◌≤◌, IfSome, string_bytes, vec_len};
+ghost use Rattle.std.specs.Prelude.{◌≡◌, ◌≤◌, true, IfSome, string_bytes};
 
 use byte_text::OutOfMemory;
-use std::alloc::Global;
+use file_tree::Node;
+use std::alloc::{AllocError, Global};
 use std::fs::Metadata;
 use std::os::unix::fs::MetadataExt;
 
 /// So many files are kept open at most.
-const MOST: usize = 16;
+pub const MOST: usize = 1024;
 
-/// What tells a file of the host from every other, and from itself before its owner or its rights were changed: while a
-/// file is open, the host gives its number to no other.
+/// In so many buckets they lie, by the hashes of their paths.
+const BUCKETS: usize = 256;
+
+/// A file that is longer, in bytes, is closed once it was read to its end.
+const LARGE: u64 = 1048576;
+
+/// What tells one state of a file of the host from every other: which file it is, how long, when it was written last, and
+/// when its owner, its rights or its names changed last. While a file is open, the host gives its number to no other.
 #[derive(Clone, Copy, PartialEq, Eq)]
 pub struct Identity {
     device: u64,
     number: u64,
     mode: u32,
+    len: u64,
+    written: (i64, i64),
     changed: (i64, i64),
 }
 
@@ -25,61 +34,359 @@ impl Identity {
             device: found.dev(),
             number: found.ino(),
             mode: found.mode(),
+            len: found.len(),
+            written: (found.mtime(), found.mtime_nsec()),
             changed: (found.ctime(), found.ctime_nsec()),
+        }
+    }
+
+    /// Whether a file that is open was neither written nor cut since. Its rights and its names may have changed, as when
+    /// another takes its path.
+    pub fn has_bytes_of(&self, earlier: &Identity) -> bool {
+        self.len == earlier.len && self.written == earlier.written
+    }
+
+    /// What stands where the file does: its date is in seconds since 1970, and 0 where it was before.
+    fn node(&self) -> Node {
+        Node::File {
+            len: self.len,
+            date: u64::try_from(self.written.0).unwrap_or(0),
         }
     }
 }
 
-/// A file that is open, what it was when it was opened, and the path where it stood.
+/// A file that is open: what it was when it was opened, the path where it stood, and the first and the last tree that show
+/// it there.
 #[derive(Drop)]
 pub struct KeptFile<F: Drop> {
     pub path: String,
     pub file: F,
     pub identity: Identity,
+    first: u64,
+    last: u64,
+    /// When it was asked for last.
+    used: u64,
+    /// How many began to read it and didn't read its end yet. Those that were given up stay among them.
+    readers: u32,
+    /// No later tree shows it.
+    past: bool,
 }
 
-/// The files that are kept open, no more than sixteen. Where there is no room for one more, they make room in turn.
+impl<F: Drop> KeptFile<F> {
+    /// A file that was opened for the tree of a number.
+    pub fn new(path: String, file: F, identity: Identity, of: u64) -> Self {
+        KeptFile {
+            path,
+            file,
+            identity,
+            first: of,
+            last: of,
+            used: 0,
+            readers: 0,
+            past: false,
+        }
+    }
+
+    pub fn node(&self) -> Node {
+        self.identity.node()
+    }
+
+    /// Whether so many bytes from `start` on are all that it has.
+    pub fn is_whole(&self, start: u64, count: u64) -> bool {
+        start == 0 && count == self.identity.len
+    }
+
+    fn is_at(&self, path: &[u8]) -> bool
+        ensures { result ≡ true → string_bytes self.now.path ≡ path.now }
+    {
+        self.path.as_bytes() == path
+    }
+
+    fn is_in(&self, of: u64) -> bool
+        ensures { result ≡ true → (self.now.first ≤ of) × (of ≤ self.now.last) }
+    {
+        self.first <= of && of <= self.last
+    }
+}
+
+/// Where a kept file lies.
+#[derive(Clone, Copy)]
+pub struct Place {
+    bucket: usize,
+    at: usize,
+}
+
+/// Which file of a path is sought: the one that the tree of a number shows, or the one that stood there last.
+#[derive(Clone, Copy)]
+pub enum Sought {
+    ShownIn(u64),
+    Last,
+}
+
+fn is_sought<F: Drop>(kept: &KeptFile<F>, path: &[u8], sought: Sought) -> bool {
+    let fits = match sought {
+        Sought::ShownIn(of) => kept.is_in(of),
+        Sought::Last => !kept.past,
+    };
+    fits && kept.is_at(path)
+}
+
+/// The bucket of a path.
+fn bucket_of(path: &[u8]) -> usize {
+    let mut hash = 0u32;
+    for byte in path {
+        hash = hash.wrapping_mul(31).wrapping_add(*byte as u32);
+    }
+    hash as usize % BUCKETS
+}
+
+fn empty_buckets<F: Drop>(alloc: Global) -> Result<Vec<Vec<KeptFile<F>>>, AllocError> {
+    let mut buckets = Vec::with_capacity(alloc, BUCKETS)?;
+    for _ in 0..BUCKETS {
+        buckets.push(Vec::new(alloc))?;
+    }
+    Ok(buckets)
+}
+
+/// The file that was used longest ago, among those that were looked at.
+#[derive(Clone, Copy)]
+struct Oldest {
+    place: Place,
+    used: u64,
+    count: usize,
+}
+
+const NONE_LOOKED_AT: Oldest = Oldest {
+    place: Place { bucket: 0, at: 0 },
+    used: u64::MAX,
+    count: 0,
+};
+
+fn older(oldest: Oldest, place: Place, used: u64) -> Oldest {
+    let count = oldest.count.saturating_add(1);
+    if used < oldest.used {
+        Oldest { place, used, count }
+    } else {
+        Oldest { count, ..oldest }
+    }
+}
+
+/// The files that are kept open. The trees that show the files of one path are others for each of them, so that a request,
+/// which asks of one tree, reads one file. Where there is no room for one more, one is closed: the one that was used
+/// longest ago of those that nobody reads, if these are an eighth of all or more, and else of all.
 #[derive(Drop)]
 pub struct KeptFiles<F: Drop> {
-    files: Vec<KeptFile<F>>,
-    turn: usize,
-    ghost few: { vec_len files ≤ 16 },
+    buckets: Vec<Vec<KeptFile<F>>>,
+    count: usize,
+    most: usize,
+    uses: u64,
+    near: Place,
+    lost: u64,
 }
 
 impl<F: Drop> KeptFiles<F> {
-    /// None, with room for all that are to be kept.
-    pub fn new(alloc: Global) -> Result<Self, OutOfMemory> {
+    /// None, of which so many may be kept.
+    pub fn new(alloc: Global, most: usize) -> Result<Self, OutOfMemory> {
         Ok(KeptFiles {
-            files: Vec::with_capacity(alloc, MOST)?,
-            turn: 0,
+            buckets: empty_buckets(alloc)?,
+            count: 0,
+            most: most.min(MOST),
+            uses: 0,
+            near: Place { bucket: 0, at: 0 },
+            lost: 0,
         })
     }
 
-    /// The file that was found at a path.
-    pub fn find(&self, path: &[u8]) -> Option<&KeptFile<F>>
-        ensures { IfSome result (λ kept. string_bytes kept.now.path ≡ path.now) }
-    {
-        for kept in &self.files {
-            if kept.path.as_bytes() == path {
-                return Some(kept);
+    fn file_at(&self, place: Place) -> Option<&KeptFile<F>> {
+        match self.buckets.get(place.bucket) {
+            Some(bucket) => bucket.get(place.at),
+            None => None,
+        }
+    }
+
+    /// Where a path's file lies that is sought. Where the last one lay is looked at first.
+    pub fn find(&self, path: &[u8], sought: Sought) -> Option<Place> {
+        if let Some(kept) = self.file_at(self.near) {
+            if is_sought(kept, path, sought) {
+                return Some(self.near);
+            }
+        }
+        let bucket = bucket_of(path);
+        for (at, kept) in self.buckets.get(bucket)?.iter().enumerate() {
+            if is_sought(kept, path, sought) {
+                return Some(Place { bucket, at });
             }
         }
         None
     }
 
-    /// Closes the file that was found at a path.
-    pub fn forget(&mut self, path: &[u8]) {
-        self.files.retain(|kept| kept.path.as_bytes() != path);
+    /// The file of a place, if it is of this path.
+    pub fn of_path(&self, place: Place, path: &[u8]) -> Option<&KeptFile<F>>
+        ensures { IfSome result (λ kept. string_bytes kept.now.path ≡ path.now) }
+    {
+        let kept = self.file_at(place)?;
+        if kept.is_at(path) { Some(kept) } else { None }
     }
 
-    /// Keeps one more file open; without memory it is closed.
-    pub fn keep(&mut self, kept: KeptFile<F>) {
-        if self.files.len() < MOST {
-            let _ = self.files.push(kept);
+    /// The file of a place, if the tree of a number shows it at this path.
+    pub fn shown(&self, place: Place, path: &[u8], of: u64) -> Option<&KeptFile<F>>
+        ensures path { IfSome result (λ kept. string_bytes kept.now.path ≡ path.now) }
+        ensures tree { IfSome result (λ kept. (kept.now.first ≤ of) × (of ≤ kept.now.last)) }
+    {
+        let kept = self.file_at(place)?;
+        if kept.is_in(of) && kept.is_at(path) {
+            Some(kept)
         } else {
-            let place = self.turn % self.files.len();
-            self.files[place] = kept;
-            self.turn = place + 1;
+            None
         }
+    }
+
+    /// Whether the file of a place can be shown by the tree of a number, and by all trees from its own to that one.
+    pub fn can_show(&self, place: Place, of: u64) -> bool {
+        match self.file_at(place) {
+            Some(kept) => kept.first <= of,
+            None => false,
+        }
+    }
+
+    /// The file of a place is used now, for the tree of a number.
+    pub fn show(&mut self, place: Place, of: u64) {
+        self.uses = self.uses.saturating_add(1);
+        self.near = place;
+        let uses = self.uses;
+        if let Some(bucket) = self.buckets.get_mut(place.bucket) {
+            if let Some(kept) = bucket.get_mut(place.at) {
+                kept.used = uses;
+                kept.last = kept.last.max(of);
+            }
+        }
+    }
+
+    // Closes the file of a place.
+    fn close(&mut self, place: Place) {
+        if let Some(bucket) = self.buckets.get_mut(place.bucket) {
+            if place.at < bucket.len() {
+                bucket.swap_remove(place.at);
+                self.count = self.count.saturating_sub(1);
+            }
+        }
+    }
+
+    /// Something else stands at the path of a place now, which later trees show. Who reads the file reads on.
+    pub fn pass(&mut self, place: Place) {
+        let mut is_read = true;
+        if let Some(bucket) = self.buckets.get_mut(place.bucket) {
+            if let Some(kept) = bucket.get_mut(place.at) {
+                kept.past = true;
+                is_read = kept.readers > 0;
+            }
+        }
+        if !is_read {
+            self.close(place);
+        }
+    }
+
+    /// So many bytes were read of the file of a place, from `start` on, for the tree of a number. Who began at the start
+    /// reads it until its end was read. Then nobody may need it open any more.
+    pub fn read(&mut self, place: Place, start: u64, count: u64, of: u64) {
+        let mut is_done = false;
+        if let Some(bucket) = self.buckets.get_mut(place.bucket) {
+            if let Some(kept) = bucket.get_mut(place.at) {
+                let len = kept.identity.len;
+                if start == 0 {
+                    kept.readers = kept.readers.saturating_add(1);
+                }
+                if start.saturating_add(count) >= len {
+                    kept.readers = kept.readers.saturating_sub(1);
+                    let is_large = len > LARGE && of == kept.last;
+                    is_done = kept.readers == 0 && (kept.past || is_large);
+                }
+            }
+        }
+        if is_done {
+            self.close(place);
+        }
+    }
+
+    /// Whether a file that the tree of a number showed may have been closed while it was read. Then that tree shows no
+    /// further file, since it might show another at the same path.
+    pub fn has_lost(&self, of: u64) -> bool {
+        of < self.lost
+    }
+
+    /// Closes the file that is to make room; whether there was one.
+    pub fn give_up(&mut self) -> bool {
+        let mut all = NONE_LOOKED_AT;
+        let mut unread = NONE_LOOKED_AT;
+        for (bucket, files) in self.buckets.iter().enumerate() {
+            for (at, kept) in files.iter().enumerate() {
+                let place = Place { bucket, at };
+                all = older(all, place, kept.used);
+                if kept.readers == 0 {
+                    unread = older(unread, place, kept.used);
+                }
+            }
+        }
+        let place = if unread.count > all.count / 8 {
+            unread.place
+        } else {
+            all.place
+        };
+        self.lose(place);
+        self.close(place);
+        all.count > 0
+    }
+
+    /// Closes all files that nobody reads.
+    pub fn give_up_unread(&mut self) {
+        let mut count: usize = 0;
+        for bucket in self.buckets.iter_mut() {
+            bucket.retain(|kept| kept.readers > 0);
+            count = count.saturating_add(bucket.len());
+        }
+        self.count = count;
+    }
+
+    // The file of a place will be closed. Where it is read, the trees up to its last one have lost it.
+    fn lose(&mut self, place: Place) {
+        let mut lost = 0;
+        if let Some(kept) = self.file_at(place) {
+            if kept.readers > 0 {
+                lost = kept.last.saturating_add(1);
+            }
+        }
+        self.lost = self.lost.max(lost);
+    }
+
+    // Whether a tree that is later than that of a number shows some file of a path.
+    fn is_shown_later(&self, bucket: usize, path: &[u8], of: u64) -> bool {
+        match self.buckets.get(bucket) {
+            Some(bucket) => bucket.iter().any(|kept| kept.last > of && kept.is_at(path)),
+            None => false,
+        }
+    }
+
+    /// Keeps one more file open. Where a later tree shows another file of its path, none but its own tree shows it.
+    pub fn keep(&mut self, kept: KeptFile<F>) -> Result<(), OutOfMemory> {
+        if self.count >= self.most {
+            self.give_up();
+        }
+        let bucket = bucket_of(kept.path.as_bytes());
+        let past = self.is_shown_later(bucket, kept.path.as_bytes(), kept.first);
+        self.uses = self.uses.saturating_add(1);
+        let kept = KeptFile {
+            past,
+            used: self.uses,
+            ..kept
+        };
+        if let Some(files) = self.buckets.get_mut(bucket) {
+            files.push(kept)?;
+            self.near = Place {
+                bucket,
+                at: files.len() - 1,
+            };
+            self.count = self.count.saturating_add(1);
+        }
+        Ok(())
     }
 }

@@ -8,6 +8,3 @@ mod sink;
 
 pub use files::HostFiles;
 pub use sink::HostSink;
-
-#[cfg(test)]
-mod tests;

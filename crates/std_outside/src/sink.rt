@@ -26,11 +26,7 @@ fn write_out<R: Print>(host: &R, bytes: &[u8]) -> io::Result<()> {
 impl<R: Print + Drop> Sink for HostSink<R> {
     ghost use Rattle.std.specs.Prelude.{false, []};
 
-    ghost tells = { λ _. false };
-
-    ghost written = { λ _. [] };
-
-    ghost faults = { λ s. s.faults };
+    ghost seen = { λ s. record { tells = false; written = []; faults = s.faults } };
 
     fn put(&mut self, bytes: &[u8]) -> Result<(), Failed> {
         match write_out(&self.host, bytes) {

@@ -12,6 +12,3 @@ mod target;
 pub use escape::escaped;
 pub use fault::UriFault;
 pub use target::{AbsoluteForm, absolute_form, is_target, normal};
-
-#[cfg(test)]
-mod tests;

@@ -24,7 +24,7 @@ pub returns-in_err-put_lines-clause-exact : goal.returns-in_err-put_lines-clause
 returns-in_err-put_lines-clause-exact g c tree names told naming =
     let p = err_from_is_err_and c.from_residual-in_err-put_lines.result c.from_residual-in_err-put_lines.ensures.1 in
     let reading = c.args.reading.now in
-    let within : c.args.setting.now.tree ≤ g.F.Files.newest c.text_of.new.files = omega (arith, c.requires.known, c.in_ok-text.ensures.later.newest) in
+    let within : c.args.setting.now.tree ≤ (g.F.Files.seen c.text_of.new.files).newest = omega (arith, c.requires.known, c.in_ok-text.ensures.later.newest) in
     let before = told_before c.args.setting.now.tree tree _ _ c.in_err-put_lines.ensures.later within told in
     rw (p.1, p.2)
     (stop_same c.in_err-put_lines.field-0.0 _ _ c.put_lines.new.self.paths
@@ -35,7 +35,7 @@ returns-in_err-put_lines-clause-exact g c tree names told naming =
 pub returns-clause-exact : goal.returns-clause-exact
 returns-clause-exact g c tree names told naming =
     let reading = c.args.reading.now in
-    let within : c.args.setting.now.tree ≤ g.F.Files.newest c.text_of.new.files = omega (arith, c.requires.known, c.in_ok-text.ensures.later.newest) in
+    let within : c.args.setting.now.tree ≤ (g.F.Files.seen c.text_of.new.files).newest = omega (arith, c.requires.known, c.in_ok-text.ensures.later.newest) in
     let before = told_before c.args.setting.now.tree tree _ _ c.in_ok-put_lines.ensures.later within told in
     main_opened tree names c.args.setting.now.main.now reading.lines c.in_ok-lines.lines reading.paths reading.size c.len.result c.in_ok-text.text c.requires.paths c.requires.size c.len.ensures
     (c.in_ok-text.ensures.text tree reading.paths before) (rw c.as_slice.ensures at (c.in_ok-lines.ensures.lines reading.paths))

@@ -8,7 +8,7 @@ use Rattle.conf_include.proofs.open.len_of.Goals as goal
 
 pub returns-in_ok-fault_about-in-Ok-File-clause-len : goal.returns-in_ok-fault_about-in-Ok-File-clause-len
 returns-in_ok-fault_about-in-Ok-File-clause-len g c tree paths told =
-    let before = told_before c.args.of tree _ _ (later_call _ _ _ _ _ _ _ _ c.stat.ensures.tells c.stat.ensures.grow c.stat.ensures.cause.later) c.requires told in
+    let before = told_before c.args.of tree (g.F.Files.seen c.args.files.now) (g.F.Files.seen c.stat.new.self) (later_call (g.F.Files.seen c.args.files.now) (g.F.Files.seen c.stat.new.self) c.stat.ensures.tells c.stat.ensures.versions c.stat.ensures.grow c.stat.ensures.cause.later) c.requires told in
     let path = c.args.path.now in
     let at = spot c.args.at.file c.args.at.line in
     let is : File c.in-Ok-File.len c.in-Ok-File.field-0-1 ≡ node_of (tree path) = (rw c.in-Ok-File.field-0-is at c.in-Ok-File.ensures.node) before.tells ∙ ap node_of (before.same path) in
@@ -18,7 +18,7 @@ returns-in_ok-fault_about-in-Ok-File-clause-len g c tree paths told =
 
 pub returns-else-saturating_add-gt-MOST_BYTES-clause-len : goal.returns-else-saturating_add-gt-MOST_BYTES-clause-len
 returns-else-saturating_add-gt-MOST_BYTES-clause-len g c tree paths told =
-    let before = told_before c.args.of tree _ _ (later_call _ _ _ _ _ _ _ _ c.stat.ensures.tells c.stat.ensures.grow c.stat.ensures.cause.later) c.requires told in
+    let before = told_before c.args.of tree (g.F.Files.seen c.args.files.now) (g.F.Files.seen c.stat.new.self) (later_call (g.F.Files.seen c.args.files.now) (g.F.Files.seen c.stat.new.self) c.stat.ensures.tells c.stat.ensures.versions c.stat.ensures.grow c.stat.ensures.cause.later) c.requires told in
     let path = c.args.path.now in
     let at = spot c.args.at.file c.args.at.line in
     let is : File c.in-Ok-File.len c.in-Ok-File.field-0-1 ≡ node_of (tree path) = (rw c.in-Ok-File.field-0-is at c.in-Ok-File.ensures.node) before.tells ∙ ap node_of (before.same path) in

@@ -13,7 +13,7 @@ returns-in_err-len-clause-text g c tree paths told =
 pub returns-clause-text : goal.returns-clause-text
 returns-clause-text g c tree paths told =
     let path = c.args.path.now in
-    let within : c.args.of ≤ g.F.Files.newest c.len_of.new.files = omega (arith, c.requires, c.in_ok-len.ensures.later.newest) in
+    let within : c.args.of ≤ (g.F.Files.seen c.len_of.new.files).newest = omega (arith, c.requires, c.in_ok-len.ensures.later.newest) in
     let before = told_before c.args.of tree _ _ c.bytes_of.ensures.later within told in
     whole_text (tree path) (spot c.args.at.file c.args.at.line) path (tally paths c.args.size) c.in_ok-len.len c.bytes_of.result
     (c.in_ok-len.ensures.len tree paths before) (c.bytes_of.ensures.bytes tree told)

@@ -9,7 +9,7 @@ pub returns-clause-seen : goal.returns-clause-seen
 returns-clause-seen c = λ d site h.
     let values = c.in_ok-values.values in
     server-shown site c.locations_of.new.pool.levels.items c.locations_of.new.pool.types.items
-    (record { listens = c.in_ok-listens.listens; level = c.in_ok-level.level; locations = c.in_ok-locations.locations })
+    c.in_ok-listens.listens c.in_ok-level.level c.in_ok-locations.locations.items
     d (forest_of c.args.block.now) (values_by c.args.outer) (values_by values) values.types c.in_ok-level_of.field-0 h
     c.in_ok-listens.ensures (c.in_ok-locations.ensures.levels _ _ c.in_ok-level.ensures.there) c.in_ok-values.ensures.values c.in_ok-level_of.ensures
     (c.in_ok-locations.ensures.types _ _ (ap (λ ts. slice_get ts values.types) c.in_ok-level.ensures.types ∙ c.in_ok-values.ensures.there))

@@ -20,6 +20,11 @@ returns c =
       types = c.servers_of.new.pool.types;
       outside = c.in_ok-level_of.field-0;
       plain = c.in_ok-types_of.field-0;
+      indexes = c.new-2.result;
+      pages = c.new-3.result;
+      rules = c.new-4.result;
+      auth_sets = c.new-5.result;
+      media = c.new-6.result;
     } in
     site-shown site c.args.folder.now (forest_of c.args.http.now) (values_by c.in_ok-values.values) c.in_ok-from_slice.ensures
     (c.in_ok-values.ensures.values ∙ ap (over (stated [] (forest_of c.args.http.now))) c.defaults.ensures.values)

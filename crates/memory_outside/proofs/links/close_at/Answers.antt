@@ -1,4 +1,4 @@
-use Rattle.memory_outside.proofs.Ids.{closes_at}
+use Rattle.memory_outside.proofs.Ids.{closes_at, crowd_closes}
 use Rattle.memory_outside.proofs.Played.{send_same_set}
 use Rattle.memory_outside.proofs.links.close_at.Goals as goal
 
@@ -20,3 +20,6 @@ returns-clause-later c =
 
 pub returns-clause-sends : goal.returns-clause-sends
 returns-clause-sends c = send_same_set c.args.peers.now c.args.at c.close.new.self c.index-peers-at.result c.requires c.close.ensures.sends
+
+pub returns-clause-crowd : goal.returns-clause-crowd
+returns-clause-crowd c = crowd_closes c.args.peers.now c.args.at c.close.new.self c.index-peers-at.result c.requires c.close.ensures.held

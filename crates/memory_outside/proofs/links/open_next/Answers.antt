@@ -6,7 +6,7 @@ use Rattle.memory_outside.proofs.links.open_next.Goals as goal
 pub returns-in-Ok-clause-reports : goal.returns-in-Ok-clause-reports
 returns-in-Ok-clause-reports c =
     reports_push c.args.peers.now.items c.push_peer.new.peers.items c.args.peer (c.len.result + 1) c.args.faults.now (omega (arith, c.len.ensures)) c.in-Ok.ensures.ok
-    c.requires.fresh c.requires.held
+    c.requires.fresh c.requires.among c.requires.held
 
 pub returns-in-Ok-clause-sends : goal.returns-in-Ok-clause-sends
 returns-in-Ok-clause-sends c =

@@ -1,19 +1,37 @@
-use Rattle.ready_loop.specs.Seen.{files_seen}
-use Rattle.ngx_cli.specs.Commands.{Output}
-use Rattle.ngx_cli.proofs.Endings.{counted}
+use Rattle.std.proofs.Common.{◌≡◌, List, ℕ, Ok, Err, refl}
+use Rattle.ngx_outside.specs.Seen.{FilesSeen}
+use Rattle.site_model.specs.Levels.{seen}
+use Rattle.ngx_cli.specs.Commands.{Output, Describes, OfSite, OfNoSite, counts_of}
+use Rattle.report_text.specs.Lines.{ended}
+use Rattle.report_text.specs.Faults.{conf_fault_line}
+use Rattle.ngx_cli.proofs.Endings.{unput_check, fault_described, is_fault_line, is_files_line}
 use Rattle.ngx_cli.proofs.check.run_check.Goals as goal
 
 pub returns-in-Ok : goal.returns-in-Ok
 returns-in-Ok g c =
-    let f = g.F.Files in
-    let u = g.O.Sink in
-    let old = c.args.files.now in
-    let new = c.site_at.new.files in
-    let out : Output = record {
-      tells = u.tells c.args.out.now;
-      written = u.written c.args.out.now;
-      written' = u.written c.put_counts.new.out;
-      faults = u.faults c.args.out.now;
-      faults' = u.faults c.put_counts.new.out;
-    } in
-    counted (f.tells old) (files_seen (f.trees old) (f.newest old) (f.faults old)) (files_seen (f.trees new) (f.newest new) (f.faults new)) out c.args.path.now c.in-Ok.site c.put_counts.result c.in-Ok.ensures.exact c.put_counts.ensures
+    let files : FilesSeen = g.F.Files.seen c.args.files.now in
+    let files' : FilesSeen = g.F.Files.seen c.site_at.new.files in
+    let out : Output = record { before = g.O.Sink.seen c.args.out.now; after = g.O.Sink.seen c.put_counts.new.out } in
+    let path = c.args.path.now in
+    let site = c.in-Ok.site in
+    let described : Describes files files' path (Ok (seen site)) = record { reads = c.in-Ok.ensures.reading; is = c.in-Ok.ensures.exact } in
+    unput_check files files' out path (counts_of (seen site)) c.in-Err.status (OfSite site described refl) c.in-Err.ensures
+
+pub returns-in-Err-Fault : goal.returns-in-Err-Fault
+returns-in-Err-Fault g c =
+    let files : FilesSeen = g.F.Files.seen c.args.files.now in
+    let files' : FilesSeen = g.F.Files.seen c.site_at.new.files in
+    let out : Output = record { before = g.O.Sink.seen c.args.out.now; after = g.O.Sink.seen c.put_fault.new.out } in
+    let path = c.args.path.now in
+    let placed = c.in-Err-Fault.placed in
+    let described : Describes files files' path (Err (placed.fault, placed.path)) = fault_described files files' path c.in-Err-Fault.field-0 placed c.in-Err-Fault.field-0-is c.in-Err-Fault.ensures.reading c.in-Err-Fault.ensures.exact in
+    unput_check files files' out path (ended (conf_fault_line placed.path placed.fault)) c.in-Err-put_fault.status (OfNoSite (is_fault_line files files' path placed described)) c.in-Err-put_fault.ensures
+
+pub returns-in-Err-Failed : goal.returns-in-Err-Failed
+returns-in-Err-Failed g c =
+    let files : FilesSeen = g.F.Files.seen c.args.files.now in
+    let files' : FilesSeen = g.F.Files.seen c.site_at.new.files in
+    let out : Output = record { before = g.O.Sink.seen c.args.out.now; after = g.O.Sink.seen c.put_fault-in-Err-Failed.new.out } in
+    let path = c.args.path.now in
+    let placed = c.in-Err-Failed.placed in
+    unput_check files files' out path (ended (conf_fault_line placed.path placed.fault)) c.in-Err-put_fault-2.status (OfNoSite (is_files_line files files' path c.in-Err-Failed.field-0 placed c.in-Err-Failed.field-0-is c.in-Err-Failed.ensures.cause)) c.in-Err-put_fault-2.ensures

@@ -1,10 +1,11 @@
-use Rattle.std.proofs.Common.{◌≡◌, Bool, Ok, ap, sym, subst, arith}
+use Rattle.std.proofs.Common.{◌≡◌, Ok, Err, ap, sym, subst}
 use Rattle.std.proofs.lemmas.List.{append-nil}
-use Rattle.ready_loop.specs.Seen.{FilesSeen, links_seen, files_seen, clock_seen}
-use Rattle.site_service.specs.Serving.{Outside, Serving}
+use Rattle.site_service.specs.Serving.{Outside}
 use Rattle.site_model.specs.Levels.{seen}
 use Rattle.ngx_cli.specs.Commands.{Output, Describes, ServeEnds}
-use Rattle.ngx_cli.proofs.Endings.{served}
+use Rattle.report_text.specs.Lines.{ended}
+use Rattle.report_text.specs.Faults.{conf_fault_line}
+use Rattle.ngx_cli.proofs.Endings.{served, unput_serving, fault_described, is_fault_line, is_files_line}
 use Rattle.ngx_cli.proofs.command.run_site.Goals as goal
 
 pub returns-in-Ok-serve_site : goal.returns-in-Ok-serve_site
@@ -18,28 +19,47 @@ returns-in-Ok-serve_site g c =
     let e = c.in-Ok-serve_site.ending in
     let path = c.args.path.now in
     let site = c.in-Ok.site in
-    let earlier : FilesSeen = files_seen (f.trees c.args.files.now) (f.newest c.args.files.now) (f.faults c.args.files.now) in
-    let mid : Bool → Outside = λ b. record {
-      files_tell = b;
-      files = files_seen (f.trees c.site_at.new.files) (f.newest c.site_at.new.files) (f.faults c.site_at.new.files);
-      files' = files_seen (f.trees c.serve_site.new.files) (f.newest c.serve_site.new.files) (f.faults c.serve_site.new.files);
-      links_tell = k.tells c.args.links.now;
-      links = links_seen (k.link c.args.links.now) (k.used c.args.links.now) (k.is_open c.args.links.now) (k.link_faults c.args.links.now);
-      links' = links_seen (k.link c.serve_site.new.links) (k.used c.serve_site.new.links) (k.is_open c.serve_site.new.links) (k.link_faults c.serve_site.new.links);
-      listening = k.listening c.args.links.now;
-      listening' = k.listening c.serve_site.new.links;
-      links_faults = k.faults c.args.links.now;
-      links_faults' = k.faults c.serve_site.new.links;
-      clock = clock_seen (t.tells c.args.clock.now) (t.told c.args.clock.now);
-      clock' = clock_seen (t.tells c.serve_site.new.clock) (t.told c.serve_site.new.clock);
+    let o : Outside = record {
+      files = f.seen c.args.files.now;
+      files' = f.seen c.serve_site.new.files;
+      links = k.seen c.args.links.now;
+      links' = k.seen c.serve_site.new.links;
+      clock = t.seen c.args.clock.now;
+      clock' = t.seen c.serve_site.new.clock;
     } in
-    let o : Outside = record (mid (f.tells c.args.files.now)) { files = earlier } in
-    let out : Output = record { tells = u.tells c.args.out.now; written = u.written c.args.out.now; written' = u.written c.args.out.now; faults = u.faults c.args.out.now; faults' = u.faults c.args.out.now } in
-    let over : Bool = k.over c.serve_site.new.links in
-    let described : Describes o.files_tell o.files o.files' path (Ok (seen site)) = λ tells same names naming.
-    a.exact tells (let n : f.newest c.site_at.new.files ≡ f.newest c.args.files.now = omega (arith, a.newest, s.newest, same) in n) names naming in
-    let serving : Serving site c.args.turns e o =
-    c.files_may_fail_before.ensures site c.args.turns e (mid (f.tells c.args.files.now)) earlier a.later (subst (λ b. Serving site c.args.turns e (mid b)) a.tells s.serving) in
-    subst (ServeEnds over o out path c.args.turns) (sym c.served_status.ensures)
-    (served over o out path c.args.turns e site described serving (λ tells. sym (append-nil (u.written c.args.out.now)))
+    let out : Output = record { before = u.seen c.args.out.now; after = u.seen c.args.out.now } in
+    let described : Describes o.files (f.seen c.site_at.new.files) path (Ok (seen site)) = record { reads = a.reading; is = a.exact } in
+    subst (ServeEnds o out path c.args.turns) (sym c.served_status.ensures)
+    (served o out path c.args.turns e site (f.seen c.site_at.new.files) described s.serving (λ tells. sym (append-nil (u.seen c.args.out.now).written))
     (λ is. s.ended (ap Ok is)) (λ is. s.listen_fault (ap Ok is)) (λ is. s.next_fault (ap Ok is)))
+
+pub returns-in-Err-Fault : goal.returns-in-Err-Fault
+returns-in-Err-Fault g c =
+    let o : Outside = record {
+      files = g.F.Files.seen c.args.files.now;
+      files' = g.F.Files.seen c.site_at.new.files;
+      links = g.L.Links.seen c.args.links.now;
+      links' = g.L.Links.seen c.args.links.now;
+      clock = g.C.Clock.seen c.args.clock.now;
+      clock' = g.C.Clock.seen c.args.clock.now;
+    } in
+    let out : Output = record { before = g.O.Sink.seen c.args.out.now; after = g.O.Sink.seen c.put_fault.new.out } in
+    let path = c.args.path.now in
+    let placed = c.in-Err-Fault.placed in
+    let described : Describes o.files o.files' path (Err (placed.fault, placed.path)) = fault_described o.files o.files' path c.in-Err-Fault.field-0 placed c.in-Err-Fault.field-0-is c.in-Err-Fault.ensures.reading c.in-Err-Fault.ensures.exact in
+    unput_serving o out path c.args.turns (ended (conf_fault_line placed.path placed.fault)) c.in-Err-put_fault.status (is_fault_line o.files o.files' path placed described) c.in-Err-put_fault.ensures
+
+pub returns-in-Err-Failed : goal.returns-in-Err-Failed
+returns-in-Err-Failed g c =
+    let o : Outside = record {
+      files = g.F.Files.seen c.args.files.now;
+      files' = g.F.Files.seen c.site_at.new.files;
+      links = g.L.Links.seen c.args.links.now;
+      links' = g.L.Links.seen c.args.links.now;
+      clock = g.C.Clock.seen c.args.clock.now;
+      clock' = g.C.Clock.seen c.args.clock.now;
+    } in
+    let out : Output = record { before = g.O.Sink.seen c.args.out.now; after = g.O.Sink.seen c.put_fault-in-Err-Failed.new.out } in
+    let path = c.args.path.now in
+    let placed = c.in-Err-Failed.placed in
+    unput_serving o out path c.args.turns (ended (conf_fault_line placed.path placed.fault)) c.in-Err-put_fault-2.status (is_files_line o.files o.files' path c.in-Err-Failed.field-0 placed c.in-Err-Failed.field-0-is c.in-Err-Failed.ensures.cause) c.in-Err-put_fault-2.ensures

@@ -6,7 +6,8 @@ use Rattle.replay_run.specs.Told.{Told, told_of, told_first, told_in}
 use Rattle.replay_run.specs.Scene.{Stage, stage}
 use Rattle.replay_run.specs.Plays.{Plays, sent_in}
 use Rattle.replay_run.specs.Standing.{AllStanding}
-use Rattle.connection_core.specs.Core.{view_at, now_at, fresh_at, journal_at, conns_held}
+use Rattle.ngx_outside.specs.Seen.{Terms}
+use Rattle.connection_core.specs.Core.{view_at, now_at, fresh_at, site_terms, journal_at, conns_held}
 use Rattle.report_text.specs.Report.{run_text}
 use Rattle.ngx_cli.specs.Running.{IsNew, report_in}
 use Rattle.ngx_cli.proofs.Answering.{answered, begins_standing, opened_by_lines}
@@ -32,8 +33,8 @@ returns c =
         skipped = counts.skipped;
         refused = counts.refused;
         begins = new;
-        plays = subst (λ t. Plays (fresh_course site) events t first 0 0 last counts.skipped counts.refused) told
-            (subst (λ f. Plays f events (told_of files) first 0 0 last counts.skipped counts.refused) c.in_ok-hub.ensures.fresh c.in_ok-counts.ensures.plays);
+        plays = subst (λ t. Plays (site_terms site) events t first 0 0 last counts.skipped counts.refused) told
+            (subst (λ (m : Terms). Plays m events (told_of files) first 0 0 last counts.skipped counts.refused) c.in_ok-hub.ensures.terms c.in_ok-counts.ensures.plays);
         conns = conns_held end;
         held = c.put_run.ensures.held;
         journals = journal_at end;
@@ -41,9 +42,9 @@ returns c =
         logged = λ q. (c.cores_are_sound.ensures end q).logged;
         opened = opened_by_lines events first last.lanes new c.in_ok-counts.ensures.opened;
         printed = refl;
-        answered = λ q among. answered c.all_is_sent_when_idle.ensures c.all_is_sent_when_shut.ensures c.all_is_logged_when_idle.ensures site (told_in events (told_first c.args.tree.now)) (last.view q) (last.lanes q) (sent_in events q) ((c.put_run.ensures.held.held q).0 among) (c.cores_are_sound.ensures end q).sound
+        answered = λ q among. answered c.all_is_sent_when_idle.ensures c.all_is_sent_when_shut.ensures c.all_is_logged_when_idle.ensures site (told_in events (told_first c.args.tree.now)) (last.view q) (last.lanes q) (sent_in events q) ((c.put_run.ensures.held.held q).0 among) (c.cores_are_sound.ensures end q).sound (c.cores_are_sound.ensures end q).exact
             (subst (λ t. AllStanding (fresh_course site) (told_in events t) last (λ k. sent_in events k)) told
-            (subst (λ f. AllStanding f (told_in events (told_of files)) last (λ k. sent_in events k)) c.in_ok-hub.ensures.fresh (c.in_ok-counts.ensures.stands (λ k. []) (begins_standing (fresh_at hub) (told_of files) first new))) q);
+            (subst (λ (m : Terms). AllStanding m.fresh (told_in events (told_of files)) last (λ k. sent_in events k)) c.in_ok-hub.ensures.terms (c.in_ok-counts.ensures.stands (λ k. []) (begins_standing (fresh_at hub) (told_of files) first new))) q);
       },
     )
 

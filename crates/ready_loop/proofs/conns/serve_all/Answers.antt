@@ -18,24 +18,25 @@ loop-conn-preserved g c =
     let conns = c.as_slice-conn-items.result.now in
     let conn = get_or conns c.loop-conn.conn-index 0 in
     record {
-      kept = λ tl tf marks whole clock h. s.kept (i.tells ∙ tl) (i.files ∙ tf) marks whole clock (i.kept tl tf marks whole clock h);
+      kept = λ tl tf marks whole ticks h. s.kept (i.tells ∙ tl) (i.files ∙ tf) marks whole ticks (i.kept tl tf marks whole ticks h);
       matched = s.matched;
-      heard = λ tl h. s.heard (i.tells ∙ tl) (heard_all conn (k.is_open c.loop-conn.links) (k.link c.loop-conn.links) c.loop-conn.memory.unread (i.heard tl h));
-      rested = rest_served ((k.tells c.args.links.now ≡ true) × IsHeard (k.is_open c.args.links.now) (k.link c.args.links.now) c.args.memory.now.unread) ((k.tells c.loop-conn.links ≡ true) × IsHeardBut conn false (k.is_open c.loop-conn.links) (k.link c.loop-conn.links) c.loop-conn.memory.unread) (k.tells c.args.links.now ≡ true) (k.tells c.loop-conn.links ≡ true)
-          conns c.loop-conn.conn-index (e.view c.loop-conn.core) (e.view c.serve_one.new.core) (k.link c.loop-conn.links) (k.link c.serve_one.new.links) c.loop-conn-test.true
-          (λ h. (i.tells ∙ h.0, heard_all conn (k.is_open c.loop-conn.links) (k.link c.loop-conn.links) c.loop-conn.memory.unread (i.heard h.0 h.1))) (λ h. h.0) (λ t. i.tells ∙ t) s.views s.links s.rests i.rested;
+      heard = λ tl h. s.heard (i.tells ∙ tl) (heard_all conn (k.seen c.loop-conn.links).is_open (k.seen c.loop-conn.links).link c.loop-conn.memory.unread (i.heard tl h));
+      rested = rest_served (((k.seen c.args.links.now).tells ≡ true) × IsHeard (k.seen c.args.links.now).is_open (k.seen c.args.links.now).link c.args.memory.now.unread) (((k.seen c.loop-conn.links).tells ≡ true) × IsHeardBut conn false (k.seen c.loop-conn.links).is_open (k.seen c.loop-conn.links).link c.loop-conn.memory.unread) ((k.seen c.args.links.now).tells ≡ true) ((k.seen c.loop-conn.links).tells ≡ true)
+          conns c.loop-conn.conn-index (e.seen c.loop-conn.core).view (e.seen c.serve_one.new.core).view (k.seen c.loop-conn.links).link (k.seen c.serve_one.new.links).link c.loop-conn-test.true
+          (λ h. (i.tells ∙ h.0, heard_all conn (k.seen c.loop-conn.links).is_open (k.seen c.loop-conn.links).link c.loop-conn.memory.unread (i.heard h.0 h.1))) (λ h. h.0) (λ t. i.tells ∙ t) s.views s.links s.rests i.rested;
       same = λ d none. s.views d (apart_at d conns c.loop-conn.conn-index c.loop-conn-test.true none) ∙ i.same d none;
       beside = λ clock. stand_then (i.beside clock) (s.beside clock);
-      fresh = s.steady.0 ∙ i.fresh;
-      price = s.steady.1 ∙ i.price;
-      now = s.steady.2 ∙ i.now;
+      terms = s.steady.0 ∙ i.terms;
+      now = s.steady.1 ∙ i.now;
+      notices = λ tl. s.notices (i.tells ∙ tl) ∙ i.notices tl;
+      versions = s.versions ∙ i.versions;
       tells = s.tells.0 ∙ i.tells;
       listens = s.tells.1 ∙ i.listens;
       files = s.tells.2 ∙ i.files;
       later = (let a = i.later in let b = s.later in omega (arith, a, b));
       over = λ o. s.stays_over (i.over o);
       grown = (let a = i.grown in let b = s.grown in omega (arith, a, b));
-      known = (let a = i.known in let b = s.grown in let q : (e.now c.serve_one.new.core).tree ≡ (e.now c.loop-conn.core).tree = ap (λ (x : Start). x.tree) s.steady.2 in omega (arith, a, b, q));
+      known = (let a = i.known in let b = s.grown in let q : (e.seen c.serve_one.new.core).now.tree ≡ (e.seen c.loop-conn.core).now.tree = ap (λ (x : Start). x.tree) s.steady.1 in omega (arith, a, b, q));
     }
 
 pub returns-clause-rests : goal.returns-clause-rests
@@ -44,7 +45,7 @@ returns-clause-rests g c = λ d held.
     let k = g.L.Links in
     let i = c.loop-conn.invariant in
     let conns = c.as_slice-conn-items.result.now in
-    rest_listed ((k.tells c.args.links.now ≡ true) × IsHeard (k.is_open c.args.links.now) (k.link c.args.links.now) c.args.memory.now.unread) (k.tells c.args.links.now ≡ true)
-    conns c.wants.result.now (e.conns c.args.core.now) (e.view c.args.core.now) (e.view c.loop-conn.core) (k.link c.loop-conn.links) d
+    rest_listed (((k.seen c.args.links.now).tells ≡ true) × IsHeard (k.seen c.args.links.now).is_open (k.seen c.args.links.now).link c.args.memory.now.unread) ((k.seen c.args.links.now).tells ≡ true)
+    conns c.wants.result.now (e.seen c.args.core.now).conns (e.seen c.args.core.now).view (e.seen c.loop-conn.core).view (k.seen c.loop-conn.links).link d
     c.wants.ensures.wants (λ h. (c.wants.ensures.held d).1 h) (subst (λ xs. All (λ w. list_any (nat_eq (conn_of w)) xs ≡ true) c.wants.result.now) (sym c.as_slice-conn-items.ensures.value) c.in_ok-list_conns.ensures)
     (λ listed. i.rested d (subst (λ xs. list_any (nat_eq d) xs ≡ true) (sym (take_all c.loop-conn.conn-index conns (omega arith))) listed) held) (i.same d) held

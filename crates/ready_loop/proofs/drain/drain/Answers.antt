@@ -7,14 +7,14 @@ use Rattle.ready_loop.proofs.BesideLemmas.{stand_none, stand_then}
 use Rattle.ready_loop.proofs.drain.drain.Goals as goal
 
 pub serve_want-requires-clause-wanted : goal.serve_want-requires-clause-wanted
-serve_want-requires-clause-wanted g c = is_wanted c.args.conn (g.E.EventCore.view c.loop-want.core c.args.conn) c.wants_of.result.now c.in-Some.want c.wants_of.ensures.wants c.in-Some.ensures.found.0
+serve_want-requires-clause-wanted g c = is_wanted c.args.conn ((g.E.EventCore.seen c.loop-want.core).view c.args.conn) c.wants_of.result.now c.in-Some.want c.wants_of.ensures.wants c.in-Some.ensures.found.0
 
 pub loop-want-preserved : goal.loop-want-preserved
 loop-want-preserved g c =
     let i = c.loop-want.invariant in
     let s = c.in_ok-ready.ensures in
     record {
-      kept = λ tl tf marks whole clock k. s.kept (i.tells ∙ tl) (i.files ∙ tf) marks whole clock (i.kept tl tf marks whole clock k);
+      kept = λ tl tf marks whole ticks k. s.kept (i.tells ∙ tl) (i.files ∙ tf) marks whole ticks (i.kept tl tf marks whole ticks k);
       views = λ d ne. s.views d ne ∙ i.views d ne;
       links = λ tl d ne. s.links (i.tells ∙ tl) d ne ∙ i.links tl d ne;
       opens = λ d ne. s.opens d ne ∙ i.opens d ne;
@@ -22,16 +22,17 @@ loop-want-preserved g c =
       due = λ tl due. s.due (i.tells ∙ tl) (i.due tl due);
       full = λ tl. s.full (i.tells ∙ tl) (i.full tl);
       beside = λ clock. stand_then (i.beside clock) (s.beside clock);
-      fresh = s.steady.0 ∙ i.fresh;
-      price = s.steady.1 ∙ i.price;
-      now = s.steady.2 ∙ i.now;
+      terms = s.steady.0 ∙ i.terms;
+      now = s.steady.1 ∙ i.now;
+      notices = λ tl. s.notices (i.tells ∙ tl) ∙ i.notices tl;
+      versions = s.versions ∙ i.versions;
       tells = s.tells.0 ∙ i.tells;
       listens = s.tells.1 ∙ i.listens;
       files = s.tells.2 ∙ i.files;
       later = (let a = i.later in let b = s.later in omega (arith, a, b));
       over = λ o. s.stays_over (i.over o);
       grown = (let a = i.grown in let b = s.grown in omega (arith, a, b));
-      known = (let a = i.known in let b = s.grown in let e : (g.E.EventCore.now c.serve_want.new.core).tree ≡ (g.E.EventCore.now c.loop-want.core).tree = ap (λ (x : Start). x.tree) s.steady.2 in omega (arith, a, b, e));
+      known = (let a = i.known in let b = s.grown in let e : (g.E.EventCore.seen c.serve_want.new.core).now.tree ≡ (g.E.EventCore.seen c.loop-want.core).now.tree = ap (λ (x : Start). x.tree) s.steady.1 in omega (arith, a, b, e));
     }
 
 pub returns-clause-rests : goal.returns-clause-rests
@@ -43,17 +44,18 @@ returns-clause-rests g c = record {
 
 pub loop-want-init : goal.loop-want-init
 loop-want-init g c = record {
-  kept = λ tl tf marks whole clock k. k;
+  kept = λ tl tf marks whole ticks k. k;
   views = λ d ne. refl;
   links = λ tl d ne. refl;
   opens = λ d ne. refl;
   matched = c.requires.matched;
   due = λ tl due. due;
   full = λ tl is. absurd (let q : false ≡ true = is in cc);
-  beside = stand_none (g.E.EventCore.events c.args.core.now) (g.L.Links.answers c.args.links.now) (g.F.Files.answers c.args.files.now);
-  fresh = refl;
-  price = refl;
+  beside = stand_none (g.E.EventCore.seen c.args.core.now).events (g.L.Links.seen c.args.links.now).answers (g.F.Files.seen c.args.files.now).answers;
+  terms = refl;
   now = refl;
+  notices = λ tl. refl;
+  versions = refl;
   tells = refl;
   listens = refl;
   files = refl;

@@ -1,8 +1,6 @@
 use Rattle.std.proofs.Common.{List, Option, ◌≡◌, ◌≤◌, ℕ, true, vec_len}
-use Rattle.http_types.specs.declared.words.Addr.{Addr as End}
-use Rattle.ngx_outside.specs.Views.{Course}
-use Rattle.ready_loop.specs.Seen.{Elsewhere, ClockSeen, core_seen, links_seen, files_seen}
-use Rattle.ready_loop.specs.Standing.{Marks, Kept}
+use Rattle.ready_loop.specs.Seen.{Elsewhere}
+use Rattle.ready_loop.specs.Standing.{Keeps}
 use Rattle.ready_loop.specs.Turns.{work}
 use Rattle.ready_loop.specs.Tellings.{StandBeside}
 use Rattle.ready_loop.proofs.drain.drain.Given as goal
@@ -13,25 +11,26 @@ invariant-loop-want g l =
     let f = g.F.Files in
     let k = g.L.Links in
     record {
-      kept : k.tells l.fn.links ≡ true → f.tells l.fn.files ≡ true → (marks : Marks) (whole : ℕ → End → End → Course) (clock : ClockSeen) → Kept marks whole (core_seen (e.view l.fn.core) (e.fresh l.fn.core) (e.now l.fn.core) (e.refused l.fn.core)) (links_seen (k.link l.fn.links) (k.used l.fn.links) (k.is_open l.fn.links) (k.link_faults l.fn.links)) (files_seen (f.trees l.fn.files) (f.newest l.fn.files) (f.faults l.fn.files)) clock → Kept marks whole (core_seen (e.view l.core) (e.fresh l.core) (e.now l.core) (e.refused l.core)) (links_seen (k.link l.links) (k.used l.links) (k.is_open l.links) (k.link_faults l.links)) (files_seen (f.trees l.files) (f.newest l.files) (f.faults l.files)) clock;
-      views : Elsewhere l.conn (e.view l.fn.core) (e.view l.core);
-      links : k.tells l.fn.links ≡ true → Elsewhere l.conn (k.link l.fn.links) (k.link l.links);
-      opens : Elsewhere l.conn (k.is_open l.fn.links) (k.is_open l.links);
-      matched : (e.view l.core l.conn).held ≡ k.is_open l.links l.conn;
-      due : k.tells l.fn.links ≡ true → (k.is_open l.fn.links l.conn ≡ true → (k.link l.fn.links l.conn).due ≡ true → l.due ≡ true) → k.is_open l.links l.conn ≡ true → (k.link l.links l.conn).due ≡ true → l.ready.due ≡ true;
-      full : k.tells l.fn.links ≡ true → l.ready.full ≡ true → (k.link l.links l.conn).full ≡ true;
-      beside : (clock : Option (List ℕ)) → StandBeside (e.events l.fn.core) (e.events l.core) (k.answers l.fn.links) (k.answers l.links) (f.answers l.fn.files) (f.answers l.files) clock clock;
-      fresh : e.fresh l.core ≡ e.fresh l.fn.core;
-      price : e.price l.core ≡ e.price l.fn.core;
-      now : e.now l.core ≡ e.now l.fn.core;
-      tells : k.tells l.links ≡ k.tells l.fn.links;
-      listens : k.listening l.links ≡ k.listening l.fn.links;
-      files : f.tells l.files ≡ f.tells l.fn.files;
-      later : k.faults l.fn.links ≤ k.faults l.links;
-      over : k.over l.fn.links ≡ true → k.over l.links ≡ true;
-      grown : f.newest l.fn.files ≤ f.newest l.files;
-      known : (e.now l.core).tree ≤ f.newest l.files;
+      kept : Keeps (e.seen l.fn.core) (e.seen l.core) (k.seen l.fn.links) (k.seen l.links) (f.seen l.fn.files) (f.seen l.files);
+      views : Elsewhere l.conn (e.seen l.fn.core).view (e.seen l.core).view;
+      links : (k.seen l.fn.links).tells ≡ true → Elsewhere l.conn (k.seen l.fn.links).link (k.seen l.links).link;
+      opens : Elsewhere l.conn (k.seen l.fn.links).is_open (k.seen l.links).is_open;
+      matched : ((e.seen l.core).view l.conn).held ≡ (k.seen l.links).is_open l.conn;
+      due : (k.seen l.fn.links).tells ≡ true → ((k.seen l.fn.links).is_open l.conn ≡ true → ((k.seen l.fn.links).link l.conn).due ≡ true → l.due ≡ true) → (k.seen l.links).is_open l.conn ≡ true → ((k.seen l.links).link l.conn).due ≡ true → l.ready.due ≡ true;
+      full : (k.seen l.fn.links).tells ≡ true → l.ready.full ≡ true → ((k.seen l.links).link l.conn).full ≡ true;
+      beside : (clock : Option (List ℕ)) → StandBeside (e.seen l.fn.core).events (e.seen l.core).events (k.seen l.fn.links).answers (k.seen l.links).answers (f.seen l.fn.files).answers (f.seen l.files).answers clock clock;
+      terms : (e.seen l.core).terms ≡ (e.seen l.fn.core).terms;
+      now : (e.seen l.core).now ≡ (e.seen l.fn.core).now;
+      tells : (k.seen l.links).tells ≡ (k.seen l.fn.links).tells;
+      listens : (k.seen l.links).listening ≡ (k.seen l.fn.links).listening;
+      files : (f.seen l.files).tells ≡ (f.seen l.fn.files).tells;
+      notices : (k.seen l.fn.links).tells ≡ true → (k.seen l.links).notices ≡ (k.seen l.fn.links).notices;
+      versions : (f.seen l.files).versions ≡ (f.seen l.fn.files).versions;
+      later : (k.seen l.fn.links).faults ≤ (k.seen l.links).faults;
+      over : (k.seen l.fn.links).over ≡ true → (k.seen l.links).over ≡ true;
+      grown : (f.seen l.fn.files).newest ≤ (f.seen l.files).newest;
+      known : (e.seen l.core).now.tree ≤ (f.seen l.files).newest;
     }
 
 abbrev pub decreases-loop-want : goal.decreases-loop-want
-decreases-loop-want g l = work (g.E.EventCore.price l.core) (vec_len l.buffers.input) l.ready.due l.ready.full (g.E.EventCore.left l.core)
+decreases-loop-want g l = work (g.E.EventCore.seen l.core).terms.price (vec_len l.buffers.input) l.ready.due l.ready.full (g.E.EventCore.seen l.core).left

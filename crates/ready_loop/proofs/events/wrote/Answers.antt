@@ -4,21 +4,21 @@ use Rattle.ready_loop.proofs.events.wrote.Goals as goal
 
 pub returns-clause-passed : goal.returns-clause-passed
 returns-clause-passed g c =
-    let d = wrote_own nobody.course (g.E.EventCore.now c.args.core.now) c.args.conn c.args.count c.step.result (g.E.EventCore.view c.args.core.now c.args.conn) (g.E.EventCore.view c.step.new.self c.args.conn)
-    (g.E.EventCore.price c.args.core.now) (g.E.EventCore.left c.args.core.now) (g.E.EventCore.left c.step.new.self) (g.E.EventCore.refused c.args.core.now) (g.E.EventCore.refused c.step.new.self)
+    let d = wrote_own nobody.course (g.E.EventCore.seen c.args.core.now).now c.args.conn c.args.count c.step.result ((g.E.EventCore.seen c.args.core.now).view c.args.conn) ((g.E.EventCore.seen c.step.new.self).view c.args.conn)
+    (g.E.EventCore.seen c.args.core.now).terms.price (g.E.EventCore.seen c.args.core.now).left (g.E.EventCore.seen c.step.new.self).left (g.E.EventCore.seen c.args.core.now).refused (g.E.EventCore.seen c.step.new.self).refused
     c.requires.some c.requires.within c.step.ensures.left c.step.ensures.refused c.step.ensures.steps.own in
     d.does
 
 pub returns-clause-left : goal.returns-clause-left
 returns-clause-left g c =
-    let d = wrote_own nobody.course (g.E.EventCore.now c.args.core.now) c.args.conn c.args.count c.step.result (g.E.EventCore.view c.args.core.now c.args.conn) (g.E.EventCore.view c.step.new.self c.args.conn)
-    (g.E.EventCore.price c.args.core.now) (g.E.EventCore.left c.args.core.now) (g.E.EventCore.left c.step.new.self) (g.E.EventCore.refused c.args.core.now) (g.E.EventCore.refused c.step.new.self)
+    let d = wrote_own nobody.course (g.E.EventCore.seen c.args.core.now).now c.args.conn c.args.count c.step.result ((g.E.EventCore.seen c.args.core.now).view c.args.conn) ((g.E.EventCore.seen c.step.new.self).view c.args.conn)
+    (g.E.EventCore.seen c.args.core.now).terms.price (g.E.EventCore.seen c.args.core.now).left (g.E.EventCore.seen c.step.new.self).left (g.E.EventCore.seen c.args.core.now).refused (g.E.EventCore.seen c.step.new.self).refused
     c.requires.some c.requires.within c.step.ensures.left c.step.ensures.refused c.step.ensures.steps.own in
     d.left
 
 pub returns-clause-counts : goal.returns-clause-counts
 returns-clause-counts g c =
-    let d = wrote_own nobody.course (g.E.EventCore.now c.args.core.now) c.args.conn c.args.count c.step.result (g.E.EventCore.view c.args.core.now c.args.conn) (g.E.EventCore.view c.step.new.self c.args.conn)
-    (g.E.EventCore.price c.args.core.now) (g.E.EventCore.left c.args.core.now) (g.E.EventCore.left c.step.new.self) (g.E.EventCore.refused c.args.core.now) (g.E.EventCore.refused c.step.new.self)
+    let d = wrote_own nobody.course (g.E.EventCore.seen c.args.core.now).now c.args.conn c.args.count c.step.result ((g.E.EventCore.seen c.args.core.now).view c.args.conn) ((g.E.EventCore.seen c.step.new.self).view c.args.conn)
+    (g.E.EventCore.seen c.args.core.now).terms.price (g.E.EventCore.seen c.args.core.now).left (g.E.EventCore.seen c.step.new.self).left (g.E.EventCore.seen c.args.core.now).refused (g.E.EventCore.seen c.step.new.self).refused
     c.requires.some c.requires.within c.step.ensures.left c.step.ensures.refused c.step.ensures.steps.own in
     d.counts

@@ -1,10 +1,9 @@
-use Rattle.std.proofs.Common.{◌≡◌, ◌≤◌, [], refl, sym, ap, subst, arith, Some, Err}
+use Rattle.std.proofs.Common.{◌≡◌, ◌≤◌, ◌∙◌, [], refl, sym, ap, subst, arith, Some, Err}
 use Rattle.std.proofs.lemmas.List.{append-nil}
 use Rattle.file_tree.specs.Tree.{tree_of}
 use Rattle.file_tree.specs.declared.job.JobAnswer.TheVariants as answer
 use Rattle.ngx_outside.specs.Views.{ask_in}
 use Rattle.ngx_outside.specs.Views.Ground.{Always, Answers}
-use Rattle.ready_loop.specs.Seen.{core_seen, files_seen}
 use Rattle.ready_loop.specs.Turns.{Gives}
 use Rattle.ready_loop.proofs.AccountLemmas.{ends_same}
 use Rattle.ready_loop.proofs.KeptLemmas.{kept_passed}
@@ -12,37 +11,37 @@ use Rattle.ready_loop.proofs.JobLemmas.{node_from, block_from}
 use Rattle.ready_loop.proofs.jobs.job_one.Goals as goal
 
 pub returns-in-Ok-Node-clause-kept : goal.returns-in-Ok-Node-clause-kept
-returns-in-Ok-Node-clause-kept g c = λ tells marks whole links clock.
+returns-in-Ok-Node-clause-kept g c = λ links links_tell tells marks whole ticks.
     let e = g.E.EventCore in
     let f = g.F.Files in
     let ask = c.in-Some.ask.now in
-    let waits : ask_in (e.view c.args.core.now c.args.conn).jobs c.args.node ≡ Some ask = sym c.in-Some.ensures.job in
-    let within : tree_of ask ≤ f.newest c.args.files.now = (let k = c.in-Some.ensures.known in let r = c.requires.known in omega (arith, k, r)) in
-    kept_passed marks whole (core_seen (e.view c.args.core.now) (e.fresh c.args.core.now) (e.now c.args.core.now) (e.refused c.args.core.now)) (core_seen (e.view c.file_done.new.core) (e.fresh c.file_done.new.core) (e.now c.file_done.new.core) (e.refused c.file_done.new.core)) links links (files_seen (f.trees c.args.files.now) (f.newest c.args.files.now) (f.faults c.args.files.now)) (files_seen (f.trees c.find.new.files) (f.newest c.find.new.files) (f.faults c.find.new.files)) clock c.args.conn (Answers ask (answer.Stat c.in-Ok-Node.node_there)) [] []
-    (record { fresh = c.file_done.ensures.steady.0; now = c.file_done.ensures.steady.2; counts = c.file_done.ensures.counts; views = c.file_done.ensures.others; wires = λ d ne. refl; used = λ d. refl; opens = λ d ne. refl; faults = λ d. omega arith; store = c.find.ensures.grown })
-    (λ raceless trees agree. node_from (f.tells c.args.files.now) (files_seen (f.trees c.args.files.now) (f.newest c.args.files.now) (f.faults c.args.files.now)) (files_seen (f.trees c.find.new.files) (f.newest c.find.new.files) (f.faults c.find.new.files)) trees ask c.in-Ok-Node.node_there c.find.new.block tells c.find.ensures.grown agree within (subst (λ k. Gives (f.tells c.args.files.now) (f.trees c.args.files.now) ask k c.find.new.block) c.in-Ok-Node.field-0-is c.in-Ok-Node.ensures.gives)) (λ x. absurd x) (λ x. absurd x) (λ x. x) refl refl refl (sym (append-nil (links.link c.args.conn).taken)) (sym (append-nil (links.link c.args.conn).sent))
-    (ends_same (e.view c.args.core.now c.args.conn) (e.view c.file_done.new.core c.args.conn) (links.link c.args.conn) (links.link c.args.conn) c.file_done.ensures.ended refl) (c.file_done.ensures.passed ask waits)
+    let waits : ask_in ((e.seen c.args.core.now).view c.args.conn).jobs c.args.node ≡ Some ask = sym c.in-Some.ensures.job in
+    let within : tree_of ask ≤ (f.seen c.args.files.now).newest = (let k = c.in-Some.ensures.known in let r = c.requires.known in omega (arith, k, r)) in
+    kept_passed marks whole (e.seen c.args.core.now) (e.seen c.file_done.new.core) links links (f.seen c.args.files.now) (f.seen c.find.new.files) ticks c.args.conn (Answers ask (answer.Stat c.in-Ok-Node.node_there)) [] []
+    (record { terms = c.file_done.ensures.steady.0; now = c.file_done.ensures.steady.1; counts = c.file_done.ensures.counts; views = c.file_done.ensures.others; wires = λ d ne. refl; used = λ d. refl; opens = λ d ne. refl; faults = λ d. omega arith; store = c.find.ensures.grown; crowd = λ e. c.file_done.ensures.steady.2 ∙ e })
+    (λ raceless trees agree. node_from (f.seen c.args.files.now).tells (f.seen c.args.files.now) (f.seen c.find.new.files) trees ask c.in-Ok-Node.node_there c.find.new.block tells c.find.ensures.grown agree within (subst (λ k. Gives (f.seen c.args.files.now).tells (f.seen c.args.files.now).trees ask k c.find.new.block) c.in-Ok-Node.field-0-is c.in-Ok-Node.ensures.gives)) (λ x. absurd x) (λ x. absurd x) (λ x. x) refl refl refl (sym (append-nil (links.link c.args.conn).taken)) (sym (append-nil (links.link c.args.conn).sent))
+    (ends_same ((e.seen c.args.core.now).view c.args.conn) ((e.seen c.file_done.new.core).view c.args.conn) (links.link c.args.conn) (links.link c.args.conn) c.file_done.ensures.ended refl) (c.file_done.ensures.passed ask waits)
 
 pub returns-in-Ok-Block-clause-kept : goal.returns-in-Ok-Block-clause-kept
-returns-in-Ok-Block-clause-kept g c = λ tells marks whole links clock.
+returns-in-Ok-Block-clause-kept g c = λ links links_tell tells marks whole ticks.
     let e = g.E.EventCore in
     let f = g.F.Files in
     let ask = c.in-Some.ask.now in
-    let waits : ask_in (e.view c.args.core.now c.args.conn).jobs c.args.node ≡ Some ask = sym c.in-Some.ensures.job in
-    let within : tree_of ask ≤ f.newest c.args.files.now = (let k = c.in-Some.ensures.known in let r = c.requires.known in omega (arith, k, r)) in
-    kept_passed marks whole (core_seen (e.view c.args.core.now) (e.fresh c.args.core.now) (e.now c.args.core.now) (e.refused c.args.core.now)) (core_seen (e.view c.file_done-in-Ok-Block.new.core) (e.fresh c.file_done-in-Ok-Block.new.core) (e.now c.file_done-in-Ok-Block.new.core) (e.refused c.file_done-in-Ok-Block.new.core)) links links (files_seen (f.trees c.args.files.now) (f.newest c.args.files.now) (f.faults c.args.files.now)) (files_seen (f.trees c.find.new.files) (f.newest c.find.new.files) (f.faults c.find.new.files)) clock c.args.conn (Answers ask (answer.Read c.as_slice.result)) [] []
-    (record { fresh = c.file_done-in-Ok-Block.ensures.steady.0; now = c.file_done-in-Ok-Block.ensures.steady.2; counts = c.file_done-in-Ok-Block.ensures.counts; views = c.file_done-in-Ok-Block.ensures.others; wires = λ d ne. refl; used = λ d. refl; opens = λ d ne. refl; faults = λ d. omega arith; store = c.find.ensures.grown })
-    (λ raceless trees agree. block_from (f.tells c.args.files.now) (files_seen (f.trees c.args.files.now) (f.newest c.args.files.now) (f.faults c.args.files.now)) (files_seen (f.trees c.find.new.files) (f.newest c.find.new.files) (f.faults c.find.new.files)) trees ask (answer.Read c.as_slice.result) c.find.new.block tells c.find.ensures.grown agree within c.as_slice.ensures (subst (λ k. Gives (f.tells c.args.files.now) (f.trees c.args.files.now) ask k c.find.new.block) c.in-Ok-Block.field-0-is c.in-Ok-Block.ensures.gives)) (λ x. absurd x) (λ x. absurd x) (λ x. x) refl refl refl (sym (append-nil (links.link c.args.conn).taken)) (sym (append-nil (links.link c.args.conn).sent))
-    (ends_same (e.view c.args.core.now c.args.conn) (e.view c.file_done-in-Ok-Block.new.core c.args.conn) (links.link c.args.conn) (links.link c.args.conn) c.file_done-in-Ok-Block.ensures.ended refl) (c.file_done-in-Ok-Block.ensures.passed ask waits)
+    let waits : ask_in ((e.seen c.args.core.now).view c.args.conn).jobs c.args.node ≡ Some ask = sym c.in-Some.ensures.job in
+    let within : tree_of ask ≤ (f.seen c.args.files.now).newest = (let k = c.in-Some.ensures.known in let r = c.requires.known in omega (arith, k, r)) in
+    kept_passed marks whole (e.seen c.args.core.now) (e.seen c.file_done-in-Ok-Block.new.core) links links (f.seen c.args.files.now) (f.seen c.find.new.files) ticks c.args.conn (Answers ask (answer.Read c.as_slice.result)) [] []
+    (record { terms = c.file_done-in-Ok-Block.ensures.steady.0; now = c.file_done-in-Ok-Block.ensures.steady.1; counts = c.file_done-in-Ok-Block.ensures.counts; views = c.file_done-in-Ok-Block.ensures.others; wires = λ d ne. refl; used = λ d. refl; opens = λ d ne. refl; faults = λ d. omega arith; store = c.find.ensures.grown; crowd = λ e. c.file_done-in-Ok-Block.ensures.steady.2 ∙ e })
+    (λ raceless trees agree. block_from (f.seen c.args.files.now).tells (f.seen c.args.files.now) (f.seen c.find.new.files) trees ask (answer.Read c.as_slice.result) c.find.new.block tells c.find.ensures.grown agree within c.as_slice.ensures (subst (λ k. Gives (f.seen c.args.files.now).tells (f.seen c.args.files.now).trees ask k c.find.new.block) c.in-Ok-Block.field-0-is c.in-Ok-Block.ensures.gives)) (λ x. absurd x) (λ x. absurd x) (λ x. x) refl refl refl (sym (append-nil (links.link c.args.conn).taken)) (sym (append-nil (links.link c.args.conn).sent))
+    (ends_same ((e.seen c.args.core.now).view c.args.conn) ((e.seen c.file_done-in-Ok-Block.new.core).view c.args.conn) (links.link c.args.conn) (links.link c.args.conn) c.file_done-in-Ok-Block.ensures.ended refl) (c.file_done-in-Ok-Block.ensures.passed ask waits)
 
 pub returns-in-Err-Failed-clause-kept : goal.returns-in-Err-Failed-clause-kept
-returns-in-Err-Failed-clause-kept g c = λ tells marks whole links clock.
+returns-in-Err-Failed-clause-kept g c = λ links links_tell tells marks whole ticks.
     let e = g.E.EventCore in
     let f = g.F.Files in
     let ask = c.in-Some.ask.now in
-    let waits : ask_in (e.view c.args.core.now c.args.conn).jobs c.args.node ≡ Some ask = sym c.in-Some.ensures.job in
-    let within : tree_of ask ≤ f.newest c.args.files.now = (let k = c.in-Some.ensures.known in let r = c.requires.known in omega (arith, k, r)) in
-    kept_passed marks whole (core_seen (e.view c.args.core.now) (e.fresh c.args.core.now) (e.now c.args.core.now) (e.refused c.args.core.now)) (core_seen (e.view c.job_failed.new.core) (e.fresh c.job_failed.new.core) (e.now c.job_failed.new.core) (e.refused c.job_failed.new.core)) links links (files_seen (f.trees c.args.files.now) (f.newest c.args.files.now) (f.faults c.args.files.now)) (files_seen (f.trees c.find.new.files) (f.newest c.find.new.files) (f.faults c.find.new.files)) clock c.args.conn Always [] []
-    (record { fresh = c.job_failed.ensures.steady.0; now = c.job_failed.ensures.steady.2; counts = c.job_failed.ensures.counts; views = c.job_failed.ensures.others; wires = λ d ne. refl; used = λ d. refl; opens = λ d ne. refl; faults = λ d. omega arith; store = c.find.ensures.grown })
+    let waits : ask_in ((e.seen c.args.core.now).view c.args.conn).jobs c.args.node ≡ Some ask = sym c.in-Some.ensures.job in
+    let within : tree_of ask ≤ (f.seen c.args.files.now).newest = (let k = c.in-Some.ensures.known in let r = c.requires.known in omega (arith, k, r)) in
+    kept_passed marks whole (e.seen c.args.core.now) (e.seen c.job_failed.new.core) links links (f.seen c.args.files.now) (f.seen c.find.new.files) ticks c.args.conn Always [] []
+    (record { terms = c.job_failed.ensures.steady.0; now = c.job_failed.ensures.steady.1; counts = c.job_failed.ensures.counts; views = c.job_failed.ensures.others; wires = λ d ne. refl; used = λ d. refl; opens = λ d ne. refl; faults = λ d. omega arith; store = c.find.ensures.grown; crowd = λ e. c.job_failed.ensures.steady.2 ∙ e })
     (λ raceless trees agree. tt) (λ x. absurd x) (λ x. c.in-Err-Failed.ensures.cause (ap Err c.in-Err-Failed.field-0-is)) (λ x. absurd x) refl refl refl (sym (append-nil (links.link c.args.conn).taken)) (sym (append-nil (links.link c.args.conn).sent))
-    (ends_same (e.view c.args.core.now c.args.conn) (e.view c.job_failed.new.core c.args.conn) (links.link c.args.conn) (links.link c.args.conn) c.job_failed.ensures.ended refl) c.job_failed.ensures.passed
+    (ends_same ((e.seen c.args.core.now).view c.args.conn) ((e.seen c.job_failed.new.core).view c.args.conn) (links.link c.args.conn) (links.link c.args.conn) c.job_failed.ensures.ended refl) c.job_failed.ensures.passed

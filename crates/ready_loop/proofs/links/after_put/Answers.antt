@@ -11,5 +11,5 @@ pub returns-else-count-gt0-clause-passed : goal.returns-else-count-gt0-clause-pa
 returns-else-count-gt0-clause-passed g c =
     let e = g.E.EventCore in
     let none : c.args.count ≡ 0 = omega arith in
-    subst (λ n. Passed (e.now c.args.core.now) Always (c.args.count ≡ 0) ⊥ ⊥ (e.view c.args.core.now c.args.conn) (e.view c.link_failed.new.core c.args.conn) [] (take n (e.view c.args.core.now c.args.conn).pending)) (sym none)
+    subst (λ n. Passed (e.seen c.args.core.now).now Always (c.args.count ≡ 0) ⊥ ⊥ ((e.seen c.args.core.now).view c.args.conn) ((e.seen c.link_failed.new.core).view c.args.conn) [] (take n ((e.seen c.args.core.now).view c.args.conn).pending)) (sym none)
     (passed_weaker (λ x. none) (λ x. absurd x) (λ x. absurd x) c.link_failed.ensures.passed)

@@ -6,13 +6,14 @@ abbrev pub invariant-loop-addr : goal.invariant-loop-addr
 invariant-loop-addr g l =
     let k = g.L.Links in
     record {
-      told : k.tells l.fn.links ≡ true → Unchanged (k.link l.fn.links) (k.link l.links);
-      used : Same (k.used l.fn.links) (k.used l.links);
-      opens : Same (k.is_open l.fn.links) (k.is_open l.links);
-      listens : k.listening l.links ≡ k.listening l.fn.links ++ take l.addr-index l.addrs;
-      answers : k.answers l.links ≡ k.answers l.fn.links;
-      tells : k.tells l.links ≡ k.tells l.fn.links;
-      link_faults : (id : ℕ) → k.link_faults l.fn.links id ≤ k.link_faults l.links id;
-      later : k.faults l.fn.links ≤ k.faults l.links;
-      over : k.over l.fn.links ≡ true → k.over l.links ≡ true;
+      told : (k.seen l.fn.links).tells ≡ true → Unchanged (k.seen l.fn.links).link (k.seen l.links).link;
+      used : Same (k.seen l.fn.links).used (k.seen l.links).used;
+      opens : Same (k.seen l.fn.links).is_open (k.seen l.links).is_open;
+      listens : (k.seen l.links).listening ≡ (k.seen l.fn.links).listening ++ take l.addr-index l.addrs;
+      answers : (k.seen l.links).answers ≡ (k.seen l.fn.links).answers;
+      counts : (k.seen l.fn.links).tells ≡ true → ((k.seen l.links).crowd ≡ (k.seen l.fn.links).crowd) × ((k.seen l.links).notices ≡ (k.seen l.fn.links).notices);
+      tells : (k.seen l.links).tells ≡ (k.seen l.fn.links).tells;
+      link_faults : (id : ℕ) → (k.seen l.fn.links).link_faults id ≤ (k.seen l.links).link_faults id;
+      later : (k.seen l.fn.links).faults ≤ (k.seen l.links).faults;
+      over : (k.seen l.fn.links).over ≡ true → (k.seen l.links).over ≡ true;
     }

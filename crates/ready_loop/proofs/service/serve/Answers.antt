@@ -1,35 +1,37 @@
-use Rattle.std.proofs.Common.{◌∙◌, refl, ap, inl}
+use Rattle.std.proofs.Common.{◌∙◌, refl, ap, inl, sym, subst}
 use Rattle.ngx_outside.specs.Linked.{LinkView}
-use Rattle.ready_loop.specs.Seen.{core_seen, links_seen, files_seen, clock_seen}
-use Rattle.ready_loop.proofs.KeptLemmas.{kept_same, grown_same}
-use Rattle.ready_loop.specs.Tellings.{moments_told}
+use Rattle.ready_loop.proofs.ThroughLemmas.{through_none, through_told, keeps_listening}
+use Rattle.ngx_outside.specs.Seen.{LinksSeen}
+use Rattle.ready_loop.specs.Tellings.{StandBeside, moments_told}
 use Rattle.ready_loop.proofs.BesideLemmas.{stand_same, stand_then}
 use Rattle.ready_loop.proofs.service.serve.Goals as goal
 
 pub returns-then-not-listen_all-clause-kept : goal.returns-then-not-listen_all-clause-kept
-returns-then-not-listen_all-clause-kept g c = λ tl tf marks whole.
+returns-then-not-listen_all-clause-kept g c =
     let e = g.E.EventCore in
     let f = g.F.Files in
     let k = g.L.Links in
     let t = g.C.Clock in
     let n = c.listen_all.ensures in
-    let own = n.told tl 0 in
-    kept_same marks whole (core_seen (e.view c.args.core.now) (e.fresh c.args.core.now) (e.now c.args.core.now) (e.refused c.args.core.now)) (core_seen (e.view c.args.core.now) (e.fresh c.args.core.now) (e.now c.args.core.now) (e.refused c.args.core.now)) (links_seen (k.link c.args.links.now) (k.used c.args.links.now) (k.is_open c.args.links.now) (k.link_faults c.args.links.now)) (links_seen (k.link c.listen_all.new.links) (k.used c.listen_all.new.links) (k.is_open c.listen_all.new.links) (k.link_faults c.listen_all.new.links)) (files_seen (f.trees c.args.files.now) (f.newest c.args.files.now) (f.faults c.args.files.now)) (files_seen (f.trees c.args.files.now) (f.newest c.args.files.now) (f.faults c.args.files.now)) (clock_seen (t.tells c.args.clock.now) (t.told c.args.clock.now)) 0
-    (record { fresh = refl; now = refl; counts = inl refl; views = λ d ne. refl; wires = λ d ne. n.told tl d; used = n.ids.0; opens = λ d ne. n.ids.1 d; faults = n.link_faults; store = grown_same (files_seen (f.trees c.args.files.now) (f.newest c.args.files.now) (f.faults c.args.files.now)) })
-    refl (n.ids.1 0) (ap (λ (x : LinkView). x.local) own) (ap (λ (x : LinkView). x.peer) own) (ap (λ (x : LinkView). x.taken) own) (ap (λ (x : LinkView). x.sent) own) (ap (λ (x : LinkView). x.ended) own)
+    let files = f.seen c.args.files.now in
+    let clock = t.seen c.args.clock.now in
+    through_told (e.seen c.args.core.now) (e.seen c.args.core.now) (k.seen c.args.links.now) (k.seen c.listen_all.new.links) (k.seen c.listen_all.new.links) (k.seen c.tell_refused.new.self) files files clock clock c.refused.result
+    n.tells c.tell_refused.ensures
+    (keeps_listening (e.seen c.args.core.now) (k.seen c.args.links.now) (k.seen c.listen_all.new.links) files n.told n.ids n.counts n.link_faults)
+    (through_none (e.seen c.args.core.now) (k.seen c.listen_all.new.links) files clock)
 
 pub returns-clause-kept : goal.returns-clause-kept
-returns-clause-kept g c = λ tl tf marks whole kept.
+returns-clause-kept g c =
     let e = g.E.EventCore in
     let f = g.F.Files in
     let k = g.L.Links in
     let t = g.C.Clock in
     let n = c.listen_all.ensures in
-    let own = n.told tl 0 in
-    c.in_ok-ending.ensures.kept (n.tells ∙ tl) tf marks whole
-    (kept_same marks whole (core_seen (e.view c.args.core.now) (e.fresh c.args.core.now) (e.now c.args.core.now) (e.refused c.args.core.now)) (core_seen (e.view c.args.core.now) (e.fresh c.args.core.now) (e.now c.args.core.now) (e.refused c.args.core.now)) (links_seen (k.link c.args.links.now) (k.used c.args.links.now) (k.is_open c.args.links.now) (k.link_faults c.args.links.now)) (links_seen (k.link c.listen_all.new.links) (k.used c.listen_all.new.links) (k.is_open c.listen_all.new.links) (k.link_faults c.listen_all.new.links)) (files_seen (f.trees c.args.files.now) (f.newest c.args.files.now) (f.faults c.args.files.now)) (files_seen (f.trees c.args.files.now) (f.newest c.args.files.now) (f.faults c.args.files.now)) (clock_seen (t.tells c.args.clock.now) (t.told c.args.clock.now)) 0
-    (record { fresh = refl; now = refl; counts = inl refl; views = λ d ne. refl; wires = λ d ne. n.told tl d; used = n.ids.0; opens = λ d ne. n.ids.1 d; faults = n.link_faults; store = grown_same (files_seen (f.trees c.args.files.now) (f.newest c.args.files.now) (f.faults c.args.files.now)) })
-    refl (n.ids.1 0) (ap (λ (x : LinkView). x.local) own) (ap (λ (x : LinkView). x.peer) own) (ap (λ (x : LinkView). x.taken) own) (ap (λ (x : LinkView). x.sent) own) (ap (λ (x : LinkView). x.ended) own) kept)
+    through_told (e.seen c.args.core.now) (e.seen c.serve_turns.new.core) (k.seen c.args.links.now) (k.seen c.listen_all.new.links) (k.seen c.serve_turns.new.links) (k.seen c.tell_refused-2.new.self)
+    (f.seen c.args.files.now) (f.seen c.serve_turns.new.files) (t.seen c.args.clock.now) (t.seen c.serve_turns.new.clock) c.refused-2.result
+    n.tells c.tell_refused-2.ensures
+    (keeps_listening (e.seen c.args.core.now) (k.seen c.args.links.now) (k.seen c.listen_all.new.links) (f.seen c.args.files.now) n.told n.ids n.counts n.link_faults)
+    c.in_ok-ending.ensures.kept
 
 pub returns-then-not-listen_all-clause-beside : goal.returns-then-not-listen_all-clause-beside
 returns-then-not-listen_all-clause-beside g c =
@@ -37,8 +39,9 @@ returns-then-not-listen_all-clause-beside g c =
     let f = g.F.Files in
     let k = g.L.Links in
     let t = g.C.Clock in
-    let clock = moments_told (t.tells c.args.clock.now) (t.told c.args.clock.now) in
-    stand_same (e.events c.args.core.now) (e.events c.args.core.now) (k.answers c.args.links.now) (k.answers c.listen_all.new.links) (f.answers c.args.files.now) (f.answers c.args.files.now) clock clock refl c.listen_all.ensures.answers refl refl
+    let clock = moments_told (t.seen c.args.clock.now).tells (t.seen c.args.clock.now).told in
+    subst (λ (l : LinksSeen). StandBeside (e.seen c.args.core.now).events (e.seen c.args.core.now).events (k.seen c.args.links.now).answers l.answers (f.seen c.args.files.now).answers (f.seen c.args.files.now).answers clock clock) (sym c.tell_refused.ensures)
+    (stand_same (e.seen c.args.core.now).events (e.seen c.args.core.now).events (k.seen c.args.links.now).answers (k.seen c.listen_all.new.links).answers (f.seen c.args.files.now).answers (f.seen c.args.files.now).answers clock clock refl c.listen_all.ensures.answers refl refl)
 
 pub returns-clause-beside : goal.returns-clause-beside
 returns-clause-beside g c =
@@ -46,5 +49,7 @@ returns-clause-beside g c =
     let f = g.F.Files in
     let k = g.L.Links in
     let t = g.C.Clock in
-    let clock = moments_told (t.tells c.args.clock.now) (t.told c.args.clock.now) in
-    stand_then (stand_same (e.events c.args.core.now) (e.events c.args.core.now) (k.answers c.args.links.now) (k.answers c.listen_all.new.links) (f.answers c.args.files.now) (f.answers c.args.files.now) clock clock refl c.listen_all.ensures.answers refl refl) c.in_ok-ending.ensures.beside
+    let clock = moments_told (t.seen c.args.clock.now).tells (t.seen c.args.clock.now).told in
+    let last = moments_told (t.seen c.serve_turns.new.clock).tells (t.seen c.serve_turns.new.clock).told in
+    subst (λ (l : LinksSeen). StandBeside (e.seen c.args.core.now).events (e.seen c.serve_turns.new.core).events (k.seen c.args.links.now).answers l.answers (f.seen c.args.files.now).answers (f.seen c.serve_turns.new.files).answers clock last) (sym c.tell_refused-2.ensures)
+    (stand_then (stand_same (e.seen c.args.core.now).events (e.seen c.args.core.now).events (k.seen c.args.links.now).answers (k.seen c.listen_all.new.links).answers (f.seen c.args.files.now).answers (f.seen c.args.files.now).answers clock clock refl c.listen_all.ensures.answers refl refl) c.in_ok-ending.ensures.beside)

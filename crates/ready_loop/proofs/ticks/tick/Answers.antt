@@ -1,27 +1,34 @@
-use Rattle.std.proofs.Common.{sym, subst}
-use Rattle.ngx_outside.specs.Views.{Ticked, kept_moment}
-use Rattle.ready_loop.specs.Seen.{core_seen, clock_seen}
-use Rattle.ready_loop.proofs.KeptLemmas.{kept_ticked, kept_tree}
-use Rattle.ready_loop.specs.Tellings.{moments_told}
+use Rattle.std.proofs.Common.{[], ◌∷◌, ◌++◌, sym, ap, subst, ◌∙◌}
+use Rattle.ngx_outside.specs.Views.{ConnView, Ticked, kept_moment}
+use Rattle.ready_loop.proofs.KeptLemmas.{kept_ticked, kept_version, now_is}
+use Rattle.ready_loop.specs.Seen.{Tick}
+use Rattle.ready_loop.specs.Tellings.{StandBeside, moments_told}
 use Rattle.ready_loop.proofs.BesideLemmas.{stand_ticked, stand_then}
 use Rattle.ready_loop.proofs.ticks.tick.Goals as goal
 
 pub returns-clause-kept : goal.returns-clause-kept
-returns-clause-kept g c = λ marks whole links files kept.
+returns-clause-kept g c = λ marks whole links ticks kept.
     let e = g.E.EventCore in
-    let t = g.C.Clock in
+    let f = g.F.Files in
     let a = c.ticked.ensures in
     let b = c.tell_tree-tree.ensures in
-    kept_tree marks whole (core_seen (e.view c.ticked.new.core) (e.fresh c.ticked.new.core) (e.now c.ticked.new.core) (e.refused c.ticked.new.core)) (core_seen (e.view c.tell_tree-tree.new.core) (e.fresh c.tell_tree-tree.new.core) (e.now c.tell_tree-tree.new.core) (e.refused c.tell_tree-tree.new.core)) links files (clock_seen (t.tells c.now-moment.new.self) (t.told c.now-moment.new.self)) b.views b.steady.0 b.moment b.refused
-    (kept_ticked marks whole (core_seen (e.view c.args.core.now) (e.fresh c.args.core.now) (e.now c.args.core.now) (e.refused c.args.core.now)) (core_seen (e.view c.ticked.new.core) (e.fresh c.ticked.new.core) (e.now c.ticked.new.core) (e.refused c.ticked.new.core)) links files (clock_seen (t.tells c.args.clock.now) (t.told c.args.clock.now)) (clock_seen (t.tells c.now-moment.new.self) (t.told c.now-moment.new.self)) c.now-moment.result a.ticked a.steady.0 a.moment a.refused a.ended c.now-moment.ensures.tells c.now-moment.ensures.told kept)
+    let tick : Tick = record { moment = c.now-moment.result; tree = c.tell_tree-tree.result } in
+    kept_version marks whole (e.seen c.tell_tree-tree.new.core) links (f.seen c.args.files.now) (f.seen c.tell_tree-tree.new.files) (ticks ++ tick ∷ []) b.grown
+    (kept_ticked marks whole (e.seen c.args.core.now) (e.seen c.tell_tree-tree.new.core) links (f.seen c.args.files.now) ticks tick
+    (λ d. subst (λ v. Ticked (kept_moment c.now-moment.result) ((e.seen c.args.core.now).view d) v) (sym (b.views d)) (a.ticked d))
+    (b.steady.0 ∙ a.steady.0) (now_is (e.seen c.tell_tree-tree.new.core).now (kept_moment c.now-moment.result) c.tell_tree-tree.result (b.moment ∙ a.moment) b.tree) (b.refused ∙ a.refused)
+    (λ d. ap (λ (v : ConnView). v.ended) (b.views d) ∙ a.ended d) (b.steady.1 ∙ a.steady.1) kept)
 
 pub returns-clause-ticked : goal.returns-clause-ticked
-returns-clause-ticked g c = λ d. subst (λ v. Ticked (kept_moment c.now-moment.result) (g.E.EventCore.view c.args.core.now d) v) (sym (c.tell_tree-tree.ensures.views d)) (c.ticked.ensures.ticked d)
+returns-clause-ticked g c = λ d. subst (λ v. Ticked (kept_moment c.now-moment.result) ((g.E.EventCore.seen c.args.core.now).view d) v) (sym (c.tell_tree-tree.ensures.views d)) (c.ticked.ensures.ticked d)
 
 pub returns-clause-beside : goal.returns-clause-beside
-returns-clause-beside g c = λ links files.
+returns-clause-beside g c = λ links.
     let e = g.E.EventCore in
+    let f = g.F.Files in
     let t = g.C.Clock in
     let n = c.now-moment in
-    stand_then (stand_ticked n.result (e.events c.args.core.now) (e.events c.ticked.new.core) links files (t.tells c.args.clock.now) (t.tells n.new.self) (t.told c.args.clock.now) (t.told n.new.self) c.ticked.ensures.given n.ensures.tells n.ensures.told)
-    (c.tell_tree-tree.ensures.beside links files (moments_told (t.tells n.new.self) (t.told n.new.self)))
+    let files = (f.seen c.args.files.now).answers in
+    subst (λ x. StandBeside (e.seen c.args.core.now).events (e.seen c.tell_tree-tree.new.core).events links links files x (moments_told (t.seen c.args.clock.now).tells (t.seen c.args.clock.now).told) (moments_told (t.seen n.new.self).tells (t.seen n.new.self).told)) (sym c.tell_tree-tree.ensures.same.1)
+    (stand_then (stand_ticked n.result (e.seen c.args.core.now).events (e.seen c.ticked.new.core).events links files (t.seen c.args.clock.now).tells (t.seen n.new.self).tells (t.seen c.args.clock.now).told (t.seen n.new.self).told c.ticked.ensures.given n.ensures.tells n.ensures.told)
+    (c.tell_tree-tree.ensures.beside links files (moments_told (t.seen n.new.self).tells (t.seen n.new.self).told)))

@@ -7,7 +7,7 @@ use Rattle.ready_loop.proofs.turn.serve_late.Goals as goal
 pub returns-in_ok-serve_all-clause-rests : goal.returns-in_ok-serve_all-clause-rests
 returns-in_ok-serve_all-clause-rests g c = λ h known all.
     let k = g.L.Links in
-    rests_all (h ≡ true) ((k.tells c.args.links.now ≡ true) × IsHeard (k.is_open c.args.links.now) (k.link c.args.links.now) c.args.memory.now.unread) (k.tells c.args.links.now ≡ true) (k.tells c.args.links.now ≡ true) (c.args.is_late ≡ false) (g.E.EventCore.view c.serve_all.new.core) (k.link c.serve_all.new.links) known (λ t. t) c.in_ok-serve_all.ensures.rests
+    rests_all (h ≡ true) (((k.seen c.args.links.now).tells ≡ true) × IsHeard (k.seen c.args.links.now).is_open (k.seen c.args.links.now).link c.args.memory.now.unread) ((k.seen c.args.links.now).tells ≡ true) ((k.seen c.args.links.now).tells ≡ true) (c.args.is_late ≡ false) (g.E.EventCore.seen c.serve_all.new.core).view (k.seen c.serve_all.new.links).link known (λ t. t) c.in_ok-serve_all.ensures.rests
 
 pub returns-else-is_late-clause-beside : goal.returns-else-is_late-clause-beside
-returns-else-is_late-clause-beside g c = stand_none (g.E.EventCore.events c.args.core.now) (g.L.Links.answers c.args.links.now) (g.F.Files.answers c.args.files.now)
+returns-else-is_late-clause-beside g c = stand_none (g.E.EventCore.seen c.args.core.now).events (g.L.Links.seen c.args.links.now).answers (g.F.Files.seen c.args.files.now).answers

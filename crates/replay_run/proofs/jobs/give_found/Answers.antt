@@ -13,7 +13,7 @@ returns-in-Stands-clause-answers g c = λ told a waits known f.
 pub returns-in-Stands-clause-falls : goal.returns-in-Stands-clause-falls
 returns-in-Stands-clause-falls g c = λ told a waits f.
     let e = g.E.EventCore in
-    done_falls nobody.course (e.now c.args.core.now) (e.price c.args.core.now) c.args.conn c.args.node a (answer.Stat c.in-Stands.stands) c.step.result (e.view c.args.core.now c.args.conn) (e.view c.step.new.self c.args.conn) (e.left c.args.core.now) (e.left c.step.new.self)
+    done_falls nobody.course (e.seen c.args.core.now).now (e.seen c.args.core.now).terms.price c.args.conn c.args.node a (answer.Stat c.in-Stands.stands) c.step.result ((e.seen c.args.core.now).view c.args.conn) ((e.seen c.step.new.self).view c.args.conn) (e.seen c.args.core.now).left (e.seen c.step.new.self).left
     c.step.ensures.steps.own c.step.ensures.left waits (stands_fits told.trees a c.in-Stands.stands c.args.block.now (subst (λ x. IsFound told.trees a x c.args.block.now) c.in-Stands.is f))
 
 pub returns-in-Block-clause-answers : goal.returns-in-Block-clause-answers
@@ -24,7 +24,7 @@ returns-in-Block-clause-answers g c = λ told a waits known f.
 pub returns-in-Block-clause-falls : goal.returns-in-Block-clause-falls
 returns-in-Block-clause-falls g c = λ told a waits f.
     let e = g.E.EventCore in
-    done_falls nobody.course (e.now c.args.core.now) (e.price c.args.core.now) c.args.conn c.args.node a (answer.Read c.as_slice.result) c.step-in-Block.result (e.view c.args.core.now c.args.conn) (e.view c.step-in-Block.new.self c.args.conn) (e.left c.args.core.now) (e.left c.step-in-Block.new.self)
+    done_falls nobody.course (e.seen c.args.core.now).now (e.seen c.args.core.now).terms.price c.args.conn c.args.node a (answer.Read c.as_slice.result) c.step-in-Block.result ((e.seen c.args.core.now).view c.args.conn) ((e.seen c.step-in-Block.new.self).view c.args.conn) (e.seen c.args.core.now).left (e.seen c.step-in-Block.new.self).left
     c.step-in-Block.ensures.steps.own c.step-in-Block.ensures.left waits (block_fits told.trees a c.as_slice.result c.args.block.now c.as_slice.ensures (subst (λ x. IsFound told.trees a x c.args.block.now) c.in-Block.is f))
 
 pub returns-in-Nothing-clause-answers : goal.returns-in-Nothing-clause-answers

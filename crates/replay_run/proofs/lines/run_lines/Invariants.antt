@@ -7,9 +7,9 @@ use Rattle.replay_run.proofs.lines.run_lines.Given as goal
 
 abbrev pub invariant-loop-line : goal.invariant-loop-line
 invariant-loop-line g l = record {
-  fresh : g.E.EventCore.fresh l.core ≡ g.E.EventCore.fresh l.initial.core;
-  newest : newest_of l.files ≡ (g.E.EventCore.now l.core).tree;
+  terms : (g.E.EventCore.seen l.core).terms ≡ (g.E.EventCore.seen l.initial.core).terms;
+  newest : newest_of l.files ≡ (g.E.EventCore.seen l.core).now.tree;
   sure : failing_of l.files ≡ [];
   told : told_of l.files ≡ told_in (take l.line-index l.lines) (told_of l.initial.files);
-  plays : Plays (g.E.EventCore.fresh l.initial.core) (take l.line-index l.lines) (told_of l.initial.files) (stage (g.E.EventCore.view l.initial.core) (g.E.EventCore.now l.initial.core) l.initial.player.lanes.items) 0 0 (stage (g.E.EventCore.view l.core) (g.E.EventCore.now l.core) l.player.lanes.items) l.counts.skipped l.counts.refused;
+  plays : Plays (g.E.EventCore.seen l.initial.core).terms (take l.line-index l.lines) (told_of l.initial.files) (stage (g.E.EventCore.seen l.initial.core).view (g.E.EventCore.seen l.initial.core).now l.initial.player.lanes.items) 0 0 (stage (g.E.EventCore.seen l.core).view (g.E.EventCore.seen l.core).now l.player.lanes.items) l.counts.skipped l.counts.refused;
 }

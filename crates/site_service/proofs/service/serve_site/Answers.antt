@@ -1,23 +1,26 @@
-use Rattle.std.proofs.Common.{◌≡◌, ◌≢◌, ℕ, true, false, List, [], ◌++◌, flat_map, sym, ap, ◌∙◌, subst, arith}
+use Rattle.std.proofs.Common.{◌≡◌, ◌≢◌, ℕ, true, false, List, [], ◌++◌, length, flat_map, refl, sym, ap, ◌∙◌, subst, arith}
 use Rattle.ngx_outside.specs.Causes.{Rose}
+use Rattle.ngx_outside.specs.Linked.{LinkView}
+use Rattle.ngx_outside.specs.Seen.{Terms, CoreSeen, LinksSeen, FilesSeen}
 use Rattle.ngx_outside.specs.Views.{ConnView, Start}
-use Rattle.ready_loop.specs.Seen.{CoreSeen, LinksSeen, FilesSeen, ClockSeen, core_seen, links_seen, files_seen, clock_seen, last_moment}
-use Rattle.ready_loop.specs.Standing.{Marks, Kept, Stands}
+use Rattle.ready_loop.specs.Seen.{Tick, last_start}
+use Rattle.ready_loop.specs.Standing.{Kept, Stands}
+use Rattle.ready_loop.specs.Laws.{marks_of}
 use Rattle.ready_loop.specs.Turns.{DueHasWants}
 use Rattle.ready_loop.specs.declared.service.Ending.TheVariants as ending
-use Rattle.connection_core.specs.Core.{view_at, now_at, fresh_at, refused_at}
+use Rattle.connection_core.specs.Core.{view_at, now_at, seen_at, site_terms}
 use Rattle.site_service.specs.Serving.{Outside}
 use Rattle.site_service.proofs.Becoming.{became, at_rest, never, listened}
 use Rattle.site_service.proofs.service.serve_site.Goals as goal
 
--- at its beginning a core stands at the moment that it keeps where none was told
-begun : (now : Start) (told : List ℕ) → now ≡ record { moment = 0; tree = 0 } → told ≡ [] → now.moment ≡ last_moment told
-unfolding last_moment
-begun now told e n = ap (λ (s : Start). s.moment) e ∙ ap last_moment (sym n)
+-- a core begins before any tick
+begun : (now : Start) → now ≡ record { moment = 0; tree = 0 } → now ≡ last_start []
+unfolding last_start
+begun now e = e
 
 pub serve-requires : goal.serve-requires
 serve-requires g c = record {
-  matched = λ id. ap (λ (v : ConnView). v.held) (c.in_ok-hub.ensures.empty id) ∙ sym (c.requires.links id).1;
+  matched = λ id. ap (λ (v : ConnView). v.held) (c.in_ok-hub.ensures.empty id) ∙ sym (c.requires.links.shut id);
   known = (let e : (now_at c.in_ok-hub.hub).tree ≡ 0 = ap (λ (s : Start). s.tree) c.in_ok-hub.ensures.now in omega (arith, e));
 }
 
@@ -30,41 +33,32 @@ returns-clause-serving g c =
     let hub = c.in_ok-hub.hub in
     let end = c.serve.new.core in
     let s = c.in_ok-ending.ensures in
-    let core : CoreSeen = core_seen (view_at hub) (fresh_at hub) (now_at hub) (refused_at hub) in
-    let links : LinksSeen = links_seen (k.link c.args.links.now) (k.used c.args.links.now) (k.is_open c.args.links.now) (k.link_faults c.args.links.now) in
-    let files : FilesSeen = files_seen (f.trees c.args.files.now) (f.newest c.args.files.now) (f.faults c.args.files.now) in
-    let clock : ClockSeen = clock_seen (t.tells c.args.clock.now) (t.told c.args.clock.now) in
-    let links' : LinksSeen = links_seen (k.link c.serve.new.links) (k.used c.serve.new.links) (k.is_open c.serve.new.links) (k.link_faults c.serve.new.links) in
-    let files' : FilesSeen = files_seen (f.trees c.serve.new.files) (f.newest c.serve.new.files) (f.faults c.serve.new.files) in
-    let clock' : ClockSeen = clock_seen (t.tells c.serve.new.clock) (t.told c.serve.new.clock) in
-    let o : Outside = record {
-      files_tell = f.tells c.args.files.now;
-      files = files;
-      files' = files';
-      links_tell = k.tells c.args.links.now;
-      links = links;
-      links' = links';
-      listening = k.listening c.args.links.now;
-      listening' = k.listening c.serve.new.links;
-      links_faults = k.faults c.args.links.now;
-      links_faults' = k.faults c.serve.new.links;
-      clock = clock;
-      clock' = clock';
-    } in
-    let marks : Marks = record { link = links.faults; files = files.faults; refused = core.refused } in
+    let core : CoreSeen = seen_at hub in
+    let links : LinksSeen = k.seen c.args.links.now in
+    let files : FilesSeen = f.seen c.args.files.now in
+    let links' : LinksSeen = k.seen c.serve.new.links in
+    let files' : FilesSeen = f.seen c.serve.new.files in
+    let o : Outside = record { files = files; files' = files'; links = links; links' = links'; clock = t.seen c.args.clock.now; clock' = t.seen c.serve.new.clock } in
     let none : (id : ℕ) → (view_at hub id).held ≡ false = λ id. ap (λ (v : ConnView). v.held) (c.in_ok-hub.ensures.empty id) in
-    let moment : clock.tells ≡ true → core.now.moment ≡ last_moment clock.told = λ tc. begun core.now clock.told c.in_ok-hub.ensures.now (c.requires.clock tc) in
-    let begins : Kept marks (λ id. fresh_at hub) core links files clock = c.kept_begins.ensures core links files clock none (λ id. (c.requires.links id).1) (λ id. (c.requires.links id).0) moment in
+    let terms : core.terms ≡ site_terms site = c.in_ok-hub.ensures.terms in
+    let few : links.tells ≡ true → length core.conns ≡ links.crowd = λ tl. ap length c.in_ok-hub.ensures.none ∙ sym (c.requires.links.nobody tl) in
+    let begins : links.tells ≡ true → Kept (marks_of core links files) (λ id. core.terms.fresh) core links files [] =
+    λ tl. c.kept_begins.ensures core links files none c.requires.links.shut c.requires.links.unused (few tl) (begun core.now c.in_ok-hub.ensures.now) in
     record {
-      refused = refused_at end;
+      ticks = s.kept.since;
+      told = s.kept.told;
       links = λ tl tf id used.
-          let kept = s.kept tl tf marks (λ id. fresh_at hub) begins in
-          became c.all_is_sent_when_idle.ensures c.closed_unstopped_sent_all.ensures c.closed_unended_sent_all.ensures site o (c.in_ok-ending.ending ≢ ending.ListenFault) core.refused (refused_at end) id (view_at end id)
+          let kept = s.kept.kept tl tf (marks_of core links files) (λ q. core.terms.fresh) [] (begins tl) in
+          became c.all_is_sent_when_idle.ensures c.closed_unstopped_sent_all.ensures c.closed_unended_sent_all.ensures site o (c.in_ok-ending.ending ≢ ending.ListenFault) s.kept.since core.refused id (view_at end id)
           (c.cores_are_sound.ensures end id).sound
-          (λ ne held. at_rest ((k.tells c.args.links.now ≡ true) × DueHasWants (k.is_open c.args.links.now) (k.link c.args.links.now) (view_at hub)) (k.tells c.args.links.now ≡ true) (view_at end id) (k.link c.serve.new.links id)
-          (tl, λ d was due. never (k.is_open c.args.links.now d) was (c.requires.links d).1) tl (s.rests ne id held))
+          (λ ne held. at_rest ((links.tells ≡ true) × DueHasWants links.is_open links.link (view_at hub)) (links.tells ≡ true) (view_at end id) (links'.link id)
+          (tl, λ d was due. never (links.is_open d) was (c.requires.links.shut d)) tl (s.rests ne id held))
           used
-          (subst (λ w. Stands (Rose (links.faults id) (links'.faults id)) (Rose files.faults files'.faults) (Rose core.refused (refused_at end)) w files' clock' (view_at end id) (k.link c.serve.new.links id) (k.used c.serve.new.links id) (k.is_open c.serve.new.links id)) c.in_ok-hub.ensures.fresh (kept.all id));
-      listens = λ ne. s.listens ne ∙ ap (λ a. k.listening c.args.links.now ++ a) (c.as_slice-2.ensures.value ∙ c.in_ok-addrs.ensures ∙ ap (flat_map (λ r. r.listens)) c.as_slice.ensures.value ∙ listened site site.servers.items);
-      taken = s.turns;
+          (subst (λ r. Stands (Rose (links.link_faults id) (links'.link_faults id)) (Rose files.faults files'.faults) (Rose core.refused r) (site_terms site) (site_terms site).fresh files' s.kept.since (view_at end id) (links'.link id) (links'.used id) (links'.is_open id)) (sym s.refused)
+          (subst (λ (m : Terms). Stands (Rose (links.link_faults id) (links'.link_faults id)) (Rose files.faults files'.faults) (Rose core.refused (seen_at end).refused) m m.fresh files' s.kept.since (view_at end id) (links'.link id) (links'.used id) (links'.is_open id)) terms (kept.all id)));
+      listens = λ ne. s.listens ne ∙ ap (λ a. links.listening ++ a) (c.as_slice-2.ensures.value ∙ c.in_ok-addrs.ensures ∙ ap (flat_map (λ r. r.listens)) c.as_slice.ensures.value ∙ listened site site.servers.items);
+      notices = s.turns;
     }
+
+pub returns-clause-grown : goal.returns-clause-grown
+returns-clause-grown g c = c.in_ok-ending.ensures.grown

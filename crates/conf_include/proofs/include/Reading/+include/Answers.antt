@@ -32,7 +32,7 @@ put_file-returns-in_err-put_lines-clause-exact g t c tree names told naming =
     let main = c.args.setting.now.main.now in
     let below = c.in_ok-left.left in
     let e = c.in_err-put_lines.field-0.0 in
-    let within : c.args.setting.now.tree ≤ g.F.Files.newest c.open.new.files = omega (arith, c.requires.known, c.in_ok-lines.ensures.later.newest) in
+    let within : c.args.setting.now.tree ≤ (g.F.Files.seen c.open.new.files).newest = omega (arith, c.requires.known, c.in_ok-lines.ensures.later.newest) in
     let before = told_before c.args.setting.now.tree tree _ _ c.in_err-put_lines.ensures.later within told in
     let opened = file_opened tree names main c.args.left below (spot c.args.at.file c.args.at.line) c.args.path (tally_of self) (tally_of c.open.new.self) c.in_ok-lines.lines self.lines c.args.depth
     (rw c.as_slice.ensures at (c.in_ok-left.ensures.left self.paths)) (c.in_ok-lines.ensures.opens tree before) in
@@ -46,7 +46,7 @@ put_file-returns-clause-exact g t c tree names told naming =
     let self = c.args.self.now in
     let main = c.args.setting.now.main.now in
     let below = c.in_ok-left.left in
-    let within : c.args.setting.now.tree ≤ g.F.Files.newest c.open.new.files = omega (arith, c.requires.known, c.in_ok-lines.ensures.later.newest) in
+    let within : c.args.setting.now.tree ≤ (g.F.Files.seen c.open.new.files).newest = omega (arith, c.requires.known, c.in_ok-lines.ensures.later.newest) in
     let before = told_before c.args.setting.now.tree tree _ _ c.in_ok-put_lines.ensures.later within told in
     let opened = file_opened tree names main c.args.left below (spot c.args.at.file c.args.at.line) c.args.path (tally_of self) (tally_of c.open.new.self) c.in_ok-lines.lines self.lines c.args.depth
     (rw c.as_slice.ensures at (c.in_ok-left.ensures.left self.paths)) (c.in_ok-lines.ensures.opens tree before) in
@@ -60,7 +60,7 @@ put_line-returns-in_err-put_files-in-Some-clause-exact g t c tree names told nam
     let self = c.args.self.now in
     let main = c.args.setting.now.main.now in
     let line = c.args.line in
-    let within : c.args.setting.now.tree ≤ g.F.Files.newest c.paths_named.new.files = omega (arith, c.requires.known, c.in_ok-paths-in-Some.ensures.later.newest) in
+    let within : c.args.setting.now.tree ≤ (g.F.Files.seen c.paths_named.new.files).newest = omega (arith, c.requires.known, c.in_ok-paths-in-Some.ensures.later.newest) in
     let before = told_before c.args.setting.now.tree tree _ _ c.in_err-put_files-in-Some.ensures.later within told in
     let path = c.in_ok-path-in-Some.ensures ∙ ap (path_of main) c.as_slice.ensures in
     let paths = c.in_ok-paths-in-Some.ensures.paths c.args.setting.now.tree tree names c.requires.known before naming ∙ ap (paths_named names) path in
@@ -80,7 +80,7 @@ put_line-returns-in_ok-put_files-in-Some-clause-exact g t c tree names told nami
     let self = c.args.self.now in
     let main = c.args.setting.now.main.now in
     let line = c.args.line in
-    let within : c.args.setting.now.tree ≤ g.F.Files.newest c.paths_named.new.files = omega (arith, c.requires.known, c.in_ok-paths-in-Some.ensures.later.newest) in
+    let within : c.args.setting.now.tree ≤ (g.F.Files.seen c.paths_named.new.files).newest = omega (arith, c.requires.known, c.in_ok-paths-in-Some.ensures.later.newest) in
     let before = told_before c.args.setting.now.tree tree _ _ c.in_ok-put_files-in-Some.ensures.later within told in
     let path = c.in_ok-path-in-Some.ensures ∙ ap (path_of main) c.as_slice.ensures in
     let paths = c.in_ok-paths-in-Some.ensures.paths c.args.setting.now.tree tree names c.requires.known before naming ∙ ap (paths_named names) path in
@@ -92,7 +92,7 @@ pub put_files-returns-in_err-put_file-clause-exact : goal.put_files-returns-in_e
 put_files-returns-in_err-put_file-clause-exact g t c tree names told naming =
     let p = err_from_is_err_and c.from_residual.result c.from_residual.ensures.1 in
     let at = c.loop-path in
-    let within : c.args.setting.now.tree ≤ g.F.Files.newest at.files = omega (arith, c.requires.known, at.invariant.later.newest) in
+    let within : c.args.setting.now.tree ≤ (g.F.Files.seen at.files).newest = omega (arith, c.requires.known, at.invariant.later.newest) in
     let before = told_before c.args.setting.now.tree tree _ _ c.in_err-put_file.ensures.later within told in
     rw (p.1, p.2)
     (run_stop (put_file tree names c.args.setting.now.main.now c.args.left (spot c.args.at.file c.args.at.line)) c.args.paths (into_iter_items c.into_iter-path-iterator.result) (into_iter_items at.path-iterator) (into_iter_items c.next.new.self) c.in-Some.path c.in_err-put_file.field-0.0
@@ -103,7 +103,7 @@ put_files-returns-in_err-put_file-clause-exact g t c tree names told naming =
 pub put_files-loop-path-preserved : goal.put_files-loop-path-preserved
 put_files-loop-path-preserved g t c =
     let at = c.loop-path in
-    let within : c.args.setting.now.tree ≤ g.F.Files.newest at.files = omega (arith, c.requires.known, at.invariant.later.newest) in
+    let within : c.args.setting.now.tree ≤ (g.F.Files.seen at.files).newest = omega (arith, c.requires.known, at.invariant.later.newest) in
     record {
       listed = (let was = at.invariant.listed in let gone = c.in-Some.ensures.steps.1 in let short = ap length c.in-Some.ensures.steps.0 in omega arith);
       later = later_then _ _ _ at.invariant.later c.in_ok-put_file.ensures.later;
@@ -126,7 +126,7 @@ put_lines-returns-in_err-put_line-clause-exact g t c tree names told naming =
     let p = err_from_is_err_and c.from_residual.result c.from_residual.ensures.1 in
     let at = c.loop-line in
     let main = c.args.setting.now.main.now in
-    let within : c.args.setting.now.tree ≤ g.F.Files.newest at.files = omega (arith, c.requires.known, at.invariant.later.newest) in
+    let within : c.args.setting.now.tree ≤ (g.F.Files.seen at.files).newest = omega (arith, c.requires.known, at.invariant.later.newest) in
     let before = told_before c.args.setting.now.tree tree _ _ c.in_err-put_line.ensures.later within told in
     rw (p.1, p.2)
     (run_stop (put_line (put_file tree names main c.args.left) (named_by names main)) c.args.lines (into_iter_items c.into_iter-line-iterator.result) (into_iter_items at.line-iterator) (into_iter_items c.next.new.self) c.in-Some.line c.in_err-put_line.field-0.0
@@ -138,7 +138,7 @@ pub put_lines-loop-line-preserved : goal.put_lines-loop-line-preserved
 put_lines-loop-line-preserved g t c =
     let at = c.loop-line in
     let main = c.args.setting.now.main.now in
-    let within : c.args.setting.now.tree ≤ g.F.Files.newest at.files = omega (arith, c.requires.known, at.invariant.later.newest) in
+    let within : c.args.setting.now.tree ≤ (g.F.Files.seen at.files).newest = omega (arith, c.requires.known, at.invariant.later.newest) in
     record {
       listed = (let was = at.invariant.listed in let gone = c.in-Some.ensures.steps.1 in let short = ap length c.in-Some.ensures.steps.0 in omega arith);
       shallow = (rw c.in-Some.ensures.steps.0 at at.invariant.shallow).1;

@@ -3,7 +3,7 @@ use Rattle.std.specs.Vec.Iter.{into_iter_items, into_iter_len}
 use Rattle.file_tree.specs.Tree.{Tree}
 use Rattle.conf_include.specs.Listings.{Names, IsNaming}
 use Rattle.conf_include.specs.Expansion.{spot, put_all, put_file, put_line, named_by}
-use Rattle.conf_include.specs.Told.{telling, Later, IsTold}
+use Rattle.conf_include.specs.Told.{Later, IsTold}
 use Rattle.conf_include.specs.Steps.{AreShallow, onto, tally_of}
 use Rattle.conf_include.proofs.include.Reading.+include.Given as goal
 
@@ -23,10 +23,10 @@ decreases-put_lines g l = 4 * l.left + 3
 abbrev pub invariant-put_files-loop-path : goal.invariant-put_files-loop-path
 invariant-put_files-loop-path g l = record {
   listed : into_iter_len l.path-iterator ≡ length (into_iter_items l.path-iterator);
-  later : Later (telling (g.F.Files.tells l.initial.files) (g.F.Files.trees l.initial.files) (g.F.Files.newest l.initial.files) (g.F.Files.faults l.initial.files))
-      (telling (g.F.Files.tells l.files) (g.F.Files.trees l.files) (g.F.Files.newest l.files) (g.F.Files.faults l.files));
+  later : Later (g.F.Files.seen l.initial.files)
+      (g.F.Files.seen l.files);
   left : (tree : Tree) (names : Names)
-      → IsTold l.setting.tree tree (telling (g.F.Files.tells l.files) (g.F.Files.trees l.files) (g.F.Files.newest l.files) (g.F.Files.faults l.files)) → IsNaming tree names
+      → IsTold l.setting.tree tree (g.F.Files.seen l.files) → IsNaming tree names
       → onto l.self.lines l.depth (put_all (put_file tree names l.setting.main.now l.left (spot l.at.file l.at.line)) (into_iter_items l.path-iterator) (tally_of l.self))
       ≡ onto l.initial.self.lines l.depth (put_all (put_file tree names l.setting.main.now l.left (spot l.at.file l.at.line)) (into_iter_items l.initial.path-iterator) (tally_of l.initial.self));
 }
@@ -36,10 +36,10 @@ abbrev pub invariant-put_lines-loop-line : goal.invariant-put_lines-loop-line
 invariant-put_lines-loop-line g l = record {
   listed : into_iter_len l.line-iterator ≡ length (into_iter_items l.line-iterator);
   shallow : AreShallow (into_iter_items l.line-iterator);
-  later : Later (telling (g.F.Files.tells l.initial.files) (g.F.Files.trees l.initial.files) (g.F.Files.newest l.initial.files) (g.F.Files.faults l.initial.files))
-      (telling (g.F.Files.tells l.files) (g.F.Files.trees l.files) (g.F.Files.newest l.files) (g.F.Files.faults l.files));
+  later : Later (g.F.Files.seen l.initial.files)
+      (g.F.Files.seen l.files);
   left : (tree : Tree) (names : Names)
-      → IsTold l.setting.tree tree (telling (g.F.Files.tells l.files) (g.F.Files.trees l.files) (g.F.Files.newest l.files) (g.F.Files.faults l.files)) → IsNaming tree names
+      → IsTold l.setting.tree tree (g.F.Files.seen l.files) → IsNaming tree names
       → onto l.self.lines l.depth (put_all (put_line (put_file tree names l.setting.main.now l.left) (named_by names l.setting.main.now)) (into_iter_items l.line-iterator) (tally_of l.self))
       ≡ onto l.initial.self.lines l.depth (put_all (put_line (put_file tree names l.setting.main.now l.left) (named_by names l.setting.main.now)) (into_iter_items l.initial.line-iterator) (tally_of l.initial.self));
 }

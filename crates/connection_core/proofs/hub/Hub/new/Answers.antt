@@ -1,6 +1,10 @@
-use Rattle.std.proofs.Common.{ap}
-use Rattle.connection.specs.Conn.{fresh_course}
+use Rattle.std.proofs.Common.{ap, sym, subst}
+use Rattle.connection_core.specs.Core.{site_terms}
+use Rattle.connection_core.specs.Table.{AllKnown}
 use Rattle.connection_core.proofs.hub.Hub.new.Goals as goal
 
-pub returns-clause-fresh : goal.returns-clause-fresh
-returns-clause-fresh c = ap fresh_course c.in_ok-table.ensures.0
+pub returns-clause-terms : goal.returns-clause-terms
+returns-clause-terms c = ap site_terms c.in_ok-table.ensures.0
+
+pub invariant_of-result : goal.invariant_of-result
+invariant_of-result c = record { known = subst (AllKnown 0) (sym c.in_ok-table.ensures.2) tt }

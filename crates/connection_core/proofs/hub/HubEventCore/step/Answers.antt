@@ -1,32 +1,47 @@
-use Rattle.std.proofs.Common.{◌≡◌, ℕ, sym, ap, ◌∙◌, subst, arith}
-use Rattle.ngx_outside.specs.Views.{Start, Steps, OpensIf, CountsRefused, TakesNone, now_after, ended_after, nobody}
+use Rattle.std.proofs.Common.{◌≡◌, ℕ, length, sym, ap, ◌∙◌, subst, arith}
+use Rattle.ngx_outside.specs.Views.{Start, Steps, OpensIf, CountsHeld, CountsRefused, TakesNone, now_after, ended_after, nobody}
 use Rattle.ngx_outside.specs.declared.event.StepAnswer.TheVariants.{Done}
-use Rattle.connection_core.specs.Core.{view_at, fresh_at, now_at, opens_at}
+use Rattle.ngx_outside.specs.Seen.{opens_at}
+use Rattle.connection_core.specs.Core.{view_at, fresh_at, now_at, seen_at}
 use Rattle.connection_core.specs.Table.{view_in}
-use Rattle.connection_core.proofs.Ends.{known_later}
+use Rattle.connection_core.proofs.Ends.{known_later, opens_as}
 use Rattle.connection_core.proofs.Steps.{kept_is, waits_in, gone_counts, ended_opened, ended_gone}
 use Rattle.connection_core.proofs.hub.HubEventCore.step.Goals as goal
 
 pub returns-in-Opened-clause-steps : goal.returns-in-Opened-clause-steps
 returns-in-Opened-clause-steps c =
     let h = c.args.self.now in
-    let n = c.open.new.self in
-    subst (λ e. Steps (fresh_at h) (now_at h) e c.open.result (view_at h) (view_in n.site n.ids.items n.conns.items)) (sym c.in-Opened.is) (c.open.ensures.steps (now_at h))
+    let n = c.open-answer.new.self in
+    subst (λ e. Steps (fresh_at h) (now_at h) e c.open-answer.result (view_at h) (view_in n.site n.ids.items n.conns.items)) (sym c.in-Opened.is) (c.open-answer.ensures.steps (now_at h))
 
 pub returns-in-Opened-clause-opens : goal.returns-in-Opened-clause-opens
 returns-in-Opened-clause-opens c =
     let h = c.args.self.now in
-    subst (λ e. OpensIf (opens_at h) e c.open.result) (sym c.in-Opened.is) c.open.ensures.opens
+    let t = h.table in
+    subst (λ e. OpensIf (opens_at (seen_at h)) e c.open-answer.result) (sym c.in-Opened.is)
+    (opens_as t.site t.ids.items t.conns.items (omega (arith, t.paired, t.ids.ok.0, t.conns.ok.0)) c.in-Opened.conn c.in-Opened.local c.in-Opened.peer c.open-answer.result c.open-answer.ensures.opens)
+
+pub returns-in-Opened-clause-held : goal.returns-in-Opened-clause-held
+returns-in-Opened-clause-held c =
+    let h = c.args.self.now in
+    let n = c.open-answer.new.self in
+    subst (λ e. CountsHeld e c.open-answer.result (length h.table.ids.items) (length n.ids.items)) (sym c.in-Opened.is) c.open-answer.ensures.held
+
+pub returns-in-Gone-clause-held : goal.returns-in-Gone-clause-held
+returns-in-Gone-clause-held c =
+    let h = c.args.self.now in
+    let n = c.close.new.self in
+    subst (λ e. CountsHeld e c.close.result (length h.table.ids.items) (length n.ids.items)) (sym c.in-Gone.is) c.close.ensures.held
 
 pub returns-in-Opened-clause-ended : goal.returns-in-Opened-clause-ended
 returns-in-Opened-clause-ended c =
     let h = c.args.self.now in
-    let n = c.open.new.self in
-    subst (λ e. (q : ℕ) → (view_in n.site n.ids.items n.conns.items q).ended ≡ ended_after e c.open.result q (view_at h q).ended) (sym c.in-Opened.is)
-    (ended_opened _ (now_at h) c.in-Opened.conn c.in-Opened.local c.in-Opened.peer c.open.result (view_at h) (view_in n.site n.ids.items n.conns.items) (λ q. (c.cores_are_sound.ensures h q).sound) (c.open.ensures.steps (now_at h)))
+    let n = c.open-answer.new.self in
+    subst (λ e. (q : ℕ) → (view_in n.site n.ids.items n.conns.items q).ended ≡ ended_after e c.open-answer.result q (view_at h q).ended) (sym c.in-Opened.is)
+    (ended_opened _ (now_at h) c.in-Opened.conn c.in-Opened.local c.in-Opened.peer c.open-answer.result (view_at h) (view_in n.site n.ids.items n.conns.items) (λ q. (c.cores_are_sound.ensures h q).sound) (c.open-answer.ensures.steps (now_at h)))
 
 pub returns-in-Opened-clause-taken : goal.returns-in-Opened-clause-taken
-returns-in-Opened-clause-taken c = subst (λ e. TakesNone e c.open.result) (sym c.in-Opened.is) c.open.ensures.taken
+returns-in-Opened-clause-taken c = subst (λ e. TakesNone e c.open-answer.result) (sym c.in-Opened.is) c.open-answer.ensures.taken
 
 pub returns-in-Gone-clause-ended : goal.returns-in-Gone-clause-ended
 returns-in-Gone-clause-ended c =
@@ -63,7 +78,7 @@ returns-in-Gone-clause-refused c =
 pub invariant_of-self : goal.invariant_of-self
 invariant_of-self c =
     let h = c.args.self.now in
-    record { known = c.open.ensures.known h.tree h.known }
+    record { known = c.open-answer.ensures.known h.tree h.known }
 
 pub invariant_of-self-in-Tree : goal.invariant_of-self-in-Tree
 invariant_of-self-in-Tree c =

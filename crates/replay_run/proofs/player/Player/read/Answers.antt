@@ -9,17 +9,17 @@ returns-clause-reads g c =
     let mid = c.place_or_add.new.lanes.items in
     let here = c.index_mut-lane.result.now in
     let at = c.in_ok-at.ensures.place in
-    placed c.args.conn (Reads (e.fresh c.args.core.now) c.args.conn c.read_on-answer.result (e.view c.args.core.now) (e.now c.args.core.now) (e.view c.read_on-answer.new.core) (e.now c.read_on-answer.new.core)) (lane_in c.args.self.now.lanes.items) mid c.in_ok-at.at here c.read_on-answer.new.lane c.in_ok-at.ensures.same at c.index_mut-lane.ensures.value c.read_on-answer.ensures.conn
-    (subst (λ k. Reads (e.fresh c.args.core.now) k c.read_on-answer.result (e.view c.args.core.now) (e.now c.args.core.now) (e.view c.read_on-answer.new.core) (e.now c.read_on-answer.new.core) (shown_lane here) (shown_lane c.read_on-answer.new.lane)) (conn_at c.args.conn mid c.in_ok-at.at here at c.index_mut-lane.ensures.value) c.read_on-answer.ensures.reads)
+    placed c.args.conn (Reads (e.seen c.args.core.now).terms.fresh c.args.conn c.read_on-answer.result (e.seen c.args.core.now).view (e.seen c.args.core.now).now (e.seen c.read_on-answer.new.core).view (e.seen c.read_on-answer.new.core).now) (lane_in c.args.self.now.lanes.items) mid c.in_ok-at.at here c.read_on-answer.new.lane c.in_ok-at.ensures.same at c.index_mut-lane.ensures.value c.read_on-answer.ensures.conn
+    (subst (λ k. Reads (e.seen c.args.core.now).terms.fresh k c.read_on-answer.result (e.seen c.args.core.now).view (e.seen c.args.core.now).now (e.seen c.read_on-answer.new.core).view (e.seen c.read_on-answer.new.core).now (shown_lane here) (shown_lane c.read_on-answer.new.lane)) (conn_at c.args.conn mid c.in_ok-at.at here at c.index_mut-lane.ensures.value) c.read_on-answer.ensures.reads)
 
 pub returns-clause-falls : goal.returns-clause-falls
 returns-clause-falls g c = λ room has.
     let e = g.E.EventCore in
-    let price = e.price c.args.core.now in
+    let price = (e.seen c.args.core.now).terms.price in
     let mid = c.place_or_add.new.lanes.items in
     let here = c.index_mut-lane.result.now in
     let at = c.in_ok-at.ensures.place in
     let is = c.index_mut-lane.ensures.value in
     let reads : is_read (shown_lane here) ≡ true = ap is_read (sym (lane_at c.args.conn mid c.in_ok-at.at here at is) ∙ c.in_ok-at.ensures.same c.args.conn) ∙ c.requires in
-    let roomy : (e.view c.args.core.now here.conn).room ≡ Some room = ap (λ k. (e.view c.args.core.now k).room) (conn_at c.args.conn mid c.in_ok-at.at here at is) ∙ has in
-    falls (work_of price) (e.left c.args.core.now) (e.left c.read_on-answer.new.core) c.args.conn c.args.self.now.lanes.items mid c.in_ok-at.at here c.read_on-answer.new.lane (c.in_ok-at.ensures.work price) at is (c.read_on-answer.ensures.falls room reads roomy)
+    let roomy : ((e.seen c.args.core.now).view here.conn).room ≡ Some room = ap (λ k. ((e.seen c.args.core.now).view k).room) (conn_at c.args.conn mid c.in_ok-at.at here at is) ∙ has in
+    falls (work_of price) (e.seen c.args.core.now).left (e.seen c.read_on-answer.new.core).left c.args.conn c.args.self.now.lanes.items mid c.in_ok-at.at here c.read_on-answer.new.lane (c.in_ok-at.ensures.work price) at is (c.read_on-answer.ensures.falls room reads roomy)

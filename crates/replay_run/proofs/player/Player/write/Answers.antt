@@ -9,6 +9,6 @@ returns-clause-writes g c =
     let mid = c.place_or_add.new.lanes.items in
     let here = c.index_mut-lane.result.now in
     let at = c.in_ok-at.ensures.place in
-    placed c.args.conn (Writes (e.fresh c.args.core.now) c.args.conn c.args.most c.in_ok-answer.answer (e.view c.args.core.now) (e.now c.args.core.now) (e.view c.write.new.core) (e.now c.write.new.core)) (lane_in c.args.self.now.lanes.items) mid c.in_ok-at.at here c.write.new.lane c.in_ok-at.ensures.same at c.index_mut-lane.ensures.value c.write.ensures.conn
-    (subst (λ k. Writes (e.fresh c.args.core.now) k c.args.most c.in_ok-answer.answer (e.view c.args.core.now) (e.now c.args.core.now) (e.view c.write.new.core) (e.now c.write.new.core) (shown_lane here) (shown_lane c.write.new.lane)) (conn_at c.args.conn mid c.in_ok-at.at here at c.index_mut-lane.ensures.value)
+    placed c.args.conn (Writes (e.seen c.args.core.now).terms.fresh c.args.conn c.args.most c.in_ok-answer.answer (e.seen c.args.core.now).view (e.seen c.args.core.now).now (e.seen c.write.new.core).view (e.seen c.write.new.core).now) (lane_in c.args.self.now.lanes.items) mid c.in_ok-at.at here c.write.new.lane c.in_ok-at.ensures.same at c.index_mut-lane.ensures.value c.write.ensures.conn
+    (subst (λ k. Writes (e.seen c.args.core.now).terms.fresh k c.args.most c.in_ok-answer.answer (e.seen c.args.core.now).view (e.seen c.args.core.now).now (e.seen c.write.new.core).view (e.seen c.write.new.core).now (shown_lane here) (shown_lane c.write.new.lane)) (conn_at c.args.conn mid c.in_ok-at.at here at c.index_mut-lane.ensures.value)
     (let w = c.in_ok-answer.ensures.gives in record { count = w.0; counts = w.1; gives = w.2; emits = w.3 }))

@@ -1,0 +1,2 @@
+mod Exacts
+mod Orders

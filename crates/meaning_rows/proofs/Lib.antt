@@ -1,0 +1,14 @@
+mod Opened
+mod Samples
+mod Documents
+mod Locations
+mod Phases
+mod Races
+mod More
+mod Wholes
+mod Cuts
+mod Nodes
+mod Connections
+mod Steps
+mod Schedules
+mod Suspends

@@ -1,0 +1,106 @@
+ghost use Rattle.std.specs.Prelude.{◌≤◌};
+
+use byte_text::{ByteText, ByteTexts};
+use file_tree::Node;
+use ngx_outside::{FileFault, Files, Listing, Sink};
+use std::fs;
+use std::test::Fail;
+use std_outside::{HostFiles, HostSink};
+
+const FOLDER: &str = "std_outside_test";
+
+const FILE: &str = "std_outside_test/a";
+
+// The number of the newest tree, and how many bytes the file at a path has in it; none where no file is told to be there.
+fn look<F: Files>(files: &mut F, path: &str) -> (u64, Option<u64>)
+    ensures { result.0 ≤ (F.seen files.new).newest }
+{
+    let newest = files.version();
+    match files.stat(path.as_bytes(), newest) {
+        Ok(Node::File { len, date: _ }) => (newest, Some(len)),
+        _ => (newest, None),
+    }
+}
+
+fn fresh_folder(rt: &HostRuntime) -> Result<(), Fail> {
+    let _ = fs::remove_dir_all(rt, FOLDER);
+    fs::create_dir(rt, FOLDER)?;
+    Ok(())
+}
+
+#[test]
+fn a_file_is_read_in_blocks_and_seen_anew_once_it_was_replaced(
+    rt: HostRuntime,
+) -> Result<(), Fail> {
+    fresh_folder(&rt)?;
+    fs::write(&rt, FILE, "abcdef")?;
+    let mut files = HostFiles::new(rt.clone()?)?;
+    let mut out = ByteText::from_slice(rt.alloc(), b">")?;
+    let (of, len) = look(&mut files, FILE);
+    assert_eq!(rt; len, Some(6));
+    files.read(FILE.as_bytes(), 0, 4, of, &mut out)?;
+    files.read(FILE.as_bytes(), 4, 2, of, &mut out)?;
+    assert_eq!(rt; out.as_slice(), b">abcdef".as_slice());
+    assert_eq!(rt;
+        files.read(FILE.as_bytes(), 4, 3, of, &mut out),
+        Err(FileFault::Failed)
+    );
+    assert_eq!(rt; out.as_slice(), b">abcdef".as_slice());
+    fs::write(&rt, "std_outside_test/b", "other text")?;
+    fs::rename(&rt, "std_outside_test/b", FILE)?;
+    let (of, len) = look(&mut files, FILE);
+    assert_eq!(rt; len, Some(10));
+    files.read(FILE.as_bytes(), 6, 4, of, &mut out)?;
+    assert_eq!(rt; out.as_slice(), b">abcdeftext".as_slice());
+    fs::write(&rt, FILE, "short")?;
+    assert_eq!(rt; look(&mut files, FILE).1, Some(5));
+    fs::remove_file(&rt, FILE)?;
+    let (of, len) = look(&mut files, FILE);
+    assert_eq!(rt; len, None);
+    assert!(rt; files.read(FILE.as_bytes(), 0, 1, of, &mut out).is_err());
+    fs::remove_dir_all(&rt, FOLDER)?;
+    Ok(())
+}
+
+// There are more files than are kept open.
+#[test]
+fn each_of_many_files_is_read(rt: HostRuntime) -> Result<(), Fail> {
+    let alloc = rt.alloc();
+    let folder = "std_outside_many";
+    let _ = fs::remove_dir_all(&rt, folder);
+    fs::create_dir(&rt, folder)?;
+    let mut files = HostFiles::new(rt.clone()?)?;
+    for number in 10..40u32 {
+        let path = format!(in alloc; "{folder}/{number}")?;
+        fs::write(&rt, path.as_str(), format!(in alloc; "{number}")?)?;
+        assert_eq!(rt; look(&mut files, path.as_str()).1, Some(2));
+    }
+    for number in 10..40u32 {
+        let path = format!(in alloc; "{folder}/{number}")?;
+        let mut out = ByteText::new(alloc);
+        let (of, _) = look(&mut files, path.as_str());
+        files.read(path.as_bytes(), 0, 2, of, &mut out)?;
+        assert_eq!(rt; out.as_slice(), format!(in alloc; "{number}")?.as_bytes());
+    }
+    let mut names = ByteTexts::new(alloc);
+    assert_eq!(rt; files.list(folder.as_bytes(), &mut names)?, Listing::Done);
+    assert_eq!(rt; names.len(), 30);
+    fs::remove_dir_all(&rt, folder)?;
+    Ok(())
+}
+
+#[test]
+fn what_is_no_file_is_told_apart(rt: HostRuntime) -> Result<(), Fail> {
+    let mut files = HostFiles::new(rt.clone()?)?;
+    assert_eq!(rt; files.stat(b"/".as_slice(), 0)?, Node::Folder);
+    assert_eq!(rt; files.stat(b"/dev/null".as_slice(), 0)?, Node::Locked);
+    assert_eq!(rt; files.stat(b"/no/such/file".as_slice(), 0)?, Node::Missing);
+    assert_eq!(rt; files.stat(b"/\xff".as_slice(), 0)?, Node::Missing);
+    let mut names = ByteTexts::new(rt.alloc());
+    assert_eq!(rt;
+        files.list(b"/no/such/folder".as_slice(), &mut names)?,
+        Listing::Missing
+    );
+    assert!(rt; HostSink::new(rt.clone()?).put(b"").is_ok());
+    Ok(())
+}

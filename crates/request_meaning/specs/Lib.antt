@@ -1,0 +1,15 @@
+pub mod Serving
+pub mod Cuts
+pub mod Rewriting
+pub mod Answering
+pub mod Errors
+pub mod Access
+pub mod Contents
+pub mod Phases
+pub mod Documents
+pub mod Commands
+pub mod Bodies
+pub mod Replies
+pub mod Counts
+pub mod Responses
+pub mod Laws

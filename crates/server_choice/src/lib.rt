@@ -1,0 +1,9 @@
+//! Servers by name: which one answers a host at an address (https://nginx.org/en/docs/http/server_names.html).
+#![tactic(auto)]
+
+mod choice;
+mod longest;
+mod names;
+
+pub use choice::{Like, ServerNames};
+pub use names::NameMap;
