@@ -1,6 +1,6 @@
 #!/bin/bash
 # Tries the program over real files and real sockets: what the proofs end at. Each case prints a line, good, bad or left out
-# with the reason; the status is 1 where one is bad. Loopback alone, in a folder of its own, in two minutes at most.
+# with the reason; the status is 1 where one is bad, and 124 where none is but two minutes were too few. Loopback alone, in a folder of its own.
 # usage: tests/edge.sh [1..9 or bad..], all of them where none is said; NGX=PROGRAM tests/edge.sh tries another program
 set -u
 top=$(cd "$(dirname "$0")/.." && pwd)
@@ -8,13 +8,18 @@ program=${NGX:-$top/ngx}
 work=$(mktemp -d)
 trap 'rm -rf "$work"' EXIT
 ulimit -n "$(ulimit -H -n)" 2>/dev/null
-timeout -k 5 115 python3 - "$program" "$work" "$@" <<'PY'
+timeout --preserve-status -k 5 115 python3 - "$program" "$work" "$@" <<'PY'
 import hashlib, os, resource, shutil, signal, socket, stat, subprocess, sys, threading, time
 program, work = sys.argv[1:3]
 wanted = sys.argv[3:]
 os.chdir(work)
 bad = 0
 began = time.time()
+
+def too_late(*_):
+    print('bad:  not done in 115 seconds', flush=True)
+    sys.exit(1 if bad else 124)
+signal.signal(signal.SIGTERM, too_late)
 
 def told(what, good, more=''):
     global bad
@@ -23,6 +28,12 @@ def told(what, good, more=''):
 
 def left_out(what, why):
     print(f'left out: {what}: {why}', flush=True)
+
+try:
+    with socket.create_server(('127.0.0.1', 0)) as s: socket.create_connection(s.getsockname(), 5).close()
+except OSError as e:
+    left_out('all', f'no loopback here ({e})')
+    sys.exit(0)
 
 def free_port():
     with socket.socket() as s:
@@ -347,7 +358,15 @@ def words():
             if status in (126, 127): left_out('8. no right for port 80', 'the program is not for all')
             else: told('8. no right for a port: the address and the reason', status == 6 and '127.0.0.1:80' in words and 'ermission denied' in words, (status, words))
     else: left_out('8. no right for port 80', 'only root can give up rights here')
-    told('8. no command ends with status 2', run()[0] == 2)
+    for asked in (['--help'], ['-h'], ['serve', '--help'], ['check', '-h']):
+        got = run(*asked)
+        told(f"8. {' '.join(asked)} prints the help", got[0] == 0 and got[1].startswith('ngx ') and 'Exit status:' in got[1] and not got[2], got)
+    for asked in ('--version', '-V'):
+        got = run(asked)
+        told(f'8. {asked} prints the version', got[0] == 0 and got[1].startswith('ngx ') and got[1].count('\n') == 1 and not got[2], got)
+    for asked, why in ((), 'no command'), (('frob',), 'frob: no such command'), (('frob', 'a'), 'frob: no such command'), (('serve',), 'serve: other words'), (('serve', 'a', '--turns', '0'), 'serve: other words'):
+        got = run(*asked)
+        told(f"8. {' '.join(asked) or 'no word'}: what it lacks and the usage, with status 2", got[0] == 2 and why in got[2] and 'usage: ngx check CONF' in got[2] and not got[1], got)
 
 # 9. The connection after the last.
 def last():
@@ -377,6 +396,3 @@ for number, case in cases:
 print(f'{"some are bad" if bad else "all are good"}, in {time.time() - began:.0f} seconds')
 sys.exit(bad)
 PY
-status=$?
-[ $status = 124 ] && echo "bad:  not done in 115 seconds"
-exit $status

@@ -1,5 +1,5 @@
 -- The answers of a connection: the responses to its requests, one after another.
-use Rattle.std.specs.Prelude.{ℕ, ◌+◌, nat_lt, Bool, false, List, [], ◌∷◌, ◌++◌, length, drop, map, flat_map, codes, Option, None, Some, if◌then◌else◌}
+use Rattle.std.specs.Prelude.{ℕ, ◌+◌, nat_lt, Bool, true, false, List, [], ◌∷◌, ◌++◌, length, drop, codes, Option, None, Some, if◌then◌else◌}
 use Rattle.std.specs.List.{list_any}
 use Rattle.file_tree.specs.Tree.{Tree, Trees}
 use Rattle.http_types.specs.declared.words.BodyKind.{BodyKind}
@@ -85,42 +85,68 @@ response_in service tree before start head (Some server) =
 unfoldable pub response_at : Service → Trees → (before : ℕ) → Start → RequestHead → Response
 response_at service trees before start head = response_in service (trees start.tree) before start head (server_for service head)
 
--- the responses to the bytes after a request's body (RFC 9112, section 6): none, where no whole body is there
-abbrev pub after_body : BodyOutcome → (ℕ → List Response) → List Response
+-- What a connection does to answer its requests: it sends a response, or it closes (RFC 9112, 9.6).
+pub data Answer : Type 0 where
+  Sends : (response : Response) → Answer
+  Closes : Answer
+
+-- it closes, and nothing is answered after that
+abbrev pub then_closes : List Answer
+then_closes = Closes ∷ []
+
+-- the answers to the bytes after a request's body (RFC 9112, section 6): none yet where it isn't whole, and after one that is
+-- broken the connection closes
+abbrev pub after_body : BodyOutcome → (ℕ → List Answer) → List Answer
 after_body (Whole count) following = following count
 after_body Short following = []
-after_body Broken following = []
+after_body Broken following = then_closes
 
--- a response, and those after it, unless it closes the connection
-abbrev pub after_response : Response → List Response → List Response
-after_response r following = r ∷ (if r.stays then following else [])
+-- a response, and the answers after it, unless it closes the connection
+abbrev pub after_response : Response → List Answer → List Answer
+after_response r following = Sends r ∷ (if r.stays then following else then_closes)
 
--- the response to the first head, and those to the bytes after it and its body
-abbrev pub first_response : Service → Trees → (before : ℕ) → Start → HeadStep → (ℕ → BodyKind → List Response) → List Response
-first_response service trees before start (Head head size) following = after_response (response_at service trees before start head) (following size head.body)
-first_response service trees before start (Bad code no_body) following = refusal code start no_body ∷ []
+-- the response to the first head, and the answers to the bytes after it and its body
+abbrev pub first_response : Service → Trees → (before : ℕ) → Start → HeadStep → (ℕ → BodyKind → List Answer) → List Answer
+first_response service trees before start (Head head size) following =
+    after_response (response_at service trees before start head) (following size head.body)
+first_response service trees before start (Bad code no_body) following = Sends (refusal code start no_body) ∷ then_closes
 first_response service trees before start More following = []
 
--- The responses to the requests of the input, which this many came before, each from the tree of its start. A request starts for
+-- The answers to the requests of the input, which this many came before, each from the tree of its start. A request starts for
 -- each of these entries, as far as the input has heads and whole bodies after them.
-unfoldable pub responses : Service → (before : ℕ) → Trees → List ℕ → List Start → List Response
+unfoldable pub responses : Service → (before : ℕ) → Trees → List ℕ → List Start → List Answer
 responses service before trees input [] = []
 responses service before trees input (start ∷ later) =
     first_response service trees before start (head_step input)
     (λ size kind. after_body (body_of kind (drop size input)) (λ count. responses service (before + 1) trees (drop count (drop size input)) later))
 
-abbrev pub bytes_in : List Response → List ℕ
-bytes_in rs = flat_map (λ (r : Response). r.bytes) rs
+-- the bytes that are sent, what is logged, and whether the connection closes
+abbrev pub bytes_in : List Answer → List ℕ
+bytes_in [] = []
+bytes_in (Sends r ∷ answers) = r.bytes ++ bytes_in answers
+bytes_in (Closes ∷ answers) = bytes_in answers
 
-abbrev pub logs_in : List Response → List Log
-logs_in rs = map (λ (r : Response). r.log) rs
+abbrev pub logs_in : List Answer → List Log
+logs_in [] = []
+logs_in (Sends r ∷ answers) = r.log ∷ logs_in answers
+logs_in (Closes ∷ answers) = logs_in answers
+
+abbrev pub close_in : List Answer → Bool
+close_in [] = false
+close_in (Sends r ∷ answers) = close_in answers
+close_in (Closes ∷ answers) = true
+
+-- this asks for more subrequests than this many
+abbrev pub is_over : (most : ℕ) → Answer → Bool
+is_over most (Sends r) = nat_lt most r.subs
+is_over most Closes = false
 
 -- some request asks for more subrequests than this many; than are started for one
-unfoldable pub any_over : (most : ℕ) → List Response → Bool
-any_over most rs = list_any (λ (r : Response). nat_lt most r.subs) rs
+unfoldable pub any_over : (most : ℕ) → List Answer → Bool
+any_over most answers = list_any (is_over most) answers
 
-abbrev pub heavy_in : List Response → Bool
-heavy_in rs = any_over most_subs rs
+abbrev pub heavy_in : List Answer → Bool
+heavy_in answers = any_over most_subs answers
 
 -- the answers to the input: the bytes of the responses, one after another
 abbrev pub answers : Service → (before : ℕ) → Trees → List ℕ → List Start → List ℕ

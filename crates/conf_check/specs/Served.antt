@@ -2,7 +2,7 @@
 use Rattle.std.specs.Prelude.{List, [], ◌∷◌, Bool, true, false, not, ◌||◌, ◌&&◌, Option, None, Some, Result, Ok, if◌then◌else◌}
 use Rattle.conf_text.specs.declared.directive.Directive.{Directive}
 use Rattle.conf_text.specs.declared.fault.FaultKind.{FaultKind}
-use Rattle.conf_text.specs.declared.fault.FaultKind.TheVariants.{Unknown}
+use Rattle.conf_text.specs.declared.fault.FaultKind.TheVariants.{NotServed}
 use Rattle.conf_text.specs.declared.fault.ConfFault.{ConfFault}
 use Rattle.conf_table.specs.declared.rule.Place.{Place}
 use Rattle.conf_table.specs.declared.rule.Place.TheVariants as places
@@ -82,9 +82,9 @@ has_effect taken here d addr = is_served_as (role_of d.name) (place_of here) d &
 abbrev pub is_served : (taken : Addr → Bool) → Content → Directive → Option Addr → Bool
 is_served taken here d addr = not (are_directives here) || (is_ignored (entry_of d.name) || has_effect taken here d addr)
 
--- one that isn't served is refused as if its name were unknown
+-- one that isn't served is refused, by a fault of its own: its name is known
 abbrev pub refusal : Bool → Option FaultKind
-refusal served = if served then None else Some Unknown
+refusal served = if served then None else Some NotServed
 
 -- The first directive in text order that isn't served. `taken` are the addresses that servers before listen on, and what is
 -- answered are those that servers listen on then.

@@ -121,14 +121,14 @@ fn is_served(taken: &Ends, here: Content, directive: &Directive, addr: Option<Ad
         || has_effect(taken, here, directive, addr)
 }
 
-/// A directive that isn't served is refused as one of an unknown name.
+/// A directive that isn't served is refused as such, and not as one of an unknown name.
 fn refusal(served: bool) -> Option<FaultKind>
     ensures { result ≡ refusal served }
 {
     if served {
         None
     } else {
-        Some(FaultKind::Unknown)
+        Some(FaultKind::NotServed)
     }
 }
 

@@ -64,7 +64,7 @@ fn what_is_served_has_no_fault(rt: HostRuntime) -> Result<(), Fail> {
 }
 
 #[test]
-fn what_is_not_served_is_unknown(rt: HostRuntime) -> Result<(), Fail> {
+fn other_names_are_unknown(rt: HostRuntime) -> Result<(), Fail> {
     are_refused(
         &rt,
         rt.alloc(),
@@ -74,6 +74,18 @@ fn what_is_not_served_is_unknown(rt: HostRuntime) -> Result<(), Fail> {
             (b"http { server { } }\nfoo;\nserver { }", 2, b"foo"),
             (b"http { server { foo { bar; } } }", 1, b"foo"),
             (b"http { server { gzipx; } }", 1, b"gzipx"),
+            (b"http { server { index a; }\nserve { } }", 2, b"serve"),
+        ],
+    )
+}
+
+#[test]
+fn what_is_known_and_not_served_is_told_so(rt: HostRuntime) -> Result<(), Fail> {
+    are_refused(
+        &rt,
+        rt.alloc(),
+        FaultKind::NotServed,
+        &[
             (
                 b"http { root $A$b; server { set $a 1; auth_request_set $B 1; } }",
                 1,

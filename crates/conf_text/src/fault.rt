@@ -4,18 +4,19 @@ ghost use Rattle.conf_text.specs.declared.fault.ConfError.TheVariants.{OutOfMemo
 
 use byte_text::{ByteText, OutOfMemory};
 
-/// What is wrong with a configuration: each kind of fault that reading one can meet, its text's first.
+/// What is wrong with a configuration: each kind of fault that reading one can meet, its text's first. A fault is printed with its
+/// number here, but `NotServed` with that of `Unknown`.
 #[derive(Clone, Copy, Debug, PartialEq, Eq)]
 pub enum FaultKind {
     /// The text ends within a word, a directive or a block.
     UnexpectedEnd = 1,
-    /// A `{` with no word before it, or a `}` that ends no block or stands behind a word.
+    /// A `{` with no word before it, or a `}` that ends no block or comes after a word.
     UnexpectedBrace,
     /// A `;` with no word before it.
     UnexpectedSemicolon,
     /// A word of more than 4096 bytes.
     TokenTooLong,
-    /// A quoted word with something other than white space, `;`, `{` or `)` right behind it.
+    /// A quoted word with something other than white space, `;`, `{` or `)` right after it.
     BadQuote,
     /// A file that is missing, or is no file that can be read.
     NotThere,
@@ -27,13 +28,13 @@ pub enum FaultKind {
     TooLarge,
     /// The outside failed while a file was read.
     ReadFault,
-    /// A directive of an unknown name.
+    /// A name that is no directive's: misspelt, or of a module that isn't known.
     Unknown,
-    /// A directive in a place where it may not stand.
+    /// A directive in a place where it may not be.
     NotHere,
     /// A wrong number of parameters, or a block where none is due, or none where one is.
     Count,
-    /// A second directive of a name that stands once.
+    /// A second directive where one alone may be.
     Duplicate,
     /// A parameter that is no value of its directive.
     BadValue,
@@ -47,6 +48,8 @@ pub enum FaultKind {
     TooNested,
     /// A regular expression that takes too much room.
     PatternTooBig,
+    /// A directive that is known and right, but that isn't served yet, or not in this form.
+    NotServed,
 }
 
 /// A fault and its place: the number of its file, in the order in which files are read, and the line there, from 1;

@@ -7,7 +7,7 @@ use Rattle.http_types.specs.declared.words.BodyKind.{BodyKind}
 use Rattle.body_frame.specs.declared.state.BodyState.{BodyState}
 use Rattle.body_frame.specs.declared.step.BodyStep.{BodyStep}
 use Rattle.body_frame.specs.declared.step.BodyStep.TheVariants as steps
-use Rattle.connection.specs.Answers.{Response, behind_body}
+use Rattle.connection.specs.Answers.{Answer, behind_body}
 use Rattle.connection.specs.Steps.{Drops, rest_of}
 
 -- what is dropped at twice is dropped at once
@@ -19,14 +19,14 @@ drop_front : (m n : ℕ) (bytes more : List ℕ) → m ≤ length bytes → drop
 drop_front m n bytes more h = sym (drop_twice m n (bytes ++ more)) ∙ ap (drop n) (drop-append-le m bytes more h)
 
 -- what is answered behind a body, whose front was taken
-behind_front : (m : ℕ) (bytes more : List ℕ) (o : BodyOutcome) (g : List ℕ → List Response) → m ≤ length bytes →
+behind_front : (m : ℕ) (bytes more : List ℕ) (o : BodyOutcome) (g : List ℕ → List Answer) → m ≤ length bytes →
     behind_body (behind m o) (λ n. g (drop n (bytes ++ more))) ≡ behind_body o (λ n. g (drop n (drop m bytes ++ more)))
 behind_front m bytes more (Whole n) g h = ap g (drop_front m n bytes more h)
 behind_front m bytes more Short g h = refl
 behind_front m bytes more Broken g h = refl
 
 -- what is answered to the bytes that a body took some of
-after_take : (old new : BodyState) (bytes : List ℕ) (count : ℕ) (told : BodyStep) → Takes old bytes count told new → count ≤ length bytes → (g : List ℕ → List Response) (more : List ℕ) →
+after_take : (old new : BodyState) (bytes : List ℕ) (count : ℕ) (told : BodyStep) → Takes old bytes count told new → count ≤ length bytes → (g : List ℕ → List Answer) (more : List ℕ) →
     behind_body (rest_body old (bytes ++ more)) (λ n. g (drop n (bytes ++ more))) ≡ behind_body (rest_body new (drop count bytes ++ more)) (λ n. g (drop n (drop count bytes ++ more)))
 after_take old new bytes count told t h g more =
     ap (λ o. behind_body o (λ n. g (drop n (bytes ++ more)))) (t.rest more) ∙ behind_front count bytes more (rest_body new (drop count bytes ++ more)) g h

@@ -12,15 +12,17 @@ use Rattle.req_head.specs.Step.{head_step}
 use Rattle.body_frame.specs.State.{body_of}
 use Rattle.body_frame.specs.declared.state.BodyState.{BodyState}
 use Rattle.connection.specs.declared.flow.Flow.{Flow}
-use Rattle.connection.specs.Answers.{Service, Response, responses, first_response, logs_in, behind_body}
+use Rattle.connection.specs.Answers.{Service, Answer, Sends, Closes, responses, first_response, logs_in, behind_body}
 use Rattle.connection.specs.Steps.{starts, logged_in, IsLogged}
 use Rattle.connection.specs.Flow.{flow_rest, flow_fits}
 use Rattle.connection.specs.Conn.{view_at, bytes_at, logs_at, idle_at, shut_at, IsExact}
 use Rattle.connection.proofs.Sound.{Idle, shut_parts, unshut, idle_shown}
 
-abbrev are_none : List Response → Bool
+-- no response is sent
+abbrev are_none : List Answer → Bool
 are_none [] = true
-are_none (r ∷ rs) = false
+are_none (Sends r ∷ answers) = false
+are_none (Closes ∷ answers) = are_none answers
 
 -- bytes that begin a request are answered
 is_answered : (service : Service) (k : ℕ) (trees : Trees) (held : List ℕ) (start : Start) (later : List Start) (next : HeadStep) → next ≡ head_step held → starts None next ≡ true →
@@ -35,10 +37,11 @@ is_answered service k trees held start later (Bad code no_body) e s =
     (ap head_step (append-nil held) ∙ sym e)
 
 -- logs of fewer requests aren't those of all
-fewer : (logs : List Log) (rs : List Response) → are_none rs ≡ false → map (λ l. Some l) logs ++ [] ≡ map (λ l. Some l) (logs ++ logs_in rs) → ⊥
+fewer : (logs : List Log) (rs : List Answer) → are_none rs ≡ false → map (λ l. Some l) logs ++ [] ≡ map (λ l. Some l) (logs ++ logs_in rs) → ⊥
 fewer logs [] n e = cc
-fewer [] (r ∷ rs) n e = cc
-fewer (l ∷ logs) (r ∷ rs) n e = fewer logs (r ∷ rs) n (ap (drop 1) e)
+fewer logs (Closes ∷ rs) n e = fewer logs rs n e
+fewer [] (Sends r ∷ rs) n e = cc
+fewer (l ∷ logs) (Sends r ∷ rs) n e = fewer logs (Sends r ∷ rs) n (ap (drop 1) e)
 
 -- nor are those of which one isn't known yet
 unknown : (logs all : List Log) → map (λ l. Some l) logs ++ None ∷ [] ≡ map (λ l. Some l) all → ⊥

@@ -7,3 +7,4 @@ pub mod Moves
 pub mod Begins
 pub mod Sound
 pub mod Exact
+pub mod Wanted

@@ -23,7 +23,7 @@ use Rattle.connection.specs.declared.flow.Flow.{Flow}
 use Rattle.connection.specs.declared.flow.Stage.{Stage}
 use Rattle.connection.specs.declared.flow.Stage.TheVariants.{Asked, Told, Reading, Came}
 use Rattle.connection.specs.Flow.{Rest, flow_rest, closes_behind, is_head, shown_of, shown_by, shown_most, placed_most, kept_most, stage_fits, flow_fits, stage_written, flow_written, flow_left, flow_most, tree_asked, jobs_of, waits}
-use Rattle.connection.specs.Answers.{Service, Response, response_with, responses, first_response, bytes_in, logs_in, behind_body, reply_at, keeps}
+use Rattle.connection.specs.Answers.{Service, Response, Answer, Sends, then_closes, response_with, responses, first_response, bytes_in, logs_in, close_in, behind_body, reply_at, keeps}
 use Rattle.connection.specs.Steps.{begins, rest_of, past_body, logged_by, logged_in, IsLogged, Drops, RanOne, GoesOn, FitsNew}
 use Rattle.connection.specs.Conn.{view_at, after_at, bytes_at, logs_at, left_at, room_at, starts_at, pending_at, weight, price}
 
@@ -88,13 +88,15 @@ wrote_went service cause flow flow' out out' journal closing ended body held nex
     raceless = refl;
     timed = refl;
     bytes = λ trees is more later.
-        let tail : Rest → List ℕ = λ r. r.bytes ++ bytes_in (cond (closes_behind r closing) [] (past_body body (held ++ more) (λ input. responses service (length journal) trees input later))) in
+        let tail : Rest → List ℕ = λ r. r.bytes ++ bytes_in (cond (closes_behind r closing) then_closes (past_body body (held ++ more) (λ input. responses service (length journal) trees input later))) in
         ap (λ p. p ++ tail (flow_rest flow trees)) (sym (take-append-drop n out)) ∙ append_assoc (take n out) (drop n out) (tail (flow_rest flow trees))
         ∙ ap (λ p. p ++ (drop n out ++ tail (flow_rest flow trees))) (sym (front_of n (shown_of flow) out within))
         ∙ ap (λ p. take n (pending_at flow out) ++ (p ++ tail (flow_rest flow trees))) (sym e)
         ∙ ap (λ r. take n (pending_at flow out) ++ (out' ++ tail r)) (sym (wrote_rest n flow flow' trees w));
     logs = λ trees is more later.
-        ap (λ (r : Rest). logged_in journal ++ (r.logs ++ logs_in (cond (closes_behind r closing) [] (past_body body (held ++ more) (λ input. responses service (length journal) trees input later))))) (sym (wrote_rest n flow flow' trees w));
+        ap (λ (r : Rest). logged_in journal ++ (r.logs ++ logs_in (cond (closes_behind r closing) then_closes (past_body body (held ++ more) (λ input. responses service (length journal) trees input later))))) (sym (wrote_rest n flow flow' trees w));
+    closes = λ trees is more later.
+        ap (λ (r : Rest). close_in (cond (closes_behind r closing) then_closes (past_body body (held ++ more) (λ input. responses service (length journal) trees input later)))) (sym (wrote_rest n flow flow' trees w));
     heavy = λ trees is more later h. h;
   };
   logged = logged_at service flow' journal closing body held (wrote_logged n flow flow' journal w told);
@@ -205,22 +207,22 @@ room_some false true ended held room h = cc
 room_some true closing ended held room h = cc
 
 -- behind a body that is dropped, and what is held behind it
-absorbed : (g : List ℕ → List Response) (body body' : Option BodyState) (held held' bytes kept more : List ℕ) (broken : Bool) → (is_some body ≡ true → held ≡ []) → (body ≡ None → (body' ≡ None) × (broken ≡ false) × (kept ≡ bytes)) → Drops (rest_of body) bytes body' kept broken →
-    held' ≡ held ++ kept → past_body body (held ++ (bytes ++ more)) g ≡ cond broken [] (past_body body' (held' ++ more) g)
+absorbed : (g : List ℕ → List Answer) (body body' : Option BodyState) (held held' bytes kept more : List ℕ) (broken : Bool) → (is_some body ≡ true → held ≡ []) → (body ≡ None → (body' ≡ None) × (broken ≡ false) × (kept ≡ bytes)) → Drops (rest_of body) bytes body' kept broken →
+    held' ≡ held ++ kept → past_body body (held ++ (bytes ++ more)) g ≡ cond broken then_closes (past_body body' (held' ++ more) g)
 absorbed g None body' held held' bytes kept more broken drained still d e =
     let s = still refl in
     let whole : held' ++ more ≡ held ++ (bytes ++ more) = ap (λ l. l ++ more) (e ∙ ap (λ k. held ++ k) s.2) ∙ append_assoc held bytes more in
-    sym (ap (λ b. cond b [] (past_body body' (held' ++ more) g)) s.1 ∙ ap (λ b. past_body b (held' ++ more) g) s.0 ∙ ap g whole)
+    sym (ap (λ b. cond b then_closes (past_body body' (held' ++ more) g)) s.1 ∙ ap (λ b. past_body b (held' ++ more) g) s.0 ∙ ap g whole)
 absorbed g (Some state) body' held held' bytes kept more broken drained still d e =
     let none = drained refl in
     ap (λ h. past_body (Some state) (h ++ (bytes ++ more)) g) none ∙ d.rest g more
-    ∙ ap (λ k. cond broken [] (past_body body' (k ++ more) g)) (sym (e ∙ ap (λ h. h ++ kept) none))
+    ∙ ap (λ k. cond broken then_closes (past_body body' (k ++ more) g)) (sym (e ∙ ap (λ h. h ++ kept) none))
 
 -- whether the connection closes behind a response, where it doesn't yet
-behind_kept : (r : Rest) (closing closing' : Bool) (x y : List Response) → closing ≡ false → x ≡ cond closing' [] y → cond (closes_behind r closing) [] x ≡ cond (closes_behind r closing') [] y
-behind_kept r closing closing' x y e f = ap (λ c. cond (closes_behind r c) [] x) e ∙ by r.stays
+behind_kept : (r : Rest) (closing closing' : Bool) (x y : List Answer) → closing ≡ false → x ≡ cond closing' then_closes y → cond (closes_behind r closing) then_closes x ≡ cond (closes_behind r closing') then_closes y
+behind_kept r closing closing' x y e f = ap (λ c. cond (closes_behind r c) then_closes x) e ∙ by r.stays
   where
-    by : (stays : Bool) → cond (cond stays false true) [] x ≡ cond (cond stays closing' true) [] y
+    by : (stays : Bool) → cond (cond stays false true) then_closes x ≡ cond (cond stays closing' true) then_closes y
     by true = f
     by false = refl
 
@@ -236,6 +238,7 @@ arrived_went service cause flow out journal closing closing' ended body body' he
     timed = refl;
     bytes = λ trees is more later. ap (λ x. out ++ ((flow_rest flow trees).bytes ++ bytes_in x)) (same trees more later);
     logs = λ trees is more later. ap (λ x. logged_in journal ++ ((flow_rest flow trees).logs ++ logs_in x)) (same trees more later);
+    closes = λ trees is more later. ap close_in (same trees more later);
     heavy = λ trees is more later h. h;
   };
   logged = logged_at service flow journal closing' body' held' told;
@@ -243,7 +246,7 @@ arrived_went service cause flow out journal closing closing' ended body body' he
   where
     same : (trees : Trees) (more : List ℕ) (later : List Start) → after_at service (flow_rest flow) journal closing body held trees (bytes ++ more) later ≡ after_at service (flow_rest flow) journal closing' body' held' trees more later
     same trees more later =
-        let g : List ℕ → List Response = λ input. responses service (length journal) trees input later in
+        let g : List ℕ → List Answer = λ input. responses service (length journal) trees input later in
         behind_kept (flow_rest flow trees) closing closing' (past_body body (held ++ (bytes ++ more)) g) (past_body body' (held' ++ more) g) unclosed (absorbed g body body' held held' bytes kept more closing' drained still d e)
 
 pub arrived_left : (cause : Option StopCause) (flow : Option Flow) (out : List ℕ) (closing closing' : Bool) (held held' kept bytes : List ℕ) (n : ℕ) → closing ≡ false → held' ≡ held ++ kept → length kept ≤ n → left_at cause flow out closing' held' ≤ left_at cause flow out closing held + price * n
@@ -270,27 +273,27 @@ node_ready true node e f = subst (Contains (0 ∷ [])) (sym f) (0, omega arith, 
 node_ready false node e f = cc
 
 responses_head : HeadStays → SizeFits → (service : Service) (k : ℕ) (trees : Trees) (input more : List ℕ) (start : Start) (later : List Start) (head : RequestHead) (size : ℕ) → head_step input ≡ Head head size →
-    responses service k trees (input ++ more) (start ∷ later) ≡ response_with (reply_at service trees start head) start (is_head head.method) (keeps service k head (reply_at service trees start head)) ∷ cond (keeps service k head (reply_at service trees start head)) (behind_body (body_of head.body (drop size input ++ more)) (λ n. responses service (k + 1) trees (drop n (drop size input ++ more)) later)) []
+    responses service k trees (input ++ more) (start ∷ later) ≡ Sends (response_with (reply_at service trees start head) start (is_head head.method) (keeps service k head (reply_at service trees start head))) ∷ cond (keeps service k head (reply_at service trees start head)) (behind_body (body_of head.body (drop size input ++ more)) (λ n. responses service (k + 1) trees (drop n (drop size input ++ more)) later)) then_closes
 unfolding responses
 responses_head stays fits service k trees input more start later head size h =
     ap (λ s. first_response service trees k start s (λ n kind. behind_body (body_of kind (drop n (input ++ more))) (λ m. responses service (k + 1) trees (drop m (drop n (input ++ more))) later))) (stays input more head size h)
-    ∙ ap (λ i. response_with (reply_at service trees start head) start (is_head head.method) (keeps service k head (reply_at service trees start head)) ∷ cond (keeps service k head (reply_at service trees start head)) (behind_body (body_of head.body i) (λ n. responses service (k + 1) trees (drop n i) later)) []) (drop-append-le size input more (fits input head size h).1)
+    ∙ ap (λ i. Sends (response_with (reply_at service trees start head) start (is_head head.method) (keeps service k head (reply_at service trees start head))) ∷ cond (keeps service k head (reply_at service trees start head)) (behind_body (body_of head.body i) (λ n. responses service (k + 1) trees (drop n i) later)) then_closes) (drop-append-le size input more (fits input head size h).1)
 
 responses_bad : RefusalStays → (service : Service) (k : ℕ) (trees : Trees) (input more : List ℕ) (start : Start) (later : List Start) (code : ℕ) (no_body : Bool) → head_step input ≡ Bad code no_body →
-    responses service k trees (input ++ more) (start ∷ later) ≡ response_with (page_reply code) start no_body false ∷ []
+    responses service k trees (input ++ more) (start ∷ later) ≡ Sends (response_with (page_reply code) start no_body false) ∷ then_closes
 unfolding responses
 responses_bad stays service k trees input more start later code no_body h =
     ap (λ s. first_response service trees k start s (λ n kind. behind_body (body_of kind (drop n (input ++ more))) (λ m. responses service (k + 1) trees (drop m (drop n (input ++ more))) later))) (stays input more code no_body h)
 
 -- where the response keeps the connection open, what comes is what comes behind the body; else nothing
-kept_or_closed : (keep broken closes : Bool) (x y : List Response) → closes ≡ cond keep broken true → x ≡ cond broken [] y → cond keep x [] ≡ cond closes [] y
-kept_or_closed true broken closes x y c e = e ∙ ap (λ t. cond t [] y) (sym c)
-kept_or_closed false broken closes x y c e = ap (λ t. cond t [] y) (sym c)
+kept_or_closed : (keep broken closes : Bool) (x y : List Answer) → closes ≡ cond keep broken true → x ≡ cond broken then_closes y → cond keep x then_closes ≡ cond closes then_closes y
+kept_or_closed true broken closes x y c e = e ∙ ap (λ t. cond t then_closes y) (sym c)
+kept_or_closed false broken closes x y c e = ap (λ t. cond t then_closes y) (sym c)
 
 -- A request was started: this is its response, before those that are still to come.
 record Said (service : Service) (trees : Trees) (now : Start) (flow' : Option Flow) (out out' : List ℕ) (journal journal' : List Entry) (closing closing' : Bool) (body body' : Option BodyState) (held held' : List ℕ) (log : Option Log) (more : List ℕ) (later : List Start) : Type 0 where
   said : Response
-  first : after_at service (flow_rest None) journal closing body held trees more (now ∷ later) ≡ said ∷ after_at service (flow_rest flow') journal' closing' body' held' trees more later
+  first : after_at service (flow_rest None) journal closing body held trees more (now ∷ later) ≡ Sends said ∷ after_at service (flow_rest flow') journal' closing' body' held' trees more later
   put : out' ++ (flow_rest flow' trees).bytes ≡ out ++ said.bytes
   logged : logged_by log ++ (flow_rest flow' trees).logs ≡ said.log ∷ []
 
@@ -303,17 +306,17 @@ said_of stays refused fits service trees now flow' out out' journal journal' ent
     let keep = keeps service k head reply in
     let whole : Response = response_with reply now (is_head head.method) keep in
     let rest = flow_rest flow' trees in
-    let g : List ℕ → List Response = λ input. responses service (k + 1) trees input later in
+    let g : List ℕ → List Answer = λ input. responses service (k + 1) trees input later in
     let count : length journal' ≡ k + 1 = ap length j ∙ length-append journal (entry ∷ []) in
     let behind = drop size held in
     record {
       said = whole;
       first =
-          ap (λ x. cond x [] (past_body body (held ++ more) (λ input. responses service k trees input (now ∷ later)))) c
+          ap (λ x. cond x then_closes (past_body body (held ++ more) (λ input. responses service k trees input (now ∷ later)))) c
           ∙ ap (λ x. past_body x (held ++ more) (λ input. responses service k trees input (now ∷ later))) b
           ∙ responses_head stays fits service k trees held more now later head size (sym l)
-          ∙ ap (λ x. whole ∷ x) (kept_or_closed keep r.broken (closes_behind rest closing') (behind_body (body_of head.body (behind ++ more)) (λ n. g (drop n (behind ++ more)))) (past_body body' (held' ++ more) g) r.closes (r.drops.rest g more))
-          ∙ ap (λ n. whole ∷ cond (closes_behind rest closing') [] (past_body body' (held' ++ more) (λ input. responses service n trees input later))) (sym count);
+          ∙ ap (λ x. Sends whole ∷ x) (kept_or_closed keep r.broken (closes_behind rest closing') (behind_body (body_of head.body (behind ++ more)) (λ n. g (drop n (behind ++ more)))) (past_body body' (held' ++ more) g) r.closes (r.drops.rest g more))
+          ∙ ap (λ n. Sends whole ∷ cond (closes_behind rest closing') then_closes (past_body body' (held' ++ more) (λ input. responses service n trees input later))) (sym count);
       put = r.put;
       logged = r.logged;
     }
@@ -322,11 +325,11 @@ said_of stays refused fits service trees now flow' out out' journal journal' ent
     record {
       said = whole;
       first =
-          ap (λ x. cond x [] (past_body body (held ++ more) (λ input. responses service (length journal) trees input (now ∷ later)))) c
+          ap (λ x. cond x then_closes (past_body body (held ++ more) (λ input. responses service (length journal) trees input (now ∷ later)))) c
           ∙ ap (λ x. past_body x (held ++ more) (λ input. responses service (length journal) trees input (now ∷ later))) b
           ∙ responses_bad refused service (length journal) trees held more now later code no_body (sym l)
-          ∙ ap (λ x. whole ∷ cond x [] (past_body body' (held' ++ more) (λ input. responses service (length journal') trees input later))) (sym r.closes)
-          ∙ ap (λ f. whole ∷ cond (closes_behind (flow_rest f trees) closing') [] (past_body body' (held' ++ more) (λ input. responses service (length journal') trees input later))) (sym r.over);
+          ∙ ap (λ x. Sends whole ∷ cond x then_closes (past_body body' (held' ++ more) (λ input. responses service (length journal') trees input later))) (sym r.closes)
+          ∙ ap (λ f. Sends whole ∷ cond (closes_behind (flow_rest f trees) closing') then_closes (past_body body' (held' ++ more) (λ input. responses service (length journal') trees input later))) (sym r.over);
       put = ap (λ f. out' ++ (flow_rest f trees).bytes) r.over ∙ append-nil out' ∙ r.put;
       logged = ap (λ f. logged_by log ++ (flow_rest f trees).logs) r.over ∙ append-nil (logged_by log) ∙ ap logged_by r.logged;
     }
@@ -439,6 +442,7 @@ ran_went stays refused fits service now cause flow' out out' journal journal' en
         bytes = λ trees is more later. said_bytes service trees now flow' out out' journal journal' closing closing' body body' held held' log more later (said trees more later);
         logs = λ trees is more later. said_logs service trees now flow' out out' journal journal' closing closing' body body' held held' log more later
             (ap logged_in j ∙ entered_logs journal entry ∙ ap (λ x. logged_in journal ++ logged_by x) g) (said trees more later);
+        closes = λ trees is more later. ap close_in (said trees more later).first;
         heavy = λ trees is more later h. h;
       };
       logged = logged_at service flow' journal' closing' body' held' told;
@@ -475,7 +479,7 @@ ran_left fits service trees now k None flow' out out' closing closing' body' hel
 goes_after : (service : Service) (trees : Trees) (flow flow' : Option Flow) (out out' : List ℕ) (journal journal' : List Entry) (closing closing' : Bool) (body : Option BodyState) (held more : List ℕ) (later : List Start) (log : Option Log) → length journal' ≡ length journal →
     GoesOn trees flow flow' out out' closing closing' log → after_at service (flow_rest flow) journal closing body held trees more later ≡ after_at service (flow_rest flow') journal' closing' body held trees more later
 goes_after service trees flow flow' out out' journal journal' closing closing' body held more later log n g =
-    let tail : ℕ → Bool → List Response = λ k c. cond c [] (past_body body (held ++ more) (λ input. responses service k trees input later)) in
+    let tail : ℕ → Bool → List Answer = λ k c. cond c then_closes (past_body body (held ++ more) (λ input. responses service k trees input later)) in
     ap (tail (length journal)) (sym g.closes) ∙ ap (λ k. tail k (closes_behind (flow_rest flow' trees) closing')) (sym n)
 
 goes_bytes : (service : Service) (trees : Trees) (flow flow' : Option Flow) (out out' : List ℕ) (journal journal' : List Entry) (closing closing' : Bool) (body : Option BodyState) (held more : List ℕ) (later : List Start) (log : Option Log) → length journal' ≡ length journal →
@@ -510,6 +514,7 @@ goes_went ground service cause flow flow' out out' journal journal' closing clos
     timed = refl;
     bytes = λ trees is more later. goes_bytes service trees flow flow' out out' journal journal' closing closing' body held more later log n (g trees is);
     logs = λ trees is more later. goes_logs service trees flow flow' out out' journal journal' closing closing' body held more later log n e (g trees is);
+    closes = λ trees is more later. ap close_in (goes_after service trees flow flow' out out' journal journal' closing closing' body held more later log n (g trees is));
     heavy = λ trees is more later h. h;
   };
   logged = logged_at service flow' journal' closing' body held told;

@@ -18,7 +18,7 @@ use Rattle.body_frame.specs.declared.state.BodyState.{BodyState}
 use Rattle.connection.specs.declared.flow.Flow.{Flow}
 use Rattle.connection.specs.declared.flow.Stage.{Stage}
 use Rattle.connection.specs.declared.flow.Stage.TheVariants.{Asked, Told, Reading, Came}
-use Rattle.connection.specs.Answers.{Service, Response, responses, first_response, bytes_in, logs_in, behind_body}
+use Rattle.connection.specs.Answers.{Service, Answer, then_closes, responses, first_response, bytes_in, logs_in, close_in, behind_body}
 use Rattle.connection.specs.Steps.{starts, rest_of, past_body, logged_in, IsLogged}
 use Rattle.connection.specs.Flow.{flow_rest, jobs_of, is_stat, may_run, shown_by, shown_most, placed_most, kept_most, is_block, stage_fits, flow_fits}
 use Rattle.connection.specs.Conn.{view_at, after_at, bytes_at, logs_at, room_at, starts_at, idle_at, shut_at}
@@ -33,22 +33,35 @@ unanswered service k trees held (start ∷ later) e =
     (ap head_step (append-nil held) ∙ sym e)
 
 -- a body that isn't ended is followed by nothing yet
-unfinished : (state : BodyState) (held : List ℕ) (g : List ℕ → List Response) → held ≡ [] → rest_of (Some state) [] ≡ Short → past_body (Some state) (held ++ []) g ≡ []
+unfinished : (state : BodyState) (held : List ℕ) (g : List ℕ → List Answer) → held ≡ [] → rest_of (Some state) [] ≡ Short → past_body (Some state) (held ++ []) g ≡ []
 unfinished state held g e s = ap (λ h. past_body (Some state) (h ++ []) g) e ∙ ap (λ o. behind_body o (λ n. g (drop n []))) s
 
--- where no request begins there are no further responses
+-- where no request begins there are no further responses, and the connection closes where it does so behind its last one
 quiet_after : (service : Service) (journal : List Entry) (closing : Bool) (body : Option BodyState) (held : List ℕ) (next : HeadStep) (trees : Trees) (later : List Start) →
-    (closing || not (starts body next)) ≡ true → next ≡ head_step held → (is_some body ≡ true → held ≡ []) → (is_some body ≡ true → rest_of body [] ≡ Short) → after_at service (flow_rest None) journal closing body held trees [] later ≡ []
+    (closing || not (starts body next)) ≡ true → next ≡ head_step held → (is_some body ≡ true → held ≡ []) → (is_some body ≡ true → rest_of body [] ≡ Short) → after_at service (flow_rest None) journal closing body held trees [] later ≡ cond closing then_closes []
 quiet_after service journal true body held next trees later q e d u = refl
 quiet_after service journal false (Some state) held next trees later q e d u = unfinished state held (λ input. responses service (length journal) trees input later) (d refl) (u refl)
 quiet_after service journal false None held More trees later q e d u = unanswered service (length journal) trees held later e
 quiet_after service journal false None held (Head head size) trees later q e d u = cc
 quiet_after service journal false None held (Bad code no_body) trees later q e d u = cc
 
+-- nothing is sent or logged where it closes
+silent_close : (closing : Bool) → bytes_in (cond closing then_closes []) ≡ []
+silent_close true = refl
+silent_close false = refl
+
+unlogged_close : (closing : Bool) → logs_in (cond closing then_closes []) ≡ []
+unlogged_close true = refl
+unlogged_close false = refl
+
+is_close : (closing : Bool) → close_in (cond closing then_closes []) ≡ closing
+is_close true = refl
+is_close false = refl
+
 -- where nothing is kept for the peer either, nothing more comes
 quiet : (service : Service) (out : List ℕ) (journal : List Entry) (closing : Bool) (body : Option BodyState) (held : List ℕ) (next : HeadStep) (trees : Trees) (later : List Start) →
     no_bytes out ≡ true → (closing || not (starts body next)) ≡ true → next ≡ head_step held → (is_some body ≡ true → held ≡ []) → (is_some body ≡ true → rest_of body [] ≡ Short) → bytes_at service (flow_rest None) out journal closing body held trees [] later ≡ []
-quiet service [] journal closing body held next trees later p q e d u = ap bytes_in (quiet_after service journal closing body held next trees later q e d u)
+quiet service [] journal closing body held next trees later p q e d u = ap bytes_in (quiet_after service journal closing body held next trees later q e d u) ∙ silent_close closing
 quiet service (b ∷ out) journal closing body held next trees later p q e d u = cc
 
 -- and all responses are logged
@@ -57,7 +70,7 @@ quiet_logs : (service : Service) (journal : List Entry) (closing : Bool) (body :
     map log_of journal ≡ map (λ l. Some l) (logs_at service (flow_rest None) journal closing body held trees [] later)
 quiet_logs service journal closing body held next trees later told q e d u =
     told ∙ append-nil (map (λ l. Some l) (logged_in journal))
-    ∙ ap (map (λ l. Some l)) (sym (ap (λ x. logged_in journal ++ logs_in x) (quiet_after service journal closing body held next trees later q e d u) ∙ append-nil (logged_in journal)))
+    ∙ ap (map (λ l. Some l)) (sym (ap (λ x. logged_in journal ++ logs_in x) (quiet_after service journal closing body held next trees later q e d u) ∙ ap (λ x. logged_in journal ++ x) (unlogged_close closing) ∙ append-nil (logged_in journal)))
 
 -- some bytes are shown where some are kept
 shown_some : (n : ℕ) (xs : List ℕ) → 0 < n → no_bytes (take n xs) ≡ no_bytes xs
@@ -105,6 +118,22 @@ shut_parts [] false false body next h = cc
 shut_parts (b ∷ out) true ended body next h = cc
 shut_parts (b ∷ out) false true body next h = cc
 shut_parts (b ∷ out) false false body next h = cc
+
+-- an idle one is to be closed exactly where its input has ended or it closes behind its last response
+shut_by : (out : List ℕ) (closing ended : Bool) (body : Option BodyState) (next : HeadStep) → Idle out closing body next →
+    shut_at false None closing ended out body next ≡ (ended || closing)
+shut_by (b ∷ out) closing ended body next i = absurd (let e = i.unsent in cc)
+shut_by [] true true body next i = refl
+shut_by [] true false body next i = refl
+shut_by [] false true body next i = i.waits
+shut_by [] false false body next i = refl
+
+shuts_by : (service : Service) (out : List ℕ) (journal : List Entry) (closing ended : Bool) (body : Option BodyState) (held : List ℕ) (next : HeadStep) (trees : Trees) (later : List Start) → Idle out closing body next →
+    next ≡ head_step held → (is_some body ≡ true → held ≡ []) → (is_some body ≡ true → rest_of body [] ≡ Short) →
+    shut_at false None closing ended out body next ≡ (ended || close_in (after_at service (flow_rest None) journal closing body held trees [] later))
+shuts_by service out journal closing ended body held next trees later i e d u =
+    shut_by out closing ended body next i
+    ∙ ap (λ b. ended || b) (sym (ap close_in (quiet_after service journal closing body held next trees later i.waits e d u) ∙ is_close closing))
 
 -- nothing is read behind the end of the input
 silent_at : (stopped closing ended : Bool) (held : List ℕ) → ended ≡ true → room_at stopped closing ended held ≡ None
@@ -230,6 +259,7 @@ sound full service (Some why) None out journal closing ended body held next look
   idle = λ h trees later. cc;
   logged = λ h trees later. cc;
   shut = λ h s trees later. cc;
+  shuts = λ h trees later. cc;
   closes = λ h s e trees more later. cc;
 }
 sound full service None None out journal closing ended body held next looked dropped quit fits drained unended told = record {
@@ -246,6 +276,7 @@ sound full service None None out journal closing ended body held next looked dro
   idle = λ h trees later. let i = idle_parts out closing body next h in quiet service out journal closing body held next trees later i.unsent i.waits (looked refl) drained unended;
   logged = λ h trees later. let i = idle_parts out closing body next h in quiet_logs service journal closing body held next trees later (told refl) i.waits (looked refl) drained unended;
   shut = λ l h trees later. let i = shut_parts out closing ended body next h in quiet service out journal closing body held next trees later i.unsent i.waits (looked refl) drained unended;
+  shuts = λ h trees later. shuts_by service out journal closing ended body held next trees later (idle_parts out closing body next h) (looked refl) drained unended;
   closes = λ l h e trees more later. closed service out journal closing ended body held next trees more later h e;
 }
 sound full service None (Some flow) out journal closing ended body held next looked dropped quit fits drained unended told = record {
@@ -262,6 +293,7 @@ sound full service None (Some flow) out journal closing ended body held next loo
   idle = λ h trees later. absurd (busy flow out fits h);
   logged = λ h trees later. absurd (busy flow out fits h);
   shut = λ l h trees later. absurd (unshut closing ended h);
+  shuts = λ h trees later. absurd (busy flow out fits h);
   closes = λ l h e trees more later. absurd (unshut closing ended h);
 }
 

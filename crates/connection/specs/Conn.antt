@@ -14,38 +14,62 @@ use Rattle.connection.specs.declared.conn.Conn.{Conn}
 use Rattle.http_types.specs.declared.words.Addr.{Addr}
 use Rattle.connection.specs.declared.flow.Flow.{Flow}
 use Rattle.connection.specs.Flow.{Rest, flow_rest, closes_behind, may_run, jobs_of, shown_of, flow_left, tree_asked, kept_most}
-use Rattle.connection.specs.Answers.{Service, Response, service_of, answers, answer_logs, responses, bytes_in, logs_in}
+use Rattle.connection.specs.Answers.{Service, Answer, then_closes, service_of, answers, answer_logs, answers_close, responses, bytes_in, logs_in, close_in}
 use Rattle.body_frame.specs.declared.state.BodyState.{BodyState}
 use Rattle.connection.specs.Steps.{starts, past_body, logged_in}
 
 -- what is to come on a connection that is opened now, with these ends
 abbrev pub fresh_course : Site → Addr → Addr → Course
-fresh_course site local peer = record { bytes = λ trees more later. answers (service_of site local peer) 0 trees more later; logs = λ trees more later. answer_logs (service_of site local peer) 0 trees more later; heavy = λ trees more later. false; raceless = true; timed = false }
+fresh_course site local peer =
+    record {
+      bytes = λ trees more later. answers (service_of site local peer) 0 trees more later;
+      logs = λ trees more later. answer_logs (service_of site local peer) 0 trees more later;
+      closes = λ trees more later. answers_close (service_of site local peer) 0 trees more later;
+      heavy = λ trees more later. false;
+      raceless = true;
+      timed = false;
+    }
 
--- the responses behind the one in flight: those to what stands behind the body that is dropped, unless the connection closes
-abbrev pub after_at : Service → (Trees → Rest) → List Entry → Bool → Option BodyState → List ℕ → Trees → List ℕ → List Start → List Response
+-- the answers after the one in flight: those to what comes after the body that is dropped, unless
+-- the connection closes
+abbrev pub after_at : Service → (Trees → Rest) → List Entry → Bool → Option BodyState → List ℕ →
+    Trees → List ℕ → List Start → List Answer
 after_at service rest journal closing body held trees more later =
-    if closes_behind (rest trees) closing then [] else past_body body (held ++ more) (λ input. responses service (length journal) trees input later)
+    if closes_behind (rest trees) closing then then_closes else past_body body (held ++ more)
+    (λ input. responses service (length journal) trees input later)
 
--- the bytes that are still to come: behind those that are kept for the peer the rest of the response in flight, and those of
--- the responses behind it
-abbrev pub bytes_at : Service → (Trees → Rest) → List ℕ → List Entry → Bool → Option BodyState → List ℕ → Trees → List ℕ → List Start → List ℕ
+-- the bytes that are still to come: behind those that are kept for the peer the rest of the
+-- response in flight, and those of the responses behind it
+abbrev pub bytes_at : Service → (Trees → Rest) → List ℕ → List Entry → Bool → Option BodyState →
+    List ℕ → Trees → List ℕ → List Start → List ℕ
 bytes_at service rest out journal closing body held trees more later =
-    out ++ ((rest trees).bytes ++ bytes_in (after_at service rest journal closing body held trees more later))
+    out ++ ((rest trees).bytes ++ bytes_in
+    (after_at service rest journal closing body held trees more later))
 
 -- the logs of all responses: those in the journal, that of the one in flight, and those behind it
-abbrev pub logs_at : Service → (Trees → Rest) → List Entry → Bool → Option BodyState → List ℕ → Trees → List ℕ → List Start → List Log
+abbrev pub logs_at : Service → (Trees → Rest) → List Entry → Bool → Option BodyState → List ℕ →
+    Trees → List ℕ → List Start → List Log
 logs_at service rest journal closing body held trees more later =
-    logged_in journal ++ ((rest trees).logs ++ logs_in (after_at service rest journal closing body held trees more later))
+    logged_in journal ++
+    ((rest trees).logs ++ logs_in
+    (after_at service rest journal closing body held trees more later))
 
--- how many more bytes are taken, as far as 8192 are held: none after a stop, behind a response that closes or behind the
--- input's end
+-- whether the connection closes after them
+abbrev pub closes_at : Service → (Trees → Rest) → List Entry → Bool → Option BodyState → List ℕ →
+    Trees → List ℕ → List Start → Bool
+closes_at service rest journal closing body held trees more later = close_in
+    (after_at service rest journal closing body held trees more later)
+
+-- how many more bytes are taken, as far as 8192 are held: none after a stop, behind a response that
+-- closes or behind the input's end
 abbrev pub room_at : Bool → Bool → Bool → List ℕ → Option ℕ
-room_at stopped closing ended held = if stopped || closing || ended || nat_le 8192 (length held) then None else Some (8192 - length held)
+room_at stopped closing ended held = if stopped || closing || ended || nat_le 8192
+    (length held) then None else Some (8192 - length held)
 
 -- a further request may start
 abbrev pub starts_at : Bool → Bool → List ℕ → Option BodyState → HeadStep → Bool
-starts_at stopped closing out body next = not stopped && not closing && no_bytes out && starts body next
+starts_at stopped closing out body next = not stopped && not closing && no_bytes out && starts body
+    next
 
 -- a node can run: the request that seeks a file goes on, or a further one starts
 abbrev pub ready_at : Bool → Option Flow → Bool → List ℕ → Option BodyState → HeadStep → Bool
@@ -54,20 +78,23 @@ ready_at stopped (Some flow) closing out body next = not stopped && may_run flow
 
 -- nothing is to be done until more arrives
 abbrev pub idle_at : Bool → Option Flow → Bool → List ℕ → Option BodyState → HeadStep → Bool
-idle_at stopped None closing out body next = not stopped && no_bytes out && (closing || not (starts body next))
+idle_at stopped None closing out body next = not stopped && no_bytes out &&
+    (closing || not (starts body next))
 idle_at stopped (Some flow) closing out body next = false
 
--- its link is to be closed: after a stop, behind a response that closes and is written, or where the input has ended and
--- nothing is left to do
+-- its link is to be closed: after a stop, behind a response that closes and is written, or where
+-- the input has ended and nothing is left to do
 abbrev pub shut_at : Bool → Option Flow → Bool → Bool → List ℕ → Option BodyState → HeadStep → Bool
-shut_at stopped flow closing ended out body next = stopped || ((closing || ended) && idle_at false flow closing out body next)
+shut_at stopped flow closing ended out body next = stopped ||
+    ((closing || ended) && idle_at false flow closing out body next)
 
 -- the bytes that are to be written next
 abbrev pub pending_at : Option Flow → List ℕ → List ℕ
 pending_at flow out = take (shown_of flow) out
 
 -- a connection by its parts
-abbrev pub view_at : Service → Option StopCause → Option Flow → List ℕ → List Entry → Bool → Bool → Option BodyState → List ℕ → HeadStep → ConnView
+abbrev pub view_at : Service → Option StopCause → Option Flow → List ℕ → List Entry → Bool → Bool →
+    Option BodyState → List ℕ → HeadStep → ConnView
 view_at service cause flow out journal closing ended body held next =
     record {
       held = true;
@@ -75,7 +102,14 @@ view_at service cause flow out journal closing ended body held next =
       pending = pending_at flow out;
       starts = map start_of journal;
       logs = map log_of journal;
-      course = record { bytes = bytes_at service (flow_rest flow) out journal closing body held; logs = logs_at service (flow_rest flow) journal closing body held; heavy = λ trees more later. false; raceless = true; timed = false };
+      course = record {
+        bytes = bytes_at service (flow_rest flow) out journal closing body held;
+        logs = logs_at service (flow_rest flow) journal closing body held;
+        closes = closes_at service (flow_rest flow) journal closing body held;
+        heavy = λ trees more later. false;
+        raceless = true;
+        timed = false;
+      };
       room = room_at (is_some cause) closing ended held;
       ready = if ready_at (is_some cause) flow closing out body next then 0 ∷ [] else [];
       jobs = jobs_of flow;
@@ -86,10 +120,12 @@ view_at service cause flow out journal closing ended body held next =
     }
 
 abbrev pub view_of : Site → Conn → ConnView
-view_of site conn = view_at (service_of site conn.local conn.peer) conn.cause conn.flow conn.out conn.journal.items conn.closing conn.ended conn.body conn.held conn.next
+view_of site conn = view_at
+    (service_of site conn.local conn.peer) conn.cause conn.flow conn.out conn.journal.items
+    conn.closing conn.ended conn.body conn.held conn.next
 
--- What a request adds at most to the bytes for its peer and to what is left to do of its response: a head and a text of at most
--- 65536 bytes, or the blocks of a file.
+-- What a request adds at most to the bytes for its peer and to what is left to do of its response:
+-- a head and a text of at most 65536 bytes, or the blocks of a file.
 unfoldable pub request_most : ℕ
 request_most = 9 * 2 ^ 64 + 131082
 
@@ -98,7 +134,8 @@ unfoldable pub weight : ℕ
 weight = 9 * 2 ^ 64 + 131083
 
 abbrev pub left_at : Option StopCause → Option Flow → List ℕ → Bool → List ℕ → ℕ
-left_at cause flow out closing held = if is_some cause then 0 else 1 + (length out + flow_left flow (length out)) + (if closing then 0 else weight * (length held + 1))
+left_at cause flow out closing held = if is_some cause then 0 else 1 +
+    (length out + flow_left flow (length out)) + (if closing then 0 else weight * (length held + 1))
 
 abbrev pub left_of : Conn → ℕ
 left_of conn = left_at conn.cause conn.flow conn.out conn.closing conn.held
@@ -117,7 +154,8 @@ ended_by (Ended conn) (Done taken) ended = true
 ended_by e a ended = ended
 
 -- what an event does to its connection
-pub record StepsConn (site : Site) (now : Start) (e : Event) (a : StepAnswer) (old new : Conn) : Type 0 where
+pub record StepsConn (site : Site) (now : Start) (e : Event) (a : StepAnswer)
+    (old new : Conn) : Type 0 where
   pub own : (course : Course) → StepsOwn course now e a (view_of site old) (view_of site new)
   pub left : LeftBy price e a (left_of old) (left_of new)
   pub ended : new.ended ≡ ended_by e a old.ended
@@ -128,14 +166,17 @@ pub record StepsConn (site : Site) (now : Start) (e : Event) (a : StepAnswer) (o
 abbrev pub AllSound : Type 0
 AllSound = (site : Site) (conn : Conn) → IsSound (view_of site conn)
 
--- What is shown of a live connection is no more and no less than what is left. One that is to be closed is idle; one that is
--- idle after the end of its input is to be closed; and where one isn't idle, either bytes are still to come, if a further
--- request starts, or some request isn't logged yet.
+-- What is shown of a live connection is no more and no less than what is left. One that is to be
+-- closed is idle; one that is idle after the end of its input is to be closed; and where one isn't
+-- idle, either bytes are still to come, if a further request starts, or some request isn't logged
+-- yet.
 pub record IsExact (v : ConnView) : Type 0 where
   pub rests : is_live v ≡ true → v.shut ≡ true → is_idle v ≡ true
   pub ends : is_idle v ≡ true → v.ended ≡ true → v.shut ≡ true
-  pub busy : is_live v ≡ true → is_idle v ≡ false → (trees : Trees) (start : Start) (later : List Start) →
-      v.course.bytes trees [] (start ∷ later) ≡ [] → v.logs ≢ map (λ l. Some l) (v.course.logs trees [] (start ∷ later))
+  pub busy : is_live v ≡ true → is_idle v ≡ false →
+      (trees : Trees) (start : Start) (later : List Start) →
+      v.course.bytes trees [] (start ∷ later) ≡ [] →
+      v.logs ≢ map (λ l. Some l) (v.course.logs trees [] (start ∷ later))
 
 -- what each connection shows is exact
 abbrev pub AllExact : Type 0

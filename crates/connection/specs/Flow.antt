@@ -54,7 +54,8 @@ is_head (methods.Other name) = false
 
 -- the reply with a file of this media type
 unfoldable pub file_reply : (kind bytes : List ℕ) → (date : ℕ) → Reply
-file_reply kind bytes date = record { status = 200; kind = kind; modified = Some date; body = bytes; closes = false }
+file_reply kind bytes date = record
+    { status = 200; kind = kind; modified = Some date; body = bytes; closes = false }
 
 abbrev pub item_reply : List ℕ → Item → Reply
 item_reply kind (AFile bytes date) = file_reply kind bytes date
@@ -71,8 +72,8 @@ content_reply kind item Slash = page_reply 404
 unfoldable pub sought_reply : List ℕ → Method → Item → Reply
 sought_reply kind method item = content_reply kind item (content_for (node_of item) method false)
 
--- What is still to come of a response, whether the connection stays open behind it, and what will be logged of it, where that
--- isn't logged yet.
+-- What is still to come of a response, whether the connection stays open behind it, and what will
+-- be logged of it, where that isn't logged yet.
 pub record Rest : Type 0 where
   pub bytes : List ℕ
   pub stays : Bool
@@ -88,17 +89,24 @@ closes_behind r closing = if r.stays then closing else true
 
 -- where the whole response is to come, which doesn't close the connection where it may stay open
 abbrev pub whole_rest : Reply → Start → (no_body stays : Bool) → Rest
-whole_rest r start no_body stays = record { bytes = response r start no_body (stays && not r.closes); stays = stays && not r.closes; logs = log_in r no_body ∷ [] }
+whole_rest r start no_body stays = record {
+  bytes = response r start no_body
+      (stays && not r.closes);
+  stays = stays && not r.closes;
+  logs = log_in r no_body ∷ [];
+}
 
 abbrev pub start_of_wish : Wish → Start
 start_of_wish wish = record { moment = wish.moment; tree = wish.tree }
 
 abbrev pub wish_rest : Wish → Item → Rest
-wish_rest wish item = whole_rest (sought_reply wish.kind wish.method item) (start_of_wish wish) (is_head wish.method) wish.stays
+wish_rest wish item = whole_rest (sought_reply wish.kind wish.method item) (start_of_wish wish)
+    (is_head wish.method) wish.stays
 
 -- so many bytes of a file of this length are to come
 abbrev pub file_rest : (len left : ℕ) → Item → Rest
-file_rest len left item = record { bytes = padded left (drop (len - left) (text_of item)); stays = true; logs = (200, len) ∷ [] }
+file_rest len left item = record
+    { bytes = padded left (drop (len - left) (text_of item)); stays = true; logs = (200, len) ∷ [] }
 
 -- what was told of an item is so from then on: a file has the length that was told
 abbrev pub told_item : Node → Item → Item
@@ -152,6 +160,11 @@ may_run (Told node) = true
 may_run (Reading left) = false
 may_run (Came left placed) = nat_lt placed placed_most
 
+-- the job of a request waits for an answer, where one is in flight
+abbrev pub is_waiting : Option Flow → Bool
+is_waiting None = false
+is_waiting (Some flow) = waits flow.stage
+
 -- the jobs of a request
 abbrev pub jobs_of : Option Flow → List Job
 jobs_of None = []
@@ -173,7 +186,14 @@ stage_written (Came left placed) count = Came left (placed - count)
 
 abbrev pub flow_written : Option Flow → ℕ → Option Flow
 flow_written None count = None
-flow_written (Some flow) count = Some (record { wish = flow.wish; ask = flow.ask; stage = stage_written flow.stage count; len = flow.len })
+flow_written (Some flow) count = Some
+    (record {
+      wish = flow.wish;
+      ask = flow.ask;
+      stage = stage_written flow.stage count;
+      len =
+          flow.len;
+    })
 
 abbrev pub shown_of : Option Flow → ℕ
 shown_of None = shown_most
@@ -186,14 +206,17 @@ is_stat (ask.Read path start count of) = false
 -- the block is the first part of what is left, as long as a block may be
 abbrev pub is_block : (len left : ℕ) → Ask → Bool
 is_block len left (ask.Stat path of) = false
-is_block len left (ask.Read path start count of) = (start == len - left) && (count == min left block_most)
+is_block len left (ask.Read path start count of) = (start == len - left) &&
+    (count == min left block_most)
 
 -- a request stands so beside the bytes for its peer, of which there are so many
 abbrev pub stage_fits : (len : ℕ) → Ask → Stage → (size : ℕ) → Bool
 stage_fits len job Asked size = is_stat job && (size == 0)
 stage_fits len job (Told node) size = is_stat job && (size == 0)
-stage_fits len job (Reading left) size = (nat_le left len && is_block len left job) && nat_le size placed_most
-stage_fits len job (Came left placed) size = (nat_le left len && not (is_stat job)) && ((nat_le placed size && nat_le placed placed_most) && nat_le size kept_most)
+stage_fits len job (Reading left) size =
+    (nat_le left len && is_block len left job) && nat_le size placed_most
+stage_fits len job (Came left placed) size = (nat_le left len && not (is_stat job)) &&
+    ((nat_le placed size && nat_le placed placed_most) && nat_le size kept_most)
 
 -- where none is in flight, no more bytes are kept than may be placed
 abbrev pub flow_fits : Option Flow → (size : ℕ) → Bool
@@ -205,8 +228,8 @@ abbrev pub tree_asked : Option Flow → ℕ
 tree_asked None = 0
 tree_asked (Some flow) = tree_of flow.ask
 
--- What a request that seeks a file has left to do is less than this: its blocks are at most as many as its bytes, of which
--- there are fewer than 2^64.
+-- What a request that seeks a file has left to do is less than this: its blocks are at most as many
+-- as its bytes, of which there are fewer than 2^64.
 unfoldable pub flow_most : ℕ
 flow_most = 9 * 2 ^ 64 + 65544
 

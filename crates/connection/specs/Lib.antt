@@ -3,3 +3,4 @@ pub mod Flow
 pub mod Answers
 pub mod Steps
 pub mod Conn
+pub mod Wants

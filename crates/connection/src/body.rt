@@ -17,7 +17,8 @@ pub(crate) struct Dropped {
 /// Drops a body, of which some bytes may have come before, from the front of these bytes.
 pub(crate) fn drop_body(body: BodyState, bytes: &[u8]) -> Dropped
     ensures within { result.used ≤ length bytes.now }
-    ensures drops { Drops (rest_body body) bytes.now result.body (drop result.used bytes.now) result.broken }
+    ensures drops { Drops (rest_body body) bytes.now result.body
+        (drop result.used bytes.now) result.broken }
 {
     let mut rest = body;
     let (used, step) = rest.take(bytes);
@@ -43,8 +44,10 @@ pub(crate) fn drop_body(body: BodyState, bytes: &[u8]) -> Dropped
 /// Drops what is left of a body, if there is one, from the front of these bytes.
 pub(crate) fn drop_rest(body: Option<BodyState>, bytes: &[u8]) -> Dropped
     ensures within { result.used ≤ length bytes.now }
-    ensures drops { Drops (rest_of body) bytes.now result.body (drop result.used bytes.now) result.broken }
-    ensures none { body ≡ None → (result.body ≡ None) × (result.broken ≡ false) × (drop result.used bytes.now ≡ bytes.now) }
+    ensures drops { Drops (rest_of body) bytes.now result.body
+        (drop result.used bytes.now) result.broken }
+    ensures none { body ≡ None → (result.body ≡ None) × (result.broken ≡ false) ×
+        (drop result.used bytes.now ≡ bytes.now) }
 {
     match body {
         Some(body) => drop_body(body, bytes),

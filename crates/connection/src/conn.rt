@@ -88,7 +88,9 @@ fn enter(
     tree: u64,
     log: Option<(u16, u64)>,
 ) -> Result<(), OutOfMemory>
-    ensures ok { OnOk result ((entry : Logged) × (start_of entry ≡ record { moment = moment; tree = tree }) × (log_of entry ≡ log) × (journal.new.items ≡ journal.old.items ++ entry ∷ [])) }
+    ensures ok { OnOk result ((entry : Logged) ×
+        (start_of entry ≡ record { moment = moment; tree = tree }) × (log_of entry ≡ log) ×
+        (journal.new.items ≡ journal.old.items ++ entry ∷ [])) }
     ensures err { OnErr result (journal.new.items ≡ journal.old.items) }
 {
     journal.push(Entry { moment, tree, log })?;
@@ -150,9 +152,15 @@ fn run_one(
     requires looked { next.old ≡ head_step held.old }
     requires begins { head_begins next.old ≡ true }
     requires unsent { out.old ≡ [] }
-    ensures ran { (trees : Trees) → IfOk result (λ o. RanOne (service_of site.now meeting.local meeting.peer) trees (record { moment = meeting.moment; tree = meeting.tree }) (vec_len journal.old) next.old held.old held.new body.new o.flow out.old out.new o.closing o.log) }
+    ensures ran { (trees : Trees) → IfOk result
+        (λ o. RanOne (service_of site.now meeting.local meeting.peer) trees
+        (record { moment = meeting.moment; tree = meeting.tree })
+        (vec_len journal.old) next.old held.old held.new body.new o.flow out.old out.new o.closing
+        o.log) }
     ensures looked { OnOk result (next.new ≡ head_step held.new) }
-    ensures journal { IfOk result (λ o. (entry : Logged) × (start_of entry ≡ record { moment = meeting.moment; tree = meeting.tree }) × (log_of entry ≡ o.log) × (journal.new.items ≡ journal.old.items ++ entry ∷ [])) }
+    ensures journal { IfOk result (λ o. (entry : Logged) ×
+        (start_of entry ≡ record { moment = meeting.moment; tree = meeting.tree }) ×
+        (log_of entry ≡ o.log) × (journal.new.items ≡ journal.old.items ++ entry ∷ [])) }
     ensures kept { OnErr result (journal.new.items ≡ journal.old.items) }
     ensures fits { IfOk result (λ o. FitsNew o.flow (length out.new)) }
     ensures asked { IfOk result (λ o. tree_asked o.flow ≡ 0 ⊎ tree_asked o.flow ≡ meeting.tree) }
@@ -216,12 +224,13 @@ impl Conn {
     ghost use Rattle.ngx_outside.specs.Views.{Fresh, Start, ask_in, is_idle as idle_in};
     ghost use Rattle.ngx_outside.specs.declared.event.Event.TheVariants.{Arrived, Ended, Wrote, LinkFailed, FileDone, JobFailed, Run};
     ghost use Rattle.connection.specs.Conn.{view_of, left_of, fresh_course, room_at, starts_at, ready_at, idle_at, shut_at, pending_at, weight, asked_of, StepsConn};
-    ghost use Rattle.connection.specs.Flow.{shown_of, jobs_of};
+    ghost use Rattle.connection.specs.Flow.{shown_of, jobs_of, is_waiting};
 
     /// A connection with these two ends, on which nothing has come and gone.
     #[tactic(auto, unfolding(crate::specs::Steps::logged_in))]
     pub fn new(alloc: Global, local: Addr, peer: Addr) -> Result<Self, OutOfMemory>
-        ensures fresh { IfOk result (λ c. (site : _) → Fresh (fresh_course site local peer) (view_of site c)) }
+        ensures fresh { IfOk result (λ c. (site : _) →
+            Fresh (fresh_course site local peer) (view_of site c)) }
         ensures left { IfOk result (λ c. left_of c ≡ 1 + weight) }
         ensures asked { IfOk result (λ c. asked_of c ≡ 0) }
     {
@@ -280,6 +289,16 @@ impl Conn {
         }
     }
 
+    /// Whether its job waits for an answer: it has one at most, that of node 0.
+    pub fn is_waiting(&self) -> bool
+        ensures { result ≡ is_waiting self.now.flow }
+    {
+        match &self.flow {
+            Some(flow) => waits(flow.stage),
+            None => false,
+        }
+    }
+
     /// The requests that were started, each with what was logged of it.
     pub fn journal(&self) -> &[Entry]
         ensures { result.now ≡ self.now.journal.items }
@@ -302,7 +321,8 @@ impl Conn {
 
     /// How many more bytes it takes now, where it takes any: what is left of 8192.
     pub fn room(&self) -> Option<usize>
-        ensures { result ≡ room_at (is_some self.now.cause) self.now.closing self.now.ended self.now.held }
+        ensures { result ≡ room_at (is_some self.now.cause) self.now.closing self.now.ended
+            self.now.held }
     {
         if self.is_stopped() || self.closing || self.ended || 8192 <= self.held.len() {
             None
@@ -323,14 +343,16 @@ impl Conn {
 
     // Whether a further request may start, where none is in flight that seeks a file.
     fn may_start(&self) -> bool
-        ensures { result ≡ starts_at (is_some self.now.cause) self.now.closing self.now.out self.now.body self.now.next }
+        ensures { result ≡ starts_at (is_some self.now.cause) self.now.closing self.now.out
+            self.now.body self.now.next }
     {
         !self.is_stopped() && !self.closing && self.out.is_empty() && self.starts()
     }
 
     /// Whether its node can run: the request that seeks a file goes on, or a further one starts.
     pub fn is_ready(&self) -> bool
-        ensures { result ≡ ready_at (is_some self.now.cause) self.now.flow self.now.closing self.now.out self.now.body self.now.next }
+        ensures { result ≡ ready_at (is_some self.now.cause) self.now.flow self.now.closing
+            self.now.out self.now.body self.now.next }
     {
         match &self.flow {
             Some(flow) => !self.is_stopped() && may_run(flow.stage),
@@ -340,7 +362,8 @@ impl Conn {
 
     // Whether nothing is to be done until more arrives, by its parts.
     fn rests(&self) -> bool
-        ensures { result ≡ idle_at (is_some self.now.cause) self.now.flow self.now.closing self.now.out self.now.body self.now.next }
+        ensures { result ≡ idle_at (is_some self.now.cause) self.now.flow self.now.closing
+            self.now.out self.now.body self.now.next }
     {
         match &self.flow {
             Some(_) => false,
@@ -357,7 +380,8 @@ impl Conn {
 
     /// Whether its link is to be closed.
     pub fn is_shut(&self) -> bool
-        ensures { result ≡ shut_at (is_some self.now.cause) self.now.flow self.now.closing self.now.ended self.now.out self.now.body self.now.next }
+        ensures { result ≡ shut_at (is_some self.now.cause) self.now.flow self.now.closing
+            self.now.ended self.now.out self.now.body self.now.next }
     {
         self.is_stopped() || ((self.closing || self.ended) && self.rests())
     }
@@ -377,7 +401,8 @@ impl Conn {
 
     /// Bytes arrived: it takes as many as there is room for.
     pub fn arrived(&mut self, alloc: Global, bytes: &[u8]) -> StepAnswer
-        ensures { (site : _) (now : Start) (conn : ℕ) → StepsConn site now (Arrived conn bytes.entry) result self.old self.new }
+        ensures { (site : _) (now : Start) (conn : ℕ) →
+            StepsConn site now (Arrived conn bytes.entry) result self.old self.new }
     {
         let Some(room) = self.room() else {
             return StepAnswer::Skipped;
@@ -412,7 +437,8 @@ impl Conn {
 
     /// The peer sends no more.
     pub fn input_ended(&mut self) -> StepAnswer
-        ensures { (site : _) (now : Start) (conn : ℕ) → StepsConn site now (Ended conn) result self.old self.new }
+        ensures { (site : _) (now : Start) (conn : ℕ) →
+            StepsConn site now (Ended conn) result self.old self.new }
     {
         match self.room() {
             None => StepAnswer::Skipped,
@@ -425,7 +451,8 @@ impl Conn {
 
     /// The first pending bytes were written.
     pub fn wrote(&mut self, count: usize) -> StepAnswer
-        ensures { (site : _) (now : Start) (conn : ℕ) → StepsConn site now (Wrote conn count) result self.old self.new }
+        ensures { (site : _) (now : Start) (conn : ℕ) →
+            StepsConn site now (Wrote conn count) result self.old self.new }
     {
         if count == 0 || count > self.pending().len() {
             return StepAnswer::Skipped;
@@ -437,7 +464,8 @@ impl Conn {
 
     /// A node's job is answered: the only one is the main request's.
     pub fn file_done(&mut self, node: u32, answer: JobAnswer) -> StepAnswer
-        ensures { (site : _) (now : Start) (conn : ℕ) → StepsConn site now (FileDone conn node answer.entry) result self.old self.new }
+        ensures { (site : _) (now : Start) (conn : ℕ) →
+            StepsConn site now (FileDone conn node answer.entry) result self.old self.new }
     {
         match self.ask(node) {
             Some(ask) => {
@@ -466,7 +494,8 @@ impl Conn {
 
     /// A node's job failed.
     pub fn job_failed(&mut self, node: u32) -> StepAnswer
-        ensures { (site : _) (now : Start) (conn : ℕ) → StepsConn site now (JobFailed conn node) result self.old self.new }
+        ensures { (site : _) (now : Start) (conn : ℕ) →
+            StepsConn site now (JobFailed conn node) result self.old self.new }
     {
         if self.ask(node).is_none() {
             return StepAnswer::Skipped;
@@ -477,7 +506,8 @@ impl Conn {
 
     /// Its link failed.
     pub fn link_failed(&mut self) -> StepAnswer
-        ensures { (site : _) (now : Start) (conn : ℕ) → StepsConn site now (LinkFailed conn) result self.old self.new }
+        ensures { (site : _) (now : Start) (conn : ℕ) →
+            StepsConn site now (LinkFailed conn) result self.old self.new }
     {
         if self.is_stopped() {
             return StepAnswer::Skipped;
@@ -489,8 +519,10 @@ impl Conn {
     // The request that seeks a file runs on.
     fn goes_on(&mut self, space: &mut Workspace) -> StepAnswer
         requires some { is_some self.old.flow ≡ true }
-        requires ready { ready_at (is_some self.old.cause) self.old.flow self.old.closing self.old.out self.old.body self.old.next ≡ true }
-        ensures { (site : _) (now : Start) (conn : ℕ) → StepsConn site now (Run conn 0) result self.old self.new }
+        requires ready { ready_at (is_some self.old.cause) self.old.flow self.old.closing
+            self.old.out self.old.body self.old.next ≡ true }
+        ensures { (site : _) (now : Start) (conn : ℕ) →
+            StepsConn site now (Run conn 0) result self.old self.new }
     {
         let Some(flow) = self.flow.take() else {
             unreachable!()
@@ -520,8 +552,10 @@ impl Conn {
         tree: u64,
     ) -> StepAnswer
         requires none { self.old.flow ≡ None }
-        requires ready { starts_at (is_some self.old.cause) self.old.closing self.old.out self.old.body self.old.next ≡ true }
-        ensures { (conn : ℕ) → StepsConn site.now (record { moment = moment; tree = tree }) (Run conn 0) result self.old self.new }
+        requires ready { starts_at (is_some self.old.cause) self.old.closing self.old.out
+            self.old.body self.old.next ≡ true }
+        ensures { (conn : ℕ) → StepsConn site.now (record { moment = moment; tree = tree })
+            (Run conn 0) result self.old self.new }
     {
         head_stays();
         refusal_stays();
@@ -566,7 +600,8 @@ impl Conn {
         tree: u64,
         node: u32,
     ) -> StepAnswer
-        ensures { (conn : ℕ) → StepsConn site.now (record { moment = moment; tree = tree }) (Run conn node) result self.old self.new }
+        ensures { (conn : ℕ) → StepsConn site.now (record { moment = moment; tree = tree })
+            (Run conn node) result self.old self.new }
     {
         if node != 0 || !self.is_ready() {
             return StepAnswer::Skipped;

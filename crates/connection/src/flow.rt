@@ -145,10 +145,15 @@ fn run_file(
     closing: bool,
 ) -> Result<Onward, OutOfMemory>
     requires { out.old ≡ [] }
-    ensures goes { (trees : Trees) (node : ANode) (l : ℕ) → Sends len date ≡ told_of node wish.method → IfOk result (λ o. GoesOn trees (Some (record { wish = wish; ask = ask; stage = AtTold node; len = l })) o.flow out.old out.new closing o.closing o.log) }
+    ensures goes { (trees : Trees) (node : ANode) (l : ℕ) →
+        Sends len date ≡ told_of node wish.method →
+        IfOk result (λ o. GoesOn trees
+        (Some (record { wish = wish; ask = ask; stage = AtTold node; len = l })) o.flow out.old
+        out.new closing o.closing o.log) }
     ensures over { IfOk result (λ o. is_some o.log ≡ not (is_some o.flow)) }
     ensures fits { IfOk result (λ o. flow_fits o.flow (length out.new) ≡ true) }
-    ensures lowers { IfOk result (λ o. length out.new + flow_left o.flow (length out.new) < length out.old + (flow_most + 1)) }
+    ensures lowers { IfOk result (λ o. length out.new + flow_left o.flow
+        (length out.new) < length out.old + (flow_most + 1)) }
     ensures asked { IfOk result (λ o. tree_asked o.flow ≤ tree_of ask) }
     ensures closes { IfOk result (λ o. closing ≡ true → o.closing ≡ true) }
 {
@@ -185,10 +190,14 @@ fn run_told(
     closing: bool,
 ) -> Result<Onward, OutOfMemory>
     requires { out.old ≡ [] }
-    ensures goes { (trees : Trees) (len : ℕ) → IfOk result (λ o. GoesOn trees (Some (record { wish = wish; ask = ask; stage = AtTold node; len = len })) o.flow out.old out.new closing o.closing o.log) }
+    ensures goes { (trees : Trees) (len : ℕ) →
+        IfOk result (λ o. GoesOn trees
+        (Some (record { wish = wish; ask = ask; stage = AtTold node; len = len })) o.flow out.old
+        out.new closing o.closing o.log) }
     ensures over { IfOk result (λ o. is_some o.log ≡ not (is_some o.flow)) }
     ensures fits { IfOk result (λ o. flow_fits o.flow (length out.new) ≡ true) }
-    ensures lowers { IfOk result (λ o. length out.new + flow_left o.flow (length out.new) < length out.old + (flow_most + 1)) }
+    ensures lowers { IfOk result (λ o. length out.new + flow_left o.flow
+        (length out.new) < length out.old + (flow_most + 1)) }
     ensures asked { IfOk result (λ o. tree_asked o.flow ≤ tree_of ask) }
     ensures closes { IfOk result (λ o. closing ≡ true → o.closing ≡ true) }
 {
@@ -219,7 +228,10 @@ fn run_came(
 ) -> Onward
     requires fits { stage_fits len ask (AtCame left placed) size ≡ true }
     requires runs { can_run (AtCame left placed) ≡ true }
-    ensures goes { (trees : Trees) (out : List ℕ) → GoesOn trees (Some (record { wish = wish; ask = ask; stage = AtCame left placed; len = len })) result.flow out out closing result.closing result.log }
+    ensures goes { (trees : Trees) (out : List ℕ) →
+        GoesOn trees (Some (record
+        { wish = wish; ask = ask; stage = AtCame left placed; len = len })) result.flow out out
+        closing result.closing result.log }
     ensures over { is_some result.log ≡ not (is_some result.flow) }
     ensures fits { flow_fits result.flow size ≡ true }
     ensures lowers { flow_left result.flow size < stage_left (AtCame left placed) size }
@@ -268,10 +280,12 @@ pub(crate) fn run_on(
 ) -> Result<Onward, OutOfMemory>
     requires fits { flow_fits (Some flow) (length out.old) ≡ true }
     requires runs { can_run flow.stage ≡ true }
-    ensures goes { (trees : Trees) → IfOk result (λ o. GoesOn trees (Some flow) o.flow out.old out.new closing o.closing o.log) }
+    ensures goes { (trees : Trees) → IfOk result
+        (λ o. GoesOn trees (Some flow) o.flow out.old out.new closing o.closing o.log) }
     ensures over { IfOk result (λ o. is_some o.log ≡ not (is_some o.flow)) }
     ensures fits { IfOk result (λ o. flow_fits o.flow (length out.new) ≡ true) }
-    ensures lowers { IfOk result (λ o. length out.new + flow_left o.flow (length out.new) < length out.old + flow_left (Some flow) (length out.old)) }
+    ensures lowers { IfOk result (λ o. length out.new + flow_left o.flow
+        (length out.new) < length out.old + flow_left (Some flow) (length out.old)) }
     ensures asked { IfOk result (λ o. tree_asked o.flow ≤ tree_of flow.ask) }
     ensures closes { IfOk result (λ o. closing ≡ true → o.closing ≡ true) }
 {
@@ -308,9 +322,11 @@ pub(crate) fn answered(
     requires fits { flow_fits (Some flow) (length out.old) ≡ true }
     requires waits { waits_for flow.stage ≡ true }
     requires fitting { fits_job flow.ask answer ≡ true }
-    ensures goes { (trees : Trees) (closing : Bool) → IsFrom trees flow.ask answer.entry → IfOk result (λ f. GoesOn trees (Some flow) (Some f) out.old out.new closing closing None) }
+    ensures goes { (trees : Trees) (closing : Bool) → IsFrom trees flow.ask answer.entry →
+        IfOk result (λ f. GoesOn trees (Some flow) (Some f) out.old out.new closing closing None) }
     ensures fits { IfOk result (λ f. flow_fits (Some f) (length out.new) ≡ true) }
-    ensures lowers { IfOk result (λ f. length out.new + flow_left (Some f) (length out.new) < length out.old + flow_left (Some flow) (length out.old)) }
+    ensures lowers { IfOk result (λ f. length out.new + flow_left (Some f)
+        (length out.new) < length out.old + flow_left (Some flow) (length out.old)) }
     ensures asked { IfOk result (λ f. tree_of f.ask ≡ tree_of flow.ask) }
 {
     let Flow {

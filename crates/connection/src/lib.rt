@@ -6,8 +6,10 @@ mod conn;
 mod flow;
 mod law;
 mod respond;
+mod wants;
 
 pub use conn::Conn;
 pub use flow::{Flow, Stage, Wish};
 pub use law::{connections_are_bounded, connections_are_exact, connections_are_sound};
 pub use respond::{Answered, Sent, Workspace, put_answer, put_page};
+pub use wants::next_want;

@@ -55,7 +55,8 @@ pub fn is_head(method: &Method) -> bool
 }
 
 fn head_for(alloc: Global, reply: Reply, moment: u64, keep: bool) -> Result<ReplyHead, OutOfMemory>
-    ensures { (r : Replied) (start : Start) → IsReply reply.entry r → start.moment ≡ moment → IfOk result (λ h. h ≡ reply_head r start keep) }
+    ensures { (r : Replied) (start : Start) → IsReply reply.entry r → start.moment ≡ moment →
+        IfOk result (λ h. h ≡ reply_head r start keep) }
 {
     let kind = ByteText::from_slice(alloc, reply.kind)?;
     Ok(ReplyHead {
@@ -103,7 +104,8 @@ pub fn put_response(
     no_body: bool,
     keep: bool,
 ) -> Result<(), OutOfMemory>
-    ensures put { (r : Replied) (start : Start) → IsReply reply.entry r → start.moment ≡ moment → OnOk result (out.new ≡ out.old ++ response r start no_body keep) }
+    ensures put { (r : Replied) (start : Start) → IsReply reply.entry r → start.moment ≡ moment →
+        OnOk result (out.new ≡ out.old ++ response r start no_body keep) }
     ensures fits { OnOk result (length out.new ≤ length out.old + 65536) }
 {
     let head = head_for(space.alloc, reply, moment, keep)?;
@@ -119,7 +121,8 @@ pub fn put_page(
     moment: u64,
     no_body: bool,
 ) -> Result<usize, OutOfMemory>
-    ensures put { (start : Start) → start.moment ≡ moment → OnOk result (out.new ≡ out.old ++ response (page_replied code) start no_body false) }
+    ensures put { (start : Start) → start.moment ≡ moment →
+        OnOk result (out.new ≡ out.old ++ response (page_replied code) start no_body false) }
     ensures fits { OnOk result (length out.new ≤ length out.old + 65536) }
     ensures size { IfOk result (λ size. size ≡ length (content_of (page_replied code) no_body)) }
 {
@@ -154,7 +157,9 @@ fn put_reply(
     no_body: bool,
     stays: bool,
 ) -> Result<Sent, OutOfMemory>
-    ensures puts { (r : Replied) (start : Start) → IsReply reply.entry r → start.moment ≡ moment → IfOk result (λ sent. Puts r start no_body stays sent.keep (sent.status, sent.length) out.old out.new) }
+    ensures puts { (r : Replied) (start : Start) → IsReply reply.entry r → start.moment ≡ moment →
+        IfOk result (λ sent.
+        Puts r start no_body stays sent.keep (sent.status, sent.length) out.old out.new) }
     ensures fits { OnOk result (length out.new ≤ length out.old + 65536) }
 {
     let keep = keeps(stays, reply.closes);
@@ -175,7 +180,10 @@ fn put_error(
     no_body: bool,
     stays: bool,
 ) -> Result<Sent, OutOfMemory>
-    ensures puts { (start : Start) → start.moment ≡ moment → IfOk result (λ sent. Puts (page_replied code) start no_body stays sent.keep (sent.status, sent.length) out.old out.new) }
+    ensures puts { (start : Start) → start.moment ≡ moment →
+        IfOk result (λ sent.
+        Puts (page_replied code) start no_body stays sent.keep
+        (sent.status, sent.length) out.old out.new) }
     ensures fits { OnOk result (length out.new ≤ length out.old + 65536) }
 {
     let mut page = ByteText::new(space.alloc);
@@ -193,8 +201,12 @@ pub enum Answered {
 }
 
 fn at_once(sent: Result<Sent, OutOfMemory>) -> Result<Answered, OutOfMemory>
-    ensures fits { (tree old new : ℕ) → OnOk sent (new ≤ old + 65536) → IfOk result (λ a. FitsOne a tree old new) }
-    ensures meets { (r : Replied) (start : Start) (no_body stays : Bool) (old new : List ℕ) → IfOk sent (λ s. Puts r start no_body stays s.keep (s.status, s.length) old new) → IfOk result (λ a. (trees : Trees) → Meets r start no_body stays (rest_after a trees) old new) }
+    ensures fits { (tree old new : ℕ) → OnOk sent (new ≤ old + 65536) →
+        IfOk result (λ a. FitsOne a tree old new) }
+    ensures meets { (r : Replied) (start : Start) (no_body stays : Bool) (old new : List ℕ) →
+        IfOk sent (λ s. Puts r start no_body stays s.keep (s.status, s.length) old new) →
+        IfOk result (λ a. (trees : Trees) →
+        Meets r start no_body stays (rest_after a trees) old new) }
 {
     let sent = sent?;
     Ok(Answered::AtOnce(sent))
@@ -214,7 +226,9 @@ fn seek(
     at: ByteText,
     stays: bool,
 ) -> Result<Answered, OutOfMemory>
-    ensures { IfOk result (λ a. SeeksFor (asked_level asked.now).types asked.now.target.now.path asked.now.head.now.method asked.now.meeting at stays a) }
+    ensures { IfOk result (λ a. SeeksFor
+        (asked_level asked.now).types asked.now.target.now.path asked.now.head.now.method
+        asked.now.meeting at stays a) }
 {
     let kind = asked
         .site
@@ -248,7 +262,11 @@ fn put_text(
     text: &[u8],
     stays: bool,
 ) -> Result<Sent, OutOfMemory>
-    ensures puts { (start : Start) → start.moment ≡ asked.now.meeting.moment → IfOk result (λ sent. Puts (text_replied (asked_level asked.now) asked.now.target.now.path code text.now) start (asks_head asked.now.head.now.method) stays sent.keep (sent.status, sent.length) out.old out.new) }
+    ensures puts { (start : Start) → start.moment ≡ asked.now.meeting.moment →
+        IfOk result (λ sent.
+        Puts (text_replied (asked_level asked.now) asked.now.target.now.path code text.now) start
+        (asks_head asked.now.head.now.method) stays sent.keep
+        (sent.status, sent.length) out.old out.new) }
     ensures fits { OnOk result (length out.new ≤ length out.old + 65536) }
 {
     let reply = text_reply(
@@ -270,8 +288,14 @@ fn put_outcome(
     outcome: Outcome<'_>,
     stays: bool,
 ) -> Result<Answered, OutOfMemory>
-    ensures meets { (start : Start) → start ≡ record { moment = asked.now.meeting.moment; tree = asked.now.meeting.tree } → IfOk result (λ a. (trees : Trees) → Meets (reply_by (asked_level asked.now) asked.now.head.now.method asked.now.target.now.path (shown outcome.entry) (trees start.tree)) start (asks_head asked.now.head.now.method) stays (rest_after a trees) out.old out.new) }
-    ensures fits { IfOk result (λ a. FitsOne a asked.now.meeting.tree (length out.old) (length out.new)) }
+    ensures meets { (start : Start) → start ≡ record
+        { moment = asked.now.meeting.moment; tree = asked.now.meeting.tree } →
+        IfOk result (λ a. (trees : Trees) →
+        Meets (reply_by (asked_level asked.now) asked.now.head.now.method
+        asked.now.target.now.path (shown outcome.entry) (trees start.tree)) start
+        (asks_head asked.now.head.now.method) stays (rest_after a trees) out.old out.new) }
+    ensures fits { IfOk result (λ a. FitsOne a asked.now.meeting.tree (length out.old)
+        (length out.new)) }
 {
     let moment = asked.meeting.moment;
     let no_body = is_head(&asked.head.method);
@@ -318,7 +342,14 @@ fn put_served(
     meeting: Meeting,
 ) -> Result<Answered, OutOfMemory>
     requires { count < 2 ^ 63 }
-    ensures meets { (service : Service) (start : Start) → service ≡ service_of site.now meeting.local meeting.peer → start ≡ record { moment = meeting.moment; tree = meeting.tree } → IfOk result (λ a. (trees : Trees) → Meets (reply_in service (trees start.tree) start head.now (Some (server_seen site.now server.now))) start (asks_head head.now.method) (head.now.keep && stays_in count head.now (Some (server_seen site.now server.now))) (rest_after a trees) out.old out.new) }
+    ensures meets { (service : Service) (start : Start) →
+        service ≡ service_of site.now meeting.local meeting.peer →
+        start ≡ record { moment = meeting.moment; tree = meeting.tree } →
+        IfOk result (λ a. (trees : Trees) →
+        Meets (reply_in service (trees start.tree) start head.now
+        (Some (server_seen site.now server.now))) start (asks_head head.now.method)
+        (head.now.keep && stays_in count head.now (Some (server_seen site.now server.now)))
+        (rest_after a trees) out.old out.new) }
     ensures fits { IfOk result (λ a. FitsOne a meeting.tree (length out.old) (length out.new)) }
 {
     replies_are();
@@ -347,7 +378,12 @@ pub fn put_answer(
     meeting: Meeting,
 ) -> Result<Answered, OutOfMemory>
     requires { count < 2 ^ 63 }
-    ensures put { (service : Service) (start : Start) → service ≡ service_of site.now meeting.local meeting.peer → start ≡ record { moment = meeting.moment; tree = meeting.tree } → IfOk result (λ a. (trees : Trees) → Responds service (reply_at service trees start head.now) start count head.now (rest_after a trees) out.old out.new) }
+    ensures put { (service : Service) (start : Start) →
+        service ≡ service_of site.now meeting.local meeting.peer →
+        start ≡ record { moment = meeting.moment; tree = meeting.tree } →
+        IfOk result (λ a. (trees : Trees) →
+        Responds service (reply_at service trees start head.now) start count head.now
+        (rest_after a trees) out.old out.new) }
     ensures fits { IfOk result (λ a. FitsOne a meeting.tree (length out.old) (length out.new)) }
 {
     match site.server_at(meeting.local) {
@@ -365,7 +401,9 @@ pub fn put_answer(
 
 // The head of a response with a file.
 fn file_head(alloc: Global, wish: &Wish, len: u64, date: u64) -> Result<ReplyHead, OutOfMemory>
-    ensures { (bytes : List ℕ) → length bytes ≡ len → IfOk result (λ h. h ≡ reply_head (file_reply wish.now.kind bytes date) (start_of_wish wish.now) wish.now.stays) }
+    ensures { (bytes : List ℕ) → length bytes ≡ len →
+        IfOk result (λ h. h ≡ reply_head (file_reply wish.now.kind bytes date)
+        (start_of_wish wish.now) wish.now.stays) }
 {
     let kind = ByteText::from_slice(alloc, wish.kind.as_slice())?;
     Ok(ReplyHead {
@@ -388,7 +426,10 @@ pub fn put_file_head(
     len: u64,
     date: u64,
 ) -> Result<(), OutOfMemory>
-    ensures put { (bytes : List ℕ) → length bytes ≡ len → OnOk result (out.new ≡ out.old ++ head_of (reply_head (file_reply wish.now.kind bytes date) (start_of_wish wish.now) wish.now.stays)) }
+    ensures put { (bytes : List ℕ) → length bytes ≡ len →
+        OnOk result (out.new ≡ out.old ++ head_of
+        (reply_head (file_reply wish.now.kind bytes date)
+        (start_of_wish wish.now) wish.now.stays)) }
     ensures fits { OnOk result (length out.new ≤ length out.old + 65536) }
 {
     let head = file_head(space.alloc, wish, len, date)?;
@@ -403,7 +444,10 @@ pub fn put_refusal(
     wish: &Wish,
     code: u16,
 ) -> Result<Sent, OutOfMemory>
-    ensures puts { IfOk result (λ sent. Puts (page_replied code) (start_of_wish wish.now) (asks_head wish.now.method) wish.now.stays sent.keep (sent.status, sent.length) out.old out.new) }
+    ensures puts { IfOk result (λ sent.
+        Puts (page_replied code) (start_of_wish wish.now)
+        (asks_head wish.now.method) wish.now.stays sent.keep
+        (sent.status, sent.length) out.old out.new) }
     ensures fits { OnOk result (length out.new ≤ length out.old + 65536) }
 {
     put_error(

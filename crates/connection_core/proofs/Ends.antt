@@ -7,9 +7,8 @@ use Rattle.std.specs.List.Sorted.{IsStrictlyIncreasing}
 use Rattle.std.proofs.lemmas.Bool.Decides.{nat_tests}
 use Rattle.std.proofs.lemmas.List.Sums.{sum_by-append}
 use Rattle.ngx_outside.specs.Views.{ConnView, Start, StepsOwn, OneSteps, OpensIf, Fresh, nobody, ask_in}
-use Rattle.ngx_outside.specs.Wants.{wants_at}
+use Rattle.ngx_outside.specs.Wants.{wants_at, first_doable}
 use Rattle.http_types.specs.declared.words.Addr.{Addr}
-use Rattle.ngx_outside.specs.declared.event.Want.{Want}
 use Rattle.file_tree.specs.Tree.{tree_of}
 use Rattle.file_tree.specs.declared.job.Ask.{Ask}
 use Rattle.ngx_outside.specs.declared.event.Event.{Event}
@@ -21,11 +20,10 @@ use Rattle.connection.specs.declared.conn.Conn.{Conn}
 use Rattle.connection.specs.declared.flow.Flow.{Flow}
 use Rattle.connection.specs.Flow.{jobs_of, waits, tree_asked}
 use Rattle.connection.specs.Conn.{view_of, left_of, asked_of, price, weight, fresh_course, StepsConn}
-use Rattle.connection_core.specs.Table.{view_in, wants_held, left_in, price_each, most_held, opens_in, listens_there, is_among, tally, AllKnown, StandsAt, BelongsAt, Splits, Placed, Replaced}
-use Rattle.connection_core.proofs.Tables.{there, elsewhere, nowhere, none_of_two, wants_split, wants_joined}
-use Rattle.connection_core.proofs.Spliced.{wants_count}
+use Rattle.connection_core.specs.Table.{view_in, left_in, price_each, most_held, opens_in, listens_there, is_among, AllKnown, StandsAt, BelongsAt, Placed, Replaced}
+use Rattle.connection_core.proofs.Tables.{there, elsewhere, nowhere, none_of_two}
 use Rattle.connection_core.proofs.Rows.{parted_between, inserted, removed, put_rises, cut_rises, among_here, among_none}
-use Rattle.connection_core.proofs.Held.{Seat, wants_of_held, left_split, seen}
+use Rattle.connection_core.proofs.Held.{Seat, left_split, seen}
 
 -- a place between those that are held
 pub record Gap (c at : ℕ) (ids : List ℕ) (conns : List Conn) : Type 0 where
@@ -56,18 +54,6 @@ gap_of c at ids conns b p = record {
 pub gap_at : (c at : ℕ) (ids : List ℕ) (conns : List Conn) → BelongsAt c ids at → length conns ≡ length ids → Gap c at ids conns
 gap_at c at ids conns b paired = gap_of c at ids conns b (parted_between conns at (belongs_within c at ids conns b paired))
 
-pub gap_splits : (site : Site) (c at : ℕ) (ids : List ℕ) (conns : List Conn) (wants : List Want) → Gap c at ids conns → wants ≡ wants_held site ids conns → Splits c wants 0
-gap_splits site c at ids conns wants g told = record {
-  lower = wants_held site g.belongs.front g.front;
-  own = [];
-  higher = wants_held site g.belongs.back g.back;
-  whole = told ∙ ap (λ l. wants_held site l conns) g.belongs.whole ∙ ap (λ l. wants_held site (g.belongs.front ++ g.belongs.back) l) g.whole ∙ wants_joined site g.belongs.front g.front g.belongs.back g.back g.even;
-  size = refl;
-  all_lower = wants_of_held (λ n. n < c) site g.belongs.front g.front g.belongs.below;
-  all_own = tt;
-  all_higher = wants_of_held (λ n. c < n) site g.belongs.back g.back g.belongs.above;
-}
-
 ids_put : (c at : ℕ) (ids : List ℕ) (conns : List Conn) (g : Gap c at ids conns) → insert ids at c ≡ g.belongs.front ++ c ∷ g.belongs.back
 ids_put c at ids conns g = inserted ids g.belongs.front g.belongs.back c at g.belongs.whole g.belongs.size
 
@@ -77,12 +63,6 @@ conns_put c at ids conns x g = inserted conns g.front g.back x at g.whole g.size
 pub put_rising : (c at : ℕ) (ids ids' : List ℕ) → BelongsAt c ids at → ids' ≡ insert ids at c → IsStrictlyIncreasing ids → IsStrictlyIncreasing ids'
 put_rising c at ids ids' b e s =
     subst (λ l. IsStrictlyIncreasing l) (sym (e ∙ inserted ids b.front b.back c at b.whole b.size)) (put_rises b.front b.back c (subst (λ l. IsStrictlyIncreasing l) b.whole s) b.below b.above)
-
-pub put_told : (site : Site) (c at : ℕ) (ids ids' : List ℕ) (conns conns' : List Conn) (wants wants' : List Want) (x : Conn) (g : Gap c at ids conns) → (told : wants ≡ wants_held site ids conns) → ids' ≡ insert ids at c → conns' ≡ insert conns at x →
-    wants' ≡ (gap_splits site c at ids conns wants g told).lower ++ (wants_at c (view_of site x) ++ (gap_splits site c at ids conns wants g told).higher) → wants' ≡ wants_held site ids' conns'
-unfolding gap_splits
-put_told site c at ids ids' conns conns' wants wants' x g told e f w =
-    w ∙ sym (ap (λ l. wants_held site l conns') (e ∙ ids_put c at ids conns g) ∙ ap (λ l. wants_held site (g.belongs.front ++ c ∷ g.belongs.back) l) (f ∙ conns_put c at ids conns x g) ∙ wants_split site g.belongs.front g.front c x g.belongs.back g.back g.even)
 
 put_before : (site : Site) (c at : ℕ) (ids : List ℕ) (conns : List Conn) (b : BelongsAt c ids at) → view_in site ids conns c ≡ nobody
 put_before site c at ids conns b = nowhere site ids conns c (subst (λ l. AllByRecursion (λ id. id ≢ c) l) (sym b.whole) (none_of_two b.front b.back c b.below b.above))
@@ -152,59 +132,37 @@ pub cut_rising : (c at : ℕ) (ids ids' : List ℕ) → StandsAt c ids at → id
 cut_rising c at ids ids' b e s =
     subst (λ l. IsStrictlyIncreasing l) (sym (e ∙ removed ids b.front b.back c at b.whole b.size)) (cut_rises b.front b.back c (subst (λ l. IsStrictlyIncreasing l) b.whole s))
 
-ids_cut : (site : Site) (c at : ℕ) (ids : List ℕ) (conns : List Conn) (wants : List Want) (s : Seat site c at ids conns wants) → remove ids at ≡ s.stands.front ++ s.stands.back
-ids_cut site c at ids conns wants s = removed ids s.stands.front s.stands.back c at s.stands.whole s.stands.size
+ids_cut : (c at : ℕ) (ids : List ℕ) (conns : List Conn) (s : Seat c at ids conns) → remove ids at ≡ s.stands.front ++ s.stands.back
+ids_cut c at ids conns s = removed ids s.stands.front s.stands.back c at s.stands.whole s.stands.size
 
-conns_cut : (site : Site) (c at : ℕ) (ids : List ℕ) (conns : List Conn) (wants : List Want) (s : Seat site c at ids conns wants) → remove conns at ≡ s.placed.front ++ s.placed.back
-conns_cut site c at ids conns wants s = removed conns s.placed.front s.placed.back s.placed.here at s.placed.whole s.placed.size
+conns_cut : (c at : ℕ) (ids : List ℕ) (conns : List Conn) (s : Seat c at ids conns) → remove conns at ≡ s.placed.front ++ s.placed.back
+conns_cut c at ids conns s = removed conns s.placed.front s.placed.back s.placed.here at s.placed.whole s.placed.size
 
-pub cut_told : (site : Site) (c at : ℕ) (ids ids' : List ℕ) (conns conns' : List Conn) (wants wants' : List Want) (s : Seat site c at ids conns wants) → ids' ≡ remove ids at → conns' ≡ remove conns at →
-    wants' ≡ s.placed.lower ++ s.placed.higher → wants' ≡ wants_held site ids' conns'
-cut_told site c at ids ids' conns conns' wants wants' s e f w =
+pub cut_after : (site : Site) (c at : ℕ) (ids ids' : List ℕ) (conns conns' : List Conn) (s : Seat c at ids conns) → ids' ≡ remove ids at → view_in site ids' conns' c ≡ nobody
+cut_after site c at ids ids' conns conns' s e =
     let t = s.stands in
-    let p = s.placed in
-    w ∙ ap (λ l. l ++ p.higher) s.lower ∙ ap (λ l. wants_held site t.front p.front ++ l) s.higher
-    ∙ sym (ap (λ l. wants_held site l conns') (e ∙ ids_cut site c at ids conns wants s) ∙ ap (λ l. wants_held site (t.front ++ t.back) l) (f ∙ conns_cut site c at ids conns wants s) ∙ wants_joined site t.front p.front t.back p.back s.even)
+    nowhere site ids' conns' c (subst (λ l. AllByRecursion (λ id. id ≢ c) l) (sym (e ∙ ids_cut c at ids conns s)) (none_of_two t.front t.back c t.below t.above))
 
-pub cut_after : (site : Site) (c at : ℕ) (ids ids' : List ℕ) (conns conns' : List Conn) (wants : List Want) (s : Seat site c at ids conns wants) → ids' ≡ remove ids at → view_in site ids' conns' c ≡ nobody
-cut_after site c at ids ids' conns conns' wants s e =
-    let t = s.stands in
-    nowhere site ids' conns' c (subst (λ l. AllByRecursion (λ id. id ≢ c) l) (sym (e ∙ ids_cut site c at ids conns wants s)) (none_of_two t.front t.back c t.below t.above))
-
-cut_beside : (site : Site) (c at : ℕ) (ids ids' : List ℕ) (conns conns' : List Conn) (wants : List Want) (s : Seat site c at ids conns wants) → ids' ≡ remove ids at → conns' ≡ remove conns at → (q : ℕ) → q ≢ c →
+cut_beside : (site : Site) (c at : ℕ) (ids ids' : List ℕ) (conns conns' : List Conn) (s : Seat c at ids conns) → ids' ≡ remove ids at → conns' ≡ remove conns at → (q : ℕ) → q ≢ c →
     view_in site ids' conns' q ≡ view_in site ids conns q
-cut_beside site c at ids ids' conns conns' wants s e f q ne =
+cut_beside site c at ids ids' conns conns' s e f q ne =
     let t = s.stands in
     let p = s.placed in
-    ap (λ l. view_in site l conns' q) (e ∙ ids_cut site c at ids conns wants s) ∙ ap (λ l. view_in site (t.front ++ t.back) l q) (f ∙ conns_cut site c at ids conns wants s)
+    ap (λ l. view_in site l conns' q) (e ∙ ids_cut c at ids conns s) ∙ ap (λ l. view_in site (t.front ++ t.back) l q) (f ∙ conns_cut c at ids conns s)
     ∙ sym (ap (λ l. view_in site l conns q) t.whole ∙ ap (λ l. view_in site (t.front ++ c ∷ t.back) l q) p.whole ∙ elsewhere site t.front p.front c p.here t.back p.back q s.even ne)
 
-pub cut_steps : (site : Site) (c at : ℕ) (ids ids' : List ℕ) (conns conns' : List Conn) (wants : List Want) (s : Seat site c at ids conns wants) → ids' ≡ remove ids at → conns' ≡ remove conns at → (view_of site s.placed.here).shut ≡ true →
+pub cut_steps : (site : Site) (c at : ℕ) (ids ids' : List ℕ) (conns conns' : List Conn) (s : Seat c at ids conns) → ids' ≡ remove ids at → conns' ≡ remove conns at → (view_of site s.placed.here).shut ≡ true →
     (now : Start) (taken : ℕ) → OneSteps c (StepsOwn nobody.course now (ev.Gone c) (Done taken)) (view_in site ids conns) (view_in site ids' conns')
-cut_steps site c at ids ids' conns conns' wants s e f shut now taken = record {
-  own = (ap (λ (v : ConnView). v.shut) (seen site c at ids conns wants s) ∙ shut, cut_after site c at ids ids' conns conns' wants s e);
-  others = cut_beside site c at ids ids' conns conns' wants s e f;
+cut_steps site c at ids ids' conns conns' s e f shut now taken = record {
+  own = (ap (λ (v : ConnView). v.shut) (seen site c at ids conns s) ∙ shut, cut_after site c at ids ids' conns conns' s e);
+  others = cut_beside site c at ids ids' conns conns' s e f;
 }
 
-pub cut_left : (site : Site) (c at : ℕ) (ids : List ℕ) (conns conns' : List Conn) (wants : List Want) (s : Seat site c at ids conns wants) → conns' ≡ remove conns at → left_in conns' < left_in conns
-cut_left site c at ids conns conns' wants s f =
+pub cut_left : (site : Site) (c at : ℕ) (ids : List ℕ) (conns conns' : List Conn) (s : Seat c at ids conns) → conns' ≡ remove conns at → left_in conns' < left_in conns
+cut_left site c at ids conns conns' s f =
     let was = ap left_in s.placed.whole ∙ left_split s.placed.front s.placed.back s.placed.here in
-    let is = ap left_in (f ∙ conns_cut site c at ids conns wants s) ∙ left_joined s.placed.front s.placed.back in
+    let is = ap left_in (f ∙ conns_cut c at ids conns s) ∙ left_joined s.placed.front s.placed.back in
     omega (arith, was, is)
-
--- there are few wants
-tally_few : (b : Bool) → tally b ≤ 1
-tally_few true = omega arith
-tally_few false = omega arith
-
-pub few_wants : (site : Site) (ids : List ℕ) (conns : List Conn) → length (wants_held site ids conns) ≤ 5 * length ids
-few_wants site [] conns = omega arith
-few_wants site (id ∷ ids) [] = omega arith
-few_wants site (id ∷ ids) (conn ∷ conns) =
-    let n = wants_count id site conn in
-    let more = few_wants site ids conns in
-    let e = length-append (wants_at id (view_of site conn)) (wants_held site ids conns) in
-    omega (arith, n, more, e, tally_few)
 
 -- the connections that are held
 test_is : (a b : ℕ) → a ≡ b → eqb a b ≡ true
@@ -275,9 +233,9 @@ either_known : (asked was tree : ℕ) → (asked ≤ was) ⊎ (asked ≡ tree) �
 either_known asked was tree (inl e) h = omega (arith, e, h)
 either_known asked was tree (inr e) h = omega (arith, e)
 
-pub own_known : (site : Site) (c at : ℕ) (conns conns' : List Conn) (wants wants' : List Want) (now : Start) (e : Event) (a : StepAnswer) (p : Placed site c at conns wants) →
-    Replaced site c at conns wants (λ old new. StepsConn site now e a old new) p conns' wants' → AllKnown now.tree conns → AllKnown now.tree conns'
-own_known site c at conns conns' wants wants' now e a p r known =
+pub own_known : (site : Site) (c at : ℕ) (conns conns' : List Conn) (now : Start) (e : Event) (a : StepAnswer) (p : Placed at conns) →
+    Replaced at conns (λ old new. StepsConn site now e a old new) p conns' → AllKnown now.tree conns → AllKnown now.tree conns'
+own_known site c at conns conns' now e a p r known =
     let all = subst (AllKnown now.tree) p.whole known in
     let back = known_back now.tree p.front (p.here ∷ p.back) all in
     subst (AllKnown now.tree) (sym r.whole) (known_of_two now.tree p.front (r.there ∷ p.back) (known_front now.tree p.front (p.here ∷ p.back) all) (either_known (asked_of r.there) (asked_of p.here) now.tree r.does.asked back.0, back.1))
@@ -287,14 +245,14 @@ put_known tree c at ids conns conns' x g e fresh known =
     let all = subst (AllKnown tree) g.whole known in
     subst (AllKnown tree) (sym (e ∙ conns_put c at ids conns x g)) (known_of_two tree g.front (x ∷ g.back) (known_front tree g.front g.back all) (omega (arith, fresh), known_back tree g.front g.back all))
 
-pub cut_known : (tree : ℕ) (site : Site) (c at : ℕ) (ids : List ℕ) (conns conns' : List Conn) (wants : List Want) (s : Seat site c at ids conns wants) → conns' ≡ remove conns at → AllKnown tree conns → AllKnown tree conns'
-cut_known tree site c at ids conns conns' wants s e known =
+pub cut_known : (tree : ℕ) (site : Site) (c at : ℕ) (ids : List ℕ) (conns conns' : List Conn) (s : Seat c at ids conns) → conns' ≡ remove conns at → AllKnown tree conns → AllKnown tree conns'
+cut_known tree site c at ids conns conns' s e known =
     let p = s.placed in
     let all = subst (AllKnown tree) p.whole known in
-    subst (AllKnown tree) (sym (e ∙ conns_cut site c at ids conns wants s)) (known_of_two tree p.front p.back (known_front tree p.front (p.here ∷ p.back) all) (known_back tree p.front (p.here ∷ p.back) all).1)
+    subst (AllKnown tree) (sym (e ∙ conns_cut c at ids conns s)) (known_of_two tree p.front p.back (known_front tree p.front (p.here ∷ p.back) all) (known_back tree p.front (p.here ∷ p.back) all).1)
 
-pub known_at : (tree : ℕ) (site : Site) (c at : ℕ) (ids : List ℕ) (conns : List Conn) (wants : List Want) (s : Seat site c at ids conns wants) → AllKnown tree conns → asked_of s.placed.here ≤ tree
-known_at tree site c at ids conns wants s known =
+pub known_at : (tree : ℕ) (site : Site) (c at : ℕ) (ids : List ℕ) (conns : List Conn) (s : Seat c at ids conns) → AllKnown tree conns → asked_of s.placed.here ≤ tree
+known_at tree site c at ids conns s known =
     let p = s.placed in
     (known_back tree p.front (p.here ∷ p.back) (subst (AllKnown tree) p.whole known)).0
 
@@ -317,9 +275,9 @@ asks_known (Some flow) node tree (Some ask) e h = by (waits flow.stage) e
     by false f = cc
 
 -- nobody wants anything
-pub no_wants : (c : ℕ) → wants_at c nobody ≡ []
-unfolding wants_at
-no_wants c = refl
+pub no_wants : (c : ℕ) (due full : Bool) → first_doable due full (wants_at c nobody) ≡ None
+unfolding wants_at first_doable
+no_wants c due full = refl
 
 -- one that isn't to be closed stays
 pub keeps_open : (site : Site) (c : ℕ) (ids : List ℕ) (conns : List Conn) (now : Start) → (view_in site ids conns c).shut ≡ false → OneSteps c (StepsOwn nobody.course now (ev.Gone c) Skipped) (view_in site ids conns) (view_in site ids conns)

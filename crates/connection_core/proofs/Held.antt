@@ -4,10 +4,7 @@ use Rattle.std.specs.List.{AllByRecursion}
 use Rattle.std.proofs.Math.Nat.{mul-le-mul_right}
 use Rattle.std.proofs.lemmas.List.Sums.{sum_by-append, sum_by-cons}
 use Rattle.std.proofs.lemmas.Bool.Decides.{nat_tests}
-use Rattle.ngx_outside.specs.Views.{ConnView, Course, Start, Job, StepsOwn, OneSteps, LeftBy, nobody}
-use Rattle.ngx_outside.specs.Wants.{wants_at, read_want}
-use Rattle.ngx_outside.specs.declared.event.Want.{Want}
-use Rattle.ngx_outside.specs.declared.event.Want.TheVariants as want
+use Rattle.ngx_outside.specs.Views.{ConnView, Course, Start, StepsOwn, OneSteps, LeftBy, nobody}
 use Rattle.ngx_outside.specs.declared.event.Event.{Event}
 use Rattle.ngx_outside.specs.declared.event.Event.TheVariants as ev
 use Rattle.ngx_outside.specs.declared.event.StepAnswer.{StepAnswer}
@@ -15,60 +12,15 @@ use Rattle.ngx_outside.specs.declared.event.StepAnswer.TheVariants.{Done, Skippe
 use Rattle.site_model.specs.declared.site.Site.{Site}
 use Rattle.connection.specs.declared.conn.Conn.{Conn}
 use Rattle.connection.specs.Conn.{view_of, left_of, price, ended_by, StepsConn}
-use Rattle.connection_core.specs.Table.{view_in, journal_in, wants_held, left_in, conn_of, is_own, price_each, Below, StandsAt, BelongsAt, Splits, Placed, Replaced}
-use Rattle.connection_core.proofs.Tables.{there, elsewhere, nowhere, none_of_two, wants_split}
+use Rattle.connection_core.specs.Table.{view_in, journal_in, left_in, is_own, price_each, Below, StandsAt, BelongsAt, Placed, Replaced}
+use Rattle.connection_core.proofs.Tables.{there, elsewhere, nowhere, none_of_two}
 use Rattle.connection_core.proofs.Rows.{Parted, parted_at}
 
--- the wants of a connection are its own
-maybe : {X : Type 0} (P : X → Type 0) (b : Bool) (xs ys : List X) → AllByRecursion P xs → AllByRecursion P ys → AllByRecursion P (cond b xs ys)
-maybe P true xs ys a b = a
-maybe P false xs ys a b = b
-
-both : {X : Type 0} (P : X → Type 0) (xs ys : List X) → AllByRecursion P xs → AllByRecursion P ys → AllByRecursion P (xs ++ ys)
-both P [] ys a b = b
-both P (x ∷ xs) ys a b = (a.0, both P xs ys a.1 b)
-
-own_read : (c : ℕ) (o : Option ℕ) → AllByRecursion (λ w. conn_of w ≡ c) (read_want c o)
-own_read c None = tt
-own_read c (Some room) = (refl, tt)
-
-own_runs : (c : ℕ) (nodes : List ℕ) → AllByRecursion (λ w. conn_of w ≡ c) (map (λ node. want.Run c node) nodes)
-own_runs c [] = tt
-own_runs c (n ∷ nodes) = (refl, own_runs c nodes)
-
-own_jobs : (c : ℕ) (jobs : List Job) → AllByRecursion (λ w. conn_of w ≡ c) (map (λ job. want.Job c job.node) jobs)
-own_jobs c [] = tt
-own_jobs c (j ∷ jobs) = (refl, own_jobs c jobs)
-
-pub all_own : (c : ℕ) (v : ConnView) → AllByRecursion (λ w. conn_of w ≡ c) (wants_at c v)
-unfolding wants_at
-all_own c v =
-    both (λ w. conn_of w ≡ c) _ _
-    (both (λ w. conn_of w ≡ c) _ _
-    (both (λ w. conn_of w ≡ c) _ _ (both (λ w. conn_of w ≡ c) _ _ (own_read c v.room) (own_runs c v.ready)) (own_jobs c v.jobs))
-    (maybe (λ w. conn_of w ≡ c) _ [] (want.Write c ∷ []) tt (refl, tt)))
-    (maybe (λ w. conn_of w ≡ c) v.shut (want.Close c ∷ []) [] (refl, tt) tt)
-
-weaker : {X : Type 0} (P Q : X → Type 0) (xs : List X) → ((x : X) → P x → Q x) → AllByRecursion P xs → AllByRecursion Q xs
-weaker P Q [] f a = a
-weaker P Q (x ∷ xs) f a = (f x a.0, weaker P Q xs f a.1)
-
--- those of all are of those that are held
-pub wants_of_held : (P : ℕ → Type 0) (site : Site) (ids : List ℕ) (conns : List Conn) → AllByRecursion P ids → AllByRecursion (λ w. P (conn_of w)) (wants_held site ids conns)
-wants_of_held P site [] conns a = tt
-wants_of_held P site (id ∷ ids) [] a = tt
-wants_of_held P site (id ∷ ids) (conn ∷ conns) a =
-    both (λ w. P (conn_of w)) (wants_at id (view_of site conn)) (wants_held site ids conns)
-    (weaker (λ w. conn_of w ≡ id) (λ w. P (conn_of w)) (wants_at id (view_of site conn)) (λ w e. subst P (sym e) a.0) (all_own id (view_of site conn)))
-    (wants_of_held P site ids conns a.1)
-
 -- a connection at its place, among its numbers
-pub record Seat (site : Site) (c at : ℕ) (ids : List ℕ) (conns : List Conn) (wants : List Want) : Type 0 where
+pub record Seat (c at : ℕ) (ids : List ℕ) (conns : List Conn) : Type 0 where
   pub stands : StandsAt c ids at
-  pub placed : Placed site c at conns wants
+  pub placed : Placed at conns
   pub even : length placed.front ≡ length stands.front
-  pub lower : placed.lower ≡ wants_held site stands.front placed.front
-  pub higher : placed.higher ≡ wants_held site stands.back placed.back
 
 stands_within : (c at : ℕ) (ids : List ℕ) (conns : List Conn) → StandsAt c ids at → length conns ≡ length ids → at < length conns
 stands_within c at ids conns s paired =
@@ -77,40 +29,15 @@ stands_within c at ids conns s paired =
     let g = s.size in
     omega (arith, e, f, g, paired)
 
-seat_of : (site : Site) (c at : ℕ) (ids : List ℕ) (conns : List Conn) (wants : List Want) → (s : StandsAt c ids at) → (p : Parted conns at) → wants ≡ wants_held site ids conns → Seat site c at ids conns wants
-seat_of site c at ids conns wants s p told = record {
+seat_of : (c at : ℕ) (ids : List ℕ) (conns : List Conn) → StandsAt c ids at → Parted conns at → Seat c at ids conns
+seat_of c at ids conns s p = record {
   stands = s;
-  placed = record {
-    front = p.front;
-    here = p.here;
-    back = p.back;
-    whole = p.whole;
-    size = p.size;
-    lower = wants_held site s.front p.front;
-    higher = wants_held site s.back p.back;
-    wanted = told ∙ ap (λ l. wants_held site l conns) s.whole ∙ ap (λ l. wants_held site (s.front ++ c ∷ s.back) l) p.whole ∙ wants_split site s.front p.front c p.here s.back p.back (p.size ∙ sym s.size);
-    all_lower = wants_of_held (λ n. n < c) site s.front p.front s.below;
-    all_higher = wants_of_held (λ n. c < n) site s.back p.back s.above;
-  };
+  placed = record { front = p.front; here = p.here; back = p.back; whole = p.whole; size = p.size };
   even = p.size ∙ sym s.size;
-  lower = refl;
-  higher = refl;
 }
 
-pub seat_at : (site : Site) (c at : ℕ) (ids : List ℕ) (conns : List Conn) (wants : List Want) → StandsAt c ids at → length conns ≡ length ids → wants ≡ wants_held site ids conns → Seat site c at ids conns wants
-seat_at site c at ids conns wants s paired told = seat_of site c at ids conns wants s (parted_at conns at (stands_within c at ids conns s paired)) told
-
-abbrev pub splits_of : (site : Site) (c at : ℕ) (conns : List Conn) (wants : List Want) (gone : ℕ) (p : Placed site c at conns wants) → gone ≡ length (wants_at c (view_of site p.here)) → Splits c wants gone
-splits_of site c at conns wants gone p e = record {
-  lower = p.lower;
-  own = wants_at c (view_of site p.here);
-  higher = p.higher;
-  whole = p.wanted;
-  size = sym e;
-  all_lower = p.all_lower;
-  all_own = all_own c (view_of site p.here);
-  all_higher = p.all_higher;
-}
+pub seat_at : (c at : ℕ) (ids : List ℕ) (conns : List Conn) → StandsAt c ids at → length conns ≡ length ids → Seat c at ids conns
+seat_at c at ids conns s paired = seat_of c at ids conns s (parted_at conns at (stands_within c at ids conns s paired))
 
 set_there : {X : Type 0} (front : List X) (here new : X) (back : List X) → set (front ++ here ∷ back) (length front) new ≡ front ++ new ∷ back
 set_there [] here new back = refl
@@ -121,69 +48,59 @@ get_there [] here back d = refl
 get_there (x ∷ front) here back d = get_there front here back d
 
 -- the connection at the place
-pub here_is : (site : Site) (c at : ℕ) (conns : List Conn) (wants : List Want) (p : Placed site c at conns wants) (here : Conn) → here ≡ get_or conns at here → here ≡ p.here
-here_is site c at conns wants p here e =
+pub here_is : (at : ℕ) (conns : List Conn) (p : Placed at conns) (here : Conn) → here ≡ get_or conns at here → here ≡ p.here
+here_is at conns p here e =
     e ∙ ap (λ l. get_or l at here) p.whole ∙ ap (λ k. get_or (p.front ++ p.here ∷ p.back) k here) (sym p.size) ∙ get_there p.front p.here p.back here
 
--- another stands in its place
-pub replaced_at : (site : Site) (c at : ℕ) (conns : List Conn) (wants wants' : List Want) (Does : Conn → Conn → Type 0) (p : Placed site c at conns wants) (here new : Conn) → here ≡ get_or conns at here → Does here new →
-    wants' ≡ p.lower ++ (wants_at c (view_of site new) ++ p.higher) → Replaced site c at conns wants Does p (set conns at new) wants'
-replaced_at site c at conns wants wants' Does p here new e d w = record {
+-- another is in its place
+pub replaced_at : (at : ℕ) (conns : List Conn) (Does : Conn → Conn → Type 0) (p : Placed at conns) (here new : Conn) → here ≡ get_or conns at here → Does here new →
+    Replaced at conns Does p (set conns at new)
+replaced_at at conns Does p here new e d = record {
   there = new;
-  does = subst (λ x. Does x new) (here_is site c at conns wants p here e) d;
+  does = subst (λ x. Does x new) (here_is at conns p here e) d;
   whole = ap (λ l. set l at new) p.whole ∙ ap (λ k. set (p.front ++ p.here ∷ p.back) k new) (sym p.size) ∙ set_there p.front p.here new p.back;
-  wanted = w;
 }
 
 -- what the connection under the number shows
-pub seen : (site : Site) (c at : ℕ) (ids : List ℕ) (conns : List Conn) (wants : List Want) (s : Seat site c at ids conns wants) → view_in site ids conns c ≡ view_of site s.placed.here
-seen site c at ids conns wants s =
+pub seen : (site : Site) (c at : ℕ) (ids : List ℕ) (conns : List Conn) (s : Seat c at ids conns) → view_in site ids conns c ≡ view_of site s.placed.here
+seen site c at ids conns s =
     let p = s.placed in
     let t = s.stands in
     ap (λ l. view_in site l conns c) t.whole ∙ ap (λ l. view_in site (t.front ++ c ∷ t.back) l c) p.whole ∙ there site t.front p.front c p.here t.back p.back s.even t.below
 
 -- what it shows when it has changed
-pub changed : (site : Site) (c at : ℕ) (ids : List ℕ) (conns conns' : List Conn) (wants wants' : List Want) (Does : Conn → Conn → Type 0) (s : Seat site c at ids conns wants) →
-    (r : Replaced site c at conns wants Does s.placed conns' wants') → view_in site ids conns' c ≡ view_of site r.there
-changed site c at ids conns conns' wants wants' Does s r =
+pub changed : (site : Site) (c at : ℕ) (ids : List ℕ) (conns conns' : List Conn) (Does : Conn → Conn → Type 0) (s : Seat c at ids conns) →
+    (r : Replaced at conns Does s.placed conns') → view_in site ids conns' c ≡ view_of site r.there
+changed site c at ids conns conns' Does s r =
     let p = s.placed in
     let t = s.stands in
     ap (λ l. view_in site l conns' c) t.whole ∙ ap (λ l. view_in site (t.front ++ c ∷ t.back) l c) r.whole ∙ there site t.front p.front c r.there t.back p.back s.even t.below
 
 -- other numbers see nothing of it
-beside : (site : Site) (c at : ℕ) (ids : List ℕ) (conns conns' : List Conn) (wants wants' : List Want) (Does : Conn → Conn → Type 0) (s : Seat site c at ids conns wants) →
-    Replaced site c at conns wants Does s.placed conns' wants' → (q : ℕ) → q ≢ c → view_in site ids conns' q ≡ view_in site ids conns q
-beside site c at ids conns conns' wants wants' Does s r q ne =
+beside : (site : Site) (c at : ℕ) (ids : List ℕ) (conns conns' : List Conn) (Does : Conn → Conn → Type 0) (s : Seat c at ids conns) →
+    Replaced at conns Does s.placed conns' → (q : ℕ) → q ≢ c → view_in site ids conns' q ≡ view_in site ids conns q
+beside site c at ids conns conns' Does s r q ne =
     let p = s.placed in
     let t = s.stands in
     ap (λ l. view_in site l conns' q) t.whole ∙ ap (λ l. view_in site (t.front ++ c ∷ t.back) l q) r.whole ∙ elsewhere site t.front p.front c r.there t.back p.back q s.even ne
     ∙ sym (ap (λ l. view_in site l conns q) t.whole ∙ ap (λ l. view_in site (t.front ++ c ∷ t.back) l q) p.whole ∙ elsewhere site t.front p.front c p.here t.back p.back q s.even ne)
 
 -- one connection has changed
-pub one_steps : (site : Site) (c at : ℕ) (ids : List ℕ) (conns conns' : List Conn) (wants wants' : List Want) (now : Start) (e : Event) (a : StepAnswer) (s : Seat site c at ids conns wants) →
-    Replaced site c at conns wants (λ old new. StepsConn site now e a old new) s.placed conns' wants' → (course : Course) → OneSteps c (StepsOwn course now e a) (view_in site ids conns) (view_in site ids conns')
-one_steps site c at ids conns conns' wants wants' now e a s r course = record {
+pub one_steps : (site : Site) (c at : ℕ) (ids : List ℕ) (conns conns' : List Conn) (now : Start) (e : Event) (a : StepAnswer) (s : Seat c at ids conns) →
+    Replaced at conns (λ old new. StepsConn site now e a old new) s.placed conns' → (course : Course) → OneSteps c (StepsOwn course now e a) (view_in site ids conns) (view_in site ids conns')
+one_steps site c at ids conns conns' now e a s r course = record {
   own =
-      subst (λ v. StepsOwn course now e a v (view_in site ids conns' c)) (sym (seen site c at ids conns wants s))
-      (subst (λ v. StepsOwn course now e a (view_of site s.placed.here) v) (sym (changed site c at ids conns conns' wants wants' (λ old new. StepsConn site now e a old new) s r)) (r.does.own course));
-  others = beside site c at ids conns conns' wants wants' (λ old new. StepsConn site now e a old new) s r;
+      subst (λ v. StepsOwn course now e a v (view_in site ids conns' c)) (sym (seen site c at ids conns s))
+      (subst (λ v. StepsOwn course now e a (view_of site s.placed.here) v) (sym (changed site c at ids conns conns' (λ old new. StepsConn site now e a old new) s r)) (r.does.own course));
+  others = beside site c at ids conns conns' (λ old new. StepsConn site now e a old new) s r;
 }
 
 -- its input ended as its event says
-pub one_ended : (site : Site) (c at : ℕ) (ids : List ℕ) (conns conns' : List Conn) (wants wants' : List Want) (now : Start) (e : Event) (a : StepAnswer) (s : Seat site c at ids conns wants) →
-    Replaced site c at conns wants (λ old new. StepsConn site now e a old new) s.placed conns' wants' → (view_in site ids conns' c).ended ≡ ended_by e a (view_in site ids conns c).ended
-one_ended site c at ids conns conns' wants wants' now e a s r =
-    ap (λ (v : ConnView). v.ended) (changed site c at ids conns conns' wants wants' (λ old new. StepsConn site now e a old new) s r) ∙ r.does.ended
-    ∙ sym (ap (λ (v : ConnView). ended_by e a v.ended) (seen site c at ids conns wants s))
-
--- the wants of all are told
-pub told_after : (site : Site) (c at : ℕ) (ids : List ℕ) (conns conns' : List Conn) (wants wants' : List Want) (Does : Conn → Conn → Type 0) (s : Seat site c at ids conns wants) →
-    Replaced site c at conns wants Does s.placed conns' wants' → wants' ≡ wants_held site ids conns'
-told_after site c at ids conns conns' wants wants' Does s r =
-    let p = s.placed in
-    let t = s.stands in
-    r.wanted ∙ ap (λ l. l ++ (wants_at c (view_of site r.there) ++ p.higher)) s.lower ∙ ap (λ l. wants_held site t.front p.front ++ (wants_at c (view_of site r.there) ++ l)) s.higher
-    ∙ sym (ap (λ l. wants_held site l conns') t.whole ∙ ap (λ l. wants_held site (t.front ++ c ∷ t.back) l) r.whole ∙ wants_split site t.front p.front c r.there t.back p.back s.even)
+pub one_ended : (site : Site) (c at : ℕ) (ids : List ℕ) (conns conns' : List Conn) (now : Start) (e : Event) (a : StepAnswer) (s : Seat c at ids conns) →
+    Replaced at conns (λ old new. StepsConn site now e a old new) s.placed conns' → (view_in site ids conns' c).ended ≡ ended_by e a (view_in site ids conns c).ended
+one_ended site c at ids conns conns' now e a s r =
+    ap (λ (v : ConnView). v.ended) (changed site c at ids conns conns' (λ old new. StepsConn site now e a old new) s r) ∙ r.does.ended
+    ∙ sym (ap (λ (v : ConnView). ended_by e a v.ended) (seen site c at ids conns s))
 
 pub left_split : (front back : List Conn) (conn : Conn) → left_in (front ++ conn ∷ back) ≡ left_in front + ((1 + left_of conn) + left_in back)
 left_split front back conn =
@@ -219,9 +136,9 @@ left_more (ev.Tick moment) a k m n x y o f g h = cc
 left_more (ev.Tree to) a k m n x y o f g h = cc
 left_more (ev.Gone conn) a k m n x y o f g h = cc
 
-pub left_after : (site : Site) (c at : ℕ) (ids : List ℕ) (conns conns' : List Conn) (wants wants' : List Want) (now : Start) (e : Event) (a : StepAnswer) (s : Seat site c at ids conns wants) → is_own e ≡ true →
-    Replaced site c at conns wants (λ old new. StepsConn site now e a old new) s.placed conns' wants' → LeftBy price_each e a (left_in conns) (left_in conns')
-left_after site c at ids conns conns' wants wants' now e a s o r =
+pub left_after : (site : Site) (c at : ℕ) (ids : List ℕ) (conns conns' : List Conn) (now : Start) (e : Event) (a : StepAnswer) (s : Seat c at ids conns) → is_own e ≡ true →
+    Replaced at conns (λ old new. StepsConn site now e a old new) s.placed conns' → LeftBy price_each e a (left_in conns) (left_in conns')
+left_after site c at ids conns conns' now e a s o r =
     let p = s.placed in
     let was = ap left_in p.whole ∙ left_split p.front p.back p.here in
     let is = ap left_in r.whole ∙ left_split p.front p.back r.there in
@@ -283,8 +200,8 @@ journal_nowhere (id ∷ ids) (conn ∷ conns) c a =
     let h : eqb id c ≡ false = grind (arith, nat_tests) in
     ap (λ t. cond t conn.journal.items (journal_in ids conns c)) h ∙ journal_nowhere ids conns c a.1
 
-pub journal_seen : (site : Site) (c at : ℕ) (ids : List ℕ) (conns : List Conn) (wants : List Want) (s : Seat site c at ids conns wants) → journal_in ids conns c ≡ s.placed.here.journal.items
-journal_seen site c at ids conns wants s =
+pub journal_seen : (site : Site) (c at : ℕ) (ids : List ℕ) (conns : List Conn) (s : Seat c at ids conns) → journal_in ids conns c ≡ s.placed.here.journal.items
+journal_seen site c at ids conns s =
     let p = s.placed in
     let t = s.stands in
     ap (λ l. journal_in l conns c) t.whole ∙ ap (λ l. journal_in (t.front ++ c ∷ t.back) l c) p.whole ∙ journal_there t.front p.front c p.here t.back p.back s.even t.below
@@ -298,15 +215,3 @@ stands_in c at lent ids e s = subst (λ l. StandsAt c l at) e s
 
 pub belongs_in : (c at : ℕ) (lent ids : List ℕ) → lent ≡ ids → BelongsAt c lent at → BelongsAt c ids at
 belongs_in c at lent ids e b = subst (λ l. BelongsAt c l at) e b
-
-abbrev pub splits_in : (c : ℕ) (lent wants : List Want) (n : ℕ) → lent ≡ wants → Splits c wants n → Splits c lent n
-splits_in c lent wants n e s = record {
-  lower = s.lower;
-  own = s.own;
-  higher = s.higher;
-  whole = e ∙ s.whole;
-  size = s.size;
-  all_lower = s.all_lower;
-  all_own = s.all_own;
-  all_higher = s.all_higher;
-}

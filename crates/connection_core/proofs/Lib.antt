@@ -1,5 +1,4 @@
 pub mod Tables
-pub mod Spliced
 pub mod Places
 pub mod Rows
 pub mod Held

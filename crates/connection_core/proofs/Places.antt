@@ -43,6 +43,17 @@ above_dropped c i ids le h = from_index (λ id. c < id) (drop i ids) at
         let ki : i + k < length ids = omega (arith, lt, size, le) in
         subst (λ x. c < x) (sym (get_or-drop i ids k d ∙ get_or_default ids (i + k) d 0 ki)) (h (i + k) (omega arith) ki)
 
+pub stands : (ids : List ℕ) (c i : ℕ) → IsStrictlyIncreasing ids → i < length ids → get_or ids i 0 ≡ c → StandsAt c ids i
+stands ids c i s lt e =
+    record {
+      front = take i ids;
+      back = drop (i + 1) ids;
+      whole = sym (take-append-drop i ids) ∙ ap (λ r. take i ids ++ r) (at_drop_more (λ r. r) ids i 0 lt) ∙ ap (λ x. take i ids ++ x ∷ drop (i + 1) ids) e;
+      size = size_taken i ids (omega (arith, lt));
+      below = below_taken c i ids (omega (arith, lt)) (λ k h. let p = AllPairs-from_increasing ids s k i 0 h lt in omega (arith, p, e));
+      above = above_dropped c (i + 1) ids (omega (arith, lt)) (λ k h l. let p = AllPairs-from_increasing ids s i k 0 (omega (arith, h)) l in omega (arith, p, e));
+    }
+
 pub placed : (ids : List ℕ) (c : ℕ) (r : Result ℕ ℕ) → IsStrictlyIncreasing ids → IsBinarySearchResult (λ y. nat_cmp y c) ids r → MatchResult r (λ i. StandsAt c ids i) (λ i. BelongsAt c ids i)
 placed ids c (Ok i) s b =
     let f = searched ids c (Ok i) b (rises ids s) in

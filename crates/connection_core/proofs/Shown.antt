@@ -22,6 +22,7 @@ nobody_sound = record {
   idle = λ h trees later. refl;
   logged = λ h trees later. refl;
   shut = λ h s trees later. refl;
+  shuts = λ h trees later. cc;
   closes = λ l h e trees more later. cc;
 }
 

@@ -37,10 +37,15 @@ price_at h = price_each
 abbrev pub refused_at : Hub → ℕ
 refused_at h = h.refused
 
--- What a core of a site keeps to: each connection is served by the site at its two ends, where one of the site's servers
--- listens at its local end; at most 512 are held at once.
+-- What a core of a site keeps to: each connection is served by the site at its two ends, where one
+-- of the site's servers listens at its local end; at most 512 are held at once.
 abbrev pub site_terms : Site → Terms
-site_terms site = record { fresh = fresh_course site; serves = listens_there site; limit = most_held; price = price_each }
+site_terms site = record {
+  fresh = fresh_course site;
+  serves = listens_there site;
+  limit = most_held;
+  price = price_each;
+}
 
 -- what it keeps to
 abbrev pub terms_at : Hub → Terms
@@ -59,8 +64,8 @@ seen_at h =
       events = None;
     }
 
--- what is so of each connection that a core shows: it is sound and exact, its journal tells when its requests started and what is logged
--- of each, and the order of steps can't change its bytes
+-- what is so of each connection that a core shows: it is sound and exact, its journal tells when
+-- its requests started and what is logged of each, and the order of steps can't change its bytes
 pub record IsShown (h : Hub) (c : ℕ) : Type 0 where
   pub sound : IsSound (view_at h c)
   pub exact : IsExact (view_at h c)

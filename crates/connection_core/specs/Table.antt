@@ -2,9 +2,6 @@
 use Rattle.std.specs.Prelude.{◌≡◌, Bool, true, false, ℕ, ◌+◌, ◌==◌, ◌<◌, ◌≤◌, List, [], ◌∷◌, ◌++◌, length, sum_by, not, ◌&&◌, ◌||◌, nat_lt, is_some, if◌then◌else◌}
 use Rattle.std.specs.List.{AllByRecursion}
 use Rattle.ngx_outside.specs.Views.{ConnView, nobody}
-use Rattle.ngx_outside.specs.Wants.{wants_at}
-use Rattle.ngx_outside.specs.declared.event.Want.{Want}
-use Rattle.ngx_outside.specs.declared.event.Want.TheVariants as want
 use Rattle.ngx_outside.specs.Causes.{Rose}
 use Rattle.ngx_outside.specs.declared.event.StepAnswer.{StepAnswer}
 use Rattle.ngx_outside.specs.declared.event.StepAnswer.TheVariants.{Done, Skipped, OutOfMemory}
@@ -22,19 +19,15 @@ use Rattle.connection.specs.Conn.{view_of, left_of, asked_of, price}
 abbrev pub view_in : Site → List ℕ → List Conn → ℕ → ConnView
 view_in site [] conns c = nobody
 view_in site (id ∷ ids) [] c = nobody
-view_in site (id ∷ ids) (conn ∷ conns) c = if id == c then view_of site conn else view_in site ids conns c
+view_in site (id ∷ ids)
+    (conn ∷ conns) c = if id == c then view_of site conn else view_in site ids conns c
 
 -- the requests that were started on the connection under a number
 abbrev pub journal_in : List ℕ → List Conn → ℕ → List Entry
 journal_in [] conns c = []
 journal_in (id ∷ ids) [] c = []
-journal_in (id ∷ ids) (conn ∷ conns) c = if id == c then conn.journal.items else journal_in ids conns c
-
--- the wants of all, in the order of their numbers
-abbrev pub wants_held : Site → List ℕ → List Conn → List Want
-wants_held site [] conns = []
-wants_held site (id ∷ ids) [] = []
-wants_held site (id ∷ ids) (conn ∷ conns) = wants_at id (view_of site conn) ++ wants_held site ids conns
+journal_in (id ∷ ids)
+    (conn ∷ conns) c = if id == c then conn.journal.items else journal_in ids conns c
 
 -- the work that is left on all, with one for each that is to be closed some time
 abbrev pub left_in : List Conn → ℕ
@@ -43,14 +36,6 @@ left_in conns = sum_by (λ conn. 1 + left_of conn) conns
 -- no job asks of a tree with a higher number than this
 abbrev pub AllKnown : ℕ → List Conn → Type 0
 AllKnown tree conns = AllByRecursion (λ conn. asked_of conn ≤ tree) conns
-
--- the connection of a want
-abbrev pub conn_of : Want → ℕ
-conn_of (want.Read conn room) = conn
-conn_of (want.Run conn node) = conn
-conn_of (want.Job conn node) = conn
-conn_of (want.Write conn) = conn
-conn_of (want.Close conn) = conn
 
 -- the event is of a connection that is held, and leaves it held
 abbrev pub is_own : Event → Bool
@@ -96,18 +81,14 @@ listens_there site local = is_some (server_for (seen site).servers local)
 abbrev pub has_place : Site → List ℕ → Addr → Bool
 has_place site ids local = nat_lt (length ids) most_held && listens_there site local
 
--- whether a connection of this number can be opened at a local end: it isn't held, there is room, and the site listens there
+-- whether a connection of this number can be opened at a local end: it isn't held, there is room,
+-- and the site listens there
 abbrev pub opens_in : Site → List ℕ → ℕ → Addr → Bool
 opens_in site ids c local = not (is_among c ids) && has_place site ids local
 
 -- what an opening, or a byte that arrives, may add to the work that is left
 abbrev pub price_each : ℕ
 price_each = price + 1
-
--- one where a test holds
-abbrev pub tally : Bool → ℕ
-tally true = 1
-tally false = 0
 
 -- numbers below this one, and above it
 abbrev pub Below : ℕ → List ℕ → Type 0
@@ -134,36 +115,20 @@ pub record BelongsAt (c : ℕ) (ids : List ℕ) (i : ℕ) : Type 0 where
   pub below : Below c front
   pub above : Above c back
 
--- a connection among those that are held, and its wants among those of all
-pub record Placed (site : Site) (c at : ℕ) (conns : List Conn) (wants : List Want) : Type 0 where
+-- a connection among those that are held
+pub record Placed (at : ℕ) (conns : List Conn) : Type 0 where
   pub front : List Conn
   pub here : Conn
   pub back : List Conn
   pub whole : conns ≡ front ++ here ∷ back
   pub size : length front ≡ at
-  pub lower : List Want
-  pub higher : List Want
-  pub wanted : wants ≡ lower ++ (wants_at c (view_of site here) ++ higher)
-  pub all_lower : AllByRecursion (λ w. conn_of w < c) lower
-  pub all_higher : AllByRecursion (λ w. c < conn_of w) higher
 
--- it changes, and its wants with it
-pub record Replaced (site : Site) (c at : ℕ) (conns : List Conn) (wants : List Want) (Does : Conn → Conn → Type 0) (p : Placed site c at conns wants) (conns' : List Conn) (wants' : List Want) : Type 0 where
+-- it changes
+pub record Replaced (at : ℕ) (conns : List Conn) (Does : Conn → Conn → Type 0) (p : Placed at conns)
+    (conns' : List Conn) : Type 0 where
   pub there : Conn
   pub does : Does p.here there
   pub whole : conns' ≡ p.front ++ there ∷ p.back
-  pub wanted : wants' ≡ p.lower ++ (wants_at c (view_of site there) ++ p.higher)
-
--- the wants of lower numbers, those of this one, of which there are so many, and those of higher ones
-pub record Splits (c : ℕ) (wants : List Want) (count : ℕ) : Type 0 where
-  pub lower : List Want
-  pub own : List Want
-  pub higher : List Want
-  pub whole : wants ≡ lower ++ (own ++ higher)
-  pub size : length own ≡ count
-  pub all_lower : AllByRecursion (λ w. conn_of w < c) lower
-  pub all_own : AllByRecursion (λ w. conn_of w ≡ c) own
-  pub all_higher : AllByRecursion (λ w. c < conn_of w) higher
 
 -- an answer that refuses raises the count
 abbrev pub Counted : StepAnswer → ℕ → ℕ → Type 0

@@ -5,8 +5,7 @@ ghost use Rattle.connection_core.specs.Table.{AllKnown, Counted};
 
 use crate::law::cores_are_sound;
 use crate::table::Table;
-use byte_text::OutOfMemory;
-use connection::{Workspace, connections_are_sound};
+use connection::{Workspace, connections_are_sound, next_want};
 use file_tree::Ask;
 use http_types::Addr;
 use ngx_outside::{Entry, Event, EventCore, StepAnswer, StopCause, Want};
@@ -48,22 +47,21 @@ impl Hub {
     ghost use Rattle.connection_core.specs.Core.{view_at, journal_at, conns_held, terms_at, site_terms, now_at, left_at, refused_at};
 
     /// A core that holds no connection, at moment 0 and tree 0.
-    pub fn new(alloc: Global, site: Site) -> Result<Self, OutOfMemory>
-        ensures empty { IfOk result (λ hub. (c : ℕ) → view_at hub c ≡ nobody) }
-        ensures none { IfOk result (λ hub. conns_held hub ≡ []) }
-        ensures terms { IfOk result (λ hub. terms_at hub ≡ site_terms site) }
-        ensures now { IfOk result (λ hub. now_at hub ≡ record { moment = 0; tree = 0 }) }
-        ensures left { IfOk result (λ hub. left_at hub ≡ 0) }
-        ensures refused { IfOk result (λ hub. refused_at hub ≡ 0) }
+    pub fn new(alloc: Global, site: Site) -> Self
+        ensures empty { (c : ℕ) → view_at result c ≡ nobody }
+        ensures none { conns_held result ≡ [] }
+        ensures terms { terms_at result ≡ site_terms site }
+        ensures now { now_at result ≡ record { moment = 0; tree = 0 } }
+        ensures left { left_at result ≡ 0 }
+        ensures refused { refused_at result ≡ 0 }
     {
-        let table = Table::new(alloc, site)?;
-        Ok(Hub {
+        Hub {
             space: Workspace::new(alloc),
-            table,
+            table: Table::new(alloc, site),
             moment: 0,
             tree: 0,
             refused: 0,
-        })
+        }
     }
 
     /// Whether nothing is to be done on a connection until more arrives; false where it isn't held.
@@ -110,7 +108,8 @@ impl Hub {
     pub fn ids(&self) -> &[u32]
         ensures ids { result.now ≡ conns_held self.now }
         ensures order { IsStrictlyIncreasing (conns_held self.now) }
-        ensures held { (c : ℕ) → Contains (conns_held self.now) c ↔ ((view_at self.now c).held ≡ true) }
+        ensures held { (c : ℕ) → Contains (conns_held self.now) c ↔
+            ((view_at self.now c).held ≡ true) }
     {
         self.table.ids.as_slice()
     }
@@ -119,13 +118,16 @@ impl Hub {
     fn own(&mut self, conn: u32, event: Event) -> StepAnswer
         requires own { is_own event ≡ true }
         requires conn { event_conn event ≡ conn }
-        ensures steps { (fresh : End → End → Course) → Steps fresh (now_at self.old) event.entry result (view_at self.old) (view_at self.new) }
+        ensures steps { (fresh : End → End → Course) →
+            Steps fresh (now_at self.old) event.entry result (view_at self.old) (view_at self.new) }
         ensures opens { (opens : ℕ → End → Bool) → OpensIf opens event.entry result }
-        ensures ended { (c : ℕ) → (view_at self.new c).ended ≡ ended_after event.entry result c (view_at self.old c).ended }
+        ensures ended { (c : ℕ) → (view_at self.new c).ended ≡ ended_after event.entry result c
+            (view_at self.old c).ended }
         ensures taken { TakesNone event.entry result }
         ensures now { now_at self.new ≡ now_after (now_at self.old) event.entry result }
         ensures left { LeftBy price_each event.entry result (left_at self.old) (left_at self.new) }
-        ensures refused { CountsRefused event.entry result (refused_at self.old) (refused_at self.new) }
+        ensures refused { CountsRefused event.entry result (refused_at self.old)
+            (refused_at self.new) }
         ensures site { self.new.table.site ≡ self.old.table.site }
         ensures ids { self.new.table.ids.items ≡ self.old.table.ids.items }
     {
@@ -183,13 +185,16 @@ impl EventCore for Hub {
         }
     }
 
-    fn wants(&self) -> &[Want] {
-        self.table.wants.as_slice()
+    fn conns(&self) -> &[u32] {
+        self.table.ids.as_slice()
     }
 
-    fn wants_of(&self, conn: u32) -> &[Want] {
+    fn next_want(&self, conn: u32, due: bool, full: bool) -> Option<Want> {
         connections_are_sound();
-        self.table.wants_of(conn)
+        match self.table.get(conn) {
+            Some(held) => next_want(held, conn, due, full),
+            None => None,
+        }
     }
 
     fn ask(&self, conn: u32, node: u32) -> Option<&Ask> {

@@ -5,7 +5,6 @@ mod hub;
 mod law;
 mod place;
 mod table;
-mod wants;
 
 pub use hub::Hub;
 pub use law::cores_are_sound;

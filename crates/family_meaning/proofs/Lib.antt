@@ -1,2 +1,2 @@
-mod Exacts
-mod Orders
+pub mod Exacts
+pub mod Orders

@@ -1,6 +1,7 @@
 use addition_filter::AdditionFilter;
 use byte_text::{ByteText, OutOfMemory};
-use filter_api::{BodyFilter, Facts, FilterState};
+use filter_api::{BodyFilter, Chain, Facts};
+use ssi_filter::SsiFilter;
 use ssi_text::{Param, Params, Part, SsiState};
 use std::alloc::Global;
 use std::process::Abort;
@@ -138,34 +139,50 @@ fn parameters_are_given_back(rt: HostRuntime) -> Result<(), Fail> {
     Ok(())
 }
 
+/// What comes out of both filters where a document comes in two pieces.
+fn turned(
+    alloc: Global,
+    facts: &Facts,
+    first: &[u8],
+    rest: &[u8],
+) -> Result<ByteText, OutOfMemory> {
+    let mut members: Vec<Box<dyn BodyFilter>> = Vec::new(alloc);
+    members.push(Box::new(alloc, SsiFilter)?)?;
+    members.push(Box::new(alloc, AdditionFilter)?)?;
+    let Ok(chain) = Chain::new(members) else {
+        return Ok(ByteText::new(alloc));
+    };
+    let mut parts = Vec::new(alloc);
+    parts.push(Part::Text(ByteText::from_slice(alloc, first)?))?;
+    parts.push(Part::Text(ByteText::from_slice(alloc, rest)?))?;
+    let mut out = Vec::new(alloc);
+    chain.turn(alloc, facts, parts, &mut out)?;
+    shown(alloc, out.as_slice())
+}
+
 #[test]
-fn a_body_is_between_its_marks(rt: HostRuntime) -> Result<(), Fail> {
+fn a_document_goes_through_the_filters_in_any_pieces(rt: HostRuntime) -> Result<(), Fail> {
     let alloc = rt.alloc();
     let mut facts = Facts {
-        ssi: false,
-        ssi_type: false,
+        ssi: true,
+        ssi_type: true,
         before: true,
         after: false,
         addition_type: true,
         status: 200,
         main: true,
     };
-    let filter = AdditionFilter;
-    assert_eq!(rt; filter.kind(), 2);
-    assert!(rt; filter.on(&facts));
-    let mut state = FilterState {
-        held: ByteText::new(alloc),
-        count: 0,
-    };
-    let mut out = Vec::new(alloc);
-    let part = Part::Text(ByteText::from_slice(alloc, b"ab")?);
-    filter.feed(&facts, alloc, &mut state, part, &mut out)?;
-    filter.end(&facts, alloc, &mut state, &mut out)?;
-    assert_eq!(rt;
-        shown(alloc, out.as_slice())?.as_slice(),
-        b"<before>ab<after>".as_slice()
-    );
+    let document = b"ba<!--# Echo var=\"-->\" -->na<!--# = --><!-".as_slice();
+    for at in 0..document.len() {
+        let text = turned(alloc, &facts, &document[..at], &document[at..])?;
+        assert_eq!(rt;
+            text.as_slice(),
+            b"<before>ba{echo|var=-->}na{}<!-<after>".as_slice()
+        );
+    }
+    facts.ssi_type = false;
     facts.status = 404;
-    assert!(rt; !filter.on(&facts));
+    let text = turned(alloc, &facts, b"a<!--# ec", b"ho -->")?;
+    assert_eq!(rt; text.as_slice(), b"a<!--# echo -->".as_slice());
     Ok(())
 }

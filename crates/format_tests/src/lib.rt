@@ -1,4 +1,4 @@
-//! Tests of the crates that read and write formats: requests, bodies, documents, values, scripts and reports. What a
+//! Tests of the crates that read and write formats: requests, bodies, documents, values, scripts, reports and command lines. What a
 //! definition answers is in rows (`proofs/Rows.antt`), which the check computes; the tests run the code.
 #![tactic(auto)]
 

@@ -1,4 +1,6 @@
 pub mod Order
+pub mod Shared
+pub mod First
 pub mod Counts
 pub mod Halves
 pub mod Nearest

@@ -1,10 +1,12 @@
 -- From the greatest text that isn't above a path, the nearest places lead to the longest that the path begins with.
-use Rattle.std.proofs.Common.{◌≡◌, ℕ, ◌+◌, ◌-◌, ◌<◌, ◌≤◌, Bool, true, false, List, [], ◌∷◌, length, Some, None, ⊎_elim, refl, sym, ◌∙◌, subst, arith}
+use Rattle.std.proofs.Common.{◌≡◌, ℕ, ◌+◌, ◌-◌, ◌<◌, ◌≤◌, Bool, true, false, List, [], ◌∷◌, length, Some, None, ◌⊎◌, inl, inr, ⊎_elim, refl, sym, ◌∙◌, subst, arith}
 use Rattle.std.proofs.lemmas.Bool.{cases_lt, cases_Bool, and_parts, and_from}
 use Rattle.std.proofs.lemmas.Bool.Decides.{nat_tests}
 use mathlib.Core.Bool.{true≢false}
 use Rattle.location_match.specs.Prefixes.{text_at, fits, is_inside, is_at_most, AreSorted, LeadsTo, Covers, IsLongest, FitsNone, IsGreatest, depth_at, IsHalved, IsFast}
 use Rattle.location_match.proofs.Order.{fits-at_most, fits-between, fits-both, fits-trans, fits-length, at_most-trans, at_most-total, inside-above}
+use Rattle.location_match.specs.Shared.{shared, AllShare}
+use Rattle.location_match.proofs.Shared.{shared-between, shared-between-above, shared-both}
 use Rattle.location_match.proofs.Counts.{count-more}
 
 pub not_both : {A : Type 0} (b : Bool) → b ≡ true → b ≡ false → A
@@ -16,6 +18,16 @@ at_most-refl a = ⊎_elim (λ hit. hit) (λ miss. at_most-total a a miss) (cases
 pub fits-refl : (a : List ℕ) → fits a a ≡ true
 fits-refl [] = refl
 fits-refl (x ∷ xs) = and_from _ _ (grind (arith, nat_tests)) (fits-refl xs)
+
+-- The texts from a place on that are at most the path share so many bytes with it, those before another place that are above it
+-- so many, and all of them so many.
+pub record Bounds (texts : List (List ℕ)) (path : List ℕ) (low high below above least : ℕ) : Type 0 where
+  pub lower : (i : ℕ) → low ≤ i → i < length texts → is_at_most (text_at texts i) path ≡ true → below ≤ shared (text_at texts i) path
+  pub upper : (i : ℕ) → i < high → is_at_most (text_at texts i) path ≡ false → above ≤ shared (text_at texts i) path
+  pub floor : (i : ℕ) → i < length texts → least ≤ shared (text_at texts i) path
+
+pub bounds-start : (texts : List (List ℕ)) (path : List ℕ) (high : ℕ) → Bounds texts path 0 high 0 0 0
+bounds-start texts path high = record { lower = λ i le lt h. omega arith; upper = λ i lt h. omega arith; floor = λ i lt. omega arith }
 
 module _ (texts : List (List ℕ)) (sorted : AreSorted texts) where
   -- the places are in the order of their texts
@@ -36,6 +48,42 @@ module _ (texts : List (List ℕ)) (sorted : AreSorted texts) where
       (λ hit. not_both _ (at_most-trans (text_at texts middle) (text_at texts i) path (ordered middle i le lt) hit) above)
       (λ miss. miss)
       (cases_Bool (is_at_most (text_at texts i) path))
+
+  -- ---- what the texts between two bounds share with a path
+
+  module _ (path : List ℕ) (common low high lower upper floor : ℕ) (all : AllShare texts common)
+      (bounds : Bounds texts path low high lower upper floor) where
+    pub bounds-shared : (start middle : ℕ) → low ≤ middle → middle < high → high ≤ length texts →
+        ((n : ℕ) → (lower ≤ n) ⊎ (upper ≤ n) → floor ≤ n → start ≤ n) → start ≤ shared (text_at texts middle) path
+    bounds-shared start middle le lt inside starts = ⊎_elim
+        (λ hit. starts _ (inl (bounds.lower middle le (omega (arith, lt, inside)) hit)) (bounds.floor middle (omega (arith, lt, inside))))
+        (λ miss. starts _ (inr (bounds.upper middle lt miss)) (bounds.floor middle (omega (arith, lt, inside))))
+        (cases_Bool (is_at_most (text_at texts middle) path))
+
+    module _ (middle now next : ℕ) (inside : middle < length texts) (is : now ≡ shared (text_at texts middle) path)
+        (least : (next ≤ now) × (next ≤ common)) where
+      next-floor : (i : ℕ) → i < length texts → next ≤ shared (text_at texts i) path
+      next-floor i lt =
+          let both = all i middle lt inside in
+          shared-both (text_at texts i) (text_at texts middle) path next (omega (arith, both, least.1)) (omega (arith, is, least.0))
+
+      pub bounds-right : is_at_most (text_at texts middle) path ≡ true → Bounds texts path (middle + 1) high now upper next
+      bounds-right hit = record {
+        lower = λ i le lt below.
+            let between = shared-between (text_at texts middle) (text_at texts i) path (ordered middle i (omega (arith, le)) lt) below in
+            omega (arith, is, between);
+        upper = bounds.upper;
+        floor = next-floor;
+      }
+
+      pub bounds-left : is_at_most (text_at texts middle) path ≡ false → Bounds texts path low middle lower now next
+      bounds-left miss = record {
+        lower = bounds.lower;
+        upper = λ i lt above.
+            let between = shared-between-above path (text_at texts i) (text_at texts middle) (at_most-total (text_at texts i) path above) (ordered i middle (omega (arith, lt)) inside) in
+            omega (arith, is, between);
+        floor = next-floor;
+      }
 
   module _ (path : List ℕ) where
     -- the places below a number are those of the texts that aren't above the path

@@ -7,11 +7,11 @@ use Rattle.std.specs.Ordering.{nat_cmp, is_le, ordering_then}
 use Rattle.std.specs.Cmp.Lexicographic.{slice_cmp}
 use Rattle.location_match.specs.Prefixes.{fits, is_inside, is_at_most}
 
-true_false : {A : Type 0} → true ≡ false → A
+pub true_false : {A : Type 0} → true ≡ false → A
 true_false e = absurd (true≢false e)
 
 -- what the first bytes and the others say of the order
-le_parts : (x y : ℕ) (r : Ordering) → is_le (ordering_then (nat_cmp x y) r) ≡ true → (x < y) ⊎ ((x ≡ y) × (is_le r ≡ true))
+pub le_parts : (x y : ℕ) (r : Ordering) → is_le (ordering_then (nat_cmp x y) r) ≡ true → (x < y) ⊎ ((x ≡ y) × (is_le r ≡ true))
 le_parts x y r h = ⊎_elim
     (λ (lt : x < y). inl lt)
     (λ (ge : y ≤ x). ⊎_elim
@@ -23,7 +23,7 @@ le_parts x y r h = ⊎_elim
 le_of_lt : (x y : ℕ) (r : Ordering) → x < y → is_le (ordering_then (nat_cmp x y) r) ≡ true
 le_of_lt x y r h = grind (arith, nat_tests)
 
-le_eq : (x : ℕ) (r : Ordering) → is_le (ordering_then (nat_cmp x x) r) ≡ is_le r
+pub le_eq : (x : ℕ) (r : Ordering) → is_le (ordering_then (nat_cmp x x) r) ≡ is_le r
 le_eq x r = grind (arith, nat_tests)
 
 le_of_eq : (x : ℕ) (r : Ordering) → is_le r ≡ true → is_le (ordering_then (nat_cmp x x) r) ≡ true

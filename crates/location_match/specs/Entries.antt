@@ -1,6 +1,7 @@
 -- What the entries of a list of prefixes show.
 use Rattle.std.specs.Prelude.{ℕ, List, Option, map}
 use Rattle.location_match.specs.Prefixes.{PrefixList, AreSorted, AreNested}
+use Rattle.location_match.specs.Shared.{AllShare}
 use Rattle.location_match.specs.declared.prefixes.PrefixEntry.{PrefixEntry}
 
 abbrev pub texts_of : List PrefixEntry → List (List ℕ)
@@ -16,3 +17,8 @@ nearest_of = map (λ e. e.nearest)
 pub record AreSound (entries : List PrefixEntry) : Type 0 where
   pub sorted : AreSorted (texts_of entries)
   pub nested : AreNested (texts_of entries) (nearest_of entries)
+
+-- and share this many bytes
+pub record IsSoundList (entries : List PrefixEntry) (common : ℕ) : Type 0 where
+  pub sound : AreSound entries
+  pub shared : AllShare (texts_of entries) common

@@ -1,10 +1,11 @@
 // The prefixes of a list of locations, with what keeps them in order.
 ghost use Rattle.std.specs.Prelude.{◌≡◌, ℕ, ◌-◌, ◌<◌, ◌≤◌, true, false, List, [], ◌∷◌, ◌++◌, length, IfOk, IfSome, IfNone, OnErr, IsTrue, slice_index};
 ghost use Rattle.location_match.specs.Prefixes.{text_at, is_at_most, IsLongest, FitsNone, IsFast, IsAboveAll, AreSorted};
+ghost use Rattle.location_match.specs.Shared.{AllShare};
 ghost use Rattle.location_match.specs.Entries.{texts_of, AreSound};
 
 use crate::Steps;
-use crate::prefixes::{PrefixEntry, is_not_above, longest_from, longest_in};
+use crate::prefixes::{PrefixEntry, is_not_above, longest_from, longest_in, shared_with};
 use byte_text::{ByteText, OutOfMemory};
 use std::alloc::Global;
 use std::marker::{Brand, Model};
@@ -14,17 +15,19 @@ use std::sync::ledger::{Blank, Ledger};
 #[derive(Debug, Drop)]
 pub struct Prefixes {
     entries: Vec<PrefixEntry>,
+    /// How many bytes all texts share.
+    common: usize,
 }
 
 impl Model for Prefixes {
     ghost use Rattle.location_match.specs.Prefixes.{PrefixList};
-    ghost use Rattle.location_match.specs.Entries.{list_of, AreSound};
+    ghost use Rattle.location_match.specs.Entries.{list_of, IsSoundList};
 
     ghost Value = { PrefixList };
 
     ghost view = { λ p. list_of p.entries.items };
 
-    ghost invariant = { λ p. AreSound p.entries.items };
+    ghost invariant = { λ p. IsSoundList p.entries.items p.common };
 }
 
 // Whether a text is above all entries, which are in order.
@@ -71,16 +74,22 @@ fn nearest_to(entries: &[PrefixEntry], text: &[u8]) -> Option<usize>
 }
 
 // The longest entry that a path begins with, by steps that nobody asks about.
-fn find_by<L: Ledger>(entries: &[PrefixEntry], path: &[u8], blank: Blank) -> Option<usize>
+fn find_by<L: Ledger>(
+    entries: &[PrefixEntry],
+    common: usize,
+    path: &[u8],
+    blank: Blank,
+) -> Option<usize>
     requires name { blank.name ≡ L.name }
     requires parts { blank.parts ≡ L.parts }
     requires some { 0 < blank.parts }
     requires sound { AreSound entries.now }
+    requires common { AllShare (texts_of entries.now) common }
     ensures some { IfSome result (IsLongest (texts_of entries.now) path.now) }
     ensures none { IfNone result (FitsNone (texts_of entries.now) path.now) }
 {
     let mut steps = Steps::<L>::new(blank);
-    longest_in(entries, path, &mut steps)
+    longest_in(entries, common, path, &mut steps)
 }
 
 impl Prefixes {
@@ -90,6 +99,7 @@ impl Prefixes {
     {
         Prefixes {
             entries: Vec::new(alloc),
+            common: 0,
         }
     }
 
@@ -108,11 +118,13 @@ impl Prefixes {
             return Ok(false);
         }
         let nearest = nearest_to(&self.entries, text.as_slice());
+        let common = shared_with(&self.entries, self.common, text.as_slice());
         self.entries.push(PrefixEntry {
             text,
             location,
             nearest,
         })?;
+        self.common = common;
         Ok(true)
     }
 
@@ -124,7 +136,7 @@ impl Prefixes {
         ensures counted { steps.old ≤ steps.new }
         ensures cost { IsFast self.now.texts path.now (steps.new - steps.old) }
     {
-        longest_in(&self.entries, path, steps)
+        longest_in(&self.entries, self.common, path, steps)
     }
 
     /// The same, where nobody asks about the steps.
@@ -132,7 +144,7 @@ impl Prefixes {
         ensures some { IfSome result (IsLongest self.now.texts path.now) }
         ensures none { IfNone result (FitsNone self.now.texts path.now) }
     {
-        find_by::<Brand>(&self.entries, path, Blank::new(1))
+        find_by::<Brand>(&self.entries, self.common, path, Blank::new(1))
     }
 
     /// The number of the location at a place.

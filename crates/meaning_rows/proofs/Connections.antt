@@ -1,12 +1,12 @@
 -- Rows of connections: from the bytes that arrive to the bytes that are answered.
-use Rattle.std.specs.Prelude.{◌≡◌, ℕ, [], ◌∷◌, ◌++◌, length, codes, refl, Some, map}
+use Rattle.std.specs.Prelude.{◌≡◌, ℕ, Bool, true, false, List, [], ◌∷◌, ◌++◌, length, codes, refl, Some}
 use Prim.Native.String.{String}
 use Rattle.file_tree.specs.Tree.{Trees}
-use Rattle.ngx_outside.specs.Views.{Start}
+use Rattle.ngx_outside.specs.Views.{Start, Log}
 use Rattle.meaning_rows.proofs.Opened.{opened}
 use Rattle.meaning_rows.proofs.Samples.{plain, level, server, none, at, lit, ipv4, members, no_pattern}
 use Rattle.answers_meaning.specs.Asking.{Service}
-use Rattle.answers_meaning.specs.Answers.{Response, responses, answers}
+use Rattle.answers_meaning.specs.Answers.{responses, logs_in, close_in, answers}
 use Rattle.site_views.specs.Views.Matching.{Prefix}
 use Rattle.site_views.specs.Rewrites.Directive.{Return}
 use Rattle.site_views.specs.Views.Locations.{NoMore}
@@ -31,23 +31,41 @@ row_two_requests : answers hello 0 trees (codes "GET / HTTP/1.1\r\nHost: a\r\n\r
 unfolding opened
 row_two_requests = refl
 
-abbrev pub count : String → ℕ
-count input = length (responses hello 0 trees (codes input) (start 0 ∷ start 0 ∷ start 0 ∷ []))
+abbrev pub logs : String → List Log
+logs input = logs_in (responses hello 0 trees (codes input) (start 0 ∷ start 0 ∷ start 0 ∷ []))
 
--- a body is dropped; after a broken one nothing is answered
+abbrev pub count : String → ℕ
+count input = length (logs input)
+
+abbrev pub closes : String → Bool
+closes input = close_in (responses hello 0 trees (codes input) (start 0 ∷ start 0 ∷ start 0 ∷ []))
+
+-- a body is dropped; after a broken one nothing is answered, and the connection is closed
 row_body_dropped : count "POST / HTTP/1.1\r\nHost: a\r\nContent-Length: 3\r\n\r\nabcGET / HTTP/1.1\r\nHost: a\r\n\r\n" ≡ 2
 unfolding opened
 row_body_dropped = refl
+
+row_two_stay : closes "POST / HTTP/1.1\r\nHost: a\r\nContent-Length: 3\r\n\r\nabcGET / HTTP/1.1\r\nHost: a\r\n\r\n" ≡ false
+unfolding opened
+row_two_stay = refl
 
 row_body_broken : count "POST / HTTP/1.1\r\nHost: a\r\nTransfer-Encoding: chunked\r\n\r\nz\r\nGET / HTTP/1.1\r\nHost: a\r\n\r\n" ≡ 1
 unfolding opened
 row_body_broken = refl
 
+row_broken_closes : closes "POST / HTTP/1.1\r\nHost: a\r\nTransfer-Encoding: chunked\r\n\r\nz\r\nGET / HTTP/1.1\r\nHost: a\r\n\r\n" ≡ true
+unfolding opened
+row_broken_closes = refl
+
 -- a request that is refused, and one that closes
-row_no_host : map (λ (r : Response). r.log) (responses hello 0 trees (codes "GET / HTTP/1.1\r\n\r\nGET / HTTP/1.1\r\nHost: a\r\n\r\n") (start 0 ∷ start 0 ∷ [])) ≡ (400, 150) ∷ []
+row_no_host : logs "GET / HTTP/1.1\r\n\r\nGET / HTTP/1.1\r\nHost: a\r\n\r\n" ≡ (400, 150) ∷ []
 unfolding opened
 row_no_host = refl
 
 row_close : count "GET / HTTP/1.1\r\nHost: a\r\nConnection: close\r\n\r\nGET / HTTP/1.1\r\nHost: a\r\n\r\n" ≡ 1
 unfolding opened
 row_close = refl
+
+row_close_closes : closes "GET / HTTP/1.1\r\nHost: a\r\nConnection: close\r\n\r\n" ≡ true
+unfolding opened
+row_close_closes = refl

@@ -1,11 +1,20 @@
 -- Rows of the race check.
-use Rattle.std.specs.Prelude.{◌≡◌, ℕ, true, false, List, [], ◌∷◌, codes, flat_map, refl, Some, None}
+use Rattle.std.specs.Prelude.{◌≡◌, ℕ, Bool, true, false, List, [], ◌∷◌, codes, map, flat_map, refl, Some, None}
+use Rattle.std.specs.List.{list_any}
+use Rattle.http_types.specs.declared.words.Method.TheVariants.{Get}
+use Rattle.filter_api.specs.declared.facts.Facts.{Facts}
+use Rattle.filter_api.specs.Members.{others_of}
+use Rattle.ngx_variables.specs.declared.request.Role.TheVariants.{Content}
+use Rattle.request_meaning.specs.Serving.{Child}
+use Rattle.request_meaning.specs.Replies.{reply}
+use Rattle.request_meaning.specs.Bodies.{filtered_marks}
+use Rattle.race_meaning.specs.Laws.{is_command}
 use Rattle.ngx_variables.specs.declared.request.Place.TheVariants.{Root}
 use Prim.Native.String.{String}
 use Rattle.ngx_variables.specs.declared.value.Piece.TheVariants.{Literal, Set as Variable}
 use Rattle.meaning_rows.proofs.Opened.{opened}
-use Rattle.meaning_rows.proofs.Samples.{plain, with_ssi, level, server, at, lit}
-use Rattle.race_meaning.specs.Named.{is_named, is_shown}
+use Rattle.meaning_rows.proofs.Samples.{plain, with_ssi, level, server, at, lit, none, world, main_with}
+use Rattle.race_meaning.specs.Named.{is_open, is_named, is_shown}
 use Rattle.race_meaning.specs.Conflicts.{Source, LevelSources, sets_in, reads_in, name_before}
 use Rattle.site_views.specs.Values.{Values}
 use Rattle.site_views.specs.Values.Shown.{OwnCode}
@@ -49,6 +58,32 @@ row_closed = refl
 row_hidden : is_named (record (three [] "b") { visible = Some [] }) (codes "x") ≡ false
 unfolding opened
 row_hidden = refl
+
+-- Where no document is served nothing is named: one request can't show what another does. But what a subrequest would reply there
+-- goes by the table.
+abbrev pub closed : ServerView
+closed = server (level plain [])
+    (at (Prefix (codes "/a")) plain (x_is "a")
+    (at (Prefix (codes "/b")) plain (Return 200 (Some (Variable (codes "x") ∷ [])) ∷ []) NoMore))
+
+abbrev pub at_b : Child
+at_b = record { main = main_with Get (codes "/b") []; role = Content; path = codes "/b"; args = []; ssi = []; stub = None; waited = false }
+
+row_closed_named : is_named closed (codes "x") ∷ is_open closed ∷ [] ≡ false ∷ false ∷ []
+unfolding opened
+row_closed_named = refl
+
+row_closed_replies : (reply (world closed) none 1 at_b ((codes "x", codes "a") ∷ [])).body ∷ (reply (world closed) none 1 at_b []).body ∷ [] ≡ codes "a" ∷ [] ∷ []
+unfolding opened
+row_closed_replies = refl
+
+-- the chain of filters makes a command where includes are on, and none where they aren't
+abbrev pub facts : Bool → Facts
+facts ssi = record { ssi = ssi; ssi_type = true; before = true; after = false; addition_type = true; status = 200; main = true }
+
+row_commands : map (λ ssi. list_any is_command (others_of (filtered_marks (world closed) (facts ssi) (codes "<!--# echo var=\"x\" -->")))) (true ∷ false ∷ []) ≡ true ∷ false ∷ []
+unfolding opened
+row_commands = refl
 
 -- a read after its own `set` is private, unless a file is tested between
 abbrev pub reading : Program → ServerView

@@ -2,15 +2,13 @@
 use Rattle.std.proofs.Common.{◌≡◌, Bool, true, false, List, [], ◌∷◌, ◌++◌, refl, sym, ap, subst, ◌∙◌}
 use Rattle.std.specs.Prelude.{ℕ, map, Option}
 use Rattle.std.proofs.lemmas.List.{map-append, append_cancel_left}
-use Rattle.ngx_outside.specs.Records.{Adds, Given, LinkAnswer, FileAnswer, Held}
+use Rattle.ngx_outside.specs.Records.{Adds, LinkAnswer, FileAnswer, Held}
 use Rattle.memory_outside.specs.declared.answers.LinkTold.{LinkTold}
 use Rattle.memory_outside.specs.declared.answers.FileTold.{FileTold}
-use Rattle.memory_outside.specs.declared.telling.GivenEvent.{GivenEvent}
 use Rattle.memory_outside.specs.Answered.{told_by, link_answer, file_answer}
-use Rattle.memory_outside.specs.Events.{given_event}
 
 -- one answer more
-added : {A B : Type 0} (f : A → B) (a : A) (whole whole' : Bool) (kept kept' : List A) →
+pub added : {A B : Type 0} (f : A → B) (a : A) (whole whole' : Bool) (kept kept' : List A) →
     (whole' ≡ true → (whole ≡ true) × (kept' ≡ kept ++ a ∷ [])) → Adds (f a) (told_by f whole kept) (told_by f whole' kept')
 added f a whole false kept kept' h = λ later e. cc
 added {A} {B} f a whole true kept kept' h = λ later e.
@@ -27,27 +25,20 @@ pub file_added : (a : FileTold) (b : FileAnswer) (whole whole' : Bool) (kept kep
 file_added a b whole whole' kept kept' e h =
     subst (λ (c : FileAnswer). Adds c (told_by file_answer whole kept) (told_by file_answer whole' kept')) (sym e) (added file_answer a whole whole' kept kept' h)
 
-pub event_added : (a : GivenEvent) (b : Given) (whole whole' : Bool) (kept kept' : List GivenEvent) → given_event a ≡ b →
-    (whole' ≡ true → (whole ≡ true) × (kept' ≡ kept ++ a ∷ [])) → Adds b (told_by given_event whole kept) (told_by given_event whole' kept')
-event_added a b whole whole' kept kept' e h =
-    subst (λ (c : Given). Adds c (told_by given_event whole kept) (told_by given_event whole' kept')) e (added given_event a whole whole' kept kept' h)
-
 pub number_added : (a : ℕ) (whole whole' : Bool) (kept kept' : List ℕ) →
     (whole' ≡ true → (whole ≡ true) × (kept' ≡ kept ++ a ∷ [])) → Adds a (told_by (λ n. n) whole kept) (told_by (λ n. n) whole' kept')
 number_added a whole whole' kept kept' h = added (λ n. n) a whole whole' kept kept' h
 
 -- nothing is told any more
+pub stopped : {A B : Type 0} (f : A → B) (b : B) (old : Option (List B)) (whole : Bool) (kept : List A) → whole ≡ false → Adds b old (told_by f whole kept)
+stopped f b old false kept e = λ later n. cc
+stopped f b old true kept e = cc
+
 pub links_stopped : (b : LinkAnswer) (old : Option (List LinkAnswer)) (whole : Bool) (kept : List LinkTold) → whole ≡ false → Adds b old (told_by link_answer whole kept)
-links_stopped b old false kept e = λ later n. cc
-links_stopped b old true kept e = cc
+links_stopped = stopped link_answer
 
 pub files_stopped : (b : FileAnswer) (old : Option (List FileAnswer)) (whole : Bool) (kept : List FileTold) → whole ≡ false → Adds b old (told_by file_answer whole kept)
-files_stopped b old false kept e = λ later n. cc
-files_stopped b old true kept e = cc
-
-pub events_stopped : (b : Given) (old : Option (List Given)) (whole : Bool) (kept : List GivenEvent) → whole ≡ false → Adds b old (told_by given_event whole kept)
-events_stopped b old false kept e = λ later n. cc
-events_stopped b old true kept e = cc
+files_stopped = stopped file_answer
 
 -- what a read added is what was kept of it
 pub read_kept : (old new piece : List ℕ) (before after : Option (List FileAnswer)) → new ≡ old ++ piece → Adds (Held piece) before after →

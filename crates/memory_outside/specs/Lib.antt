@@ -3,8 +3,6 @@ pub mod Names
 pub mod Taken
 pub mod Peers
 pub mod Answered
-pub mod Events
-pub mod Core
 pub mod Told
 pub mod Scripted
 pub mod Moments

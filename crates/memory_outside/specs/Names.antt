@@ -21,20 +21,25 @@ pub record AddsNames (tree : Tree) (folder : List ℕ) (old new : List (List ℕ
   pub names : (name : List ℕ) → Contains added name ↔ IsChild tree folder name
 
 -- Behind the start names of the folder were added, those of this path among them.
-pub record AddsName (tree : Tree) (folder path : List ℕ) (start : ℕ) (old new : List (List ℕ)) : Type 0 where
+pub record AddsName (tree : Tree) (folder path : List ℕ) (start : ℕ)
+    (old new : List (List ℕ)) : Type 0 where
   pub added : List (List ℕ)
   pub all : new ≡ old ++ added
   pub children : (name : List ℕ) → Contains added name → IsChild tree folder name
-  pub own : start ≤ length old → (name : List ℕ) → IsChild tree folder name → path ≡ child_path folder name → Contains (drop start new) name
+  pub own : start ≤ length old → (name : List ℕ) → IsChild tree folder name →
+      path ≡ child_path folder name → Contains (drop start new) name
 
 -- something is stored under this path
 abbrev pub HasPath : List Stored → List ℕ → Type 0
 HasPath [] path = ⊥
 HasPath (s ∷ items) path = (s.path ≡ path) ⊎ HasPath items path
 
--- What was added while the first entries were looked at: names of the folder, and each whose path isn't one of the rest.
-pub record Adding (tree : Tree) (folder : List ℕ) (rest : List Stored) (old new : List (List ℕ)) : Type 0 where
+-- What was added while the first entries were looked at: names of the folder, and each whose path
+-- isn't one of the rest.
+pub record Adding (tree : Tree) (folder : List ℕ) (rest : List Stored)
+    (old new : List (List ℕ)) : Type 0 where
   pub added : List (List ℕ)
   pub all : new ≡ old ++ added
   pub children : (name : List ℕ) → Contains added name → IsChild tree folder name
-  pub left : (name : List ℕ) → IsChild tree folder name → Contains added name ⊎ HasPath rest (child_path folder name)
+  pub left : (name : List ℕ) → IsChild tree folder name →
+      Contains added name ⊎ HasPath rest (child_path folder name)

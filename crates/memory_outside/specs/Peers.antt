@@ -14,7 +14,16 @@ use Rattle.memory_outside.specs.declared.peer.Peer.{Peer}
 
 -- what a link shows
 abbrev pub view_of : Peer → LinkView
-view_of p = record { local = p.local; peer = p.peer; among = p.among; taken = take p.start p.input; sent = p.sent; due = p.due; full = p.full; ended = p.ended }
+view_of p = record {
+  local = p.local;
+  peer = p.peer;
+  among = p.among;
+  taken = take p.start p.input;
+  sent = p.sent;
+  due = p.due;
+  full = p.full;
+  ended = p.ended;
+}
 
 -- what a read makes of a link
 abbrev pub after_read : Input → List ℕ → LinkView → LinkView
@@ -40,7 +49,16 @@ abbrev pub nowhere : Addr
 nowhere = record { ip = V4 (record { octets = 0 ∷ 0 ∷ 0 ∷ 0 ∷ [] }); port = 0 }
 
 abbrev pub unopened : LinkView
-unopened = record { local = nowhere; peer = nowhere; among = 0; taken = []; sent = []; due = false; full = false; ended = false }
+unopened = record {
+  local = nowhere;
+  peer = nowhere;
+  among = 0;
+  taken = [];
+  sent = [];
+  due = false;
+  full = false;
+  ended = false;
+}
 
 -- what is so of the link of an id; the first link has the id 1
 unfoldable pub at_id : {A : Type 0} → (Peer → A) → A → List Peer → ℕ → A
@@ -87,11 +105,13 @@ sends_in = at_id sends_of silent
 abbrev pub SendSame : (ℕ → Sends) → (ℕ → Sends) → Type 0
 SendSame old new = (c : ℕ) → new c ≡ old c
 
--- What a read takes of what a peer sends. It answers the end only behind all of it, and that there is nothing yet only there
--- or where the buffer is empty.
+-- What a read takes of what a peer sends. It answers the end only behind all of it, and that there
+-- is nothing yet only there or where the buffer is empty.
 abbrev pub Gives : Input → List ℕ → Sends → Sends → Type 0
-Gives (input.Got count) buf old new = (old.coming ≡ take count buf ++ new.coming) × (new.ends ≡ old.ends)
-Gives input.NotYet buf old new = (new ≡ old) × ((buf ≡ []) ⊎ ((old.coming ≡ []) × (old.ends ≡ false)))
+Gives (input.Got count) buf old new = (old.coming ≡ take count buf ++ new.coming) ×
+    (new.ends ≡ old.ends)
+Gives input.NotYet buf old new = (new ≡ old) ×
+    ((buf ≡ []) ⊎ ((old.coming ≡ []) × (old.ends ≡ false)))
 Gives input.End buf old new = (new ≡ old) × (old.coming ≡ []) × (old.ends ≡ true)
 Gives input.Failed buf old new = new ≡ old
 

@@ -21,10 +21,12 @@ item_of stored.Missing = Nothing
 abbrev pub is_at : ℕ → List ℕ → Stored → Bool
 is_at of path s = nat_le s.from of && bytes_eq s.path path
 
--- the last of a path that is as old as the number, or what stood there before; the newest stand last
+-- the last of a path that is as old as the number, or what stood there before; the newest stand
+-- last
 unfoldable pub item_over : Item → List Stored → ℕ → List ℕ → Item
 item_over below [] of path = below
-item_over below (s ∷ items) of path = item_over (if is_at of path s then item_of s.item else below) items of path
+item_over below (s ∷ items) of path = item_over
+    (if is_at of path s then item_of s.item else below) items of path
 
 -- the trees of a list of what was stored; what isn't listed isn't there
 abbrev pub item_in : List Stored → Trees
@@ -32,7 +34,8 @@ item_in items = item_over Nothing items
 
 -- from this number on the item stands at the path, and all else stays
 abbrev pub Replaces : ℕ → List ℕ → StoredItem → Trees → Trees → Type 0
-Replaces from path item old new = (of : ℕ) (q : List ℕ) → new of q ≡ (if nat_le from of && bytes_eq path q then item_of item else old of q)
+Replaces from path item old new = (of : ℕ) (q : List ℕ) →
+    new of q ≡ (if nat_le from of && bytes_eq path q then item_of item else old of q)
 
 -- the trees that files in memory tell, the number of the newest and how often a call has failed
 abbrev pub trees_of : MemoryFiles → Trees

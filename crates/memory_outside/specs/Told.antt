@@ -47,7 +47,8 @@ next_faults_of s = s.faults
 abbrev pub link_faults_of : MemoryLinks → ℕ → ℕ
 link_faults_of s = faults_in s.peers.items
 
--- how many are open, how many notices were told, and how many events the core refused, as it was told last
+-- how many are open, how many notices were told, and how many events the core refused, as it was
+-- told last
 abbrev pub crowd_of : MemoryLinks → ℕ
 crowd_of s = crowd_in s.peers.items
 

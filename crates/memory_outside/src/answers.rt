@@ -10,9 +10,9 @@ use std::alloc::Global;
 
 /// A list of answers. Once there is no memory for one, nothing is told from then on.
 #[derive(Drop)]
-pub(crate) struct Answers<T: Drop> {
-    pub(crate) kept: Vec<T>,
-    pub(crate) whole: bool,
+pub struct Answers<T: Drop> {
+    pub kept: Vec<T>,
+    pub whole: bool,
 }
 
 /// What links answered.
@@ -39,7 +39,8 @@ pub enum FileTold {
 }
 
 impl<T: Drop> Answers<T> {
-    pub(crate) fn new(alloc: Global) -> Self
+    /// No answers yet.
+    pub fn new(alloc: Global) -> Self
         ensures none { result.kept.items ≡ [] }
         ensures whole { result.whole ≡ true }
     {
@@ -49,8 +50,10 @@ impl<T: Drop> Answers<T> {
         }
     }
 
-    pub(crate) fn add(&mut self, answer: T)
-        ensures { self.new.whole ≡ true → (self.old.whole ≡ true) × (self.new.kept.items ≡ self.old.kept.items ++ answer ∷ []) }
+    /// Keeps an answer, if there is memory for it.
+    pub fn add(&mut self, answer: T)
+        ensures { self.new.whole ≡ true → (self.old.whole ≡ true) ×
+            (self.new.kept.items ≡ self.old.kept.items ++ answer ∷ []) }
     {
         match self.kept.push(answer) {
             Ok(()) => {}
@@ -58,7 +61,8 @@ impl<T: Drop> Answers<T> {
         }
     }
 
-    pub(crate) fn stop(&mut self)
+    /// Nothing is told any more.
+    pub fn stop(&mut self)
         ensures { self.new.whole ≡ false }
     {
         self.whole = false;
@@ -100,7 +104,8 @@ pub(crate) fn tell_read(
     input: Input,
     buf: &[u8],
 )
-    ensures { Adds (Read id input (got_of input buf.now)) (links_told answers.old) (links_told answers.new) }
+    ensures { Adds (Read id input (got_of input buf.now)) (links_told answers.old)
+        (links_told answers.new) }
 {
     match ByteText::from_slice(alloc, got(input, buf)) {
         Ok(bytes) => answers.add(LinkTold::Read { id, input, bytes }),

@@ -98,7 +98,8 @@ impl<L: Ledger> Clock for ListClock<L> {
 
 // The moment at a place, or the last one.
 fn moment_of(moments: &[u64], at: usize) -> u64
-    ensures { (call : ℕ) → at ≡ min call (length moments.now) → result ≡ moment_at moments.now call }
+    ensures { (call : ℕ) → at ≡ min call (length moments.now) →
+        result ≡ moment_at moments.now call }
 {
     if at < moments.len() {
         moments[at]

@@ -66,7 +66,8 @@ fn is_at(stored: &Stored, path: &[u8], of: u64) -> bool
 
 // What stands at a path in the tree of a number.
 fn find<'a>(items: &'a [Stored], path: &[u8], of: u64) -> Option<&'a StoredItem>
-    ensures { MatchOption result (item_in items.now of path.now ≡ Nothing) (λ item. item_in items.now of path.now ≡ item_of item.now) }
+    ensures { MatchOption result (item_in items.now of path.now ≡ Nothing)
+        (λ item. item_in items.now of path.now ≡ item_of item.now) }
 {
     let mut at = items.len();
     while at > 0 {
@@ -121,7 +122,9 @@ fn is_folder(items: &[Stored], path: &[u8], of: u64) -> bool
 
 // The bytes of a file, where a file stands there.
 fn bytes_at<'a>(items: &'a [Stored], path: &[u8], of: u64) -> Option<&'a [u8]>
-    ensures { MatchOption result ((bytes : List ℕ) (date : ℕ) → item_in items.now of path.now ≢ AFile bytes date) (λ b. (date : ℕ) × (item_in items.now of path.now ≡ AFile b.now date)) }
+    ensures { MatchOption result ((bytes : List ℕ) (date : ℕ) →
+        item_in items.now of path.now ≢ AFile bytes date)
+        (λ b. (date : ℕ) × (item_in items.now of path.now ≡ AFile b.now date)) }
 {
     match find(items, path, of) {
         Some(StoredItem::File { bytes, date: _ }) => Some(bytes.as_slice()),
@@ -134,7 +137,8 @@ fn bytes_at<'a>(items: &'a [Stored], path: &[u8], of: u64) -> Option<&'a [u8]>
 
 // The part of a file, where it holds so many bytes from there on.
 fn part(bytes: &[u8], start: u64, count: u64) -> Option<&[u8]>
-    ensures { MatchOption result (¬ (start + count ≤ length bytes.now)) (λ p. (start + count ≤ length bytes.now) × (p.now ≡ take count (drop start bytes.now))) }
+    ensures { MatchOption result (¬ (start + count ≤ length bytes.now))
+        (λ p. (start + count ≤ length bytes.now) × (p.now ≡ take count (drop start bytes.now))) }
 {
     let len = bytes.len() as u64;
     if start > len || count > len - start {
@@ -189,7 +193,8 @@ impl MemoryFiles {
 
     #[tactic(auto, using(crate::proofs::Stores::store_replaces))]
     fn store(&mut self, path: ByteText, item: StoredItem, from: u64) -> Result<(), OutOfMemory>
-        ensures stored { OnOk result (Replaces from path item (trees_of self.old) (trees_of self.new)) }
+        ensures stored { OnOk result (Replaces from path item (trees_of self.old)
+            (trees_of self.new)) }
         ensures same { OnErr result (trees_of self.new ≡ trees_of self.old) }
         ensures version { newest_of self.new ≡ newest_of self.old }
         ensures faults { file_faults_of self.new ≡ file_faults_of self.old }
@@ -203,7 +208,8 @@ impl MemoryFiles {
 
     /// Puts an item at a path in the newest tree, in place of what stands there.
     pub fn put(&mut self, path: ByteText, item: StoredItem) -> Result<(), OutOfMemory>
-        ensures stored { OnOk result (Replaces (newest_of self.old) path item (trees_of self.old) (trees_of self.new)) }
+        ensures stored { OnOk result (Replaces (newest_of self.old) path item (trees_of self.old)
+            (trees_of self.new)) }
         ensures same { OnErr result (trees_of self.new ≡ trees_of self.old) }
         ensures version { newest_of self.new ≡ newest_of self.old }
         ensures faults { file_faults_of self.new ≡ file_faults_of self.old }
@@ -217,11 +223,13 @@ impl MemoryFiles {
     /// Makes a new tree, which is the newest one but for what stands at a path. The trees before it stay as they are.
     pub fn change(&mut self, path: ByteText, item: StoredItem) -> Result<(), OutOfMemory>
         requires { newest_of self.old < 2 ^ 64 - 1 }
-        ensures stored { OnOk result (Replaces (newest_of self.old + 1) path item (trees_of self.old) (trees_of self.new)) }
+        ensures stored { OnOk result (Replaces (newest_of self.old + 1) path item
+            (trees_of self.old) (trees_of self.new)) }
         ensures version { OnOk result (newest_of self.new ≡ newest_of self.old + 1) }
         ensures same { OnErr result (trees_of self.new ≡ trees_of self.old) }
         ensures same_version { OnErr result (newest_of self.new ≡ newest_of self.old) }
-        ensures grow { Grow (newest_of self.old) (newest_of self.new) (trees_of self.old) (trees_of self.new) }
+        ensures grow { Grow (newest_of self.old) (newest_of self.new) (trees_of self.old)
+            (trees_of self.new) }
         ensures faults { file_faults_of self.new ≡ file_faults_of self.old }
         ensures failing { failing_of self.new ≡ failing_of self.old }
         ensures answers { file_answers_of self.new ≡ file_answers_of self.old }
@@ -294,10 +302,13 @@ impl Files for MemoryFiles {
         ensures same { trees_of self.new ≡ trees_of self.old }
         ensures version { newest_of self.new ≡ newest_of self.old }
         ensures failing { failing_of self.new ≡ failing_of self.old }
-        ensures answers { Adds (stat_answer result) (file_answers_of self.old) (file_answers_of self.new) }
+        ensures answers { Adds (stat_answer result) (file_answers_of self.old)
+            (file_answers_of self.new) }
         ensures sure { failing_of self.old ≡ [] → IsOk result }
-        ensures grow { Grow (newest_of self.old) (newest_of self.new) (trees_of self.old) (trees_of self.new) }
-        ensures cause { HasCause (file_faults_of self.old) (file_faults_of self.new) result (record {}) }
+        ensures grow { Grow (newest_of self.old) (newest_of self.new) (trees_of self.old)
+            (trees_of self.new) }
+        ensures cause { HasCause (file_faults_of self.old) (file_faults_of self.new) result
+            (record {}) }
     {
         let call = FileCall::Stat(self.stats);
         self.stats = self.stats.saturating_add(1);
@@ -319,14 +330,19 @@ impl Files for MemoryFiles {
         out: &mut ByteText,
     ) -> Result<(), FileFault>
         ensures versions { versions_of self.new ≡ versions_of self.old }
-        ensures bytes { Reads true (trees_of self.old of) path.now start count out.old out.new result }
+        ensures bytes { Reads true (trees_of self.old of) path.now start count out.old out.new
+            result }
         ensures same { trees_of self.new ≡ trees_of self.old }
         ensures version { newest_of self.new ≡ newest_of self.old }
         ensures failing { failing_of self.new ≡ failing_of self.old }
-        ensures answers { ReadTold out.old out.new result (file_answers_of self.old) (file_answers_of self.new) }
-        ensures sure { failing_of self.old ≡ [] → result ≡ Err ReadFailed → (bytes : List ℕ) → ¬ HoldsBytes (trees_of self.old of path.now) start count bytes }
-        ensures grow { Grow (newest_of self.old) (newest_of self.new) (trees_of self.old) (trees_of self.new) }
-        ensures cause { HasCause (file_faults_of self.old) (file_faults_of self.new) result ReadFailed }
+        ensures answers { ReadTold out.old out.new result (file_answers_of self.old)
+            (file_answers_of self.new) }
+        ensures sure { failing_of self.old ≡ [] → result ≡ Err ReadFailed → (bytes : List ℕ) →
+            ¬ HoldsBytes (trees_of self.old of path.now) start count bytes }
+        ensures grow { Grow (newest_of self.old) (newest_of self.new) (trees_of self.old)
+            (trees_of self.new) }
+        ensures cause { HasCause (file_faults_of self.old)
+            (file_faults_of self.new) result ReadFailed }
     {
         let call = FileCall::Read(self.reads);
         self.reads = self.reads.saturating_add(1);

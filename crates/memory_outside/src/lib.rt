@@ -1,5 +1,5 @@
 //! The outside in memory, for scripts and for tests: files of which every version is kept, a sink, clocks, and links to
-//! peers. Each has a list of the calls that are to fail. And a core, over any other, that keeps the events that it is given.
+//! peers. Each has a list of the calls that are to fail.
 #![tactic(auto)]
 
 mod answers;
@@ -9,11 +9,9 @@ mod links;
 mod names;
 mod peer;
 mod sink;
-mod telling;
 
-pub use answers::FileTold;
+pub use answers::{Answers, FileTold};
 pub use clocks::{FixedClock, ListClock};
 pub use files::{FileCall, MemoryFiles, StoredItem};
 pub use links::{LinkCall, MemoryLinks, ScriptedNotice};
 pub use sink::MemorySink;
-pub use telling::{GivenEvent, TellingCore};

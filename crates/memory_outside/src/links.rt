@@ -14,7 +14,7 @@ use crate::answers::{Answers, LinkTold, tell_notice, tell_read, tell_written};
 use crate::peer::Peer;
 use byte_text::{ByteText, OutOfMemory};
 use http_types::Addr;
-use ngx_outside::{Failed, Input, Links, Notice, Output, Want};
+use ngx_outside::{Failed, Input, Links, Notice, Output};
 use std::alloc::Global;
 
 /// What the script of the links reports.
@@ -78,7 +78,8 @@ pub struct MemoryLinks {
 
 // The place of the link of an id.
 fn place(peers: &[Peer], id: u32) -> Option<usize>
-    ensures { MatchOption result (IsAbsent peers.now id) (λ at. (id ≡ at + 1) × (at < length peers.now)) }
+    ensures { MatchOption result (IsAbsent peers.now id)
+        (λ at. (id ≡ at + 1) × (at < length peers.now)) }
 {
     let id = id as usize;
     if 0 < id && id <= peers.len() {
@@ -100,7 +101,8 @@ fn find(peers: &[Peer], id: u32) -> Option<&Peer>
 
 // The place of the link of an id, if it is open.
 fn open_place(peers: &[Peer], id: u32) -> Option<usize>
-    ensures { MatchOption result (held_in peers.now id ≡ false) (λ at. (id ≡ at + 1) × (at < length peers.now) × (held_in peers.now id ≡ true)) }
+    ensures { MatchOption result (held_in peers.now id ≡ false)
+        (λ at. (id ≡ at + 1) × (at < length peers.now) × (held_in peers.now id ≡ true)) }
 {
     let Some(at) = place(peers, id) else {
         return None;
@@ -115,7 +117,8 @@ fn read_at(peers: &mut [Peer], at: usize, fails: bool, buf: &mut [u8]) -> Input
     ensures told { Changes (at + 1) (after_read result buf.new) peers.old peers.new }
     ensures sends { OneGives (at + 1) result buf.new (sends_in peers.old) (sends_in peers.new) }
     ensures sure { fails ≡ false → result ≢ ReadFails }
-    ensures cause { result ≡ ReadFails → Rose (faults_in peers.old (at + 1)) (faults_in peers.new (at + 1)) }
+    ensures cause { result ≡ ReadFails →
+        Rose (faults_in peers.old (at + 1)) (faults_in peers.new (at + 1)) }
 {
     let peer = &mut peers[at];
     peer.read(fails, buf)
@@ -127,8 +130,10 @@ fn write_at(peers: &mut [Peer], at: usize, fails: bool, takes_none: bool, bytes:
     ensures count { PutWithin result (length bytes.now) }
     ensures told { Changes (at + 1) (after_write result bytes.now) peers.old peers.new }
     ensures sends { SendSame (sends_in peers.old) (sends_in peers.new) }
-    ensures cause { result ≡ WriteFails → Rose (faults_in peers.old (at + 1)) (faults_in peers.new (at + 1)) }
-    ensures nothing { PutsNothing result bytes.now (faults_in peers.old (at + 1)) (faults_in peers.new (at + 1)) }
+    ensures cause { result ≡ WriteFails →
+        Rose (faults_in peers.old (at + 1)) (faults_in peers.new (at + 1)) }
+    ensures nothing { PutsNothing result bytes.now (faults_in peers.old (at + 1))
+        (faults_in peers.new (at + 1)) }
     ensures sure { takes_none ≡ false → PutsSome result bytes.now }
 {
     let peer = &mut peers[at];
@@ -160,7 +165,8 @@ fn close_at(peers: &mut [Peer], at: usize)
     requires { at < length peers.old }
     ensures told { Unchanged (links_in peers.old) (links_in peers.new) }
     ensures used { Same (used_in peers.old) (used_in peers.new) }
-    ensures crowd { CrowdCloses (held_in peers.old (at + 1)) (crowd_in peers.old) (crowd_in peers.new) }
+    ensures crowd { CrowdCloses (held_in peers.old (at + 1)) (crowd_in peers.old)
+        (crowd_in peers.new) }
     ensures held { Marked (at + 1) false (held_in peers.old) (held_in peers.new) }
     ensures later { (c : ℕ) → faults_in peers.old c ≤ faults_in peers.new c }
     ensures sends { SendSame (sends_in peers.old) (sends_in peers.new) }
@@ -234,7 +240,8 @@ fn open_next(peers: &mut Vec<Peer>, faults: &mut u64, peer: Peer) -> Notice
     ensures reports { Reports result peers.old.items peers.new.items faults.old faults.new }
     ensures goes { result ≢ AllEnded }
     ensures shows { IsOpened peer.local peer.peer result }
-    ensures sends { SendsFrom (sends_of peer) result (sends_in peers.old.items) (sends_in peers.new.items) }
+    ensures sends { SendsFrom (sends_of peer) result (sends_in peers.old.items)
+        (sends_in peers.new.items) }
     ensures more { vec_len peers.old ≤ vec_len peers.new }
 {
     let local = peer.local;
@@ -295,8 +302,11 @@ fn report(
     requires { vec_len peers.old < 2 ^ 32 - 1 }
     ensures reports { Reports result peers.old.items peers.new.items faults.old faults.new }
     ensures over { (result ≡ AllEnded) ↔ (script.old.items ≡ []) }
-    ensures sure { fails ≡ false → result ≡ NextFailed → Reported (held_in peers.old.items) result (reverse script.old.items) (reverse script.new.items) (sends_in peers.old.items) (sends_in peers.new.items) }
-    ensures plays { Plays (held_in peers.old.items) result (reverse script.old.items) (reverse script.new.items) (sends_in peers.old.items) (sends_in peers.new.items) }
+    ensures sure { fails ≡ false → result ≡ NextFailed →
+        Reported (held_in peers.old.items) result (reverse script.old.items)
+        (reverse script.new.items) (sends_in peers.old.items) (sends_in peers.new.items) }
+    ensures plays { Plays (held_in peers.old.items) result (reverse script.old.items)
+        (reverse script.new.items) (sends_in peers.old.items) (sends_in peers.new.items) }
     ensures stays { script.old.items ≡ [] → script.new.items ≡ [] }
     ensures more { vec_len peers.old ≤ vec_len peers.new }
 {
@@ -444,14 +454,17 @@ impl Links for MemoryLinks {
 
     fn listen(&mut self, addr: Addr) -> Result<(), Failed>
         ensures told { Unchanged (links_of self.old) (links_of self.new) }
-        ensures ids { Same (used_of self.old) (used_of self.new) × Same (open_of self.old) (open_of self.new) }
+        ensures ids { Same (used_of self.old) (used_of self.new) ×
+            Same (open_of self.old) (open_of self.new) }
         ensures listens { OnOk result (listening_of self.new ≡ listening_of self.old ++ addr ∷ []) }
         ensures fails { OnErr result (listening_of self.new ≡ listening_of self.old) }
-        ensures counts { (crowd_of self.new ≡ crowd_of self.old) × (notices_of self.new ≡ notices_of self.old) }
+        ensures counts { (crowd_of self.new ≡ crowd_of self.old) ×
+            (notices_of self.new ≡ notices_of self.old) }
         ensures answers { answers_of self.new ≡ answers_of self.old }
         ensures stays_over { over_of self.old ≡ true → over_of self.new ≡ true }
         ensures link_faults { (c : ℕ) → link_faults_of self.old c ≤ link_faults_of self.new c }
-        ensures cause { HasCause (next_faults_of self.old) (next_faults_of self.new) result (record {}) }
+        ensures cause { HasCause (next_faults_of self.old) (next_faults_of self.new) result
+            (record {}) }
         ensures failing { failing_calls_of self.new ≡ failing_calls_of self.old }
         ensures script { scripted_of self.new ≡ scripted_of self.old }
         ensures sends { SendSame (sends_told self.old) (sends_told self.new) }
@@ -465,9 +478,10 @@ impl Links for MemoryLinks {
         Ok(())
     }
 
-    fn next(&mut self, _wants: &[Want]) -> Notice
+    fn next(&mut self) -> Notice
         ensures told { Noticed result (crowd_of self.old) (links_of self.old) (links_of self.new) }
-        ensures ids { Opens result (used_of self.old) (used_of self.new) (open_of self.old) (open_of self.new) }
+        ensures ids { Opens result (used_of self.old) (used_of self.new) (open_of self.old)
+            (open_of self.new) }
         ensures listens { listening_of self.new ≡ listening_of self.old }
         ensures crowd { crowd_of self.new ≡ crowd_after result (crowd_of self.old) }
         ensures notices { notices_of self.new ≡ notices_after result (notices_of self.old) }
@@ -476,10 +490,14 @@ impl Links for MemoryLinks {
         ensures later { next_faults_of self.old ≤ next_faults_of self.new }
         ensures link_faults { (c : ℕ) → link_faults_of self.old c ≤ link_faults_of self.new c }
         ensures over { (result ≡ AllEnded) ↔ (over_of self.old ≡ true) }
-        ensures cause { result ≡ NextFailed → Rose (next_faults_of self.old) (next_faults_of self.new) }
+        ensures cause { result ≡ NextFailed →
+            Rose (next_faults_of self.old) (next_faults_of self.new) }
         ensures failing { failing_calls_of self.new ≡ failing_calls_of self.old }
-        ensures sure { failing_calls_of self.old ≡ [] → result ≡ NextFailed → Reported (open_of self.old) result (scripted_of self.old) (scripted_of self.new) (sends_told self.old) (sends_told self.new) }
-        ensures script { Plays (open_of self.old) result (scripted_of self.old) (scripted_of self.new) (sends_told self.old) (sends_told self.new) }
+        ensures sure { failing_calls_of self.old ≡ [] → result ≡ NextFailed →
+            Reported (open_of self.old) result (scripted_of self.old) (scripted_of self.new)
+            (sends_told self.old) (sends_told self.new) }
+        ensures script { Plays (open_of self.old) result (scripted_of self.old)
+            (scripted_of self.new) (sends_told self.old) (sends_told self.new) }
     {
         if self.peers.len() >= LAST_ID {
             tell_notice(&mut self.answers, Notice::Ended);
@@ -502,20 +520,27 @@ impl Links for MemoryLinks {
 
     fn read(&mut self, id: u32, buf: &mut [u8]) -> Input
         ensures count { GotWithin result (length buf.new) }
-        ensures told { open_of self.old id ≡ true → HasRead id result buf.new (links_of self.old) (links_of self.new) }
-        ensures ids { Same (used_of self.old) (used_of self.new) × Same (open_of self.old) (open_of self.new) }
+        ensures told { open_of self.old id ≡ true →
+            HasRead id result buf.new (links_of self.old) (links_of self.new) }
+        ensures ids { Same (used_of self.old) (used_of self.new) ×
+            Same (open_of self.old) (open_of self.new) }
         ensures listens { listening_of self.new ≡ listening_of self.old }
-        ensures counts { (crowd_of self.new ≡ crowd_of self.old) × (notices_of self.new ≡ notices_of self.old) }
-        ensures answers { Adds (ReadGiven id result (got_of result buf.new)) (answers_of self.old) (answers_of self.new) }
+        ensures counts { (crowd_of self.new ≡ crowd_of self.old) ×
+            (notices_of self.new ≡ notices_of self.old) }
+        ensures answers { Adds (ReadGiven id result (got_of result buf.new)) (answers_of self.old)
+            (answers_of self.new) }
         ensures stays_over { over_of self.old ≡ true → over_of self.new ≡ true }
         ensures later { next_faults_of self.old ≤ next_faults_of self.new }
         ensures link_faults { (c : ℕ) → link_faults_of self.old c ≤ link_faults_of self.new c }
         ensures sure { failing_calls_of self.old ≡ [] → result ≢ ReadFails }
-        ensures cause { result ≡ ReadFails → Rose (link_faults_of self.old id) (link_faults_of self.new id) }
+        ensures cause { result ≡ ReadFails →
+            Rose (link_faults_of self.old id) (link_faults_of self.new id) }
         ensures failing { failing_calls_of self.new ≡ failing_calls_of self.old }
         ensures script { scripted_of self.new ≡ scripted_of self.old }
-        ensures sends { open_of self.old id ≡ true → OneGives id result buf.new (sends_told self.old) (sends_told self.new) }
-        ensures shut { open_of self.old id ≡ false → (result ≡ NotYet) × SendSame (sends_told self.old) (sends_told self.new) }
+        ensures sends { open_of self.old id ≡ true →
+            OneGives id result buf.new (sends_told self.old) (sends_told self.new) }
+        ensures shut { open_of self.old id ≡ false → (result ≡ NotYet) ×
+            SendSame (sends_told self.old) (sends_told self.new) }
     {
         let call = LinkCall::Read(self.reads);
         self.reads = self.reads.saturating_add(1);
@@ -535,17 +560,22 @@ impl Links for MemoryLinks {
 
     fn write(&mut self, id: u32, bytes: &[u8]) -> Output
         ensures count { PutWithin result (length bytes.now) }
-        ensures told { open_of self.old id ≡ true → HasWritten id result bytes.now (links_of self.old) (links_of self.new) }
-        ensures ids { Same (used_of self.old) (used_of self.new) × Same (open_of self.old) (open_of self.new) }
+        ensures told { open_of self.old id ≡ true →
+            HasWritten id result bytes.now (links_of self.old) (links_of self.new) }
+        ensures ids { Same (used_of self.old) (used_of self.new) ×
+            Same (open_of self.old) (open_of self.new) }
         ensures listens { listening_of self.new ≡ listening_of self.old }
-        ensures counts { (crowd_of self.new ≡ crowd_of self.old) × (notices_of self.new ≡ notices_of self.old) }
+        ensures counts { (crowd_of self.new ≡ crowd_of self.old) ×
+            (notices_of self.new ≡ notices_of self.old) }
         ensures answers { Adds (WriteGiven id result) (answers_of self.old) (answers_of self.new) }
         ensures stays_over { over_of self.old ≡ true → over_of self.new ≡ true }
         ensures later { next_faults_of self.old ≤ next_faults_of self.new }
         ensures link_faults { (c : ℕ) → link_faults_of self.old c ≤ link_faults_of self.new c }
         ensures sure { failing_calls_of self.old ≡ [] → PutsSome result bytes.now }
-        ensures cause { result ≡ WriteFails → Rose (link_faults_of self.old id) (link_faults_of self.new id) }
-        ensures nothing { PutsNothing result bytes.now (link_faults_of self.old id) (link_faults_of self.new id) }
+        ensures cause { result ≡ WriteFails →
+            Rose (link_faults_of self.old id) (link_faults_of self.new id) }
+        ensures nothing { PutsNothing result bytes.now (link_faults_of self.old id)
+            (link_faults_of self.new id) }
         ensures failing { failing_calls_of self.new ≡ failing_calls_of self.old }
         ensures script { scripted_of self.new ≡ scripted_of self.old }
         ensures sends { SendSame (sends_told self.old) (sends_told self.new) }
@@ -570,7 +600,8 @@ impl Links for MemoryLinks {
 
     fn close(&mut self, id: u32)
         ensures told { Unchanged (links_of self.old) (links_of self.new) }
-        ensures ids { Same (used_of self.old) (used_of self.new) × Marked id false (open_of self.old) (open_of self.new) }
+        ensures ids { Same (used_of self.old) (used_of self.new) ×
+            Marked id false (open_of self.old) (open_of self.new) }
         ensures listens { listening_of self.new ≡ listening_of self.old }
         ensures crowd { CrowdCloses (open_of self.old id) (crowd_of self.old) (crowd_of self.new) }
         ensures notices { notices_of self.new ≡ notices_of self.old }

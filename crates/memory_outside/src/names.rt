@@ -26,14 +26,17 @@ fn is_name(bytes: &[u8]) -> bool
 
 // What stands behind a prefix.
 fn after<'a>(prefix: &[u8], bytes: &'a [u8]) -> Option<&'a [u8]>
-    ensures { MatchOption result ((rest : List ℕ) → bytes.now ≢ prefix.now ++ rest) (λ r. bytes.now ≡ prefix.now ++ r.now) }
+    ensures { MatchOption result ((rest : List ℕ) → bytes.now ≢ prefix.now ++ rest)
+        (λ r. bytes.now ≡ prefix.now ++ r.now) }
 {
     bytes.strip_prefix(prefix)
 }
 
 // The name in the folder whose path this is, if it is one's.
 fn child_name<'a>(folder: &[u8], path: &'a [u8]) -> Option<&'a [u8]>
-    ensures { MatchOption result ((name : List ℕ) → IsName name → path.now ≢ child_path folder.now name) (λ n. IsName n.now × (path.now ≡ child_path folder.now n.now)) }
+    ensures { MatchOption result ((name : List ℕ) → IsName name →
+        path.now ≢ child_path folder.now name)
+        (λ n. IsName n.now × (path.now ≡ child_path folder.now n.now)) }
 {
     let Some(rest) = after(front(folder), path) else {
         return None;
@@ -65,7 +68,8 @@ fn add_name(
     start: usize,
     out: &mut ByteTexts,
 ) -> Result<(), OutOfMemory>
-    ensures { OnOk result (AddsName (item_in items.now of) folder.now entry.now.path start out.old out.new) }
+    ensures { OnOk result (AddsName
+        (item_in items.now of) folder.now entry.now.path start out.old out.new) }
 {
     let Some(name) = child_name(folder, entry.path.as_slice()) else {
         return Ok(());

@@ -71,7 +71,8 @@ impl Sink for MemorySink {
         ensures failing { put_failing_of self.new ≡ put_failing_of self.old }
         ensures puts { puts_of self.new ≡ min (puts_of self.old + 1) (2 ^ 64 - 1) }
         ensures listed { is_next_failing self.old ≡ true → IsErr result }
-        ensures cause { HasCause (put_faults_of self.old) (put_faults_of self.new) result (record {}) }
+        ensures cause { HasCause (put_faults_of self.old) (put_faults_of self.new) result
+            (record {}) }
     {
         if self.is_failing() || self.taken.extend(bytes).is_err() {
             self.faults = self.faults.saturating_add(1);

@@ -14,13 +14,21 @@ use std_outside::{HostFiles, HostSink};
 /// listening does, and where memory runs out.
 const CONF_FAULT: u8 = 1;
 
-const USAGE: u8 = 2;
+const USAGE_FAULT: u8 = 2;
 
 const FILES_FAULT: u8 = 4;
 
 const LISTEN_FAULT: u8 = 6;
 
 const OUT_OF_MEMORY: u8 = 7;
+
+/// How the program is called.
+const USAGE: &str =
+    "usage: ngx check CONF\n       ngx serve CONF [--turns N]\n       ngx replay SCRIPT\n       ngx --help | --version";
+
+fn is_command(word: &str) -> bool {
+    word == "check" || word == "serve" || word == "replay"
+}
 
 // Says why a file can't be read, if it can't.
 fn tell_unread<R: Files + Eprint>(rt: &R, path: &str) -> io::Result<()> {
@@ -44,14 +52,27 @@ fn tell_unheard<R: Eprint>(rt: &R, fault: ListenFault) -> io::Result<()> {
     eprintln!(rt; "ngx: listening on {addr}: {error}")
 }
 
-// Says on standard error what the system said, where the program ended for that.
+// Says what the words lack, and how the program is called.
+fn tell_usage<R: Eprint>(rt: &R, words: &[String]) -> io::Result<()> {
+    match words {
+        [] | [_] => eprintln!(rt; "ngx: no command is given")?,
+        [_, word, ..] if is_command(word.as_str()) => {
+            eprintln!(rt; "ngx: {word}: other words than it takes")?;
+        }
+        [_, word, ..] => eprintln!(rt; "ngx: {word}: no such command")?,
+    }
+    eprintln!(rt; "{USAGE}")
+}
+
+// Says on standard error what the system said, where the program ended for that, or how it is called.
 fn tell_why<R: Files + Eprint>(
     rt: &R,
     code: u8,
-    path: Option<&String>,
+    words: &[String],
     unheard: Option<ListenFault>,
 ) -> io::Result<()> {
-    match (code, path, unheard) {
+    match (code, words.get(2), unheard) {
+        (USAGE_FAULT, _, _) => tell_usage(rt, words),
         (CONF_FAULT | FILES_FAULT, Some(path), _) => tell_unread(rt, path.as_str()),
         (LISTEN_FAULT, _, Some(fault)) => tell_unheard(rt, fault),
         _ => Ok(()),
@@ -66,7 +87,10 @@ fn main(rt: HostRuntime) -> io::Result<ExitCode> {
         Err(error) if error.kind() == ErrorKind::OutOfMemory => {
             return Ok(ExitCode::from(OUT_OF_MEMORY));
         }
-        Err(_) => return Ok(ExitCode::from(USAGE)),
+        Err(_) => {
+            let _told = eprintln!(rt; "ngx: a word isn't UTF-8\n{USAGE}");
+            return Ok(ExitCode::from(USAGE_FAULT));
+        }
     };
     for word in given {
         if words.push(word).is_err() {
@@ -82,6 +106,6 @@ fn main(rt: HostRuntime) -> io::Result<ExitCode> {
     let mut clock = SystemClock::new(&rt);
     let mut out = HostSink::new(rt.clone()?);
     let code = ngx(alloc, &words, &mut files, &mut links, &mut clock, &mut out);
-    let _told = tell_why(&rt, code, words.get(2), links.listen_fault());
+    let _told = tell_why(&rt, code, &words, links.listen_fault());
     Ok(ExitCode::from(code))
 }

@@ -1,13 +1,13 @@
 -- How connections were answered in a run.
 use Rattle.std.proofs.Common.{◌≡◌, ◌⊎◌, inl, inr, ℕ, Bool, true, false, List, [], ◌∷◌, ◌++◌, drop, map, Option, None, Some, refl, sym, ap, ◌∙◌}
 use Rattle.std.proofs.lemmas.List.{append-nil}
-use Rattle.std.specs.Prelude.{◌&&◌, is_none, Contains}
+use Rattle.std.specs.Prelude.{◌&&◌, ◌||◌, is_none, Contains}
 use Rattle.http_types.specs.declared.words.Addr.{Addr}
 use Rattle.replay_text.specs.declared.parts.EventLine.{EventLine}
 use Rattle.replay_text.specs.declared.parts.EventLine.TheVariants as line
 use Rattle.ngx_outside.specs.Views.{ConnView, Course, IsSound, is_live}
 use Rattle.ngx_outside.specs.declared.event.StopCause.{StopCause}
-use Rattle.ngx_outside.specs.Runs.{Tracked, AllIsSentWhenIdle, AllIsSentWhenShut, AllIsLoggedWhenIdle}
+use Rattle.ngx_outside.specs.Runs.{Tracked, AllIsSentWhenIdle, AllIsSentWhenShut, ShutIsExact, AllIsLoggedWhenIdle}
 use Rattle.replay_run.specs.Told.{Told}
 use Rattle.replay_run.specs.declared.lane.LinkEnds.{LinkEnds}
 use Rattle.replay_run.specs.Plays.{AreOpenedBy}
@@ -15,7 +15,7 @@ use Rattle.replay_run.specs.Scene.{Lane, Stage}
 use Rattle.replay_run.specs.Standing.{Standing, Unopened, Opened, AllStanding, is_given}
 use Rattle.site_model.specs.declared.site.Site.{Site}
 use Rattle.connection.specs.Conn.{fresh_course, IsExact}
-use Rattle.connection.specs.Answers.{Service, answers, answer_logs, service_of}
+use Rattle.connection.specs.Answers.{Service, answers, answer_logs, answers_close, service_of}
 use Rattle.ngx_cli.specs.Running.{Answered, IsNew}
 
 -- on a connection that is held, its ends, what came and what of that is tracked
@@ -48,8 +48,8 @@ nothing_left : (xs ys : List ℕ) → xs ++ ys ≡ xs → ys ≡ []
 nothing_left [] ys e = e
 nothing_left (x ∷ xs) ys e = nothing_left xs ys (ap (drop 1) e)
 
-pub answered : AllIsSentWhenIdle → AllIsSentWhenShut → AllIsLoggedWhenIdle → (site : Site) (told : Told) (v : ConnView) (lane : Lane) (sent : List ℕ) → v.held ≡ true → IsSound v → IsExact v → Standing (fresh_course site) told v lane sent → Answered site told v lane sent
-answered sent_all shut_sent_all logged_all site told v lane sent h sound exact standing =
+pub answered : AllIsSentWhenIdle → AllIsSentWhenShut → ShutIsExact → AllIsLoggedWhenIdle → (site : Site) (told : Told) (v : ConnView) (lane : Lane) (sent : List ℕ) → v.held ≡ true → IsSound v → IsExact v → Standing (fresh_course site) told v lane sent → Answered site told v lane sent
+answered sent_all shut_sent_all shut_all logged_all site told v lane sent h sound exact standing =
     let s = seen site told v lane sent h standing in
     let service : Service = service_of site s.ends.local s.ends.peer in
     record {
@@ -69,7 +69,9 @@ answered sent_all shut_sent_all logged_all site told v lane sent h sound exact s
           (sym (s.tracked.on (live v h c) refl trees agree [] (start ∷ later)) ∙ ap (λ x. answers service 0 trees x (v.starts ++ start ∷ later)) (append-nil s.came) ∙ all))
           (logs ∙ ap (map (λ l. Some l)) (sym (ap (λ x. answer_logs service 0 trees x (v.starts ++ start ∷ later)) (append-nil s.came)) ∙ s.tracked.logs (live v h c) refl trees agree [] (start ∷ later)));
       rests = λ c shut. exact.rests (live v h c) shut;
-      ends_shut = λ i given. exact.ends i (s.ended ∙ given);
+      shuts = λ i trees agree later.
+          shut_all (fresh_course site s.ends.local s.ends.peer) told.trees told.newest v s.came lane.went s.tracked sound i refl trees agree later
+          ∙ ap (λ b. b || answers_close service 0 trees s.came (v.starts ++ later)) s.ended;
       all_logged = λ i trees agree later. logged_all (fresh_course site s.ends.local s.ends.peer) told.trees told.newest v s.came lane.went s.tracked sound i refl trees agree later;
     }
 

@@ -1,5 +1,4 @@
 pub mod Answering
 pub mod Endings
-pub mod NumberLaws
 pub mod NamingLaws
 pub mod CountLaws

@@ -21,7 +21,8 @@ use Rattle.ngx_cli.specs.declared.status.Status.TheVariants as status
 use Rattle.ngx_cli.specs.Running.{Replays}
 use Rattle.ngx_cli.specs.Sites.{site_at, Reading}
 use Rattle.site_service.specs.Serving.{Outside, Serving}
-use Rattle.ngx_cli.specs.Words.{Request, Check, Replay, Serve}
+use Rattle.command_line.specs.Help.{help_text, version_text}
+use Rattle.command_line.specs.Words.{Request, Help, Version, Check, Replay, Serve}
 
 -- the status that the program ends with
 abbrev pub code_of : Status → ℕ
@@ -59,7 +60,8 @@ Printed out text = out.before.tells ≡ true → out.after.written ≡ out.befor
 -- a front of this was printed
 abbrev pub PrintedFront : Output → List ℕ → Type 0
 PrintedFront out text =
-    out.before.tells ≡ true → (part : List ℕ) × (rest : List ℕ) × (text ≡ part ++ rest) × (out.after.written ≡ out.before.written ++ part)
+    out.before.tells ≡ true → (part : List ℕ) × (rest : List ℕ) × (text ≡ part ++ rest) ×
+    (out.after.written ≡ out.before.written ++ part)
 
 -- The output failed while a text was printed that was due: a front of it is there.
 pub record CutShort (IsDue : List ℕ → Type 0) (out : Output) : Type 0 where
@@ -80,29 +82,39 @@ pub record Played (files : FilesSeen) (out : Output) (path : List ℕ) (o : Outc
   pub comes : ComesTo files path o text
   pub printed : Printed out text
 
--- When each status of a replay comes. A run, and a fault of the script or of its configuration, are what the script's bytes
--- come to, and their text is printed whole, or a front of it where the output failed; a fault of the files or of the output is
--- counted by these; want of memory alone has no cause.
+-- When each status of a replay comes. A run, and a fault of the script or of its configuration, are
+-- what the script's bytes come to, and their text is printed whole, or a front of it where the
+-- output failed; a fault of the files or of the output is counted by these; want of memory alone
+-- has no cause.
 abbrev pub ReplayEnds : (files files' : FilesSeen) → Output → (path : List ℕ) → Status → Type 0
 ReplayEnds files files' out path status.Done = Played files out path outcome.Done
 ReplayEnds files files' out path status.ConfFault = Played files out path outcome.ConfFault
-ReplayEnds files files' out path status.ScriptFault = (fault : ScriptFault) × Played files out path (outcome.ScriptFault fault)
-ReplayEnds files files' out path status.FilesFault = Rose files.faults files'.faults × Printed out []
-ReplayEnds files files' out path status.SinkFault = CutShort (λ text. (o : Outcome) × ComesTo files path o text) out
+ReplayEnds files files' out path status.ScriptFault = (fault : ScriptFault) ×
+    Played files out path (outcome.ScriptFault fault)
+ReplayEnds files files' out path status.FilesFault = Rose files.faults files'.faults ×
+    Printed out []
+ReplayEnds files files' out path status.SinkFault = CutShort
+    (λ text. (o : Outcome) × ComesTo files path o text) out
 ReplayEnds files files' out path status.OutOfMemory = Printed out []
 ReplayEnds files files' out path s = ⊥
 
--- The configuration at a path comes to this, as far as the files tell and their newest tree stays while it is read.
-pub record Describes (files reading : FilesSeen) (path : List ℕ) (outcome : Result SiteView (ConfFault × List ℕ)) : Type 0 where
+-- The configuration at a path comes to this, as far as the files tell and their newest tree stays
+-- while it is read.
+pub record Describes (files reading : FilesSeen) (path : List ℕ)
+    (outcome : Result SiteView (ConfFault × List ℕ)) : Type 0 where
   pub reads : Reading files reading
-  pub is : files.tells ≡ true → reading.newest ≡ files.newest → (names : Names) → IsNaming (files.trees files.newest) names →
+  pub is : files.tells ≡ true → reading.newest ≡ files.newest → (names : Names) →
+      IsNaming (files.trees files.newest) names →
       site_at (files.trees files.newest) names path ≡ outcome
 
--- what is to be printed of a configuration that can't be served: its first fault, with the path of its file; or that a file
--- couldn't be read, with the path of the file that names it
+-- what is to be printed of a configuration that can't be served: its first fault, with the path of
+-- its file; or that a file couldn't be read, with the path of the file that names it
 pub data IsFaultLine (files files' : FilesSeen) (path text : List ℕ) : Type 0 where
-  OfFault : (fault : ConfFault) (at : List ℕ) → Describes files files' path (Err (fault, at)) → text ≡ ended (conf_fault_line at fault) → IsFaultLine files files' path text
-  OfFiles : (fault : ConfFault) (at : List ℕ) → fault.kind ≡ ReadFault → Rose files.faults files'.faults → text ≡ ended (conf_fault_line at fault) → IsFaultLine files files' path text
+  OfFault : (fault : ConfFault) (at : List ℕ) → Describes files files' path (Err (fault, at)) →
+      text ≡ ended (conf_fault_line at fault) → IsFaultLine files files' path text
+  OfFiles : (fault : ConfFault) (at : List ℕ) → fault.kind ≡ ReadFault →
+      Rose files.faults files'.faults → text ≡ ended (conf_fault_line at fault) →
+      IsFaultLine files files' path text
 
 -- the configuration at a path has this first fault, which was printed with the path of its file
 pub record Faulty (files files' : FilesSeen) (out : Output) (path : List ℕ) : Type 0 where
@@ -128,7 +140,8 @@ locations_of (server ∷ servers) = length server.locations + locations_of serve
 abbrev pub counts_of : SiteView → List ℕ
 counts_of site = counts_text (length site.servers) (min (locations_of site.servers) (2 ^ 64 - 1))
 
--- The configuration at a path describes a site, and how many servers and locations it has was printed.
+-- The configuration at a path describes a site, and how many servers and locations it has was
+-- printed.
 pub record Counted (files files' : FilesSeen) (out : Output) (path : List ℕ) : Type 0 where
   pub site : Site
   pub described : Describes files files' path (Ok (seen site))
@@ -136,7 +149,8 @@ pub record Counted (files files' : FilesSeen) (out : Output) (path : List ℕ) :
 
 -- what is to be printed of a check
 pub data IsCheckLine (files files' : FilesSeen) (path text : List ℕ) : Type 0 where
-  OfSite : (site : Site) → Describes files files' path (Ok (seen site)) → text ≡ counts_of (seen site) → IsCheckLine files files' path text
+  OfSite : (site : Site) → Describes files files' path (Ok (seen site)) →
+      text ≡ counts_of (seen site) → IsCheckLine files files' path text
   OfNoSite : IsFaultLine files files' path text → IsCheckLine files files' path text
 
 -- When each status of a check comes.
@@ -148,31 +162,49 @@ CheckEnds files files' out path status.SinkFault = CutShort (IsCheckLine files f
 CheckEnds files files' out path status.OutOfMemory = Printed out []
 CheckEnds files files' out path s = ⊥
 
--- The site of the configuration at a path was served from then on, as the files were once it was read, whatever they tell
--- later. Nothing was printed.
-pub record Served (o : Outside) (out : Output) (path : List ℕ) (turns : ℕ) (e : Ending) : Type 0 where
+-- The site of the configuration at a path was served from then on, as the files were once it was
+-- read, whatever they tell later. Nothing was printed.
+pub record Served (o : Outside) (out : Output) (path : List ℕ) (turns : ℕ)
+    (e : Ending) : Type 0 where
   pub site : Site
   pub reading : FilesSeen
   pub described : Describes o.files reading path (Ok (seen site))
   pub serving : Serving site turns e (record o { files = reading })
   pub printed : Printed out []
 
--- When each status of serving comes: at 0 no notice will come any more; at 9 all turns were taken; a fault of the files while
--- the configuration was read, of the links themselves, or of the output is counted by these.
+-- When each status of serving comes: at 0 no notice will come any more; at 9 all turns were taken;
+-- a fault of the files while the configuration was read, of the links themselves, or of the output
+-- is counted by these.
 abbrev pub ServeEnds : Outside → Output → (path : List ℕ) → (turns : ℕ) → Status → Type 0
-ServeEnds o out path turns status.Done = (o.links'.over ≡ true) × Served o out path turns ending.Ended
+ServeEnds o out path turns status.Done = (o.links'.over ≡ true) ×
+    Served o out path turns ending.Ended
 ServeEnds o out path turns status.TurnsUsed = Served o out path turns ending.TurnsUsed
 ServeEnds o out path turns status.ConfFault = Faulty o.files o.files' out path
 ServeEnds o out path turns status.FilesFault = Unread o.files o.files' out
 ServeEnds o out path turns status.LinksFault =
-    Rose o.links.faults o.links'.faults × (Served o out path turns ending.ListenFault ⊎ Served o out path turns ending.NextFault)
+    Rose o.links.faults o.links'.faults ×
+    (Served o out path turns ending.ListenFault ⊎ Served o out path turns ending.NextFault)
 ServeEnds o out path turns status.SinkFault = CutShort (IsFaultLine o.files o.files' path) out
 ServeEnds o out path turns status.OutOfMemory = Printed out []
 ServeEnds o out path turns s = ⊥
 
+-- When each status of a text of the program's own comes.
+abbrev pub TextEnds : Output → (text : List ℕ) → Status → Type 0
+TextEnds out text status.Done = Printed out text
+TextEnds out text status.SinkFault = Rose out.before.faults out.after.faults × PrintedFront out text
+TextEnds out text s = ⊥
+
+-- Nothing was asked of the files, the links and the clock.
+pub record Untouched (o : Outside) : Type 0 where
+  pub files : o.files' ≡ o.files
+  pub links : o.links' ≡ o.links
+  pub clock : o.clock' ≡ o.clock
+
 -- When each status comes, by what the words ask for. Words that are no command print nothing.
 abbrev pub Ends : Option Request → Outside → Output → Status → Type 0
-Ends None o out s = (s ≡ status.Usage) × Printed out []
+Ends None o out s = (s ≡ status.Usage) × Printed out [] × Untouched o
+Ends (Some Help) o out s = TextEnds out help_text s × Untouched o
+Ends (Some Version) o out s = TextEnds out version_text s × Untouched o
 Ends (Some (Check path)) o out s = CheckEnds o.files o.files' out path s
 Ends (Some (Replay path)) o out s = ReplayEnds o.files o.files' out path s
 Ends (Some (Serve path turns)) o out s = ServeEnds o out path turns s
@@ -184,6 +216,7 @@ EndsWith request o out code = (s : Status) × (code ≡ code_of s) × Ends reque
 -- a text was printed, or a front of it where the output failed, or memory ran out
 abbrev pub PutsText : Output → (text : List ℕ) → Result (Unit {0}) Status → Type 0
 PutsText out text (Ok u) = Printed out text
-PutsText out text (Err status.SinkFault) = Rose out.before.faults out.after.faults × PrintedFront out text
+PutsText out text (Err status.SinkFault) = Rose out.before.faults out.after.faults ×
+    PrintedFront out text
 PutsText out text (Err status.OutOfMemory) = Printed out []
 PutsText out text (Err s) = ⊥

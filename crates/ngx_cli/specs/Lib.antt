@@ -1,5 +1,4 @@
 pub mod Naming
 pub mod Running
 pub mod Sites
-pub mod Words
 pub mod Commands

@@ -8,7 +8,8 @@ use Rattle.replay_confs.specs.Confs.{conf_tree, names_in}
 use Rattle.conf_include.specs.Listings.{Names, IsListing, IsNaming, byte_order}
 
 -- a name before the first of others, in its place, or behind it
-abbrev pub placed : Ordering → (name other : List ℕ) → (others behind : List (List ℕ)) → List (List ℕ)
+abbrev pub placed : Ordering → (name other : List ℕ) → (others behind : List (List ℕ)) →
+    List (List ℕ)
 placed Less name other others behind = name ∷ other ∷ others
 placed Equal name other others behind = other ∷ others
 placed Greater name other others behind = other ∷ behind
@@ -16,7 +17,8 @@ placed Greater name other others behind = other ∷ behind
 -- names in byte order with one more, unless it is among them
 unfoldable pub put_name : List ℕ → List (List ℕ) → List (List ℕ)
 put_name name [] = name ∷ []
-put_name name (other ∷ others) = placed (byte_order name other) name other others (put_name name others)
+put_name name (other ∷ others) = placed (byte_order name other) name other others
+    (put_name name others)
 
 -- names in byte order, each once
 unfoldable pub in_order : List (List ℕ) → List (List ℕ)
@@ -36,4 +38,5 @@ conf_names confs folder = names_at (conf_tree confs folder) (in_order (names_in 
 
 -- they are the folders' listings, and the only ones
 abbrev pub FoldersHaveTheirNames : Type 0
-FoldersHaveTheirNames = (confs : List Conf) → IsNaming (conf_tree confs) (conf_names confs) × ((folder : List ℕ) → IsListing (conf_tree confs) folder (conf_names confs folder))
+FoldersHaveTheirNames = (confs : List Conf) → IsNaming (conf_tree confs) (conf_names confs) ×
+    ((folder : List ℕ) → IsListing (conf_tree confs) folder (conf_names confs folder))

@@ -1,5 +1,5 @@
 -- A run of a script, from its bytes to what is printed of it.
-use Rattle.std.specs.Prelude.{◌≡◌, ◌≢◌, ℕ, true, false, is_some, List, [], ◌∷◌, ◌++◌, map, Contains, None, Some, Result, Ok, Err, if◌then◌else◌}
+use Rattle.std.specs.Prelude.{◌≡◌, ◌≢◌, ℕ, true, false, ◌||◌, is_some, List, [], ◌∷◌, ◌++◌, map, Contains, None, Some, Result, Ok, Err, if◌then◌else◌}
 use Rattle.file_tree.specs.Tree.{Trees}
 use Rattle.ngx_outside.specs.Views.{ConnView, Start, Logged, start_of, log_of, is_idle, nobody}
 use Rattle.ngx_outside.specs.Runs.{IsPrefixOf, Agree}
@@ -19,7 +19,7 @@ use Rattle.conf_text.specs.declared.fault.ConfFault.{ConfFault}
 use Rattle.replay_confs.specs.Confs.{conf_tree}
 use Rattle.site_model.specs.Levels.{SiteView, seen}
 use Rattle.site_model.specs.declared.site.Site.{Site}
-use Rattle.connection.specs.Answers.{answers, answer_logs, service_of}
+use Rattle.connection.specs.Answers.{answers, answer_logs, answers_close, service_of}
 use Rattle.connection_core.specs.Core.{site_terms}
 use Rattle.report_text.specs.declared.report.ConnState.{ConnState}
 use Rattle.report_text.specs.declared.report.ConnState.TheVariants.{Stopped, Idle, Busy}
@@ -36,8 +36,8 @@ abbrev pub main_path : List Conf → List ℕ
 main_path [] = []
 main_path (conf ∷ confs) = conf.path
 
--- The configurations of a script come to this: the site of the main one, with each include replaced by those that it names,
--- or the first fault, with the path of its configuration.
+-- The configurations of a script come to this: the site of the main one, with each include replaced
+-- by those that it names, or the first fault, with the path of its configuration.
 abbrev pub Describe : List Conf → Result SiteView (ConfFault × List ℕ) → Type 0
 Describe confs outcome = site_at (conf_tree confs) (conf_names confs) (main_path confs) ≡ outcome
 
@@ -62,37 +62,60 @@ report_in s journals c = record {
   sent = (s.lanes c).went;
 }
 
--- A connection was opened last at these ends, and some of the bytes that were sent on it came. For all trees that agree with
--- what the script's files told: what was emitted is the beginning of the answers that the site gives to these bytes at these
--- ends, by the requests that were started; while no cause stops the connection, what was emitted and what is still to come
--- are the answers, however it goes on; where it is idle, all has been emitted; and where it is to be closed before the core was
--- told that its input has ended, that is so whatever else would come. What is logged of its requests are the statuses and the
--- lengths of bodies of these answers, of each but at most the last; where it is idle, of each. And it is no more and no less
--- than what is left: where it is busy, with a further request some of the answers are still to be emitted or logged; one that is
--- to be closed is idle, and one that is idle after the end of its input is to be closed.
-pub record Answered (site : Site) (told : Told) (v : ConnView) (lane : Lane) (sent : List ℕ) : Type 0 where
+-- A connection was opened last at these ends, and some of the bytes that were sent on it came. For
+-- all trees that agree with what the script's files told: what was emitted is the beginning of the
+-- answers that the site gives to these bytes at these ends, by the requests that were started;
+-- while no cause stops the connection, what was emitted and what is still to come are the answers,
+-- however it goes on; where it is idle, all has been emitted; and where it is to be closed before
+-- the core was told that its input has ended, that is so whatever else would come. What is logged
+-- of its requests are the statuses and the lengths of bodies of these answers, of each but at most
+-- the last; where it is idle, of each. And it is no more and no less than what is left: where it is
+-- busy, with a further request some of the answers are still to be emitted or logged; one that is
+-- to be closed is idle, and one that is idle is to be closed exactly where the core was told that
+-- its input has ended, or where the answers close it.
+pub record Answered (site : Site) (told : Told) (v : ConnView) (lane : Lane)
+    (sent : List ℕ) : Type 0 where
   pub ends : LinkEnds
   pub opened : lane.ends ≡ Some ends
   pub came : List ℕ
   pub arrived : sent ≡ came ++ lane.queue
-  pub front : (trees : Trees) → Agree told.trees told.newest trees → IsPrefixOf lane.went (answers (service_of site ends.local ends.peer) 0 trees came v.starts)
-  pub on : v.cause ≡ None → (trees : Trees) → Agree told.trees told.newest trees → (more : List ℕ) (later : List Start) →
-      answers (service_of site ends.local ends.peer) 0 trees (came ++ more) (v.starts ++ later) ≡ lane.went ++ v.course.bytes trees more later
-  pub whole : is_idle v ≡ true → (trees : Trees) → Agree told.trees told.newest trees → (later : List Start) → answers (service_of site ends.local ends.peer) 0 trees came (v.starts ++ later) ≡ lane.went
-  pub closes : v.cause ≡ None → v.shut ≡ true → is_given lane.tail ≡ false → (trees : Trees) → Agree told.trees told.newest trees → (more : List ℕ) (later : List Start) →
-      answers (service_of site ends.local ends.peer) 0 trees (came ++ more) (v.starts ++ later) ≡ lane.went
-  pub logged : (trees : Trees) → Agree told.trees told.newest trees → Logged v.logs (answer_logs (service_of site ends.local ends.peer) 0 trees came v.starts)
-  pub all_logged : is_idle v ≡ true → (trees : Trees) → Agree told.trees told.newest trees → (later : List Start) → v.logs ≡ map (λ l. Some l) (answer_logs (service_of site ends.local ends.peer) 0 trees came (v.starts ++ later))
-  pub busy : v.cause ≡ None → is_idle v ≡ false → (trees : Trees) → Agree told.trees told.newest trees → (start : Start) (later : List Start) →
-      answers (service_of site ends.local ends.peer) 0 trees came (v.starts ++ start ∷ later) ≡ lane.went →
-      v.logs ≢ map (λ l. Some l) (answer_logs (service_of site ends.local ends.peer) 0 trees came (v.starts ++ start ∷ later))
+  pub front : (trees : Trees) → Agree told.trees told.newest trees →
+      IsPrefixOf lane.went (answers (service_of site ends.local ends.peer) 0 trees came v.starts)
+  pub on : v.cause ≡ None → (trees : Trees) → Agree told.trees told.newest trees →
+      (more : List ℕ) (later : List Start) →
+      answers (service_of site ends.local ends.peer) 0 trees (came ++ more)
+      (v.starts ++ later) ≡ lane.went ++ v.course.bytes trees more later
+  pub whole : is_idle v ≡ true → (trees : Trees) → Agree told.trees told.newest trees →
+      (later : List Start) →
+      answers (service_of site ends.local ends.peer) 0 trees came (v.starts ++ later) ≡ lane.went
+  pub closes : v.cause ≡ None → v.shut ≡ true → is_given lane.tail ≡ false → (trees : Trees) →
+      Agree told.trees told.newest trees → (more : List ℕ) (later : List Start) →
+      answers (service_of site ends.local ends.peer) 0 trees (came ++ more)
+      (v.starts ++ later) ≡ lane.went
+  pub logged : (trees : Trees) → Agree told.trees told.newest trees →
+      Logged v.logs (answer_logs (service_of site ends.local ends.peer) 0 trees came v.starts)
+  pub all_logged : is_idle v ≡ true → (trees : Trees) → Agree told.trees told.newest trees →
+      (later : List Start) →
+      v.logs ≡ map (λ l. Some l)
+      (answer_logs (service_of site ends.local ends.peer) 0 trees came (v.starts ++ later))
+  pub busy : v.cause ≡ None → is_idle v ≡ false → (trees : Trees) →
+      Agree told.trees told.newest trees → (start : Start) (later : List Start) →
+      answers (service_of site ends.local ends.peer) 0 trees came
+      (v.starts ++ start ∷ later) ≡ lane.went →
+      v.logs ≢ map (λ l. Some l)
+      (answer_logs (service_of site ends.local ends.peer) 0 trees came
+      (v.starts ++ start ∷ later))
   pub rests : v.cause ≡ None → v.shut ≡ true → is_idle v ≡ true
-  pub ends_shut : is_idle v ≡ true → is_given lane.tail ≡ true → v.shut ≡ true
+  pub shuts : is_idle v ≡ true → (trees : Trees) → Agree told.trees told.newest trees →
+      (later : List Start) →
+      v.shut ≡ (is_given lane.tail || answers_close
+      (service_of site ends.local ends.peer) 0 trees came (v.starts ++ later))
 
--- A run of a script's lines, over its tree, on a new core of a site, and the text that is printed of it: a report on each connection, by
--- number, and the counts of the lines that were skipped and refused. The ends of each connection are those of a line that
--- opens it.
-pub record Ran (site : Site) (tree : List TreeLine) (events : List EventLine) (text : List ℕ) : Type 0 where
+-- A run of a script's lines, over its tree, on a new core of a site, and the text that is printed
+-- of it: a report on each connection, by number, and the counts of the lines that were skipped and
+-- refused. The ends of each connection are those of a line that opens it.
+pub record Ran (site : Site) (tree : List TreeLine) (events : List EventLine)
+    (text : List ℕ) : Type 0 where
   pub first : Stage
   pub last : Stage
   pub skipped : ℕ
@@ -104,9 +127,12 @@ pub record Ran (site : Site) (tree : List TreeLine) (events : List EventLine) (t
   pub journals : ℕ → List Entry
   pub started : (c : ℕ) → map start_of (journals c) ≡ (last.view c).starts
   pub logged : (c : ℕ) → map log_of (journals c) ≡ (last.view c).logs
-  pub opened : (c : ℕ) (ends : LinkEnds) → (last.lanes c).ends ≡ Some ends → Contains events (line.Open c ends.local ends.peer)
+  pub opened : (c : ℕ) (ends : LinkEnds) → (last.lanes c).ends ≡ Some ends →
+      Contains events (line.Open c ends.local ends.peer)
   pub printed : text ≡ run_text (map (report_in last journals) conns) skipped refused
-  pub answered : (c : ℕ) → Contains conns c → Answered site (told_in events (told_first tree)) (last.view c) (last.lanes c) (sent_in events c)
+  pub answered : (c : ℕ) → Contains conns c →
+      Answered site (told_in events (told_first tree)) (last.view c) (last.lanes c)
+      (sent_in events c)
 
 -- a run on the site that a script's configurations describe
 pub record RanOn (script : Script) (text : List ℕ) : Type 0 where
@@ -114,10 +140,13 @@ pub record RanOn (script : Script) (text : List ℕ) : Type 0 where
   pub described : Describe script.confs (Ok (seen site))
   pub ran : Ran site script.tree script.events text
 
--- What a script's bytes come to, and what is printed: the first fault of the script; the first fault of its configurations;
--- or a run.
+-- What a script's bytes come to, and what is printed: the first fault of the script; the first
+-- fault of its configurations; or a run.
 abbrev pub Replays : List ℕ → Outcome → List ℕ → Type 0
-Replays bytes outcome.Done text = (script : Script) × (script_of bytes ≡ Ok script) × RanOn script text
-Replays bytes (outcome.ScriptFault fault) text = (script_of bytes ≡ Err fault) × (text ≡ ended (script_fault_line fault))
+Replays bytes outcome.Done text = (script : Script) × (script_of bytes ≡ Ok script) ×
+    RanOn script text
+Replays bytes (outcome.ScriptFault fault) text = (script_of bytes ≡ Err fault) ×
+    (text ≡ ended (script_fault_line fault))
 Replays bytes outcome.ConfFault text =
-    (script : Script) × (fault : ConfFault) × (at : List ℕ) × (script_of bytes ≡ Ok script) × Describe script.confs (Err (fault, at)) × (text ≡ ended (conf_fault_line at fault))
+    (script : Script) × (fault : ConfFault) × (at : List ℕ) × (script_of bytes ≡ Ok script) ×
+    Describe script.confs (Err (fault, at)) × (text ≡ ended (conf_fault_line at fault))

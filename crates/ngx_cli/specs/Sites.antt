@@ -17,12 +17,16 @@ use Rattle.site_model.specs.Levels.{SiteView, seen}
 use Rattle.site_model.specs.declared.site.Site.{Site}
 
 -- a fault with the path of its file, which is one of these by its number
-abbrev pub placed_in : {A : Type 0} → List (List ℕ) → Result A ConfFault → Result A (ConfFault × List ℕ)
+abbrev pub placed_in : {A : Type 0} → List (List ℕ) → Result A ConfFault →
+    Result A (ConfFault × List ℕ)
 placed_in paths (Ok value) = Ok value
 placed_in paths (Err fault) = Err (fault, slice_index_or paths fault.file [])
 
--- the site of a configuration's directives, whose relative paths start at this folder, or the first fault
-abbrev pub site_in : (folder : List ℕ) → Result (List Directive × List (List ℕ)) (ConfFault × List ℕ) → Result SiteView (ConfFault × List ℕ)
+-- the site of a configuration's directives, whose relative paths start at this folder, or the first
+-- fault
+abbrev pub site_in : (folder : List ℕ) →
+    Result (List Directive × List (List ℕ)) (ConfFault × List ℕ) →
+    Result SiteView (ConfFault × List ℕ)
 site_in folder (Ok read) = placed_in read.1 (built folder read.0)
 site_in folder (Err fault) = Err fault
 
@@ -30,14 +34,17 @@ site_in folder (Err fault) = Err fault
 unfoldable pub site_at : Tree → Names → List ℕ → Result SiteView (ConfFault × List ℕ)
 site_at tree names main = site_in (folder_of main) (expansion tree names main)
 
--- A configuration was read: the number of the newest tree was told when the reading began and when it was over.
+-- A configuration was read: the number of the newest tree was told when the reading began and when
+-- it was over.
 pub record Reading (files files' : FilesSeen) : Type 0 where
   pub tells : files'.tells ≡ files.tells
   pub grown : Grown files files'
   pub told : (told : List ℕ) → files'.versions ≡ Some told →
-      (before : List ℕ) × (files.versions ≡ Some before) × (told ≡ before ++ files.newest ∷ files'.newest ∷ [])
+      (before : List ℕ) × (files.versions ≡ Some before) ×
+      (told ≡ before ++ files.newest ∷ files'.newest ∷ [])
 
--- A site is the one that is described, and a fault is the first one, unless the files failed or memory ran out.
+-- A site is the one that is described, and a fault is the first one, unless the files failed or
+-- memory ran out.
 abbrev pub Describes : Result Site ExpandError → Result SiteView (ConfFault × List ℕ) → Type 0
 Describes (Ok site) outcome = outcome ≡ Ok (seen site)
 Describes (Err (error.Fault placed)) outcome = outcome ≡ Err (placed.fault, placed.path)

@@ -34,7 +34,8 @@ fn counts_line(site: &Site, out: &mut ByteText) -> Result<(), OutOfMemory>
 
 // Prints how many servers and locations a site has.
 fn put_counts<O: Sink>(alloc: Global, site: &Site, out: &mut O) -> Result<(), Status>
-    ensures { PutsText (record { before = O.seen out.old; after = O.seen out.new }) (counts_of (seen site.now)) result }
+    ensures { PutsText (record { before = O.seen out.old; after = O.seen out.new })
+        (counts_of (seen site.now)) result }
 {
     let mut text = ByteText::new(alloc);
     match counts_line(site, &mut text) {
@@ -50,7 +51,8 @@ pub(crate) fn run_check<F: Files, O: Sink>(
     files: &mut F,
     out: &mut O,
 ) -> Status
-    ensures { CheckEnds (F.seen files.old) (F.seen files.new) (record { before = O.seen out.old; after = O.seen out.new }) path.now result }
+    ensures { CheckEnds (F.seen files.old) (F.seen files.new)
+        (record { before = O.seen out.old; after = O.seen out.new }) path.now result }
 {
     match site_at(alloc, files, path) {
         Ok(site) => match put_counts(alloc, &site, out) {

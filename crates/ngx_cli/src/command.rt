@@ -3,16 +3,17 @@ ghost use Rattle.std.specs.Prelude.{map, string_bytes};
 ghost use Rattle.report_text.specs.Lines.{ended};
 ghost use Rattle.report_text.specs.Faults.{conf_fault_line};
 ghost use Rattle.site_service.specs.Serving.{AreNew, Outside};
-ghost use Rattle.ngx_cli.specs.Words.{request_in};
+ghost use Rattle.command_line.specs.Words.{request_in};
 ghost use Rattle.ngx_cli.specs.Commands.{Ends, EndsWith, Output, ReplayEnds, ServeEnds, PutsText};
 
 use crate::check::run_check;
+use crate::help::{put_help, put_version};
 use crate::script::{placed_fault_text, replay};
 use crate::site::site_at;
 use crate::status::{Status, served_status, status_of};
 use crate::text::read_text;
-use crate::words::{Command, command_of};
 use byte_text::{ByteText, OutOfMemory};
+use command_line::{Command, command_of};
 use conf_include::{ExpandError, PlacedFault};
 use ngx_outside::{Clock, Failed, FileFault, Files, Links, Sink};
 use site_service::serve_site;
@@ -20,7 +21,8 @@ use std::alloc::Global;
 
 /// Prints a text; where that fails, what the program ends with.
 pub(crate) fn put_text<O: Sink>(text: &[u8], out: &mut O) -> Result<(), Status>
-    ensures { PutsText (record { before = O.seen out.old; after = O.seen out.new }) text.now result }
+    ensures { PutsText (record { before = O.seen out.old; after = O.seen out.new }) text.now
+        result }
 {
     match out.put(text) {
         Ok(()) => Ok(()),
@@ -30,7 +32,8 @@ pub(crate) fn put_text<O: Sink>(text: &[u8], out: &mut O) -> Result<(), Status>
 
 // Runs a script and prints what it came to.
 fn run_script<F: Files, O: Sink>(alloc: Global, path: &[u8], files: &mut F, out: &mut O) -> Status
-    ensures { ReplayEnds (F.seen files.old) (F.seen files.new) (record { before = O.seen out.old; after = O.seen out.new }) path.now result }
+    ensures { ReplayEnds (F.seen files.old) (F.seen files.new)
+        (record { before = O.seen out.old; after = O.seen out.new }) path.now result }
 {
     let script = match read_text(alloc, files, path) {
         Ok(script) => script,
@@ -53,7 +56,8 @@ pub(crate) fn put_fault<O: Sink>(
     placed: &PlacedFault,
     out: &mut O,
 ) -> Result<(), Status>
-    ensures { PutsText (record { before = O.seen out.old; after = O.seen out.new }) (ended (conf_fault_line placed.now.path placed.now.fault)) result }
+    ensures { PutsText (record { before = O.seen out.old; after = O.seen out.new })
+        (ended (conf_fault_line placed.now.path placed.now.fault)) result }
 {
     let mut text = ByteText::new(alloc);
     match placed_fault_text(placed, &mut text) {
@@ -120,6 +124,8 @@ fn run<F: Files, L: Links, C: Clock, O: Sink>(
 {
     match command_of(words) {
         None => Status::Usage,
+        Some(Command::Help) => put_help(out),
+        Some(Command::Version) => put_version(out),
         Some(Command::Check { conf }) => run_check(alloc, conf.as_bytes(), files, out),
         Some(Command::Replay { script }) => run_script(alloc, script.as_bytes(), files, out),
         Some(Command::Serve { conf, turns }) => {
@@ -131,12 +137,16 @@ fn run<F: Files, L: Links, C: Clock, O: Sink>(
 /// The program: does what its words ask for, with these files, links, clock and output, and answers the exit status of the
 /// process. No link was reported yet.
 ///
-/// The words are the program's name and one of these. `check CONF`: the configuration is read with what it includes, and
-/// `servers N locations M` is printed, M being the locations of all its servers; nothing is printed of variables, since no
-/// directive that is served sets one. `replay SCRIPT`: the script is run on a new core of the site that its configuration
-/// describes, and what each connection came to is printed. `serve CONF`, or `serve CONF --turns N`: the site that the
-/// configuration describes is served on its addresses, until no notice comes any more, or for N turns, from 1 to 1000000000.
-/// Serving prints nothing but faults.
+/// The words are the program's name and one of these.
+///
+/// - `--help` or `-h`, alone or in place of a command's path: what the program does, with its commands, is printed.
+/// - `--version` or `-V`: the program's name and version are printed.
+/// - `check CONF`: the configuration is read with what it includes, and `servers N locations M` is printed, M being the locations
+///   of all its servers; nothing is printed of variables, since no directive that is served sets one.
+/// - `replay SCRIPT`: the script is run on a new core of the site that its configuration describes, and what each connection
+///   came to is printed.
+/// - `serve CONF`, or `serve CONF --turns N`: the site that the configuration describes is served on its addresses, until no
+///   notice comes any more, or for N turns, from 1 to 1000000000. Serving prints nothing but faults.
 ///
 /// 0: done; of serving, no notice will come any more. 1: the configuration has a fault, which is printed. 2: the words are no
 /// command. 4: the files failed; where a configuration was read, that is printed. 5: the output failed. 6: listening or the

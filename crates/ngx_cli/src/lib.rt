@@ -3,17 +3,15 @@
 
 mod check;
 mod command;
+mod help;
 mod laws;
 mod script;
 mod site;
 mod status;
 mod text;
-mod turns;
-mod words;
 
 pub use command::ngx;
 pub use laws::folders_have_their_names;
 pub use script::{Outcome, replay};
 pub use site::site_at;
 pub use status::Status;
-pub use words::Command;

@@ -15,7 +15,8 @@ use byte_text::{ByteText, OutOfMemory};
 use conf_include::{ExpandError, PlacedFault};
 use connection_core::{Hub, cores_are_sound};
 use ngx_outside::{
-    StopCause, all_is_logged_when_idle, all_is_sent_when_idle, all_is_sent_when_shut, tracks_begin,
+    StopCause, all_is_logged_when_idle, all_is_sent_when_idle, all_is_sent_when_shut,
+    shut_is_exact, tracks_begin,
 };
 use replay_confs::ConfFiles;
 use replay_run::{Counts, Player, files_of, run_lines};
@@ -48,7 +49,8 @@ fn main_path(confs: &[Conf]) -> &[u8]
 // The site that a script's configurations describe.
 fn site_of(alloc: Global, confs: &Confs) -> Result<Site, ExpandError>
     ensures ok { IfOk result (λ site. Describe confs.now (Ok (seen site))) }
-    ensures fault { IfErr result (λ e. OnFault e (λ fault at. Describe confs.now (Err (fault, at)))) }
+    ensures fault { IfErr result (λ e. OnFault e
+        (λ fault at. Describe confs.now (Err (fault, at)))) }
 {
     let mut files = ConfFiles::new(alloc, confs.as_slice());
     match site_at(alloc, &mut files, main_path(confs.as_slice())) {
@@ -71,7 +73,9 @@ fn state_of(cause: Option<StopCause>, idle: bool) -> ConnState
 
 // What is reported of a connection.
 fn report<'a>(hub: &'a Hub, player: &'a Player, conn: u32) -> ConnReport<'a>
-    ensures { report_of result ≡ report_in (stage (view_at hub.now) (now_at hub.now) player.now.lanes.items) (journal_at hub.now) conn }
+    ensures { report_of result ≡ report_in
+        (stage (view_at hub.now) (now_at hub.now) player.now.lanes.items)
+        (journal_at hub.now) conn }
 {
     let cause = hub.cause(conn);
     ConnReport {
@@ -93,7 +97,9 @@ fn put_run(
     out: &mut ByteText,
 ) -> Result<(), OutOfMemory>
     ensures held { AreHeld (conns_held hub.now) (view_at hub.now) }
-    ensures text { OnOk result (out.new ≡ out.old ++ run_text (map (report_in (stage (view_at hub.now) (now_at hub.now) player.now.lanes.items) (journal_at hub.now)) (conns_held hub.now)) counts.skipped counts.refused) }
+    ensures text { OnOk result (out.new ≡ out.old ++ run_text
+        (map (report_in (stage (view_at hub.now) (now_at hub.now) player.now.lanes.items)
+        (journal_at hub.now)) (conns_held hub.now)) counts.skipped counts.refused) }
 {
     for conn in hub.ids() {
         conn_text(&report(hub, player, *conn), out)?;
@@ -110,14 +116,16 @@ fn run(
     events: &[EventLine],
     out: &mut ByteText,
 ) -> Result<(), OutOfMemory>
-    ensures { OnOk result ((text : List ℕ) × (out.new ≡ out.old ++ text) × Ran site tree.now events.now text) }
+    ensures { OnOk result ((text : List ℕ) × (out.new ≡ out.old ++ text) ×
+        Ran site tree.now events.now text) }
 {
     tracks_begin();
     all_is_sent_when_idle();
     all_is_sent_when_shut();
+    shut_is_exact();
     all_is_logged_when_idle();
     cores_are_sound();
-    let mut hub = Hub::new(alloc, site)?;
+    let mut hub = Hub::new(alloc, site);
     let mut player = Player::new(alloc);
     let mut files = files_of(alloc, tree)?;
     let counts = run_lines(&mut player, &mut hub, &mut files, events)?;
@@ -127,7 +135,8 @@ fn run(
 
 /// Appends the line of a fault with the path of its file.
 pub(crate) fn placed_fault_text(placed: &PlacedFault, out: &mut ByteText) -> Result<(), OutOfMemory>
-    ensures { OnOk result (out.new ≡ out.old ++ ended (conf_fault_line placed.now.path placed.now.fault)) }
+    ensures { OnOk result (out.new ≡ out.old ++ ended
+        (conf_fault_line placed.now.path placed.now.fault)) }
 {
     conf_fault_text(&placed.fault, placed.path.as_slice(), out)?;
     Ok(())
@@ -136,7 +145,8 @@ pub(crate) fn placed_fault_text(placed: &PlacedFault, out: &mut ByteText) -> Res
 /// Runs a script, and appends what is printed of it: what each connection came to, or the first fault of the script or of
 /// its configurations. After want of memory `out` holds some part of the text.
 pub fn replay(alloc: Global, bytes: &[u8], out: &mut ByteText) -> Result<Outcome, OutOfMemory>
-    ensures { IfOk result (λ o. (text : List ℕ) × (out.new ≡ out.old ++ text) × Replays bytes.now o text) }
+    ensures { IfOk result (λ o. (text : List ℕ) × (out.new ≡ out.old ++ text) ×
+        Replays bytes.now o text) }
 {
     let script = match read(alloc, bytes) {
         Ok(script) => script,

@@ -29,11 +29,14 @@ fn path_at(alloc: Global, paths: ByteTexts, number: u32) -> ByteText
 // The same, with the number of the newest tree asked for at the beginning alone.
 #[tactic(auto, unfolding(crate::specs::Sites::site_at))]
 fn site_read<F: Files>(alloc: Global, files: &mut F, path: &[u8]) -> Result<Site, ExpandError>
-    ensures exact { (F.seen files.old).tells ≡ true → (F.seen files.new).newest ≡ (F.seen files.old).newest → (names : Names) →
+    ensures exact { (F.seen files.old).tells ≡ true →
+        (F.seen files.new).newest ≡ (F.seen files.old).newest → (names : Names) →
         IsNaming ((F.seen files.old).trees (F.seen files.old).newest) names →
-        Describes result (site_found ((F.seen files.old).trees (F.seen files.old).newest) names path.now) }
+        Describes result (site_found
+        ((F.seen files.old).trees (F.seen files.old).newest) names path.now) }
     ensures cause { FailsIf result (F.seen files.old).faults (F.seen files.new).faults }
-    ensures versions { Adds (F.seen files.old).newest (F.seen files.old).versions (F.seen files.new).versions }
+    ensures versions { Adds (F.seen files.old).newest (F.seen files.old).versions
+        (F.seen files.new).versions }
     ensures tells { (F.seen files.new).tells ≡ (F.seen files.old).tells }
     ensures grown { Grown (F.seen files.old) (F.seen files.new) }
 {
@@ -59,9 +62,11 @@ fn site_read<F: Files>(alloc: Global, files: &mut F, path: &[u8]) -> Result<Site
 /// `Fault` for the first fault of its files' texts, or of its directives. `Failed` only where the files failed in this call.
 /// `OutOfMemory`.
 pub fn site_at<F: Files>(alloc: Global, files: &mut F, path: &[u8]) -> Result<Site, ExpandError>
-    ensures exact { (F.seen files.old).tells ≡ true → (F.seen files.new).newest ≡ (F.seen files.old).newest → (names : Names) →
+    ensures exact { (F.seen files.old).tells ≡ true →
+        (F.seen files.new).newest ≡ (F.seen files.old).newest → (names : Names) →
         IsNaming ((F.seen files.old).trees (F.seen files.old).newest) names →
-        Describes result (site_found ((F.seen files.old).trees (F.seen files.old).newest) names path.now) }
+        Describes result (site_found
+        ((F.seen files.old).trees (F.seen files.old).newest) names path.now) }
     ensures cause { FailsIf result (F.seen files.old).faults (F.seen files.new).faults }
     ensures reading { Reading (F.seen files.old) (F.seen files.new) }
 {

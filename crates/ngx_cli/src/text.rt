@@ -11,7 +11,9 @@ use std::alloc::Global;
 
 /// The text of a file of the newest tree; no bytes where nothing that can be read stands at the path.
 pub fn read_text<F: Files>(alloc: Global, files: &mut F, path: &[u8]) -> Result<ByteText, FileFault>
-    ensures text { (F.seen files.old).tells ≡ true → IfOk result (λ t. t ≡ text_of ((F.seen files.old).trees (F.seen files.old).newest path.now)) }
+    ensures text { (F.seen files.old).tells ≡ true →
+        IfOk result (λ t. t ≡ text_of
+        ((F.seen files.old).trees (F.seen files.old).newest path.now)) }
     ensures tells { (F.seen files.new).tells ≡ (F.seen files.old).tells }
     ensures cause { HasCause (F.seen files.old).faults (F.seen files.new).faults result Failed }
 {

@@ -1,11 +1,11 @@
 -- Each step of a connection keeps track of what has come and gone.
-use Rattle.std.proofs.Common.{◌≡◌, ℕ, ◌≤◌, Bool, true, false, ◌&&◌, List, [], ◌++◌, Option, Some, map, inl, refl, subst, sym, ap, ◌∙◌, append_assoc, arith}
+use Rattle.std.proofs.Common.{◌≡◌, ℕ, ◌≤◌, Bool, true, false, ◌&&◌, ◌||◌, List, [], ◌++◌, Option, Some, map, inl, refl, subst, sym, ap, ◌∙◌, append_assoc, arith}
 use Rattle.std.specs.Prelude.{is_none}
 use Rattle.std.proofs.lemmas.List.{append-nil}
 use Rattle.file_tree.specs.Tree.{Trees}
 use Rattle.ngx_outside.specs.Outside.{Grow}
 use Rattle.ngx_outside.specs.Views.{ConnView, Course, Start, Log, Logged, Moved, is_live, no_bytes, no_nodes, no_jobs}
-use Rattle.ngx_outside.specs.Runs.{IsPrefixOf, Agree, TracksBegin, StepsKeepTrack, StopsKeepTrack, TracksNarrow, AllIsSentWhenIdle, AllIsSentWhenShut, AllIsLoggedWhenIdle}
+use Rattle.ngx_outside.specs.Runs.{IsPrefixOf, Agree, TracksBegin, StepsKeepTrack, StopsKeepTrack, TracksNarrow, AllIsSentWhenIdle, AllIsSentWhenShut, ShutIsExact, AllIsLoggedWhenIdle}
 
 -- before a request starts nothing is logged
 logs_none : (logs : List (Option Log)) (all : List Log) → logs ≡ [] → Logged logs all
@@ -22,6 +22,8 @@ tracks_begin whole told newest v f = record {
   shown = λ live trees more later. logs_none v.logs (v.course.logs trees more later) f.logs;
   logs = λ live raceless trees agree more later.
       ap (λ s. whole.logs trees more (s ++ later)) f.starts ∙ ap (λ (c : Course). c.logs trees more later) (sym f.comes);
+  closes = λ live raceless trees agree more later.
+      ap (λ s. whole.closes trees more (s ++ later)) f.starts ∙ ap (λ (c : Course). c.closes trees more later) (sym f.comes);
   heavy = λ live raceless trees agree more later h.
       ap (λ s. whole.heavy trees more (s ++ later)) f.starts ∙ ap (λ (c : Course). c.heavy trees more later) (sym f.comes) ∙ h;
 }
@@ -49,6 +51,7 @@ steps_keep_track whole told newest ground old new came went came' went' started 
   logged = λ raceless trees agree. logged_of whole trees new (came ++ came') (same raceless trees agree) (w.logged trees [] []);
   shown = λ live trees more later. w.logged trees more later;
   logs = λ live raceless trees agree. same raceless trees agree;
+  closes = λ live raceless trees agree. ends raceless trees agree;
   heavy = λ live raceless trees agree. foreseen raceless trees agree;
 }
   where
@@ -71,6 +74,14 @@ steps_keep_track whole told newest ground old new came went came' went' started 
         ∙ ap (λ s. whole.logs trees (came ++ (came' ++ more)) s) (ap (λ s. s ++ later) m.starts ∙ append_assoc old.starts started later)
         ∙ t.logs w.before raceless trees agree (came' ++ more) (started ++ later)
         ∙ m.logs trees (holds (t.raceless ∙ raceless) trees agree) more later
+
+    ends : whole.raceless ≡ true → (trees : Trees) → Agree told newest trees → (more : List ℕ) (later : List Start) →
+        whole.closes trees ((came ++ came') ++ more) (new.starts ++ later) ≡ new.course.closes trees more later
+    ends raceless trees agree more later =
+        ap (λ c. whole.closes trees c (new.starts ++ later)) (append_assoc came came' more)
+        ∙ ap (λ s. whole.closes trees (came ++ (came' ++ more)) s) (ap (λ s. s ++ later) m.starts ∙ append_assoc old.starts started later)
+        ∙ t.closes w.before raceless trees agree (came' ++ more) (started ++ later)
+        ∙ m.closes trees (holds (t.raceless ∙ raceless) trees agree) more later
 
     foreseen : whole.raceless ≡ true → (trees : Trees) → Agree told newest trees → (more : List ℕ) (later : List Start) →
         new.course.heavy trees more later ≡ true → whole.heavy trees ((came ++ came') ++ more) (new.starts ++ later) ≡ true
@@ -100,6 +111,7 @@ stops_keep_track whole told newest cause old new came went more started t s = re
       (subst (Logged old.logs) (sym (ap (λ x. whole.logs trees (came ++ more) x) s.starts ∙ t.logs s.before raceless trees agree more started)) (t.shown s.before trees more started));
   shown = λ live. absurd (stopped live);
   logs = λ live. absurd (stopped live);
+  closes = λ live. absurd (stopped live);
   heavy = λ live. absurd (stopped live);
 }
   where
@@ -120,6 +132,7 @@ tracks_narrow whole told told' newest newest' v came went g t = record {
   logged = λ raceless trees agree. t.logged raceless trees (narrow told told' newest newest' g trees agree);
   shown = t.shown;
   logs = λ live raceless trees agree. t.logs live raceless trees (narrow told told' newest newest' g trees agree);
+  closes = λ live raceless trees agree. t.closes live raceless trees (narrow told told' newest newest' g trees agree);
   heavy = λ live raceless trees agree. t.heavy live raceless trees (narrow told told' newest newest' g trees agree);
 }
 
@@ -142,6 +155,14 @@ all_is_logged_when_idle whole told newest v came went t sound idle raceless tree
     ∙ ap (map (λ l. Some l)) (sym (
     ap (λ c. whole.logs trees c (v.starts ++ later)) (sym (append-nil came))
     ∙ t.logs (first_and (is_live v) (no_bytes v.pending) (no_nodes v.ready) (no_jobs v.jobs) idle) raceless trees agree [] later
+    ))
+
+pub shut_is_exact : ShutIsExact
+shut_is_exact whole told newest v came went t sound idle raceless trees agree later =
+    sound.shuts idle trees later
+    ∙ ap (λ b. v.ended || b) (sym (
+    ap (λ c. whole.closes trees c (v.starts ++ later)) (sym (append-nil came))
+    ∙ t.closes (first_and (is_live v) (no_bytes v.pending) (no_nodes v.ready) (no_jobs v.jobs) idle) raceless trees agree [] later
     ))
 
 pub all_is_sent_when_shut : AllIsSentWhenShut

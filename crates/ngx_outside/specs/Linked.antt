@@ -9,9 +9,9 @@ use Rattle.ngx_outside.specs.declared.links.Input.TheVariants as input
 use Rattle.ngx_outside.specs.declared.links.Output.{Output}
 use Rattle.ngx_outside.specs.declared.links.Output.TheVariants as output
 
--- A link: its two ends, how many others were open when it was reported, what was read of it and written to it, whether it was
--- reported readable and not read since, whether its last write found no room and no room was reported since, and whether a
--- read found the end of its input.
+-- A link: its two ends, how many others were open when it was reported, what was read of it and
+-- written to it, whether it was reported readable and not read since, whether its last write found
+-- no room and no room was reported since, and whether a read found the end of its input.
 pub record LinkView : Type 0 where
   pub local : Addr
   pub peer : Addr
@@ -28,22 +28,78 @@ pub record Updated (c : ℕ) (f : LinkView → LinkView) (old new : ℕ → Link
   pub others : (d : ℕ) → d ≢ c → new d ≡ old d
 
 abbrev pub begun : Addr → Addr → ℕ → LinkView → LinkView
-begun local peer among v = record { local = local; peer = peer; among = among; taken = []; sent = []; due = false; full = false; ended = false }
+begun local peer among v = record {
+  local = local;
+  peer = peer;
+  among = among;
+  taken = [];
+  sent = [];
+  due = false;
+  full = false;
+  ended = false;
+}
 
 abbrev pub set_due : Bool → LinkView → LinkView
-set_due b v = record { local = v.local; peer = v.peer; among = v.among; taken = v.taken; sent = v.sent; due = b; full = v.full; ended = v.ended }
+set_due b v = record {
+  local = v.local;
+  peer = v.peer;
+  among = v.among;
+  taken = v.taken;
+  sent = v.sent;
+  due = b;
+  full = v.full;
+  ended = v.ended;
+}
 
 abbrev pub set_full : Bool → LinkView → LinkView
-set_full b v = record { local = v.local; peer = v.peer; among = v.among; taken = v.taken; sent = v.sent; due = v.due; full = b; ended = v.ended }
+set_full b v = record {
+  local = v.local;
+  peer = v.peer;
+  among = v.among;
+  taken = v.taken;
+  sent = v.sent;
+  due = v.due;
+  full = b;
+  ended = v.ended;
+}
 
 abbrev pub got : List ℕ → LinkView → LinkView
-got bytes v = record { local = v.local; peer = v.peer; among = v.among; taken = v.taken ++ bytes; sent = v.sent; due = false; full = v.full; ended = v.ended }
+got bytes v = record {
+  local = v.local;
+  peer = v.peer;
+  among = v.among;
+  taken = v.taken
+      ++ bytes;
+  sent = v.sent;
+  due = false;
+  full = v.full;
+  ended = v.ended;
+}
 
 abbrev pub put : List ℕ → LinkView → LinkView
-put bytes v = record { local = v.local; peer = v.peer; among = v.among; taken = v.taken; sent = v.sent ++ bytes; due = v.due; full = v.full; ended = v.ended }
+put bytes v = record {
+  local = v.local;
+  peer = v.peer;
+  among = v.among;
+  taken = v.taken;
+  sent = v.sent
+      ++ bytes;
+  due = v.due;
+  full = v.full;
+  ended = v.ended;
+}
 
 abbrev pub set_ended : LinkView → LinkView
-set_ended v = record { local = v.local; peer = v.peer; among = v.among; taken = v.taken; sent = v.sent; due = false; full = v.full; ended = true }
+set_ended v = record {
+  local = v.local;
+  peer = v.peer;
+  among = v.among;
+  taken = v.taken;
+  sent = v.sent;
+  due = false;
+  full = v.full;
+  ended = true;
+}
 
 abbrev pub Unchanged : (ℕ → LinkView) → (ℕ → LinkView) → Type 0
 Unchanged old new = (c : ℕ) → new c ≡ old c
@@ -89,9 +145,12 @@ Same old new = (d : ℕ) → new d ≡ old d
 
 -- An id is reported once. Of an id that isn't open nothing else is reported.
 abbrev pub Opens : Notice → (ℕ → Bool) → (ℕ → Bool) → (ℕ → Bool) → (ℕ → Bool) → Type 0
-Opens (Opened id local peer) used used' is_open is_open' = (used id ≡ false) × Marked id true used used' × (is_open id ≡ false) × Marked id true is_open is_open'
-Opens (Readable id) used used' is_open is_open' = (is_open id ≡ true) × Same used used' × Same is_open is_open'
-Opens (Writable id) used used' is_open is_open' = (is_open id ≡ true) × Same used used' × Same is_open is_open'
+Opens (Opened id local peer) used used' is_open is_open' = (used id ≡ false) ×
+    Marked id true used used' × (is_open id ≡ false) × Marked id true is_open is_open'
+Opens (Readable id) used used' is_open is_open' = (is_open id ≡ true) × Same used used' ×
+    Same is_open is_open'
+Opens (Writable id) used used' is_open is_open' = (is_open id ≡ true) × Same used used' ×
+    Same is_open is_open'
 Opens n used used' is_open is_open' = Same used used' × Same is_open is_open'
 
 abbrev pub HasRead : ℕ → Input → List ℕ → (ℕ → LinkView) → (ℕ → LinkView) → Type 0

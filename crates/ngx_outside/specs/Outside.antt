@@ -14,31 +14,42 @@ pub record Grow (version later : ℕ) (old new : Trees) : Type 0 where
 abbrev pub Stats : {E : Type 0} → Bool → Tree → List ℕ → Result Node E → Type 0
 Stats tells tree path result = IfOk result (λ node. tells ≡ true → node ≡ node_of (tree path))
 
--- A read adds exactly so many bytes, those that the file has there where files tell; one that fails adds nothing.
-pub record Reads {E : Type 0} (tells : Bool) (tree : Tree) (path : List ℕ) (start count : ℕ) (old new : List ℕ) (result : Result (Unit {0}) E) : Type 0 where
-  pub done : OnOk result ((added : List ℕ) × (new ≡ old ++ added) × (length added ≡ count) × (tells ≡ true → HoldsBytes (tree path) start count added))
+-- A read adds exactly so many bytes, those that the file has there where files tell; one that fails
+-- adds nothing.
+pub record Reads {E : Type 0} (tells : Bool) (tree : Tree) (path : List ℕ) (start count : ℕ)
+    (old new : List ℕ) (result : Result (Unit {0}) E) : Type 0 where
+  pub done : OnOk result
+      ((added : List ℕ) × (new ≡ old ++ added) × (length added ≡ count) ×
+      (tells ≡ true → HoldsBytes (tree path) start count added))
   pub failed : OnErr result (new ≡ old)
 
 -- the names of a folder
-pub record Names (tells : Bool) (tree : Tree) (folder : List ℕ) (old new : List (List ℕ)) : Type 0 where
+pub record Names (tells : Bool) (tree : Tree) (folder : List ℕ)
+    (old new : List (List ℕ)) : Type 0 where
   pub added : List (List ℕ)
   pub all : new ≡ old ++ added
   pub there : tells ≡ true → tree folder ≡ AFolder
   pub names : tells ≡ true → (name : List ℕ) → Contains added name ↔ IsChild tree folder name
 
 -- no folder stands there
-pub record NoFolder (tells : Bool) (tree : Tree) (folder : List ℕ) (old new : List (List ℕ)) : Type 0 where
+pub record NoFolder (tells : Bool) (tree : Tree) (folder : List ℕ)
+    (old new : List (List ℕ)) : Type 0 where
   pub same : new ≡ old
   pub missing : tells ≡ true → tree folder ≢ AFolder
 
-abbrev pub Lists : {E : Type 0} → Bool → Tree → List ℕ → List (List ℕ) → List (List ℕ) → Result Listing E → Type 0
+abbrev pub Lists : {E : Type 0} → Bool → Tree → List ℕ → List (List ℕ) → List (List ℕ) →
+    Result Listing E → Type 0
 Lists tells tree folder old new result = IfOk result (λ l. ListsAs l)
   where
     ListsAs : Listing → Type 0
     ListsAs listing.Done = Names tells tree folder old new
     ListsAs listing.Missing = NoFolder tells tree folder old new
 
--- What a put does to what a sink has taken, where it tells: the whole piece, or a front of it and a failure.
-pub record Puts {E : Type 0} (tells : Bool) (old new piece : List ℕ) (result : Result (Unit {0}) E) : Type 0 where
+-- What a put does to what a sink has taken, where it tells: the whole piece, or a front of it and a
+-- failure.
+pub record Puts {E : Type 0} (tells : Bool) (old new piece : List ℕ)
+    (result : Result (Unit {0}) E) : Type 0 where
   pub whole : tells ≡ true → OnOk result (new ≡ old ++ piece)
-  pub front : tells ≡ true → OnErr result ((part : List ℕ) × (rest : List ℕ) × (piece ≡ part ++ rest) × (new ≡ old ++ part))
+  pub front : tells ≡ true →
+      OnErr result ((part : List ℕ) × (rest : List ℕ) × (piece ≡ part ++ rest) ×
+      (new ≡ old ++ part))

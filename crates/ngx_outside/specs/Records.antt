@@ -1,4 +1,5 @@
--- What a run tells of itself where it can: the events that a core was given, and what its links and files answered.
+-- What a run tells of itself where it can: the events that a core was given, and what its links and
+-- files answered.
 use Rattle.std.specs.Prelude.{◌≡◌, ◌==◌, if◌then◌else◌, ℕ, Bool, true, false, List, [], ◌∷◌, ◌++◌, take, Option, Some, Result, Ok, Err}
 use Rattle.http_types.specs.declared.words.Addr.{Addr}
 use Rattle.file_tree.specs.declared.job.Node.{Node}
@@ -13,10 +14,11 @@ use Rattle.ngx_outside.specs.declared.links.Input.TheVariants as input
 use Rattle.ngx_outside.specs.declared.links.Output.{Output}
 use Rattle.ngx_outside.specs.declared.links.Output.TheVariants as output
 
--- A list that is told after a call was told before it, and is longer by this. One that has no room for the next isn't told
--- from then on.
+-- A list that is told after a call was told before it, and is longer by this. One that has no room
+-- for the next isn't told from then on.
 abbrev pub Adds : {A : Type 0} → A → Option (List A) → Option (List A) → Type 0
-Adds {A} a old new = (later : List A) → new ≡ Some later → (earlier : List A) × (old ≡ Some earlier) × (later ≡ earlier ++ a ∷ [])
+Adds {A} a old new = (later : List A) → new ≡ Some later → (earlier : List A) ×
+    (old ≡ Some earlier) × (later ≡ earlier ++ a ∷ [])
 
 -- what a file job was answered
 pub data FileAnswer : Type 0 where
@@ -54,7 +56,8 @@ given_of (ev.Tick moment) = Tick moment
 given_of (ev.Tree to) = Tree to
 given_of (ev.Gone conn) = Gone conn
 
--- what links answered: a notice, the outcome of a read with the bytes that were got, the outcome of a write
+-- what links answered: a notice, the outcome of a read with the bytes that were got, the outcome of
+-- a write
 pub data LinkAnswer : Type 0 where
   Noticed : (notice : Notice) → LinkAnswer
   Read : (id : ℕ) → (input : Input) → (bytes : List ℕ) → LinkAnswer
@@ -79,11 +82,13 @@ beside_link (Read id (input.Got count) bytes) = Arrived id bytes ∷ []
 beside_link (Read id input.NotYet bytes) = []
 beside_link (Read id input.End bytes) = Ended id ∷ []
 beside_link (Read id input.Failed bytes) = LinkFailed id ∷ []
-beside_link (Written id (output.Put count)) = (if count == 0 then LinkFailed id else Wrote id count) ∷ []
+beside_link (Written id (output.Put count)) =
+    (if count == 0 then LinkFailed id else Wrote id count) ∷ []
 beside_link (Written id output.NotYet) = []
 beside_link (Written id output.Failed) = LinkFailed id ∷ []
 
--- the events of a core that come of its links, those that come of its files, and those that come of its clock
+-- the events of a core that come of its links, those that come of its files, and those that come of
+-- its clock
 abbrev pub of_links : Given → Bool
 of_links (Opened conn local peer) = true
 of_links (Arrived conn bytes) = true
@@ -126,6 +131,8 @@ stat_answer (Ok node) = Stood node
 stat_answer (Err e) = Failed
 
 -- a read that added bytes is told with these; one that failed, as that
-abbrev pub ReadTold : {E : Type 0} → List ℕ → List ℕ → Result (Unit {0}) E → Option (List FileAnswer) → Option (List FileAnswer) → Type 0
-ReadTold old new (Ok u) before after = (added : List ℕ) → new ≡ old ++ added → Adds (Held added) before after
+abbrev pub ReadTold : {E : Type 0} → List ℕ → List ℕ → Result (Unit {0}) E →
+    Option (List FileAnswer) → Option (List FileAnswer) → Type 0
+ReadTold old new (Ok u) before after = (added : List ℕ) → new ≡ old ++ added →
+    Adds (Held added) before after
 ReadTold old new (Err e) before after = Adds Failed before after

@@ -5,7 +5,7 @@ ghost use Rattle.std.specs.List.Sorted.{IsStrictlyIncreasing};
 ghost use Rattle.ngx_outside.specs.Views.{Steps, OpensIf, LeftBy, CountsRefused, CountsHeld, TakesNone, IsSound, now_after, ended_after, ask_in};
 ghost use Rattle.ngx_outside.specs.Records.{Adds, given_of};
 ghost use Rattle.ngx_outside.specs.Seen.{CoreSeen, opens_at};
-ghost use Rattle.ngx_outside.specs.Wants.{wants_at, wants_in};
+ghost use Rattle.ngx_outside.specs.Wants.{wants_at, first_doable};
 
 use crate::{Event, StepAnswer, Want};
 use file_tree::Ask;
@@ -19,14 +19,19 @@ pub trait EventCore {
 
     /// Gives the core one event. The events Ended, Wrote, LinkFailed, JobFailed, Tick, Tree and Gone take no memory.
     fn step(&mut self, event: Event) -> StepAnswer
-        ensures steps { Steps (seen self.old).terms.fresh (seen self.old).now event.entry result (seen self.old).view (seen self.new).view }
+        ensures steps { Steps (seen self.old).terms.fresh (seen self.old).now event.entry result
+            (seen self.old).view (seen self.new).view }
         ensures opens { OpensIf (opens_at (seen self.old)) event.entry result }
-        ensures held { CountsHeld event.entry result (length (seen self.old).conns) (length (seen self.new).conns) }
-        ensures ended { (c : ℕ) → ((seen self.new).view c).ended ≡ ended_after event.entry result c ((seen self.old).view c).ended }
+        ensures held { CountsHeld event.entry result (length (seen self.old).conns)
+            (length (seen self.new).conns) }
+        ensures ended { (c : ℕ) → ((seen self.new).view c).ended ≡ ended_after event.entry result c
+            ((seen self.old).view c).ended }
         ensures taken { TakesNone event.entry result }
         ensures now { (seen self.new).now ≡ now_after (seen self.old).now event.entry result }
-        ensures left { LeftBy (seen self.old).terms.price event.entry result (seen self.old).left (seen self.new).left }
-        ensures refused { CountsRefused event.entry result (seen self.old).refused (seen self.new).refused }
+        ensures left { LeftBy (seen self.old).terms.price event.entry result (seen self.old).left
+            (seen self.new).left }
+        ensures refused { CountsRefused event.entry result (seen self.old).refused
+            (seen self.new).refused }
         ensures events { Adds (given_of event.entry) (seen self.old).events (seen self.new).events }
         ensures steady { (seen self.new).terms ≡ (seen self.old).terms };
 
@@ -34,15 +39,17 @@ pub trait EventCore {
     fn pending(&self, conn: u32) -> &[u8]
         ensures { result.now ≡ ((seen self.now).view conn).pending };
 
-    /// What is to be done next on all connections, by their numbers.
-    fn wants(&self) -> &[Want]
-        ensures wants { result.now ≡ wants_in (seen self.now).conns (seen self.now).view }
+    /// The numbers of the connections that are held, in their order.
+    fn conns(&self) -> &[u32]
+        ensures conns { result.now ≡ (seen self.now).conns }
         ensures order { IsStrictlyIncreasing (seen self.now).conns }
-        ensures held { (c : ℕ) → Contains (seen self.now).conns c ↔ (((seen self.now).view c).held ≡ true) };
+        ensures held { (c : ℕ) → Contains (seen self.now).conns c ↔
+            (((seen self.now).view c).held ≡ true) };
 
-    /// What is to be done next on one connection.
-    fn wants_of(&self, conn: u32) -> &[Want]
-        ensures wants { result.now ≡ wants_at conn ((seen self.now).view conn) }
+    /// What is to be done next on a connection: the first of its wants that can be served at once, where its link is due
+    /// to be read or not, and full or not.
+    fn next_want(&self, conn: u32, due: bool, full: bool) -> Option<Want>
+        ensures want { result ≡ first_doable due full (wants_at conn ((seen self.now).view conn)) }
         ensures sound { IsSound ((seen self.now).view conn) };
 
     /// The job of a node; none where it has no job that waits. No job asks of a tree that is newer than the core's.

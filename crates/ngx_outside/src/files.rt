@@ -64,10 +64,12 @@ pub trait Files {
     fn stat(&mut self, path: &[u8], of: u64) -> Result<Node, Failed>
         requires { of ≤ (seen self.old).newest }
         ensures node { Stats (seen self.old).tells ((seen self.old).trees of) path.now result }
-        ensures answers { Adds (stat_answer result) (seen self.old).answers (seen self.new).answers }
+        ensures answers { Adds (stat_answer result) (seen self.old).answers
+            (seen self.new).answers }
         ensures tells { (seen self.new).tells ≡ (seen self.old).tells }
         ensures versions { (seen self.new).versions ≡ (seen self.old).versions }
-        ensures grow { Grow (seen self.old).newest (seen self.new).newest (seen self.old).trees (seen self.new).trees }
+        ensures grow { Grow (seen self.old).newest (seen self.new).newest (seen self.old).trees
+            (seen self.new).trees }
         ensures cause { HasCause (seen self.old).faults (seen self.new).faults result (record {}) };
 
     /// Adds exactly `count` bytes of a file, from `start` on, in the tree of a number. A file that doesn't hold them is a
@@ -81,19 +83,24 @@ pub trait Files {
         out: &mut ByteText,
     ) -> Result<(), FileFault>
         requires { of ≤ (seen self.old).newest }
-        ensures bytes { Reads (seen self.old).tells ((seen self.old).trees of) path.now start count out.old out.new result }
-        ensures answers { ReadTold out.old out.new result (seen self.old).answers (seen self.new).answers }
+        ensures bytes { Reads (seen self.old).tells
+            ((seen self.old).trees of) path.now start count out.old out.new result }
+        ensures answers { ReadTold out.old out.new result (seen self.old).answers
+            (seen self.new).answers }
         ensures tells { (seen self.new).tells ≡ (seen self.old).tells }
         ensures versions { (seen self.new).versions ≡ (seen self.old).versions }
-        ensures grow { Grow (seen self.old).newest (seen self.new).newest (seen self.old).trees (seen self.new).trees }
+        ensures grow { Grow (seen self.old).newest (seen self.new).newest (seen self.old).trees
+            (seen self.new).trees }
         ensures cause { HasCause (seen self.old).faults (seen self.new).faults result ReadFailed };
 
     /// Adds the names of a folder of the newest tree, in any order. After a failure some may have been added.
     fn list(&mut self, folder: &[u8], out: &mut ByteTexts) -> Result<Listing, FileFault>
-        ensures names { Lists (seen self.old).tells ((seen self.old).trees (seen self.old).newest) folder.now out.old out.new result }
+        ensures names { Lists (seen self.old).tells
+            ((seen self.old).trees (seen self.old).newest) folder.now out.old out.new result }
         ensures answers { (seen self.new).answers ≡ (seen self.old).answers }
         ensures tells { (seen self.new).tells ≡ (seen self.old).tells }
         ensures versions { (seen self.new).versions ≡ (seen self.old).versions }
-        ensures grow { Grow (seen self.old).newest (seen self.new).newest (seen self.old).trees (seen self.new).trees }
+        ensures grow { Grow (seen self.old).newest (seen self.new).newest (seen self.old).trees
+            (seen self.new).trees }
         ensures cause { HasCause (seen self.old).faults (seen self.new).faults result ReadFailed };
 }

@@ -13,8 +13,8 @@ pub use engine::EventCore;
 pub use event::{Entry, Event, StepAnswer, StopCause, Want};
 pub use files::{FileFault, Files, Listing};
 pub use laws::{
-    all_is_logged_when_idle, all_is_sent_when_idle, all_is_sent_when_shut, steps_keep_track,
-    stops_keep_track, tracks_begin, tracks_narrow,
+    all_is_logged_when_idle, all_is_sent_when_idle, all_is_sent_when_shut, shut_is_exact,
+    steps_keep_track, stops_keep_track, tracks_begin, tracks_narrow,
 };
 pub use links::{Clock, Input, Links, Notice, Output};
 pub use sink::{Failed, Sink};

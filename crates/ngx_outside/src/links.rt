@@ -8,7 +8,7 @@ ghost use Rattle.ngx_outside.specs.declared.links.Notice.TheVariants.{Failed as 
 ghost use Rattle.ngx_outside.specs.declared.links.Input.TheVariants.{Failed as ReadFails};
 ghost use Rattle.ngx_outside.specs.declared.links.Output.TheVariants.{Failed as WriteFails};
 
-use crate::{Failed, Want};
+use crate::Failed;
 use http_types::Addr;
 
 /// What is reported of the links.
@@ -54,73 +54,105 @@ pub trait Links {
 
     /// Listens on an address for peers.
     fn listen(&mut self, addr: Addr) -> Result<(), Failed>
-        ensures told { (seen self.old).tells ≡ true → Unchanged (seen self.old).link (seen self.new).link }
-        ensures ids { Same (seen self.old).used (seen self.new).used × Same (seen self.old).is_open (seen self.new).is_open }
-        ensures listens { OnOk result ((seen self.new).listening ≡ (seen self.old).listening ++ addr ∷ []) }
+        ensures told { (seen self.old).tells ≡ true →
+            Unchanged (seen self.old).link (seen self.new).link }
+        ensures ids { Same (seen self.old).used (seen self.new).used ×
+            Same (seen self.old).is_open (seen self.new).is_open }
+        ensures listens { OnOk result ((seen self.new).listening ≡ (seen self.old).listening
+            ++ addr ∷ []) }
         ensures fails { OnErr result ((seen self.new).listening ≡ (seen self.old).listening) }
-        ensures counts { (seen self.old).tells ≡ true → ((seen self.new).crowd ≡ (seen self.old).crowd) × ((seen self.new).notices ≡ (seen self.old).notices) }
+        ensures counts { (seen self.old).tells ≡ true →
+            ((seen self.new).crowd ≡ (seen self.old).crowd) ×
+            ((seen self.new).notices ≡ (seen self.old).notices) }
         ensures tells { (seen self.new).tells ≡ (seen self.old).tells }
         ensures answers { (seen self.new).answers ≡ (seen self.old).answers }
         ensures stays_over { (seen self.old).over ≡ true → (seen self.new).over ≡ true }
-        ensures link_faults { (id : ℕ) → (seen self.old).link_faults id ≤ (seen self.new).link_faults id }
+        ensures link_faults { (id : ℕ) → (seen self.old).link_faults id ≤
+            (seen self.new).link_faults id }
         ensures cause { HasCause (seen self.old).faults (seen self.new).faults result (record {}) };
 
-    /// The next notice. The wants say which links are waited for.
-    fn next(&mut self, wants: &[Want]) -> Notice
-        ensures told { (seen self.old).tells ≡ true → Noticed result (seen self.old).crowd (seen self.old).link (seen self.new).link }
-        ensures ids { Opens result (seen self.old).used (seen self.new).used (seen self.old).is_open (seen self.new).is_open }
+    /// The next notice.
+    fn next(&mut self) -> Notice
+        ensures told { (seen self.old).tells ≡ true →
+            Noticed result (seen self.old).crowd (seen self.old).link (seen self.new).link }
+        ensures ids { Opens result (seen self.old).used (seen self.new).used (seen self.old).is_open
+            (seen self.new).is_open }
         ensures listens { (seen self.new).listening ≡ (seen self.old).listening }
-        ensures crowd { (seen self.old).tells ≡ true → (seen self.new).crowd ≡ crowd_after result (seen self.old).crowd }
-        ensures notices { (seen self.old).tells ≡ true → (seen self.new).notices ≡ notices_after result (seen self.old).notices }
+        ensures crowd { (seen self.old).tells ≡ true →
+            (seen self.new).crowd ≡ crowd_after result (seen self.old).crowd }
+        ensures notices { (seen self.old).tells ≡ true →
+            (seen self.new).notices ≡ notices_after result (seen self.old).notices }
         ensures tells { (seen self.new).tells ≡ (seen self.old).tells }
-        ensures answers { Adds (NoticeGiven result) (seen self.old).answers (seen self.new).answers }
+        ensures answers { Adds (NoticeGiven result) (seen self.old).answers
+            (seen self.new).answers }
         ensures stays_over { (seen self.old).over ≡ true → (seen self.new).over ≡ true }
         ensures over { (result ≡ AllEnded) ↔ ((seen self.old).over ≡ true) }
         ensures later { (seen self.old).faults ≤ (seen self.new).faults }
-        ensures link_faults { (id : ℕ) → (seen self.old).link_faults id ≤ (seen self.new).link_faults id }
+        ensures link_faults { (id : ℕ) → (seen self.old).link_faults id ≤
+            (seen self.new).link_faults id }
         ensures cause { result ≡ NextFailed → Rose (seen self.old).faults (seen self.new).faults };
 
     /// Reads a link, into a front of the buffer.
     fn read(&mut self, id: u32, buf: &mut [u8]) -> Input
         ensures count { GotWithin result (length buf.new) }
-        ensures told { (seen self.old).tells ≡ true → (seen self.old).is_open id ≡ true → HasRead id result buf.new (seen self.old).link (seen self.new).link }
-        ensures ids { Same (seen self.old).used (seen self.new).used × Same (seen self.old).is_open (seen self.new).is_open }
+        ensures told { (seen self.old).tells ≡ true → (seen self.old).is_open id ≡ true →
+            HasRead id result buf.new (seen self.old).link (seen self.new).link }
+        ensures ids { Same (seen self.old).used (seen self.new).used ×
+            Same (seen self.old).is_open (seen self.new).is_open }
         ensures listens { (seen self.new).listening ≡ (seen self.old).listening }
-        ensures counts { (seen self.old).tells ≡ true → ((seen self.new).crowd ≡ (seen self.old).crowd) × ((seen self.new).notices ≡ (seen self.old).notices) }
+        ensures counts { (seen self.old).tells ≡ true →
+            ((seen self.new).crowd ≡ (seen self.old).crowd) ×
+            ((seen self.new).notices ≡ (seen self.old).notices) }
         ensures tells { (seen self.new).tells ≡ (seen self.old).tells }
-        ensures answers { Adds (ReadGiven id result (got_of result buf.new)) (seen self.old).answers (seen self.new).answers }
+        ensures answers { Adds (ReadGiven id result (got_of result buf.new)) (seen self.old).answers
+            (seen self.new).answers }
         ensures stays_over { (seen self.old).over ≡ true → (seen self.new).over ≡ true }
         ensures later { (seen self.old).faults ≤ (seen self.new).faults }
-        ensures link_faults { (c : ℕ) → (seen self.old).link_faults c ≤ (seen self.new).link_faults c }
-        ensures cause { result ≡ ReadFails → Rose ((seen self.old).link_faults id) ((seen self.new).link_faults id) };
+        ensures link_faults { (c : ℕ) → (seen self.old).link_faults c ≤
+            (seen self.new).link_faults c }
+        ensures cause { result ≡ ReadFails →
+            Rose ((seen self.old).link_faults id) ((seen self.new).link_faults id) };
 
     /// Writes to a link, a front of these bytes.
     fn write(&mut self, id: u32, bytes: &[u8]) -> Output
         ensures count { PutWithin result (length bytes.now) }
-        ensures told { (seen self.old).tells ≡ true → (seen self.old).is_open id ≡ true → HasWritten id result bytes.now (seen self.old).link (seen self.new).link }
-        ensures ids { Same (seen self.old).used (seen self.new).used × Same (seen self.old).is_open (seen self.new).is_open }
+        ensures told { (seen self.old).tells ≡ true → (seen self.old).is_open id ≡ true →
+            HasWritten id result bytes.now (seen self.old).link (seen self.new).link }
+        ensures ids { Same (seen self.old).used (seen self.new).used ×
+            Same (seen self.old).is_open (seen self.new).is_open }
         ensures listens { (seen self.new).listening ≡ (seen self.old).listening }
-        ensures counts { (seen self.old).tells ≡ true → ((seen self.new).crowd ≡ (seen self.old).crowd) × ((seen self.new).notices ≡ (seen self.old).notices) }
+        ensures counts { (seen self.old).tells ≡ true →
+            ((seen self.new).crowd ≡ (seen self.old).crowd) ×
+            ((seen self.new).notices ≡ (seen self.old).notices) }
         ensures tells { (seen self.new).tells ≡ (seen self.old).tells }
-        ensures answers { Adds (WriteGiven id result) (seen self.old).answers (seen self.new).answers }
+        ensures answers { Adds (WriteGiven id result) (seen self.old).answers
+            (seen self.new).answers }
         ensures stays_over { (seen self.old).over ≡ true → (seen self.new).over ≡ true }
         ensures later { (seen self.old).faults ≤ (seen self.new).faults }
-        ensures link_faults { (c : ℕ) → (seen self.old).link_faults c ≤ (seen self.new).link_faults c }
-        ensures cause { result ≡ WriteFails → Rose ((seen self.old).link_faults id) ((seen self.new).link_faults id) }
-        ensures nothing { PutsNothing result bytes.now ((seen self.old).link_faults id) ((seen self.new).link_faults id) };
+        ensures link_faults { (c : ℕ) → (seen self.old).link_faults c ≤
+            (seen self.new).link_faults c }
+        ensures cause { result ≡ WriteFails →
+            Rose ((seen self.old).link_faults id) ((seen self.new).link_faults id) }
+        ensures nothing { PutsNothing result bytes.now ((seen self.old).link_faults id)
+            ((seen self.new).link_faults id) };
 
     /// Closes a link.
     fn close(&mut self, id: u32)
-        ensures told { (seen self.old).tells ≡ true → Unchanged (seen self.old).link (seen self.new).link }
-        ensures ids { Same (seen self.old).used (seen self.new).used × Marked id false (seen self.old).is_open (seen self.new).is_open }
+        ensures told { (seen self.old).tells ≡ true →
+            Unchanged (seen self.old).link (seen self.new).link }
+        ensures ids { Same (seen self.old).used (seen self.new).used ×
+            Marked id false (seen self.old).is_open (seen self.new).is_open }
         ensures listens { (seen self.new).listening ≡ (seen self.old).listening }
-        ensures crowd { (seen self.old).tells ≡ true → CrowdCloses ((seen self.old).is_open id) (seen self.old).crowd (seen self.new).crowd }
-        ensures notices { (seen self.old).tells ≡ true → (seen self.new).notices ≡ (seen self.old).notices }
+        ensures crowd { (seen self.old).tells ≡ true →
+            CrowdCloses ((seen self.old).is_open id) (seen self.old).crowd (seen self.new).crowd }
+        ensures notices { (seen self.old).tells ≡ true →
+            (seen self.new).notices ≡ (seen self.old).notices }
         ensures tells { (seen self.new).tells ≡ (seen self.old).tells }
         ensures answers { (seen self.new).answers ≡ (seen self.old).answers }
         ensures stays_over { (seen self.old).over ≡ true → (seen self.new).over ≡ true }
         ensures later { (seen self.old).faults ≤ (seen self.new).faults }
-        ensures link_faults { (c : ℕ) → (seen self.old).link_faults c ≤ (seen self.new).link_faults c };
+        ensures link_faults { (c : ℕ) → (seen self.old).link_faults c ≤
+            (seen self.new).link_faults c };
 
     /// Is told how many events the core has refused for want of memory.
     fn tell_refused(&mut self, count: u64)
@@ -133,6 +165,7 @@ pub trait Clock {
     ghost seen: { Self → ClockSeen };
 
     fn now(&mut self) -> u64
-        ensures told { (seen self.old).tells ≡ true → (seen self.new).told ≡ (seen self.old).told ++ result ∷ [] }
+        ensures told { (seen self.old).tells ≡ true →
+            (seen self.new).told ≡ (seen self.old).told ++ result ∷ [] }
         ensures tells { (seen self.new).tells ≡ (seen self.old).tells };
 }

@@ -15,7 +15,8 @@ pub trait Sink {
 
     /// Takes these bytes, or a front of them where it fails.
     fn put(&mut self, bytes: &[u8]) -> Result<(), Failed>
-        ensures bytes { Puts (seen self.old).tells (seen self.old).written (seen self.new).written bytes.now result }
+        ensures bytes { Puts (seen self.old).tells (seen self.old).written
+            (seen self.new).written bytes.now result }
         ensures tells { (seen self.new).tells ≡ (seen self.old).tells }
         ensures cause { HasCause (seen self.old).faults (seen self.new).faults result (record {}) };
 }

@@ -22,6 +22,15 @@ impl Model for PatternId {
     ghost inverse = { λ n. record { number = n } };
 }
 
+impl PatternId {
+    /// The number, in whatever set the pattern is sought: in one without it the number matches nothing.
+    pub fn from_number(number: u32) -> Self
+        ensures { result ≡ number }
+    {
+        PatternId { number }
+    }
+}
+
 /// Why a pattern was not added.
 #[derive(Clone, Copy, Debug, PartialEq, Eq)]
 pub enum PatternFault {

@@ -27,7 +27,7 @@ module _ (main : Main) (request : Request) (vars : Vars) where
       let lengths : length now + length rest ≡ length old + length total = sym (length-append now rest) ∙ (ap length e ∙ length-append old total) in
       lt-ltb 16384 (length total) (omega arith)
 
-  same_piece : (p q : FilePaths) (piece : Piece) → is_path piece ≡ false → piece_text p main request vars piece ≡ piece_text q main request vars piece
+  pub same_piece : (p q : FilePaths) (piece : Piece) → is_path piece ≡ false → piece_text p main request vars piece ≡ piece_text q main request vars piece
   unfolding piece_text variable_text
   same_piece p q (Builtin DocumentRoot) h = absurd (false≢true (sym h))
   same_piece p q (Builtin RequestFilename) h = absurd (false≢true (sym h))

@@ -4,3 +4,4 @@ mod Evals
 mod Tokens
 mod Settles
 mod Builtins
+mod Alone

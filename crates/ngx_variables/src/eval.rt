@@ -18,7 +18,7 @@ use std::alloc::Global;
 use std::net::IpAddr;
 
 /// An evaluated text has at most so many bytes.
-const TEXT_LIMIT: usize = 16384;
+pub(crate) const TEXT_LIMIT: usize = 16384;
 
 /// The texts of `$document_root` and `$request_filename`.
 #[derive(Drop)]
@@ -28,7 +28,7 @@ pub struct FilePaths {
 }
 
 #[tactic(auto, unfolding(crate::specs::Words::protocol_name))]
-fn protocol_name(version: Version) -> &'static [u8]
+pub(crate) fn protocol_name(version: Version) -> &'static [u8]
     ensures { result.now ≡ protocol_name version }
 {
     match version {
@@ -37,7 +37,7 @@ fn protocol_name(version: Version) -> &'static [u8]
     }
 }
 
-fn question_mark(args: &[u8]) -> &'static [u8]
+pub(crate) fn question_mark(args: &[u8]) -> &'static [u8]
     ensures { result.now ≡ question_mark args.now }
 {
     match args {
@@ -46,7 +46,7 @@ fn question_mark(args: &[u8]) -> &'static [u8]
     }
 }
 
-fn or_else<'a>(text: &'a [u8], other: &'a [u8]) -> &'a [u8]
+pub(crate) fn or_else<'a>(text: &'a [u8], other: &'a [u8]) -> &'a [u8]
     ensures { result.now ≡ or_else text.now other.now }
 {
     match text {
@@ -70,7 +70,7 @@ fn behind_host(target: &[u8]) -> &[u8]
 }
 
 #[tactic(auto, unfolding(crate::specs::Words::without_host))]
-fn without_host(target: &[u8]) -> &[u8]
+pub(crate) fn without_host(target: &[u8]) -> &[u8]
     ensures { result.now ≡ without_host target.now }
 {
     if target.starts_with(b"http://") {
@@ -138,7 +138,7 @@ fn append_variable(
 
 /// Writes a piece's text.
 #[tactic(auto, unfolding(crate::specs::Texts::piece_text))]
-fn append_piece(
+pub(crate) fn append_piece(
     alloc: Global,
     piece: &Piece,
     paths: &FilePaths,
@@ -208,7 +208,7 @@ fn asks_for_paths(pieces: &[Piece]) -> bool
 
 impl FilePaths {
     /// No root and no file's path, which take no memory.
-    fn none(alloc: Global) -> Self
+    pub(crate) fn none(alloc: Global) -> Self
         ensures { result ≡ no_paths }
     {
         FilePaths {

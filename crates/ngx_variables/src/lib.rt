@@ -9,6 +9,7 @@ mod fault;
 mod field;
 mod joining;
 mod laws;
+mod lone;
 mod request;
 mod table;
 mod value;

@@ -73,7 +73,7 @@ fn links_give_their_input_and_take_what_they_have_room_for(rt: HostRuntime) -> R
     let alloc = rt.alloc();
     let failing = [LinkCall::Read(3), LinkCall::WriteOfNone(0)].to_vec(alloc)?;
     let mut links = some_links(alloc, failing)?;
-    links.next(&[]);
+    links.next();
     let mut buf = [0; 2];
     assert_eq!(rt; links.read(1, &mut buf), Input::Got(2));
     assert_eq!(rt; links.read(1, &mut buf), Input::Got(1));

@@ -1,5 +1,5 @@
 ghost use Rattle.std.specs.Prelude.{◌≡◌, ◌<◌, ◌≤◌, IfOk, OnOk, true, false, ℕ, List, [], Some, flat_map};
-ghost use Rattle.memory_outside.specs.Core.{core_of, events_of};
+ghost use Rattle.telling_core.specs.Core.{core_of, events_of};
 ghost use Rattle.memory_outside.specs.Told.{open_of, answers_of};
 ghost use Rattle.memory_outside.specs.Stored.{newest_of};
 ghost use Rattle.ngx_outside.specs.Records.{Given, LinkAnswer, beside_link, of_clock};
@@ -8,10 +8,7 @@ ghost use Rattle.ready_loop.specs.Tellings.{Beside, alone, moments_told, of_link
 
 use byte_text::{ByteText, OutOfMemory};
 use http_types::Addr;
-use memory_outside::{
-    FixedClock, GivenEvent, LinkCall, ListClock, MemoryFiles, MemoryLinks, ScriptedNotice,
-    TellingCore,
-};
+use memory_outside::{FixedClock, LinkCall, ListClock, MemoryFiles, MemoryLinks, ScriptedNotice};
 use ngx_outside::{Clock, EventCore};
 use plain_core::PlainCore;
 use ready_loop::{Ending, serve};
@@ -20,6 +17,7 @@ use std::marker::Brand;
 use std::net::{IpAddr, Ipv4Addr};
 use std::sync::ledger::{Blank, Ledger};
 use std::test::Fail;
+use telling_core::{GivenEvent, TellingCore};
 
 fn end_at(port: u16) -> Addr {
     Addr {
@@ -48,7 +46,7 @@ fn core(alloc: Global) -> Result<PlainCore, OutOfMemory>
     ensures empty { IfOk result (λ core. (c : ℕ) → (view_at core c).held ≡ false) }
     ensures tree { IfOk result (λ core. (now_at core).tree ≡ 0) }
 {
-    let core = PlainCore::new(alloc, ByteText::from_slice(alloc, b"yes")?)?;
+    let core = PlainCore::new(alloc, ByteText::from_slice(alloc, b"yes")?);
     Ok(core)
 }
 

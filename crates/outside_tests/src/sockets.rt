@@ -17,7 +17,7 @@ fn core(alloc: Global) -> Result<PlainCore, OutOfMemory>
     ensures empty { IfOk result (λ core. (c : ℕ) → (view_at core c).held ≡ false) }
     ensures tree { IfOk result (λ core. (now_at core).tree ≡ 0) }
 {
-    let core = PlainCore::new(alloc, ByteText::from_slice(alloc, b"yes")?)?;
+    let core = PlainCore::new(alloc, ByteText::from_slice(alloc, b"yes")?);
     Ok(core)
 }
 

@@ -66,6 +66,7 @@ writes reply input output output' life.Live journal ended due due' count some wi
         ∙ append_assoc (take count output) (drop count output) (answers reply (requests (input ++ more) later))
         ∙ ap (λ xs. take count output ++ (xs ++ answers reply (requests (input ++ more) later))) (sym e);
     logs = λ trees holds more later. refl;
+    closes = λ trees holds more later. refl;
     heavy = λ trees holds more later h. cc;
   };
   logged = λ trees more later. logged_past (logs_in journal) (logs reply (requests (input ++ more) later));
@@ -94,6 +95,7 @@ run_live reply input input' output output' journal journal' ended ended' due due
           ap (λ a. logs_in journal ++ logs reply a) (asked more later)
           ∙ sym (append_assoc (logs_in journal) ((200, length reply) ∷ []) (logs reply (requests (input' ++ more) later)))
           ∙ ap (λ past. past ++ logs reply (requests (input' ++ more) later)) (sym g);
+      closes = λ trees holds more later. refl;
       heavy = λ trees holds more later h. cc;
     };
     logged = λ trees more later. logged_past (logs_in journal') (logs reply (requests (input' ++ more) later));

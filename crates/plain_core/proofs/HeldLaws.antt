@@ -1,5 +1,5 @@
 -- The connection under its number, and nobody elsewhere.
-use Rattle.std.proofs.Common.{◌≡◌, ◌≢◌, ℕ, ◌<◌, min, Bool, true, false, ◌&&◌, eqb, cond, List, [], ◌∷◌, ◌++◌, length, refl, sym, ap, subst, ◌∙◌, arith}
+use Rattle.std.proofs.Common.{◌≡◌, ◌≢◌, ℕ, ◌<◌, min, Bool, true, false, ◌&&◌, ◌||◌, eqb, cond, List, [], ◌∷◌, ◌++◌, length, refl, sym, ap, subst, ◌∙◌, arith}
 use Rattle.std.specs.Prelude.{Option, None, Some, not, map, nat_lt}
 use Rattle.std.proofs.lemmas.Bool.Decides.{nat_tests}
 use Rattle.std.proofs.lemmas.List.{append-nil}
@@ -12,7 +12,7 @@ use Rattle.ngx_outside.specs.declared.event.Event.TheVariants as ev
 use Rattle.ngx_outside.specs.declared.event.StepAnswer.{StepAnswer}
 use Rattle.ngx_outside.specs.declared.event.StepAnswer.TheVariants.{Done, Skipped, OutOfMemory}
 use Rattle.ngx_outside.specs.Views.{ConnView, Course, Fresh, OpensIf, OneSteps, Ticked, Waits, Unmoved, IsSound, Start, Log, kept_moment, nobody, ask_in, no_bytes, no_nodes}
-use Rattle.ngx_outside.specs.Wants.{wants_at, wants_in, read_want}
+use Rattle.ngx_outside.specs.Wants.{wants_at, read_want, first_doable}
 use Rattle.plain_core.specs.declared.conn.Request.{Request}
 use Rattle.ngx_outside.specs.declared.event.Want.{Want}
 use Rattle.ngx_outside.specs.declared.event.Want.TheVariants as want
@@ -20,7 +20,7 @@ use Rattle.plain_core.specs.declared.conn.Life.{Life}
 use Rattle.plain_core.specs.declared.conn.Life.TheVariants as life
 use Rattle.plain_core.specs.Lines.{has_line, requests, answers, logs}
 use Rattle.plain_core.specs.Shown.{shown_at, logs_in, is_absent_at, reads_at, can_run_at, is_shut_at, crowd_of}
-use Rattle.plain_core.specs.Held.{at_conn, conns_at, want_if}
+use Rattle.plain_core.specs.Held.{at_conn, conns_at, first_of}
 use Rattle.plain_core.proofs.LineLaws.{requests-none}
 
 test_yes : (a b : ℕ) → a ≡ b → eqb a b ≡ true
@@ -99,32 +99,41 @@ file_step n c node v answer e = record {
 pub job_step : (n c node : ℕ) (v : ConnView) → v.jobs ≡ [] → OneSteps c (λ old new. Unmoved old new (ask_in old.jobs node ≡ None)) (at_conn n v) (at_conn n v)
 job_step n c node v e = record { own = record { same = refl; cause = no_ask n c node v e }; others = λ k ne. refl }
 
--- the wants of the connection, as they are added
-pub wants_are : (n : ℕ) (reply input output : List ℕ) (l : Life) (journal : List Request) (ended : Bool) (due : ℕ) →
-    ((([] ++ want_if (reads_at l ended) (want.Read n 4096)) ++ want_if (can_run_at l input output) (want.Run n 0))
-    ++ want_if (not (no_bytes (shown_at reply l input output journal ended due).pending)) (want.Write n))
-    ++ want_if (is_shut_at l input output ended) (want.Close n)
-    ≡ wants_at n (shown_at reply l input output journal ended due)
-unfolding wants_at
-wants_are n reply input output life.Absent journal ended due = refl
-wants_are n reply input output (life.Stopped cause) journal ended due = refl
-wants_are n reply input output life.Live journal ended due =
-    elim ended as (λ e. whole e (no_bytes output) (has_line input)) [
-      | true ↦ elim (no_bytes output) as (λ o. whole true o (has_line input)) [
-        | true ↦ elim (has_line input) as (λ h. whole true true h) [ true ↦ refl | false ↦ refl ]
-        | false ↦ elim (has_line input) as (λ h. whole true false h) [ true ↦ refl | false ↦ refl ]
-      ]
-      | false ↦ elim (no_bytes output) as (λ o. whole false o (has_line input)) [
-        | true ↦ elim (has_line input) as (λ h. whole false true h) [ true ↦ refl | false ↦ refl ]
-        | false ↦ elim (has_line input) as (λ h. whole false false h) [ true ↦ refl | false ↦ refl ]
-      ]
-    ]
-  where
-    whole : Bool → Bool → Bool → Type 0
-    whole e o h =
-        ((([] ++ want_if (true && not e) (want.Read n 4096)) ++ want_if (true && o && h) (want.Run n 0)) ++ want_if (not o) (want.Write n))
-        ++ want_if (e && (o && not h)) (want.Close n)
-        ≡ read_want n (cond e None (Some 4096)) ++ map (λ node. want.Run n node) (cond (o && h) (0 ∷ []) []) ++ [] ++ (cond o [] (want.Write n ∷ [])) ++ cond (e && (o && not h)) (want.Close n ∷ []) []
+-- the first want that can be served, by what the connection is
+first_live : (n : ℕ) (due full e o h : Bool) →
+    first_of n (due && (true && not e)) (true && o && h) (not full && not o) (e && (o && not h))
+    ≡ first_doable due full (read_want n (cond e None (Some 4096)) ++ map (λ node. want.Run n node) (cond (o && h) (0 ∷ []) []) ++ [] ++ (cond o [] (want.Write n ∷ [])) ++ cond (e && (o && not h)) (want.Close n ∷ []) [])
+unfolding first_doable
+first_live n true full false o h = refl
+first_live n false full false true true = refl
+first_live n false true false true false = refl
+first_live n false false false true false = refl
+first_live n false true false false h = refl
+first_live n false false false false h = refl
+first_live n true full true true true = refl
+first_live n false full true true true = refl
+first_live n true true true true false = refl
+first_live n true false true true false = refl
+first_live n false true true true false = refl
+first_live n false false true true false = refl
+first_live n true true true false h = refl
+first_live n true false true false h = refl
+first_live n false true true false h = refl
+first_live n false false true false h = refl
+
+pub first_wants : (n : ℕ) (reply input output : List ℕ) (l : Life) (journal : List Request) (ended : Bool) (due : ℕ) (read full : Bool) →
+    first_of n (read && reads_at l ended) (can_run_at l input output) (not full && not (no_bytes (shown_at reply l input output journal ended due).pending)) (is_shut_at l input output ended)
+    ≡ first_doable read full (wants_at n (shown_at reply l input output journal ended due))
+unfolding first_doable wants_at
+first_wants n reply input output life.Absent journal ended due true true = refl
+first_wants n reply input output life.Absent journal ended due true false = refl
+first_wants n reply input output life.Absent journal ended due false true = refl
+first_wants n reply input output life.Absent journal ended due false false = refl
+first_wants n reply input output (life.Stopped cause) journal ended due true true = refl
+first_wants n reply input output (life.Stopped cause) journal ended due true false = refl
+first_wants n reply input output (life.Stopped cause) journal ended due false true = refl
+first_wants n reply input output (life.Stopped cause) journal ended due false false = refl
+first_wants n reply input output life.Live journal ended due read full = first_live n read full ended (no_bytes output) (has_line input)
 
 pub wants_nobody : (n : ℕ) → wants_at n nobody ≡ []
 unfolding wants_at
@@ -134,19 +143,16 @@ no_bytes_is : (xs : List ℕ) → eqb (length xs) 0 ≡ no_bytes xs
 no_bytes_is [] = refl
 no_bytes_is (x ∷ xs) = test_no (length (x ∷ xs)) 0 (λ e. omega arith)
 
--- the wants, written anew
-pub refilled : (n : ℕ) (reply input output pending : List ℕ) (l : Life) (journal : List Request) (ended : Bool) (due : ℕ) (reads runs empty shut : Bool)
-    (w0 w1 w2 w3 w4 : List Want) → reads ≡ reads_at l ended → runs ≡ can_run_at l input output → empty ≡ eqb (length pending) 0 →
+-- the same of what the code asks
+pub next_is : (n : ℕ) (reply input output pending : List ℕ) (l : Life) (journal : List Request) (ended : Bool) (due : ℕ) (read full reads runs empty shut : Bool) →
+    reads ≡ reads_at l ended → runs ≡ can_run_at l input output → empty ≡ eqb (length pending) 0 →
     pending ≡ (shown_at reply l input output journal ended due).pending → shut ≡ is_shut_at l input output ended →
-    w0 ≡ [] → w1 ≡ w0 ++ want_if reads (want.Read n 4096) → w2 ≡ w1 ++ want_if runs (want.Run n 0) → w3 ≡ w2 ++ want_if (not empty) (want.Write n) →
-    w4 ≡ w3 ++ want_if shut (want.Close n) → w4 ≡ wants_at n (shown_at reply l input output journal ended due)
-refilled n reply input output pending l journal ended due reads runs empty shut w0 w1 w2 w3 w4 r u e p s e0 e1 e2 e3 e4 =
-    e4 ∙ ap (λ w. w ++ want_if shut (want.Close n)) (e3 ∙ ap (λ w. w ++ want_if (not empty) (want.Write n)) (e2 ∙ ap (λ w. w ++ want_if runs (want.Run n 0)) (e1 ∙ ap (λ w. w ++ want_if reads (want.Read n 4096)) e0)))
-    ∙ ap (λ t. ((([] ++ want_if t (want.Read n 4096)) ++ want_if runs (want.Run n 0)) ++ want_if (not empty) (want.Write n)) ++ want_if shut (want.Close n)) r
-    ∙ ap (λ t. ((([] ++ want_if (reads_at l ended) (want.Read n 4096)) ++ want_if t (want.Run n 0)) ++ want_if (not empty) (want.Write n)) ++ want_if shut (want.Close n)) u
-    ∙ ap (λ t. ((([] ++ want_if (reads_at l ended) (want.Read n 4096)) ++ want_if (can_run_at l input output) (want.Run n 0)) ++ want_if (not t) (want.Write n)) ++ want_if shut (want.Close n)) (e ∙ no_bytes_is pending ∙ ap no_bytes p)
-    ∙ ap (λ t. ((([] ++ want_if (reads_at l ended) (want.Read n 4096)) ++ want_if (can_run_at l input output) (want.Run n 0)) ++ want_if (not (no_bytes (shown_at reply l input output journal ended due).pending)) (want.Write n)) ++ want_if t (want.Close n)) s
-    ∙ wants_are n reply input output l journal ended due
+    first_of n (read && reads) runs (not full && not empty) shut ≡ first_doable read full (wants_at n (shown_at reply l input output journal ended due))
+next_is n reply input output pending l journal ended due read full reads runs empty shut r u e p s =
+    ap (λ t. first_of n (read && t) runs (not full && not empty) shut) r ∙ ap (λ t. first_of n (read && reads_at l ended) t (not full && not empty) shut) u
+    ∙ ap (λ t. first_of n (read && reads_at l ended) (can_run_at l input output) (not full && not t) shut) (e ∙ no_bytes_is pending ∙ ap no_bytes p)
+    ∙ ap (λ t. first_of n (read && reads_at l ended) (can_run_at l input output) (not full && not (no_bytes (shown_at reply l input output journal ended due).pending)) t) s
+    ∙ first_wants n reply input output l journal ended due read full
 
 quiet_bytes : (reply input output : List ℕ) (later : List Start) → (no_bytes output ≡ true) × (has_line input ≡ false) → output ++ answers reply (requests (input ++ []) later) ≡ []
 quiet_bytes reply input [] later q = ap (answers reply) (requests-none input later q.1)
@@ -167,6 +173,13 @@ shut_tests true true true q = cc
 shut_tests true true false q = (refl, refl)
 shut_tests true false h q = cc
 shut_tests false o h q = cc
+
+-- an idle connection is to be closed where its input has ended
+over_idle : (e o h : Bool) → (o ≡ true) × (h ≡ false) → (e && (o && not h)) ≡ (e || false)
+over_idle true true false q = refl
+over_idle true true true q = cc
+over_idle true false h q = cc
+over_idle false o h q = refl
 
 abbrev reading_room : Bool → Option ℕ
 reading_room e = cond e None (Some 4096)
@@ -202,6 +215,7 @@ sound_at reply input output life.Absent journal ended due = record {
   idle = λ h trees later. cc;
   logged = λ h trees later. cc;
   shut = λ h s trees later. cc;
+  shuts = λ h trees later. cc;
   closes = λ h. cc;
 }
 sound_at reply input output (life.Stopped cause) journal ended due = record {
@@ -218,6 +232,7 @@ sound_at reply input output (life.Stopped cause) journal ended due = record {
   idle = λ h trees later. cc;
   logged = λ h trees later. cc;
   shut = λ h s trees later. cc;
+  shuts = λ h trees later. cc;
   closes = λ h. cc;
 }
 sound_at reply input output life.Live journal ended due = record {
@@ -234,6 +249,7 @@ sound_at reply input output life.Live journal ended due = record {
   idle = λ h trees later. quiet_bytes reply input output later (idle_tests (no_bytes output) (has_line input) h);
   logged = λ h trees later. ap (map (λ l. Some l)) (sym (quiet_logs reply input (logs_in journal) later (idle_tests (no_bytes output) (has_line input) h).1));
   shut = λ h s trees later. quiet_bytes reply input output later (shut_tests ended (no_bytes output) (has_line input) s);
+  shuts = λ h trees later. over_idle ended (no_bytes output) (has_line input) (idle_tests (no_bytes output) (has_line input) h);
   closes = λ h s e. absurd (unended ended (no_bytes output) (has_line input) s e);
 }
 
@@ -243,16 +259,17 @@ sound_nobody = sound_at [] [] [] life.Absent [] false 0
 pub sound_view : (n c : ℕ) (v : ConnView) → IsSound v → IsSound (at_conn n v c)
 sound_view n c v s = elim (eqb c n) as (λ t. IsSound (cond t v nobody)) [ true ↦ s | false ↦ sound_nobody ]
 
--- the wants of all connections are those of the one
-pub all_wants : (n : ℕ) (v : ConnView) → (v.held ≡ false → v ≡ nobody) → wants_in (conns_at n v) (at_conn n v) ≡ wants_at n v
-all_wants n v absent =
-    elim v.held as (λ t. v.held ≡ t → wants_in (cond t (n ∷ []) []) (at_conn n v) ≡ wants_at n v) [
-      | true ↦ (λ e. append-nil (wants_at n (at_conn n v n)) ∙ ap (wants_at n) (at_own n n v refl))
-      | false ↦ (λ e. sym (ap (wants_at n) (absent e) ∙ wants_nobody n))
-    ] refl
+-- no other connection wants anything
+pub other_wants : (n c : ℕ) (v : ConnView) (read full : Bool) → c ≢ n → first_doable read full (wants_at c (at_conn n v c)) ≡ None
+unfolding first_doable
+other_wants n c v read full e = ap (first_doable read full) (ap (wants_at c) (at_other n c v e) ∙ wants_nobody c)
 
-pub other_wants : (n c : ℕ) (v : ConnView) → c ≢ n → wants_at c (at_conn n v c) ≡ []
-other_wants n c v e = ap (wants_at c) (at_other n c v e) ∙ wants_nobody c
+-- the connection is held unless it is absent
+pub conns_are : (n : ℕ) (reply input output : List ℕ) (l : Life) (journal : List Request) (ended : Bool) (due : ℕ) →
+    conns_at n (shown_at reply l input output journal ended due) ≡ cond (is_absent_at l) [] (n ∷ [])
+conns_are n reply input output life.Absent journal ended due = refl
+conns_are n reply input output life.Live journal ended due = refl
+conns_are n reply input output (life.Stopped cause) journal ended due = refl
 
 -- how many are held, by what the connection is
 pub crowd_is : (n : ℕ) (reply input output : List ℕ) (l : Life) (journal : List Request) (ended : Bool) (due : ℕ) → length (conns_at n (shown_at reply l input output journal ended due)) ≡ crowd_of l

@@ -1,5 +1,5 @@
 -- What the core shows of all connections.
-use Rattle.std.specs.Prelude.{◌≡◌, ℕ, ◌==◌, ◌+◌, ◌≤◌, Bool, false, List, [], ◌∷◌, if◌then◌else◌}
+use Rattle.std.specs.Prelude.{◌≡◌, ℕ, ◌==◌, ◌+◌, ◌≤◌, Bool, true, false, List, [], ◌∷◌, Option, None, Some, if◌then◌else◌}
 use Rattle.http_types.specs.declared.words.Addr.{Addr}
 use Rattle.ngx_outside.specs.Causes.{Rose}
 use Rattle.ngx_outside.specs.Views.{ConnView, Course, Start, Fresh, nobody}
@@ -7,6 +7,7 @@ use Rattle.ngx_outside.specs.Wants.{wants_at}
 use Rattle.ngx_outside.specs.declared.event.StepAnswer.{StepAnswer}
 use Rattle.ngx_outside.specs.declared.event.StepAnswer.TheVariants.{Done, Skipped, OutOfMemory}
 use Rattle.ngx_outside.specs.declared.event.Want.{Want}
+use Rattle.ngx_outside.specs.declared.event.Want.TheVariants as want
 use Rattle.plain_core.specs.declared.state.State.{State}
 use Rattle.plain_core.specs.Lines.{course_of}
 use Rattle.plain_core.specs.Shown.{shown, work_of, price_of, is_absent_at}
@@ -60,7 +61,8 @@ KeepsEnds old new = (c : ℕ) → (new c).ended ≡ (old c).ended
 
 -- an event that is done says so of the input of its connection, and nothing of another's
 abbrev pub Ending : ℕ → Bool → StepAnswer → (ℕ → ConnView) → (ℕ → ConnView) → Type 0
-Ending conn ended (Done taken) old new = (c : ℕ) → (new c).ended ≡ (if c == conn then ended else (old c).ended)
+Ending conn ended (Done taken) old new = (c : ℕ) →
+    (new c).ended ≡ (if c == conn then ended else (old c).ended)
 Ending conn ended Skipped old new = KeepsEnds old new
 Ending conn ended OutOfMemory old new = KeepsEnds old new
 
@@ -70,10 +72,15 @@ RefusedBy (Done taken) old new = new ≡ old
 RefusedBy Skipped old new = new ≡ old
 RefusedBy OutOfMemory old new = Rose old new
 
--- one want, or none
-abbrev pub want_if : Bool → Want → List Want
-want_if b w = if b then w ∷ [] else []
-
 -- what the core wants of its connection, by what it is
 abbrev pub wants_of_state : State → List Want
 wants_of_state s = wants_at s.number (shown s.conn)
+
+-- the first of these wants that is there: a read of at most 4096 bytes, a run of node 0, a write,
+-- the close
+abbrev pub first_of : ℕ → (reads runs writes shut : Bool) → Option Want
+first_of n true runs writes shut = Some (want.Read n 4096)
+first_of n false true writes shut = Some (want.Run n 0)
+first_of n false false true shut = Some (want.Write n)
+first_of n false false false true = Some (want.Close n)
+first_of n false false false false = None

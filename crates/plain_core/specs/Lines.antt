@@ -15,7 +15,8 @@ after_line (b ∷ bytes) = if b == 10 then bytes else after_line bytes
 -- the requests of an input: one for each line, as long as requests start
 unfoldable pub requests : List ℕ → List Start → List Start
 requests input [] = []
-requests input (now ∷ later) = if has_line input then now ∷ requests (after_line input) later else []
+requests input (now ∷ later) = if has_line input then now ∷ requests
+    (after_line input) later else []
 
 -- each is answered by the text
 abbrev pub answers : List ℕ → List Start → List ℕ
@@ -25,13 +26,14 @@ answers reply asked = flat_map (λ now. reply) asked
 abbrev pub logs : List ℕ → List Start → List Log
 logs reply asked = map (λ now. (200, length reply)) asked
 
--- What comes of a connection: what is pending, then the answers to what is held and to what arrives; the logs of those that
--- are past, then the logs of these.
+-- What comes of a connection: what is pending, then the answers to what is held and to what
+-- arrives; the logs of those that are past, then the logs of these.
 abbrev pub course_of : List ℕ → List Log → List ℕ → List ℕ → Course
 course_of reply past held pending =
     record {
       bytes = λ trees more later. pending ++ answers reply (requests (held ++ more) later);
       logs = λ trees more later. past ++ logs reply (requests (held ++ more) later);
+      closes = λ trees more later. false;
       heavy = λ trees more later. false;
       raceless = true;
       timed = true;

@@ -121,7 +121,8 @@ is_shut_at life.Absent input output ended = false
 is_shut_at life.Live input output ended = is_over input output ended
 is_shut_at (life.Stopped cause) input output ended = true
 
--- the work that is left: each byte to be written, each byte that may have to be answered, the stop and the close
+-- the work that is left: each byte to be written, each byte that may have to be answered, the stop
+-- and the close
 abbrev pub price_of : List ℕ → ℕ
 price_of reply = length reply + 2
 
@@ -135,7 +136,8 @@ work_of c = work_at c.reply c.life c.input c.output
 
 -- what each event does to a connection, by the answer
 abbrev pub Arrives : Start → List ℕ → StepAnswer → ConnView → ConnView → Type 0
-Arrives now bytes (Done taken) old new = Takes old.room bytes taken × Went Always old new (take taken bytes) [] []
+Arrives now bytes (Done taken) old new = Takes old.room bytes taken ×
+    Went Always old new (take taken bytes) [] []
 Arrives now bytes Skipped old new = Unmoved old new ((room : ℕ) → old.room ≡ Some room → bytes ≡ [])
 Arrives now bytes OutOfMemory old new = Refused now old new
 
@@ -145,7 +147,8 @@ Ends Skipped old new = Unmoved old new (old.room ≡ None)
 Ends OutOfMemory old new = ⊥
 
 abbrev pub Writes : ℕ → StepAnswer → ConnView → ConnView → Type 0
-Writes count (Done taken) old new = (0 < count) × (count ≤ length old.pending) × Went Always old new [] (take count old.pending) []
+Writes count (Done taken) old new = (0 < count) × (count ≤ length old.pending) ×
+    Went Always old new [] (take count old.pending) []
 Writes count Skipped old new = Unmoved old new (0 < count → length old.pending < count)
 Writes count OutOfMemory old new = ⊥
 

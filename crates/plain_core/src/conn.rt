@@ -159,9 +159,11 @@ impl Conn {
     }
 
     pub(crate) fn arrive(&mut self, bytes: &[u8], moment: u64) -> StepAnswer
-        ensures steps { (now : Start) → Arrives now bytes.now result (shown self.old) (shown self.new) }
+        ensures steps { (now : Start) → Arrives now bytes.now result (shown self.old)
+            (shown self.new) }
         ensures ended { KeepsEnd (shown self.old) (shown self.new) }
-        ensures left { LeftTaken (price_of self.old.reply) result (work_of self.old) (work_of self.new) }
+        ensures left { LeftTaken (price_of self.old.reply) result (work_of self.old)
+            (work_of self.new) }
         ensures held { crowd_of self.new.life ≡ crowd_of self.old.life }
         ensures reply { self.new.reply ≡ self.old.reply }
     {
@@ -239,8 +241,10 @@ impl Conn {
         requires some { 0 < size }
         ensures life { self.new.life ≡ self.old.life }
         ensures ended { self.new.ended ≡ self.old.ended }
-        ensures starts { OnOk result (starts_in self.new.journal.items ≡ starts_in self.old.journal.items ++ record { moment = moment; tree = tree } ∷ []) }
-        ensures logs { OnOk result (logs_in self.new.journal.items ≡ logs_in self.old.journal.items ++ (200, length self.old.reply) ∷ []) }
+        ensures starts { OnOk result (starts_in self.new.journal.items ≡ starts_in
+            self.old.journal.items ++ record { moment = moment; tree = tree } ∷ []) }
+        ensures logs { OnOk result (logs_in self.new.journal.items ≡ logs_in self.old.journal.items
+            ++ (200, length self.old.reply) ∷ []) }
         ensures input { OnOk result (self.new.input ≡ drop size self.old.input) }
         ensures output { OnOk result (self.new.output ≡ self.old.output ++ self.old.reply) }
         ensures same { OnErr result (self.new.journal.items ≡ self.old.journal.items) }
@@ -254,7 +258,8 @@ impl Conn {
     }
 
     pub(crate) fn run(&mut self, node: u32, moment: u64, tree: u64) -> StepAnswer
-        ensures steps { Runs (record { moment = moment; tree = tree }) node result (shown self.old) (shown self.new) }
+        ensures steps { Runs (record { moment = moment; tree = tree }) node result (shown self.old)
+            (shown self.new) }
         ensures ended { KeepsEnd (shown self.old) (shown self.new) }
         ensures taken { TakesNo result }
         ensures left { LeftLower result (work_of self.old) (work_of self.new) }

@@ -1,8 +1,11 @@
 -- When an act can't show in which order subrequests run: it reads only what is settled, or what it set since it was last suspended.
-use Rattle.std.specs.Prelude.{◌≡◌, ℕ, Bool, true, List, Option, Some, bytes_eq, if◌then◌else◌}
+use Rattle.std.specs.Prelude.{◌≡◌, ℕ, Bool, true, false, List, Option, Some, bytes_eq, if◌then◌else◌}
 use Rattle.file_tree.specs.Tree.{Tree, Item}
 use Rattle.acts.specs.Vars.{Vars, look}
 use Rattle.acts.specs.Act.{Done, Get, Put, Stat, Call, Write, Inner}
+use Rattle.ngx_variables.specs.declared.request.Main.{Main}
+use Rattle.ngx_variables.specs.declared.request.Role.{Role}
+use Rattle.ngx_variables.specs.declared.request.Role.TheVariants as role
 use Rattle.request_meaning.specs.Serving.{Serving, Child, Reply, Answer}
 use Rattle.request_meaning.specs.Replies.{Came, run}
 
@@ -20,21 +23,47 @@ along name names other = if bytes_eq name other then true else names other
 pub record Agree (names : Names) (v u : Vars) : Type 0 where
   pub at : (name : List ℕ) → names name ≡ true → look v name ≡ look u name
 
--- the names whose value is settled once content subrequests begin, and a table that has these values
+-- What an act keeps to: the names that it knows again after each suspension; the names to which it gives one value alone, and
+-- which value; the main request of the subrequests that it asks for, and the roles that these may have.
+pub record Rules : Type 0 where
+  pub kept : Names
+  pub fixed : Names
+  pub value : List ℕ → Option (List ℕ)
+  pub main : Main
+  pub asks : Role → Bool
+
+abbrev pub MayAsk : Rules → Child → Type 0
+MayAsk r child = (r.asks child.role ≡ true) × (child.main ≡ r.main)
+
+-- The act reads only what is in `known` by then; of that a suspension leaves the names that are kept. It gives a fixed name only
+-- its value, and asks only for subrequests that it may ask for. `post` holds of what is known at the end, and of the result.
+abbrev pub Obeys : {A : Type 0} → Rules → Names → Serving A → (Names → A → Type 0) → Type 0
+Obeys r known (Done a) post = post known a
+Obeys r known (Get name k) post = (known name ≡ true) × ((value : Option (List ℕ)) → Obeys r known (k value) post)
+Obeys r known (Put name value m) post = (r.fixed name ≡ true → Some value ≡ r.value name) × Obeys r (along name known) m post
+Obeys r known (Stat path k) post = (item : Item) → Obeys r r.kept (k item) post
+Obeys r known (Call child k) post = MayAsk r child × ((reply : Reply) → Obeys r r.kept (k reply) post)
+Obeys r known (Write bytes m) post = Obeys r r.kept m post
+Obeys r known (Inner child m) post = (MayAsk r child × (child.role ≡ role.Content)) × Obeys r r.kept m post
+
+-- the names whose value is settled once content subrequests begin, a table that has these values, and the main request
 pub record Shared : Type 0 where
   pub steady : Names
   pub table : Vars
+  pub main : Main
 
--- The act reads only what is in `known` by then; of that a suspension leaves the steady names. It gives a steady name only the
--- value that it has. `post` holds of what is known at the end, and of the result.
+abbrev pub is_content : Role → Bool
+is_content role.Main = false
+is_content role.Content = true
+is_content role.Auth = false
+
+abbrev pub steady_rules : Shared → Rules
+steady_rules s = record { kept = s.steady; fixed = s.steady; value = look s.table; main = s.main; asks = is_content }
+
+-- A steady act reads only what is known, which is what is settled and what it set since it was last suspended; it gives a
+-- settled name the value that it has, and asks for content subrequests alone.
 abbrev pub Steady : {A : Type 0} → Shared → Names → Serving A → (Names → A → Type 0) → Type 0
-Steady s known (Done a) post = post known a
-Steady s known (Get name k) post = (known name ≡ true) × ((value : Option (List ℕ)) → Steady s known (k value) post)
-Steady s known (Put name value m) post = (s.steady name ≡ true → Some value ≡ look s.table name) × Steady s (along name known) m post
-Steady s known (Stat path k) post = (item : Item) → Steady s s.steady (k item) post
-Steady s known (Call child k) post = (reply : Reply) → Steady s s.steady (k reply) post
-Steady s known (Write bytes m) post = Steady s s.steady m post
-Steady s known (Inner child m) post = Steady s s.steady m post
+Steady s known m post = Obeys (steady_rules s) known m post
 
 abbrev pub any : {A : Type 0} → Names → A → Type 0
 any known a = Unit {0}
@@ -46,9 +75,10 @@ pub record SameReply {A : Type 0} (s : Shared) (r q : Came A) : Type 0 where
   pub left : Agree s.steady s.table r.vars
   pub right : Agree s.steady s.table q.vars
 
--- what each subrequest comes to is the same for tables that agree
+-- what each content subrequest comes to is the same for tables that agree
 abbrev pub InnerSame : Shared → (Child → Vars → Came Answer) → Type 0
-InnerSame s inner = (c : Child) (v u : Vars) → Agree s.steady s.table v → Agree s.steady s.table u → SameReply s (inner c v) (inner c u)
+InnerSame s inner =
+    (c : Child) (v u : Vars) → MayAsk (steady_rules s) c → Agree s.steady s.table v → Agree s.steady s.table u → SameReply s (inner c v) (inner c u)
 
 -- A steady act comes to the same for tables that agree. (That one steady act and then another is steady speaks of all
 -- conditions, which no clause can: it is the lemma steady_bind.)

@@ -8,17 +8,16 @@ use Rattle.std.proofs.lemmas.List.Elements.{All-nil, All-cons, All-head, All-tai
 use Rattle.std.proofs.lemmas.List.Folds.{list_any_more, list_any_at}
 use Rattle.ngx_outside.specs.Linked.{LinkView}
 use Rattle.ngx_outside.specs.Views.{ConnView, Job, Ticked, GivesUp, Waits, no_bytes}
-use Rattle.ngx_outside.specs.Wants.{wants_at, wants_in, read_want}
+use Rattle.ngx_outside.specs.Wants.{wants_at, read_want, doable}
 use Rattle.ngx_outside.specs.declared.event.Want.{Want}
 use Rattle.ngx_outside.specs.declared.event.Want.TheVariants as want
 use Rattle.ready_loop.specs.Ids.{has}
 use Rattle.ready_loop.specs.declared.ids.Ids.{Ids}
-use Rattle.ready_loop.specs.Turns.{AtRest, IsRested, IsWanted, IsHeard, IsHeardBut, IsGivenUp, AllRest, RestsBut, ChangedAs, DueHasWants, conn_of, doable}
+use Rattle.ready_loop.specs.Turns.{AtRest, IsRested, IsHeard, IsHeardBut, IsGivenUp, AllRest, RestsBut, ChangedAs}
 use Rattle.ready_loop.specs.Seen.{Elsewhere}
 use Rattle.ready_loop.specs.Standing.{IsMatched}
 use Rattle.ready_loop.specs.declared.hear.Heard.{Heard}
 use Rattle.ready_loop.specs.declared.hear.Heard.TheVariants as heard
-use Rattle.ready_loop.proofs.WantLemmas.{wanted_at}
 
 all_left : (P : Want → Type 0) (xs ys : List Want) → All P (xs ++ ys) → All P xs
 all_left P [] ys all = All-nil P
@@ -88,10 +87,6 @@ at_rest heard tells due c v l r h = record {
     no_write (b ∷ bytes) some all true e = e
     no_write (b ∷ bytes) some all false e = absurd (let f : not r.full ≡ false = All-head P (want.Write c) [] all in let g : not false ≡ false = ap not (sym e) ∙ f in cc)
 
--- one that wants nothing rests
-pub rest_none : (heard tells : Type 0) (c : ℕ) (v : ConnView) (l : LinkView) → wants_at c v ≡ [] → AtRest heard tells v l
-rest_none heard tells c v l e = at_rest heard tells true c v l (record { full = false; told = λ t f. absurd (let q : false ≡ true = f in cc); none = subst (All (λ w. doable true false w ≡ false)) (sym e) (All-nil (λ w. doable true false w ≡ false)) }) (λ k d. refl)
-
 -- it rests as long as neither it nor its link changes
 pub rest_same : (heard heard' tells tells' : Type 0) (v v' : ConnView) (l l' : LinkView) → (heard' → heard) → (tells' → tells) → v' ≡ v → (heard' → l'.due ≡ l.due) → (tells' → l'.full ≡ l.full) → AtRest heard tells v l → AtRest heard' tells' v' l'
 rest_same heard heard' tells tells' v v' l l' h t e d f r = record {
@@ -102,30 +97,6 @@ rest_same heard heard' tells tells' v v' l l' h t e d f r = record {
   written = λ k some. f k ∙ r.written (t k) (λ q. some (ap (λ (x : ConnView). x.pending) e ∙ q));
 }
 
--- the wants of a connection that is held are among all
-wants_of_held : (P : Want → Type 0) (view : ℕ → ConnView) (conns : List ℕ) (c : ℕ) → Contains conns c → All P (wants_in conns view) → All P (wants_at c (view c))
-wants_of_held P view conns c has all = All-contains (λ d. All P (wants_at d (view d))) conns c (each conns all) has
-  where
-    each : (ds : List ℕ) → All P (wants_in ds view) → All (λ d. All P (wants_at d (view d))) ds
-    each [] all = All-nil (λ d. All P (wants_at d (view d)))
-    each (d ∷ ds) all = All-cons (λ k. All P (wants_at k (view k))) d ds (all_left P (wants_at d (view d)) (wants_in ds view) all) (each ds (all_right P (wants_at d (view d)) (wants_in ds view) all))
-
-of_conn : (c : ℕ) (v : ConnView) (w : Want) → IsWanted v c w → conn_of w ≡ c
-of_conn c v (want.Read conn room) h = h.0
-of_conn c v (want.Run conn node) h = h.0
-of_conn c v (want.Job conn node) h = h.0
-of_conn c v (want.Write conn) h = h.0
-of_conn c v (want.Close conn) h = h.0
-
--- what holds of the connections of all wants holds of one that wants something
-pub of_wants : (Q : ℕ → Type 0) (view : ℕ → ConnView) (conns : List ℕ) (wants : List Want) (c : ℕ) → wants ≡ wants_in conns view → Contains conns c → All (λ w. Q (conn_of w)) wants → wants_at c (view c) ≢ [] → Q c
-of_wants Q view conns wants c e has all some =
-    go (wants_at c (view c)) some (wants_of_held (λ w. Q (conn_of w)) view conns c has (subst (All (λ w. Q (conn_of w))) e all)) (wanted_at c (view c))
-  where
-    go : (ws : List Want) → ws ≢ [] → All (λ w. Q (conn_of w)) ws → All (IsWanted (view c) c) ws → Q c
-    go [] some all wanted = absurd (some refl)
-    go (w ∷ ws) some all wanted = subst Q (of_conn c (view c) w (All-head (IsWanted (view c) c) w ws wanted)) (All-head (λ x. Q (conn_of x)) w ws all)
-
 -- one more connection was served
 pub listed_more : (c : ℕ) (conns : List ℕ) (i : ℕ) → i < length conns → list_any (nat_eq c) (take (i + 1) conns) ≡ true → (list_any (nat_eq c) (take i conns) ≡ true) ⊎ (c ≡ get_or conns i 0)
 listed_more c conns i h e = go (list_any (nat_eq c) (take i conns)) refl (sym (list_any_more (nat_eq c) conns i 0 h) ∙ e)
@@ -133,11 +104,6 @@ listed_more c conns i h e = go (list_any (nat_eq c) (take i conns)) refl (sym (l
     go : (t : Bool) → list_any (nat_eq c) (take i conns) ≡ t → (list_any (nat_eq c) (take i conns) || nat_eq c (get_or conns i 0)) ≡ true → (list_any (nat_eq c) (take i conns) ≡ true) ⊎ (c ≡ get_or conns i 0)
     go true f k = inl f
     go false f k = inr (let q : nat_eq c (get_or conns i 0) ≡ true = sym (ap (λ t. t || nat_eq c (get_or conns i 0)) f) ∙ k in grind (arith, nat_tests))
-
--- wants of a list that is empty or not
-pub none_or_some : (ws : List Want) → (ws ≡ []) ⊎ (ws ≢ [])
-none_or_some [] = inl refl
-none_or_some (w ∷ ws) = inr (λ e. cc)
 
 -- a connection is served, and it is remembered whether its link is still to be read
 pub heard_on : (conn : ℕ) (due due' : Bool) (is_open is_open' : ℕ → Bool) (link link' : ℕ → LinkView) (unread unread' : Ids) → ((d : ℕ) → d ≢ conn → is_open' d ≡ is_open d) → ((d : ℕ) → d ≢ conn → link' d ≡ link d) →
@@ -188,18 +154,18 @@ rest_served heard heard1 tells tells1 conns i view view' link link' h hh ht tt1 
 pub apart_at : (c : ℕ) (conns : List ℕ) (i : ℕ) → i < length conns → list_any (nat_eq c) conns ≡ false → c ≢ get_or conns i 0
 apart_at c conns i h none e = let k : list_any (nat_eq c) conns ≡ true = list_any_at (nat_eq c) conns i 0 h (let q = e in grind (arith, nat_tests)) in let q : true ≡ false = sym k ∙ none in cc
 
--- all that are held rest: those that wanted something were served, the others want nothing
-pub rest_listed : (heard tells : Type 0) (conns : List ℕ) (wants : List Want) (held : List ℕ) (view view' : ℕ → ConnView) (link : ℕ → LinkView) (c : ℕ) → wants ≡ wants_in held view → ((view c).held ≡ true → Contains held c) → All (λ w. list_any (nat_eq (conn_of w)) conns ≡ true) wants →
-    (list_any (nat_eq c) conns ≡ true → AtRest heard tells (view' c) (link c)) → (list_any (nat_eq c) conns ≡ false → view' c ≡ view c) → (view' c).held ≡ true → AtRest heard tells (view' c) (link c)
-rest_listed heard tells conns wants held view view' link c e has all served same is = go (list_any (nat_eq c) conns) refl
-  where
-    none : list_any (nat_eq c) conns ≡ false → (wants_at c (view c) ≡ []) ⊎ (wants_at c (view c) ≢ []) → wants_at c (view c) ≡ []
-    none f (inl k) = k
-    none f (inr some) = absurd (let k : list_any (nat_eq c) conns ≡ true = of_wants (λ d. list_any (nat_eq d) conns ≡ true) view held wants c e (has (ap (λ (x : ConnView). x.held) (sym (same f)) ∙ is)) all some in let q : true ≡ false = sym k ∙ f in cc)
+-- a connection that is among others is found there
+listed : (c : ℕ) (conns : List ℕ) → Contains conns c → list_any (nat_eq c) conns ≡ true
+listed c conns has = list_any_at (nat_eq c) conns has.0 c has.1 (let e : get_or conns has.0 c ≡ c = has.2 in grind (arith, nat_tests))
 
+-- all that are held rest: those that were held were served, and no others are held
+pub rest_listed : (heard tells : Type 0) (conns : List ℕ) (view view' : ℕ → ConnView) (link : ℕ → LinkView) (c : ℕ) → ((view c).held ≡ true → Contains conns c) →
+    (list_any (nat_eq c) conns ≡ true → AtRest heard tells (view' c) (link c)) → (list_any (nat_eq c) conns ≡ false → view' c ≡ view c) → (view' c).held ≡ true → AtRest heard tells (view' c) (link c)
+rest_listed heard tells conns view view' link c has served same is = go (list_any (nat_eq c) conns) refl
+  where
     go : (t : Bool) → list_any (nat_eq c) conns ≡ t → AtRest heard tells (view' c) (link c)
     go true f = served f
-    go false f = rest_none heard tells c (view' c) (link c) (ap (wants_at c) (same f) ∙ none f (none_or_some (wants_at c (view c))))
+    go false f = absurd (let k : list_any (nat_eq c) conns ≡ true = listed c conns (has (ap (λ (x : ConnView). x.held) (sym (same f)) ∙ is)) in let q : true ≡ false = sym k ∙ f in cc)
 
 -- one more id
 pub has_more : (conn : ℕ) (old new : Ids) → has new conn ≡ true → ((d : ℕ) → d ≢ conn → has new d ≡ has old d) → (c : ℕ) → has old c ≡ true → has new c ≡ true
@@ -255,10 +221,10 @@ rests_ticked h t moment view view' link ticked all c held = go (ticked c)
     go (GivesUp due timed is before s) = inr (tt, (due, moment, s.why))
     go (Waits not same) = subst (λ v. AtRest h t v (link c) ⊎ (Unit {0} × IsGivenUp v)) (sym same) (all c (ap (λ (x : ConnView). x.held) (sym same) ∙ held))
 
--- all that want something are remembered
-pub heard_at_start : (view : ℕ → ConnView) (is_open : ℕ → Bool) (link : ℕ → LinkView) (unread : Ids) (conns : List ℕ) (wants : List Want) → wants ≡ wants_in conns view → ((c : ℕ) → (view c).held ≡ true → Contains conns c) → IsMatched view is_open →
-    All (λ w. has unread (conn_of w) ≡ true) wants → DueHasWants is_open link view → IsHeard is_open link unread
-heard_at_start view is_open link unread conns wants e has_conn matched all due c is_o is = of_wants (λ d. has unread d ≡ true) view conns wants c e (has_conn c (matched c ∙ is_o)) all (due c is_o is)
+-- all that are held are remembered
+pub heard_at_start : (view : ℕ → ConnView) (is_open : ℕ → Bool) (link : ℕ → LinkView) (unread : Ids) (conns : List ℕ) → ((c : ℕ) → (view c).held ≡ true → Contains conns c) → IsMatched view is_open →
+    All (λ c. has unread c ≡ true) conns → IsHeard is_open link unread
+heard_at_start view is_open link unread conns has_conn matched all c is_o is = All-contains (λ d. has unread d ≡ true) conns c all (has_conn c (matched c ∙ is_o))
 
 pub not_true : (b : Bool) → not b ≡ true → b ≡ false
 not_true true e = cc

@@ -1,12 +1,12 @@
 -- The wants of a connection are what the core shows of it.
-use Rattle.std.proofs.Common.{◌≡◌, ◌≢◌, ℕ, Bool, true, false, cond, eqb, List, [], ◌∷◌, map, Option, None, Some, refl, sym, subst}
+use Rattle.std.proofs.Common.{◌≡◌, ◌≢◌, ℕ, Bool, true, false, cond, eqb, List, [], ◌∷◌, map, Option, None, Some, refl, sym, ap, ◌∙◌, subst}
 use Rattle.std.proofs.lemmas.Bool.Decides.{nat_tests}
 use Rattle.std.proofs.Common.{arith}
 use Rattle.std.proofs.lemmas.List.Elements.{All-nil, All-cons, All-head, All-tail, All-append, All-contains, All-contains_itself}
 use Rattle.std.specs.List.{All, Contains}
 use Rattle.file_tree.specs.declared.job.Ask.{Ask}
 use Rattle.ngx_outside.specs.Views.{ConnView, Job, no_bytes, ask_in}
-use Rattle.ngx_outside.specs.Wants.{wants_at, read_want}
+use Rattle.ngx_outside.specs.Wants.{wants_at, read_want, doable, first_doable}
 use Rattle.ngx_outside.specs.declared.event.Want.{Want}
 use Rattle.ngx_outside.specs.declared.event.Want.TheVariants as want
 use Rattle.ready_loop.specs.Turns.{IsWanted}
@@ -61,5 +61,34 @@ wanted_at c v =
     closes true e = All-cons (IsWanted v c) (want.Close c) [] (refl, e) (All-nil (IsWanted v c))
     closes false e = All-nil (IsWanted v c)
 
-pub is_wanted : (c : ℕ) (v : ConnView) (wants : List Want) (w : Want) → wants ≡ wants_at c v → Contains wants w → IsWanted v c w
-is_wanted c v wants w e h = All-contains (IsWanted v c) wants w (subst (All (IsWanted v c)) (sym e) (wanted_at c v)) h
+pub is_wanted : (c : ℕ) (v : ConnView) (w : Want) → Contains (wants_at c v) w → IsWanted v c w
+is_wanted c v w h = All-contains (IsWanted v c) (wants_at c v) w (wanted_at c v) h
+
+-- the first want that can be served is one of them, and can be
+pub first_there : (due full : Bool) (wants : List Want) (w : Want) → first_doable due full wants ≡ Some w → Contains wants w
+unfolding first_doable
+first_there due full [] w e = cc
+first_there due full (x ∷ wants) w e = case (doable due full x) e (first_there due full wants w)
+  where
+    case : (t : Bool) → cond t (Some x) (first_doable due full wants) ≡ Some w → (first_doable due full wants ≡ Some w → Contains wants w) → Contains (x ∷ wants) w
+    case true e later = subst (Contains (x ∷ wants)) (let f : x ≡ w = cc in f) (All-head (Contains (x ∷ wants)) x wants (All-contains_itself (x ∷ wants)))
+    case false e later = All-contains (Contains (x ∷ wants)) wants w (All-tail (Contains (x ∷ wants)) x wants (All-contains_itself (x ∷ wants))) (later e)
+
+pub first_can : (due full : Bool) (wants : List Want) (w : Want) → first_doable due full wants ≡ Some w → doable due full w ≡ true
+unfolding first_doable
+first_can due full [] w e = cc
+first_can due full (x ∷ wants) w e = case (doable due full x) refl e (first_can due full wants w)
+  where
+    case : (t : Bool) → doable due full x ≡ t → cond t (Some x) (first_doable due full wants) ≡ Some w → (first_doable due full wants ≡ Some w → doable due full w ≡ true) → doable due full w ≡ true
+    case true h e later = ap (doable due full) (let f : w ≡ x = cc in f) ∙ h
+    case false h e later = later e
+
+-- where there is no first one, none can
+pub none_can : (due full : Bool) (wants : List Want) → first_doable due full wants ≡ None → All (λ w. doable due full w ≡ false) wants
+unfolding first_doable
+none_can due full [] e = All-nil (λ w. doable due full w ≡ false)
+none_can due full (x ∷ wants) e = case (doable due full x) refl e (none_can due full wants)
+  where
+    case : (t : Bool) → doable due full x ≡ t → cond t (Some x) (first_doable due full wants) ≡ None → (first_doable due full wants ≡ None → All (λ w. doable due full w ≡ false) wants) → All (λ w. doable due full w ≡ false) (x ∷ wants)
+    case true h e later = cc
+    case false h e later = All-cons (λ w. doable due full w ≡ false) x wants h (later e)

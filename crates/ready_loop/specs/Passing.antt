@@ -8,8 +8,8 @@ use Rattle.ngx_outside.specs.declared.links.Input.TheVariants as input
 use Rattle.ngx_outside.specs.declared.event.StopCause.{StopCause}
 use Rattle.ngx_outside.specs.declared.event.StopCause.TheVariants as stop
 
--- What a cause comes of: the link failed, the files failed, an event was refused, a request asked for too many
--- subrequests, or the moment had come of a connection that may be given up.
+-- What a cause comes of: the link failed, the files failed, an event was refused, a request asked
+-- for too many subrequests, or the moment had come of a connection that may be given up.
 abbrev pub Behind : (link files refused heavy timed : Type 0) → StopCause → Type 0
 Behind link files refused heavy timed stop.LinkFault = link
 Behind link files refused heavy timed stop.FileFault = files
@@ -19,12 +19,17 @@ Behind link files refused heavy timed (stop.Deadline due now) = timed × (due �
 
 -- where the order of steps can't change the bytes, too many subrequests were foreseen
 abbrev pub Foreseen : ConnView → List Start → Type 0
-Foreseen v started = v.raceless ≡ true → (trees : Trees) (more : List ℕ) (later : List Start) → v.course.heavy trees more (started ++ later) ≡ true
+Foreseen v started = v.raceless ≡ true → (trees : Trees) (more : List ℕ) (later : List Start) →
+    v.course.heavy trees more (started ++ later) ≡ true
 
 -- Such an event goes on by a ground, or stops its connection for a cause with this behind it.
-pub data Passed (now : Start) (ground : Ground) (link files refused : Type 0) (old new : ConnView) (came went : List ℕ) : Type 0 where
-  Goes : (started : List Start) → IsStart now started → Went ground old new came went started → Passed now ground link files refused old new came went
-  Stops : (cause : StopCause) (started : List Start) → IsStart now started → Behind link files refused (Foreseen old started) (old.course.timed ≡ true) cause → went ≡ [] → Stopped cause old new started →
+pub data Passed (now : Start) (ground : Ground) (link files refused : Type 0) (old new : ConnView)
+    (came went : List ℕ) : Type 0 where
+  Goes : (started : List Start) → IsStart now started → Went ground old new came went started →
+      Passed now ground link files refused old new came went
+  Stops : (cause : StopCause) (started : List Start) → IsStart now started →
+      Behind link files refused (Foreseen old started) (old.course.timed ≡ true) cause → went ≡ [] →
+      Stopped cause old new started →
       Passed now ground link files refused old new came went
 
 -- a count of refused events stands still or rises

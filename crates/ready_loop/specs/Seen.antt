@@ -10,7 +10,8 @@ use Rattle.ngx_outside.specs.Views.{Start, kept_moment}
 abbrev pub Elsewhere : {V : Type 0} → ℕ → (ℕ → V) → (ℕ → V) → Type 0
 Elsewhere c old new = (d : ℕ) → d ≢ c → new d ≡ old d
 
--- A tick: the moment that the clock told, and the number of the tree that the files told as the newest right after.
+-- A tick: the moment that the clock told, and the number of the tree that the files told as the
+-- newest right after.
 pub record Tick : Type 0 where
   pub moment : ℕ
   pub tree : ℕ
@@ -28,8 +29,10 @@ last_start (t ∷ u ∷ ticks) = last_start (u ∷ ticks)
 -- Requests start at ticks, in their order: there is a tick, or a request starts at the last one.
 pub data Dated : List Tick → List Start → Type 0 where
   Begun : (tick : Tick) → Dated (tick ∷ []) []
-  Later : (ticks : List Tick) (starts : List Start) (tick : Tick) → Dated ticks starts → Dated (ticks ++ tick ∷ []) starts
-  Started : (ticks : List Tick) (starts : List Start) (tick : Tick) (start : Start) → start ≡ start_at tick → Dated (ticks ++ tick ∷ []) starts →
+  Later : (ticks : List Tick) (starts : List Start) (tick : Tick) → Dated ticks starts →
+      Dated (ticks ++ tick ∷ []) starts
+  Started : (ticks : List Tick) (starts : List Start) (tick : Tick) (start : Start) →
+      start ≡ start_at tick → Dated (ticks ++ tick ∷ []) starts →
       Dated (ticks ++ tick ∷ []) (starts ++ start ∷ [])
 
 -- some ticks were before, and the requests started from the next one on
@@ -44,11 +47,13 @@ pub record IsDated (ticks : List Tick) (starts : List Start) : Type 0 where
 abbrev pub HasTicked : List Tick → Type 0
 HasTicked ticks = (before : List Tick) × (tick : Tick) × (ticks ≡ before ++ tick ∷ [])
 
--- From a moment to a later one these ticks were: their moments are what the clock told meanwhile, and their trees are what
--- the files told as the newest, each where it is told.
-pub record AreTold (ticks : List Tick) (clock clock' : ClockSeen) (files files' : FilesSeen) : Type 0 where
+-- From a moment to a later one these ticks were: their moments are what the clock told meanwhile,
+-- and their trees are what the files told as the newest, each where it is told.
+pub record AreTold (ticks : List Tick) (clock clock' : ClockSeen)
+    (files files' : FilesSeen) : Type 0 where
   pub moments : clock.tells ≡ true → clock'.told ≡ clock.told ++ map (λ t. t.moment) ticks
-  pub trees : (told : List ℕ) → files'.versions ≡ Some told → (before : List ℕ) × (files.versions ≡ Some before) × (told ≡ before ++ map (λ t. t.tree) ticks)
+  pub trees : (told : List ℕ) → files'.versions ≡ Some told → (before : List ℕ) ×
+      (files.versions ≡ Some before) × (told ≡ before ++ map (λ t. t.tree) ticks)
 
 -- the files tell more trees, and may have failed
 pub record Grown (old new : FilesSeen) : Type 0 where

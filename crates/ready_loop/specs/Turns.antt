@@ -1,12 +1,12 @@
 -- What is left to do on a connection, and at the end of a turn.
-use Rattle.std.specs.Prelude.{◌≡◌, ◌≢◌, ◌⊎◌, ℕ, ◌+◌, ◌*◌, ◌-◌, ◌^◌, min, ◌<◌, ◌≤◌, Bool, true, false, not, List, [], if◌then◌else◌, Option, Some, None}
+use Rattle.std.specs.Prelude.{◌≡◌, ◌≢◌, ◌⊎◌, ℕ, ◌+◌, ◌*◌, ◌-◌, ◌^◌, min, ◌<◌, ◌≤◌, Bool, true, false, List, [], if◌then◌else◌, Option, Some, None}
 use Rattle.std.specs.List.{All, Contains}
 use Rattle.file_tree.specs.Tree.{Trees, node_of, HoldsBytes}
 use Rattle.file_tree.specs.declared.job.Ask.{Ask}
 use Rattle.file_tree.specs.declared.job.Ask.TheVariants.{Stat as AskStat, Read as AskRead}
 use Rattle.ngx_outside.specs.Linked.{LinkView}
 use Rattle.ngx_outside.specs.Views.{ConnView, ask_in, no_bytes}
-use Rattle.ngx_outside.specs.Wants.{wants_at}
+use Rattle.ngx_outside.specs.Wants.{wants_at, doable}
 use Rattle.ngx_outside.specs.declared.event.StopCause.TheVariants as stop
 use Rattle.ngx_outside.specs.declared.event.Want.{Want}
 use Rattle.ngx_outside.specs.declared.event.Want.TheVariants.{Read, Run, Job, Write, Close}
@@ -23,17 +23,10 @@ use Rattle.ready_loop.specs.declared.ids.Ids.{Ids}
 use Rattle.ready_loop.specs.declared.jobs.Found.{Found}
 use Rattle.ready_loop.specs.declared.jobs.Found.TheVariants as found
 
--- whether a want can be served at once, where the link is due to be read, or is full
-abbrev pub doable : Bool → Bool → Want → Bool
-doable due full (Read conn room) = due
-doable due full (Run conn node) = true
-doable due full (Job conn node) = true
-doable due full (Write conn) = not full
-doable due full (Close conn) = true
-
 -- the measure of what is left: a read may raise what the core has left by so much at most
 abbrev pub work : ℕ → ℕ → Bool → Bool → ℕ → ℕ
-work price size due full left = left + (if due then price * size + 1 else 0) + (if full then 0 else 1)
+work price size due full left = left + (if due then price * size + 1 else 0) +
+    (if full then 0 else 1)
 
 -- what a want says of its connection
 abbrev pub IsWanted : ConnView → ℕ → Want → Type 0
@@ -43,16 +36,9 @@ IsWanted v c (Job conn node) = (conn ≡ c) × (ask_in v.jobs node ≢ None)
 IsWanted v c (Write conn) = (conn ≡ c) × (no_bytes v.pending ≡ false)
 IsWanted v c (Close conn) = (conn ≡ c) × (v.shut ≡ true)
 
--- the connection of a want
-abbrev pub conn_of : Want → ℕ
-conn_of (Read conn room) = conn
-conn_of (Run conn node) = conn
-conn_of (Job conn node) = conn
-conn_of (Write conn) = conn
-conn_of (Close conn) = conn
-
--- A connection has nothing left to do: no node can run, no job waits, and its link isn't to be closed; where it reads, its
--- link isn't due; and where bytes are pending, its link is full. What is due and full is known where the links tell.
+-- A connection has nothing left to do: no node can run, no job waits, and its link isn't to be
+-- closed; where it reads, its link isn't due; and where bytes are pending, its link is full. What
+-- is due and full is known where the links tell.
 pub record AtRest (heard tells : Type 0) (v : ConnView) (l : LinkView) : Type 0 where
   pub ready : v.ready ≡ []
   pub jobs : v.jobs ≡ []
@@ -66,7 +52,8 @@ IsGivenUp v = (due : ℕ) × (now : ℕ) × (v.cause ≡ Some (stop.Deadline due
 
 -- each connection that is held rests, or a tick gave it up, where that may be
 abbrev pub AllRest : (heard tells may : Type 0) → (ℕ → ConnView) → (ℕ → LinkView) → Type 0
-AllRest heard tells may view link = (c : ℕ) → (view c).held ≡ true → AtRest heard tells (view c) (link c) ⊎ (may × IsGivenUp (view c))
+AllRest heard tells may view link = (c : ℕ) → (view c).held ≡ true →
+    AtRest heard tells (view c) (link c) ⊎ (may × IsGivenUp (view c))
 
 -- each link that is due is remembered as unread
 abbrev pub IsHeard : (ℕ → Bool) → (ℕ → LinkView) → Ids → Type 0
@@ -74,7 +61,8 @@ IsHeard is_open link unread = (c : ℕ) → is_open c ≡ true → (link c).due 
 
 -- or is this one, of which it is known
 abbrev pub IsHeardBut : ℕ → Bool → (ℕ → Bool) → (ℕ → LinkView) → Ids → Type 0
-IsHeardBut conn due is_open link unread = (c : ℕ) → is_open c ≡ true → (link c).due ≡ true → (has unread c ≡ true) ⊎ ((c ≡ conn) × (due ≡ true))
+IsHeardBut conn due is_open link unread = (c : ℕ) → is_open c ≡ true → (link c).due ≡ true →
+    (has unread c ≡ true) ⊎ ((c ≡ conn) × (due ≡ true))
 
 -- so after a notice
 abbrev pub HeardAs : Heard → (ℕ → Bool) → (ℕ → LinkView) → Ids → Type 0
@@ -101,7 +89,8 @@ WasTold (Some told) moment = told.moment ≡ moment
 
 -- all rest but the connection of which something was heard
 abbrev pub RestsBut : Heard → (heard tells may : Type 0) → (ℕ → ConnView) → (ℕ → LinkView) → Type 0
-RestsBut (heard.At conn due) known tells may view link = (c : ℕ) → c ≢ conn → (view c).held ≡ true → AtRest known tells (view c) (link c) ⊎ (may × IsGivenUp (view c))
+RestsBut (heard.At conn due) known tells may view link = (c : ℕ) → c ≢ conn → (view c).held ≡ true →
+    AtRest known tells (view c) (link c) ⊎ (may × IsGivenUp (view c))
 RestsBut heard.Nothing known tells may view link = AllRest known tells may view link
 RestsBut heard.Ended known tells may view link = AllRest known tells may view link
 RestsBut heard.Failed known tells may view link = AllRest known tells may view link
@@ -113,20 +102,19 @@ ChangedAs heard.Nothing old new = (c : ℕ) → new c ≡ old c
 ChangedAs heard.Ended old new = (c : ℕ) → new c ≡ old c
 ChangedAs heard.Failed old new = (c : ℕ) → new c ≡ old c
 
--- where a link is due its connection has something to do
-abbrev pub DueHasWants : (ℕ → Bool) → (ℕ → LinkView) → (ℕ → ConnView) → Type 0
-DueHasWants is_open link view = (c : ℕ) → is_open c ≡ true → (link c).due ≡ true → wants_at c (view c) ≢ []
-
 -- what files gave a job: what stands at its path, or these bytes of it
 abbrev pub Gives : Bool → Trees → Ask → Found → List ℕ → Type 0
-Gives tells trees (AskStat path of) (found.Node node) block = tells ≡ true → node ≡ node_of (trees of path)
-Gives tells trees (AskRead path start count of) found.Block block = (length block ≡ count) × (tells ≡ true → HoldsBytes (trees of path) start count block)
+Gives tells trees (AskStat path of) (found.Node node) block = tells ≡ true →
+    node ≡ node_of (trees of path)
+Gives tells trees (AskRead path start count of) found.Block block = (length block ≡ count) ×
+    (tells ≡ true → HoldsBytes (trees of path) start count block)
 Gives tells trees (AskStat path of) found.Block block = ⊥
 Gives tells trees (AskRead path start count of) (found.Node node) block = ⊥
 
--- A connection rests: none of its wants can be served, by what is remembered of its link; it is remembered as full only
--- where it is, as far as the links tell.
-pub record IsRested (tells : Type 0) (due : Bool) (c : ℕ) (v : ConnView) (l : LinkView) : Type 0 where
+-- A connection rests: none of its wants can be served, by what is remembered of its link; it is
+-- remembered as full only where it is, as far as the links tell.
+pub record IsRested (tells : Type 0) (due : Bool) (c : ℕ) (v : ConnView)
+    (l : LinkView) : Type 0 where
   pub full : Bool
   pub told : tells → full ≡ true → l.full ≡ true
   pub none : All (λ w. doable due full w ≡ false) (wants_at c v)
@@ -138,8 +126,8 @@ ending_of heard.Nothing = None
 ending_of heard.Ended = Some ending.Ended
 ending_of heard.Failed = Some ending.NextFault
 
--- How many turns there were, by how many notices the links had told before and after: each turn handles one. At Ended and where
--- the call for the next one failed there were fewer.
+-- How many turns there were, by how many notices the links had told before and after: each turn
+-- handles one. At Ended and where the call for the next one failed there were fewer.
 abbrev pub TurnsTaken : Ending → (turns before after : ℕ) → Type 0
 TurnsTaken ending.Ended turns before after = (before ≤ after) × (after < before + turns)
 TurnsTaken ending.TurnsUsed turns before after = after ≡ min (before + turns) (2 ^ 64 - 1)

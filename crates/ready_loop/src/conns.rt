@@ -1,16 +1,15 @@
 // Serves connections one after another, and remembers which links are still to be read.
-ghost use Rattle.std.specs.Prelude.{◌≡◌, ◌≢◌, ◌≤◌, ◌⊎◌, ◌||◌, ℕ, [], true, false, List, All, OnOk, nat_eq, Option};
-ghost use Rattle.std.specs.List.{list_any};
+ghost use Rattle.std.specs.Prelude.{◌≡◌, ◌≢◌, ◌≤◌, ◌⊎◌, ◌||◌, ℕ, [], true, List, All, OnOk, Option};
 ghost use Rattle.ready_loop.specs.Ids.{has};
 ghost use Rattle.ready_loop.specs.Seen.{Elsewhere};
 ghost use Rattle.ready_loop.specs.Standing.{Keeps, IsMatched};
-ghost use Rattle.ready_loop.specs.Turns.{AtRest, IsHeard, IsHeardBut, conn_of as conn_in};
+ghost use Rattle.ready_loop.specs.Turns.{AtRest, IsHeard, IsHeardBut};
 ghost use Rattle.ready_loop.specs.Tellings.{StandBeside};
 
 use crate::drain::{Buffers, drain};
 use crate::ids::Ids;
 use byte_text::OutOfMemory;
-use ngx_outside::{EventCore, Files, Links, Want};
+use ngx_outside::{EventCore, Files, Links};
 
 /// What lives as long as the loop: its buffers, and which links may be due though their connections don't read yet.
 #[derive(Drop)]
@@ -49,19 +48,34 @@ pub fn serve_one<E: EventCore, F: Files, L: Links>(
 ) -> Result<(), OutOfMemory>
     requires matched { IsMatched (E.seen core.old).view (L.seen links.old).is_open }
     requires known { (E.seen core.old).now.tree ≤ (F.seen files.old).newest }
-    ensures kept { OnOk result (Keeps (E.seen core.old) (E.seen core.new) (L.seen links.old) (L.seen links.new) (F.seen files.old) (F.seen files.new)) }
+    ensures kept { OnOk result (Keeps (E.seen core.old) (E.seen core.new) (L.seen links.old)
+        (L.seen links.new) (F.seen files.old) (F.seen files.new)) }
     ensures views { Elsewhere conn (E.seen core.old).view (E.seen core.new).view }
-    ensures links { (L.seen links.old).tells ≡ true → Elsewhere conn (L.seen links.old).link (L.seen links.new).link }
+    ensures links { (L.seen links.old).tells ≡ true →
+        Elsewhere conn (L.seen links.old).link (L.seen links.new).link }
     ensures matched { OnOk result (IsMatched (E.seen core.new).view (L.seen links.new).is_open) }
-    ensures heard { (L.seen links.old).tells ≡ true → IsHeardBut conn due (L.seen links.old).is_open (L.seen links.old).link memory.old.unread → OnOk result (IsHeard (L.seen links.new).is_open (L.seen links.new).link memory.new.unread) }
-    ensures rests { OnOk result (((E.seen core.new).view conn).held ≡ true → AtRest (((L.seen links.old).tells ≡ true) × IsHeardBut conn due (L.seen links.old).is_open (L.seen links.old).link memory.old.unread) ((L.seen links.old).tells ≡ true) ((E.seen core.new).view conn) ((L.seen links.new).link conn)) }
-    ensures beside { OnOk result ((clock : Option (List ℕ)) → StandBeside (E.seen core.old).events (E.seen core.new).events (L.seen links.old).answers (L.seen links.new).answers (F.seen files.old).answers (F.seen files.new).answers clock clock) }
-    ensures steady { ((E.seen core.new).terms ≡ (E.seen core.old).terms) × ((E.seen core.new).now ≡ (E.seen core.old).now) }
+    ensures heard { (L.seen links.old).tells ≡ true →
+        IsHeardBut conn due (L.seen links.old).is_open (L.seen links.old).link memory.old.unread →
+        OnOk result (IsHeard (L.seen links.new).is_open (L.seen links.new).link memory.new.unread) }
+    ensures rests { OnOk result (((E.seen core.new).view conn).held ≡ true →
+        AtRest (((L.seen links.old).tells ≡ true) ×
+        IsHeardBut conn due (L.seen links.old).is_open (L.seen links.old).link memory.old.unread)
+        ((L.seen links.old).tells ≡ true) ((E.seen core.new).view conn)
+        ((L.seen links.new).link conn)) }
+    ensures beside { OnOk result ((clock : Option (List ℕ)) →
+        StandBeside (E.seen core.old).events (E.seen core.new).events (L.seen links.old).answers
+        (L.seen links.new).answers (F.seen files.old).answers
+        (F.seen files.new).answers clock clock) }
+    ensures steady { ((E.seen core.new).terms ≡ (E.seen core.old).terms) ×
+        ((E.seen core.new).now ≡ (E.seen core.old).now) }
     ensures later { (L.seen links.old).faults ≤ (L.seen links.new).faults }
     ensures stays_over { (L.seen links.old).over ≡ true → (L.seen links.new).over ≡ true }
-    ensures notices { (L.seen links.old).tells ≡ true → (L.seen links.new).notices ≡ (L.seen links.old).notices }
+    ensures notices { (L.seen links.old).tells ≡ true →
+        (L.seen links.new).notices ≡ (L.seen links.old).notices }
     ensures versions { (F.seen files.new).versions ≡ (F.seen files.old).versions }
-    ensures tells { ((L.seen links.new).tells ≡ (L.seen links.old).tells) × ((L.seen links.new).listening ≡ (L.seen links.old).listening) × ((F.seen files.new).tells ≡ (F.seen files.old).tells) }
+    ensures tells { ((L.seen links.new).tells ≡ (L.seen links.old).tells) ×
+        ((L.seen links.new).listening ≡ (L.seen links.old).listening) ×
+        ((F.seen files.new).tells ≡ (F.seen files.old).tells) }
     ensures grown { (F.seen files.old).newest ≤ (F.seen files.new).newest }
 {
     let due = either(due, memory.unread.has(conn));
@@ -70,60 +84,26 @@ pub fn serve_one<E: EventCore, F: Files, L: Links>(
     Ok(())
 }
 
-fn conn_of(want: Want) -> u32
-    ensures { result ≡ conn_in want }
+/// Remembers the links of these connections as unread.
+pub fn remember_all(unread: &mut Ids, conns: &[u32]) -> Result<(), OutOfMemory>
+    ensures { OnOk result (All (λ c. has unread.new c ≡ true) conns.now) }
 {
-    match want {
-        Want::Read { conn, room: _ } => conn,
-        Want::Run { conn, node: _ } => conn,
-        Want::Job { conn, node: _ } => conn,
-        Want::Write { conn } => conn,
-        Want::Close { conn } => conn,
-    }
-}
-
-/// Remembers the links of all connections that want something as unread.
-pub fn remember_all(unread: &mut Ids, wants: &[Want]) -> Result<(), OutOfMemory>
-    ensures { OnOk result (All (λ w. has unread.new (conn_in w) ≡ true) wants.now) }
-{
-    for want in wants {
-        unread.add(conn_of(*want))?;
+    for conn in conns {
+        unread.add(*conn)?;
     }
     Ok(())
 }
 
-fn is_last(conns: &[u32], conn: u32) -> bool
-    ensures { result ≡ true → list_any (nat_eq conn) conns.now ≡ true }
-{
-    match conns {
-        [.., last] => *last == conn,
-        [] => false,
-    }
-}
-
-// Puts a connection behind the others, where it isn't the last.
-fn add_conn(conns: &mut Vec<u32>, conn: u32) -> Result<(), OutOfMemory>
-    ensures own { OnOk result (list_any (nat_eq conn) conns.new.items ≡ true) }
-    ensures others { OnOk result ((c : ℕ) → list_any (nat_eq c) conns.old.items ≡ true → list_any (nat_eq c) conns.new.items ≡ true) }
-{
-    if !is_last(conns.as_slice(), conn) {
-        conns.push(conn)?;
-    }
-    Ok(())
-}
-
-// The connections that want something.
-fn list_conns(conns: &mut Vec<u32>, wants: &[Want]) -> Result<(), OutOfMemory>
-    ensures { OnOk result (All (λ w. list_any (nat_eq (conn_in w)) conns.new.items ≡ true) wants.now) }
+// Lists these connections.
+fn list(conns: &mut Vec<u32>, held: &[u32]) -> Result<(), OutOfMemory>
+    ensures { OnOk result (conns.new.items ≡ held.now) }
 {
     conns.clear();
-    for want in wants {
-        add_conn(conns, conn_of(*want))?;
-    }
+    conns.extend_from_slice(held)?;
     Ok(())
 }
 
-/// Serves all connections that want something, each once. `conns` is room for their list.
+/// Serves all connections that are held, each once. `conns` is room for their list.
 pub fn serve_all<E: EventCore, F: Files, L: Links>(
     core: &mut E,
     files: &mut F,
@@ -133,20 +113,34 @@ pub fn serve_all<E: EventCore, F: Files, L: Links>(
 ) -> Result<(), OutOfMemory>
     requires matched { IsMatched (E.seen core.old).view (L.seen links.old).is_open }
     requires known { (E.seen core.old).now.tree ≤ (F.seen files.old).newest }
-    ensures kept { OnOk result (Keeps (E.seen core.old) (E.seen core.new) (L.seen links.old) (L.seen links.new) (F.seen files.old) (F.seen files.new)) }
+    ensures kept { OnOk result (Keeps (E.seen core.old) (E.seen core.new) (L.seen links.old)
+        (L.seen links.new) (F.seen files.old) (F.seen files.new)) }
     ensures matched { OnOk result (IsMatched (E.seen core.new).view (L.seen links.new).is_open) }
-    ensures heard { (L.seen links.old).tells ≡ true → IsHeard (L.seen links.old).is_open (L.seen links.old).link memory.old.unread → OnOk result (IsHeard (L.seen links.new).is_open (L.seen links.new).link memory.new.unread) }
-    ensures rests { OnOk result ((c : ℕ) → ((E.seen core.new).view c).held ≡ true → AtRest (((L.seen links.old).tells ≡ true) × IsHeard (L.seen links.old).is_open (L.seen links.old).link memory.old.unread) ((L.seen links.old).tells ≡ true) ((E.seen core.new).view c) ((L.seen links.new).link c)) }
-    ensures beside { OnOk result ((clock : Option (List ℕ)) → StandBeside (E.seen core.old).events (E.seen core.new).events (L.seen links.old).answers (L.seen links.new).answers (F.seen files.old).answers (F.seen files.new).answers clock clock) }
-    ensures steady { OnOk result (((E.seen core.new).terms ≡ (E.seen core.old).terms) × ((E.seen core.new).now ≡ (E.seen core.old).now)) }
+    ensures heard { (L.seen links.old).tells ≡ true →
+        IsHeard (L.seen links.old).is_open (L.seen links.old).link memory.old.unread →
+        OnOk result (IsHeard (L.seen links.new).is_open (L.seen links.new).link memory.new.unread) }
+    ensures rests { OnOk result ((c : ℕ) → ((E.seen core.new).view c).held ≡ true →
+        AtRest (((L.seen links.old).tells ≡ true) ×
+        IsHeard (L.seen links.old).is_open (L.seen links.old).link memory.old.unread)
+        ((L.seen links.old).tells ≡ true) ((E.seen core.new).view c) ((L.seen links.new).link c)) }
+    ensures beside { OnOk result ((clock : Option (List ℕ)) →
+        StandBeside (E.seen core.old).events (E.seen core.new).events (L.seen links.old).answers
+        (L.seen links.new).answers (F.seen files.old).answers
+        (F.seen files.new).answers clock clock) }
+    ensures steady { OnOk result (((E.seen core.new).terms ≡ (E.seen core.old).terms) ×
+        ((E.seen core.new).now ≡ (E.seen core.old).now)) }
     ensures later { OnOk result ((L.seen links.old).faults ≤ (L.seen links.new).faults) }
-    ensures stays_over { OnOk result ((L.seen links.old).over ≡ true → (L.seen links.new).over ≡ true) }
-    ensures notices { OnOk result ((L.seen links.old).tells ≡ true → (L.seen links.new).notices ≡ (L.seen links.old).notices) }
+    ensures stays_over { OnOk result ((L.seen links.old).over ≡ true →
+        (L.seen links.new).over ≡ true) }
+    ensures notices { OnOk result ((L.seen links.old).tells ≡ true →
+        (L.seen links.new).notices ≡ (L.seen links.old).notices) }
     ensures versions { OnOk result ((F.seen files.new).versions ≡ (F.seen files.old).versions) }
-    ensures tells { OnOk result (((L.seen links.new).tells ≡ (L.seen links.old).tells) × ((L.seen links.new).listening ≡ (L.seen links.old).listening) × ((F.seen files.new).tells ≡ (F.seen files.old).tells)) }
+    ensures tells { OnOk result (((L.seen links.new).tells ≡ (L.seen links.old).tells) ×
+        ((L.seen links.new).listening ≡ (L.seen links.old).listening) ×
+        ((F.seen files.new).tells ≡ (F.seen files.old).tells)) }
     ensures grown { OnOk result ((F.seen files.old).newest ≤ (F.seen files.new).newest) }
 {
-    list_conns(conns, core.wants())?;
+    list(conns, core.conns())?;
     for conn in conns.as_slice() {
         serve_one(core, files, links, memory, *conn, false)?;
     }

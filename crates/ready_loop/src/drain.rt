@@ -1,9 +1,10 @@
 // Serves the wants of a connection.
-ghost use Rattle.std.specs.Prelude.{◌≡◌, ◌≢◌, ◌+◌, ◌*◌, ◌<◌, ◌≤◌, ℕ, [], true, false, List, All, Contains, IfSome, IfNone, OnOk, IfOk, vec_len, Option};
+ghost use Rattle.std.specs.Prelude.{◌≡◌, ◌≢◌, ◌+◌, ◌*◌, ◌<◌, ◌≤◌, ℕ, [], true, List, OnOk, IfOk, vec_len, Option};
 ghost use Rattle.ngx_outside.specs.Views.{IsSound};
 ghost use Rattle.ready_loop.specs.Seen.{Elsewhere};
 ghost use Rattle.ready_loop.specs.Standing.{Keeps};
-ghost use Rattle.ready_loop.specs.Turns.{IsRested, IsWanted, doable, work};
+ghost use Rattle.ngx_outside.specs.Wants.{doable};
+ghost use Rattle.ready_loop.specs.Turns.{IsRested, IsWanted, work};
 ghost use Rattle.ready_loop.specs.Tellings.{StandBeside};
 
 use crate::jobs::{job_one, run_one};
@@ -26,31 +27,6 @@ pub struct Buffers {
     pub block: ByteText,
 }
 
-fn is_doable(want: Want, ready: Readiness) -> bool
-    ensures { result ≡ doable ready.due ready.full want }
-{
-    match want {
-        Want::Read { conn: _, room: _ } => ready.due,
-        Want::Run { conn: _, node: _ } => true,
-        Want::Job { conn: _, node: _ } => true,
-        Want::Write { conn: _ } => !ready.full,
-        Want::Close { conn: _ } => true,
-    }
-}
-
-// The first want that can be served.
-fn pick(wants: &[Want], ready: Readiness) -> Option<Want>
-    ensures found { IfSome result (λ w. Contains wants.now w × (doable ready.due ready.full w ≡ true)) }
-    ensures none { IfNone result (All (λ w. doable ready.due ready.full w ≡ false) wants.now) }
-{
-    for want in wants {
-        if is_doable(*want, ready) {
-            return Some(*want);
-        }
-    }
-    None
-}
-
 // Serves a want that can be served.
 fn serve_want<E: EventCore, F: Files, L: Links>(
     core: &mut E,
@@ -66,21 +42,40 @@ fn serve_want<E: EventCore, F: Files, L: Links>(
     requires sound { IsSound ((E.seen core.old).view conn) }
     requires matched { ((E.seen core.old).view conn).held ≡ (L.seen links.old).is_open conn }
     requires known { (E.seen core.old).now.tree ≤ (F.seen files.old).newest }
-    ensures kept { OnOk result (Keeps (E.seen core.old) (E.seen core.new) (L.seen links.old) (L.seen links.new) (F.seen files.old) (F.seen files.new)) }
+    ensures kept { OnOk result (Keeps (E.seen core.old) (E.seen core.new) (L.seen links.old)
+        (L.seen links.new) (F.seen files.old) (F.seen files.new)) }
     ensures views { Elsewhere conn (E.seen core.old).view (E.seen core.new).view }
-    ensures links { (L.seen links.old).tells ≡ true → Elsewhere conn (L.seen links.old).link (L.seen links.new).link }
+    ensures links { (L.seen links.old).tells ≡ true →
+        Elsewhere conn (L.seen links.old).link (L.seen links.new).link }
     ensures opens { Elsewhere conn (L.seen links.old).is_open (L.seen links.new).is_open }
-    ensures matched { OnOk result (((E.seen core.new).view conn).held ≡ (L.seen links.new).is_open conn) }
-    ensures due { (L.seen links.old).tells ≡ true → ((L.seen links.old).is_open conn ≡ true → ((L.seen links.old).link conn).due ≡ true → ready.due ≡ true) → IfOk result (λ r. (L.seen links.new).is_open conn ≡ true → ((L.seen links.new).link conn).due ≡ true → r.due ≡ true) }
-    ensures full { (L.seen links.old).tells ≡ true → (ready.full ≡ true → ((L.seen links.old).link conn).full ≡ true) → IfOk result (λ r. r.full ≡ true → ((L.seen links.new).link conn).full ≡ true) }
-    ensures falls { IfOk result (λ r. work (E.seen core.old).terms.price (vec_len buffers.old.input) r.due r.full (E.seen core.new).left < work (E.seen core.old).terms.price (vec_len buffers.old.input) ready.due ready.full (E.seen core.old).left) }
-    ensures beside { OnOk result ((clock : Option (List ℕ)) → StandBeside (E.seen core.old).events (E.seen core.new).events (L.seen links.old).answers (L.seen links.new).answers (F.seen files.old).answers (F.seen files.new).answers clock clock) }
-    ensures steady { ((E.seen core.new).terms ≡ (E.seen core.old).terms) × ((E.seen core.new).now ≡ (E.seen core.old).now) }
+    ensures matched { OnOk result (((E.seen core.new).view conn).held ≡ (L.seen links.new).is_open
+        conn) }
+    ensures due { (L.seen links.old).tells ≡ true →
+        ((L.seen links.old).is_open conn ≡ true → ((L.seen links.old).link conn).due ≡ true →
+        ready.due ≡ true) → IfOk result
+        (λ r. (L.seen links.new).is_open conn ≡ true → ((L.seen links.new).link conn).due ≡ true →
+        r.due ≡ true) }
+    ensures full { (L.seen links.old).tells ≡ true →
+        (ready.full ≡ true → ((L.seen links.old).link conn).full ≡ true) →
+        IfOk result (λ r. r.full ≡ true → ((L.seen links.new).link conn).full ≡ true) }
+    ensures falls { IfOk result (λ r. work (E.seen core.old).terms.price
+        (vec_len buffers.old.input) r.due r.full (E.seen core.new).left < work
+        (E.seen core.old).terms.price (vec_len buffers.old.input) ready.due ready.full
+        (E.seen core.old).left) }
+    ensures beside { OnOk result ((clock : Option (List ℕ)) →
+        StandBeside (E.seen core.old).events (E.seen core.new).events (L.seen links.old).answers
+        (L.seen links.new).answers (F.seen files.old).answers
+        (F.seen files.new).answers clock clock) }
+    ensures steady { ((E.seen core.new).terms ≡ (E.seen core.old).terms) ×
+        ((E.seen core.new).now ≡ (E.seen core.old).now) }
     ensures later { (L.seen links.old).faults ≤ (L.seen links.new).faults }
     ensures stays_over { (L.seen links.old).over ≡ true → (L.seen links.new).over ≡ true }
-    ensures notices { (L.seen links.old).tells ≡ true → (L.seen links.new).notices ≡ (L.seen links.old).notices }
+    ensures notices { (L.seen links.old).tells ≡ true →
+        (L.seen links.new).notices ≡ (L.seen links.old).notices }
     ensures versions { (F.seen files.new).versions ≡ (F.seen files.old).versions }
-    ensures tells { ((L.seen links.new).tells ≡ (L.seen links.old).tells) × ((L.seen links.new).listening ≡ (L.seen links.old).listening) × ((F.seen files.new).tells ≡ (F.seen files.old).tells) }
+    ensures tells { ((L.seen links.new).tells ≡ (L.seen links.old).tells) ×
+        ((L.seen links.new).listening ≡ (L.seen links.old).listening) ×
+        ((F.seen files.new).tells ≡ (F.seen files.old).tells) }
     ensures grown { (F.seen files.old).newest ≤ (F.seen files.new).newest }
     ensures size { vec_len buffers.new.input ≡ vec_len buffers.old.input }
 {
@@ -126,24 +121,40 @@ pub fn drain<E: EventCore, F: Files, L: Links>(
 ) -> Result<bool, OutOfMemory>
     requires matched { ((E.seen core.old).view conn).held ≡ (L.seen links.old).is_open conn }
     requires known { (E.seen core.old).now.tree ≤ (F.seen files.old).newest }
-    ensures kept { OnOk result (Keeps (E.seen core.old) (E.seen core.new) (L.seen links.old) (L.seen links.new) (F.seen files.old) (F.seen files.new)) }
+    ensures kept { OnOk result (Keeps (E.seen core.old) (E.seen core.new) (L.seen links.old)
+        (L.seen links.new) (F.seen files.old) (F.seen files.new)) }
     ensures views { Elsewhere conn (E.seen core.old).view (E.seen core.new).view }
-    ensures links { (L.seen links.old).tells ≡ true → Elsewhere conn (L.seen links.old).link (L.seen links.new).link }
+    ensures links { (L.seen links.old).tells ≡ true →
+        Elsewhere conn (L.seen links.old).link (L.seen links.new).link }
     ensures opens { Elsewhere conn (L.seen links.old).is_open (L.seen links.new).is_open }
-    ensures matched { OnOk result (((E.seen core.new).view conn).held ≡ (L.seen links.new).is_open conn) }
-    ensures rests { IfOk result (λ due'. IsRested ((L.seen links.old).tells ≡ true) due' conn ((E.seen core.new).view conn) ((L.seen links.new).link conn)) }
-    ensures due { (L.seen links.old).tells ≡ true → ((L.seen links.old).is_open conn ≡ true → ((L.seen links.old).link conn).due ≡ true → due ≡ true) → IfOk result (λ due'. (L.seen links.new).is_open conn ≡ true → ((L.seen links.new).link conn).due ≡ true → due' ≡ true) }
-    ensures beside { OnOk result ((clock : Option (List ℕ)) → StandBeside (E.seen core.old).events (E.seen core.new).events (L.seen links.old).answers (L.seen links.new).answers (F.seen files.old).answers (F.seen files.new).answers clock clock) }
-    ensures steady { ((E.seen core.new).terms ≡ (E.seen core.old).terms) × ((E.seen core.new).now ≡ (E.seen core.old).now) }
+    ensures matched { OnOk result (((E.seen core.new).view conn).held ≡ (L.seen links.new).is_open
+        conn) }
+    ensures rests { IfOk result (λ due'.
+        IsRested ((L.seen links.old).tells ≡ true) due' conn ((E.seen core.new).view conn)
+        ((L.seen links.new).link conn)) }
+    ensures due { (L.seen links.old).tells ≡ true →
+        ((L.seen links.old).is_open conn ≡ true → ((L.seen links.old).link conn).due ≡ true →
+        due ≡ true) → IfOk result
+        (λ due'. (L.seen links.new).is_open conn ≡ true →
+        ((L.seen links.new).link conn).due ≡ true → due' ≡ true) }
+    ensures beside { OnOk result ((clock : Option (List ℕ)) →
+        StandBeside (E.seen core.old).events (E.seen core.new).events (L.seen links.old).answers
+        (L.seen links.new).answers (F.seen files.old).answers
+        (F.seen files.new).answers clock clock) }
+    ensures steady { ((E.seen core.new).terms ≡ (E.seen core.old).terms) ×
+        ((E.seen core.new).now ≡ (E.seen core.old).now) }
     ensures later { (L.seen links.old).faults ≤ (L.seen links.new).faults }
     ensures stays_over { (L.seen links.old).over ≡ true → (L.seen links.new).over ≡ true }
-    ensures notices { (L.seen links.old).tells ≡ true → (L.seen links.new).notices ≡ (L.seen links.old).notices }
+    ensures notices { (L.seen links.old).tells ≡ true →
+        (L.seen links.new).notices ≡ (L.seen links.old).notices }
     ensures versions { (F.seen files.new).versions ≡ (F.seen files.old).versions }
-    ensures tells { ((L.seen links.new).tells ≡ (L.seen links.old).tells) × ((L.seen links.new).listening ≡ (L.seen links.old).listening) × ((F.seen files.new).tells ≡ (F.seen files.old).tells) }
+    ensures tells { ((L.seen links.new).tells ≡ (L.seen links.old).tells) ×
+        ((L.seen links.new).listening ≡ (L.seen links.old).listening) ×
+        ((F.seen files.new).tells ≡ (F.seen files.old).tells) }
     ensures grown { (F.seen files.old).newest ≤ (F.seen files.new).newest }
 {
     let mut ready = Readiness { due, full: false };
-    while let Some(want) = pick(core.wants_of(conn), ready) {
+    while let Some(want) = core.next_want(conn, ready.due, ready.full) {
         ready = serve_want(core, files, links, buffers, conn, want, ready)?;
     }
     Ok(ready.due)

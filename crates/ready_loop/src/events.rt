@@ -18,12 +18,18 @@ pub fn arrived<E: EventCore>(core: &mut E, conn: u32, room: usize, bytes: &[u8])
     requires room { ((E.seen core.old).view conn).room ≡ Some room }
     requires within { length bytes.now ≤ room }
     requires some { 0 < length bytes.now }
-    ensures passed { Passed (E.seen core.old).now Always ⊥ ⊥ (Rose (E.seen core.old).refused (E.seen core.new).refused) ((E.seen core.old).view conn) ((E.seen core.new).view conn) bytes.now [] }
+    ensures passed { Passed (E.seen core.old).now Always ⊥ ⊥
+        (Rose (E.seen core.old).refused (E.seen core.new).refused) ((E.seen core.old).view conn)
+        ((E.seen core.new).view conn) bytes.now [] }
     ensures ended { ((E.seen core.new).view conn).ended ≡ ((E.seen core.old).view conn).ended }
     ensures others { Elsewhere conn (E.seen core.old).view (E.seen core.new).view }
-    ensures left { (E.seen core.new).left < (E.seen core.old).left + (E.seen core.old).terms.price * length bytes.now + 1 }
-    ensures given { Adds (ArrivedGiven conn bytes.now) (E.seen core.old).events (E.seen core.new).events }
-    ensures steady { ((E.seen core.new).terms ≡ (E.seen core.old).terms) × ((E.seen core.new).now ≡ (E.seen core.old).now) × (length (E.seen core.new).conns ≡ length (E.seen core.old).conns) }
+    ensures left { (E.seen core.new).left < (E.seen core.old).left +
+        (E.seen core.old).terms.price * length bytes.now + 1 }
+    ensures given { Adds (ArrivedGiven conn bytes.now) (E.seen core.old).events
+        (E.seen core.new).events }
+    ensures steady { ((E.seen core.new).terms ≡ (E.seen core.old).terms) ×
+        ((E.seen core.new).now ≡ (E.seen core.old).now) ×
+        (length (E.seen core.new).conns ≡ length (E.seen core.old).conns) }
     ensures counts { Counts (E.seen core.old).refused (E.seen core.new).refused }
 {
     core.step(Event::Arrived { conn, bytes });
@@ -32,12 +38,15 @@ pub fn arrived<E: EventCore>(core: &mut E, conn: u32, room: usize, bytes: &[u8])
 /// The peer sends no more.
 pub fn ended<E: EventCore>(core: &mut E, conn: u32)
     requires reads { ((E.seen core.old).view conn).room ≢ None }
-    ensures passed { Passed (E.seen core.old).now Always ⊥ ⊥ ⊥ ((E.seen core.old).view conn) ((E.seen core.new).view conn) [] [] }
+    ensures passed { Passed (E.seen core.old).now Always ⊥ ⊥ ⊥ ((E.seen core.old).view conn)
+        ((E.seen core.new).view conn) [] [] }
     ensures others { Elsewhere conn (E.seen core.old).view (E.seen core.new).view }
     ensures left { (E.seen core.new).left < (E.seen core.old).left + 1 }
     ensures unread { ((E.seen core.new).view conn).room ≡ None }
     ensures given { Adds (EndedGiven conn) (E.seen core.old).events (E.seen core.new).events }
-    ensures steady { ((E.seen core.new).terms ≡ (E.seen core.old).terms) × ((E.seen core.new).now ≡ (E.seen core.old).now) × (length (E.seen core.new).conns ≡ length (E.seen core.old).conns) }
+    ensures steady { ((E.seen core.new).terms ≡ (E.seen core.old).terms) ×
+        ((E.seen core.new).now ≡ (E.seen core.old).now) ×
+        (length (E.seen core.new).conns ≡ length (E.seen core.old).conns) }
     ensures counts { Counts (E.seen core.old).refused (E.seen core.new).refused }
 {
     core.step(Event::Ended { conn });
@@ -47,12 +56,15 @@ pub fn ended<E: EventCore>(core: &mut E, conn: u32)
 pub fn wrote<E: EventCore>(core: &mut E, conn: u32, count: usize)
     requires some { 0 < count }
     requires within { count ≤ length ((E.seen core.old).view conn).pending }
-    ensures passed { Passed (E.seen core.old).now Always ⊥ ⊥ ⊥ ((E.seen core.old).view conn) ((E.seen core.new).view conn) [] (take count ((E.seen core.old).view conn).pending) }
+    ensures passed { Passed (E.seen core.old).now Always ⊥ ⊥ ⊥ ((E.seen core.old).view conn)
+        ((E.seen core.new).view conn) [] (take count ((E.seen core.old).view conn).pending) }
     ensures ended { ((E.seen core.new).view conn).ended ≡ ((E.seen core.old).view conn).ended }
     ensures others { Elsewhere conn (E.seen core.old).view (E.seen core.new).view }
     ensures left { (E.seen core.new).left < (E.seen core.old).left }
     ensures given { Adds (WroteGiven conn count) (E.seen core.old).events (E.seen core.new).events }
-    ensures steady { ((E.seen core.new).terms ≡ (E.seen core.old).terms) × ((E.seen core.new).now ≡ (E.seen core.old).now) × (length (E.seen core.new).conns ≡ length (E.seen core.old).conns) }
+    ensures steady { ((E.seen core.new).terms ≡ (E.seen core.old).terms) ×
+        ((E.seen core.new).now ≡ (E.seen core.old).now) ×
+        (length (E.seen core.new).conns ≡ length (E.seen core.old).conns) }
     ensures counts { Counts (E.seen core.old).refused (E.seen core.new).refused }
 {
     core.step(Event::Wrote { conn, count });
@@ -61,13 +73,16 @@ pub fn wrote<E: EventCore>(core: &mut E, conn: u32, count: usize)
 /// Reading or writing its link failed.
 pub fn link_failed<E: EventCore>(core: &mut E, conn: u32)
     requires live { is_live ((E.seen core.old).view conn) ≡ true }
-    ensures passed { Passed (E.seen core.old).now Always (Unit {0}) ⊥ ⊥ ((E.seen core.old).view conn) ((E.seen core.new).view conn) [] [] }
+    ensures passed { Passed (E.seen core.old).now Always (Unit {0}) ⊥ ⊥
+        ((E.seen core.old).view conn) ((E.seen core.new).view conn) [] [] }
     ensures ended { ((E.seen core.new).view conn).ended ≡ ((E.seen core.old).view conn).ended }
     ensures others { Elsewhere conn (E.seen core.old).view (E.seen core.new).view }
     ensures left { (E.seen core.new).left < (E.seen core.old).left }
     ensures stopped { is_live ((E.seen core.new).view conn) ≡ false }
     ensures given { Adds (LinkFailedGiven conn) (E.seen core.old).events (E.seen core.new).events }
-    ensures steady { ((E.seen core.new).terms ≡ (E.seen core.old).terms) × ((E.seen core.new).now ≡ (E.seen core.old).now) × (length (E.seen core.new).conns ≡ length (E.seen core.old).conns) }
+    ensures steady { ((E.seen core.new).terms ≡ (E.seen core.old).terms) ×
+        ((E.seen core.new).now ≡ (E.seen core.old).now) ×
+        (length (E.seen core.new).conns ≡ length (E.seen core.old).conns) }
     ensures counts { Counts (E.seen core.old).refused (E.seen core.new).refused }
 {
     core.step(Event::LinkFailed { conn });
@@ -76,13 +91,20 @@ pub fn link_failed<E: EventCore>(core: &mut E, conn: u32)
 /// A node's job is answered, by what fits it.
 pub fn file_done<E: EventCore>(core: &mut E, conn: u32, node: u32, answer: JobAnswer)
     requires waits { ask_in ((E.seen core.old).view conn).jobs node ≢ None }
-    requires fits { (ask : Ask) → ask_in ((E.seen core.old).view conn).jobs node ≡ Some ask → is_fitting ask answer ≡ true }
-    ensures passed { (ask : Ask) → ask_in ((E.seen core.old).view conn).jobs node ≡ Some ask → Passed (E.seen core.old).now (Answers ask answer.entry) ⊥ ⊥ (Rose (E.seen core.old).refused (E.seen core.new).refused) ((E.seen core.old).view conn) ((E.seen core.new).view conn) [] [] }
+    requires fits { (ask : Ask) → ask_in ((E.seen core.old).view conn).jobs node ≡ Some ask →
+        is_fitting ask answer ≡ true }
+    ensures passed { (ask : Ask) → ask_in ((E.seen core.old).view conn).jobs node ≡ Some ask →
+        Passed (E.seen core.old).now (Answers ask answer.entry) ⊥ ⊥
+        (Rose (E.seen core.old).refused (E.seen core.new).refused) ((E.seen core.old).view conn)
+        ((E.seen core.new).view conn) [] [] }
     ensures ended { ((E.seen core.new).view conn).ended ≡ ((E.seen core.old).view conn).ended }
     ensures others { Elsewhere conn (E.seen core.old).view (E.seen core.new).view }
     ensures left { (E.seen core.new).left < (E.seen core.old).left }
-    ensures given { Adds (AnsweredGiven conn node (answer_of answer.entry)) (E.seen core.old).events (E.seen core.new).events }
-    ensures steady { ((E.seen core.new).terms ≡ (E.seen core.old).terms) × ((E.seen core.new).now ≡ (E.seen core.old).now) × (length (E.seen core.new).conns ≡ length (E.seen core.old).conns) }
+    ensures given { Adds (AnsweredGiven conn node (answer_of answer.entry)) (E.seen core.old).events
+        (E.seen core.new).events }
+    ensures steady { ((E.seen core.new).terms ≡ (E.seen core.old).terms) ×
+        ((E.seen core.new).now ≡ (E.seen core.old).now) ×
+        (length (E.seen core.new).conns ≡ length (E.seen core.old).conns) }
     ensures counts { Counts (E.seen core.old).refused (E.seen core.new).refused }
 {
     core.step(Event::FileDone { conn, node, answer });
@@ -91,12 +113,16 @@ pub fn file_done<E: EventCore>(core: &mut E, conn: u32, node: u32, answer: JobAn
 /// A node's job failed.
 pub fn job_failed<E: EventCore>(core: &mut E, conn: u32, node: u32)
     requires waits { ask_in ((E.seen core.old).view conn).jobs node ≢ None }
-    ensures passed { Passed (E.seen core.old).now Always ⊥ (Unit {0}) ⊥ ((E.seen core.old).view conn) ((E.seen core.new).view conn) [] [] }
+    ensures passed { Passed (E.seen core.old).now Always ⊥ (Unit {0}) ⊥
+        ((E.seen core.old).view conn) ((E.seen core.new).view conn) [] [] }
     ensures ended { ((E.seen core.new).view conn).ended ≡ ((E.seen core.old).view conn).ended }
     ensures others { Elsewhere conn (E.seen core.old).view (E.seen core.new).view }
     ensures left { (E.seen core.new).left < (E.seen core.old).left }
-    ensures given { Adds (AnsweredGiven conn node FailedFile) (E.seen core.old).events (E.seen core.new).events }
-    ensures steady { ((E.seen core.new).terms ≡ (E.seen core.old).terms) × ((E.seen core.new).now ≡ (E.seen core.old).now) × (length (E.seen core.new).conns ≡ length (E.seen core.old).conns) }
+    ensures given { Adds (AnsweredGiven conn node FailedFile) (E.seen core.old).events
+        (E.seen core.new).events }
+    ensures steady { ((E.seen core.new).terms ≡ (E.seen core.old).terms) ×
+        ((E.seen core.new).now ≡ (E.seen core.old).now) ×
+        (length (E.seen core.new).conns ≡ length (E.seen core.old).conns) }
     ensures counts { Counts (E.seen core.old).refused (E.seen core.new).refused }
 {
     core.step(Event::JobFailed { conn, node });
@@ -105,12 +131,17 @@ pub fn job_failed<E: EventCore>(core: &mut E, conn: u32, node: u32)
 /// A node runs.
 pub fn ran<E: EventCore>(core: &mut E, conn: u32, node: u32)
     requires ready { Contains ((E.seen core.old).view conn).ready node }
-    ensures passed { Passed (E.seen core.old).now (Raceless ((E.seen core.old).view conn).raceless) ⊥ ⊥ (Rose (E.seen core.old).refused (E.seen core.new).refused) ((E.seen core.old).view conn) ((E.seen core.new).view conn) [] [] }
+    ensures passed { Passed (E.seen core.old).now
+        (Raceless ((E.seen core.old).view conn).raceless) ⊥ ⊥
+        (Rose (E.seen core.old).refused (E.seen core.new).refused) ((E.seen core.old).view conn)
+        ((E.seen core.new).view conn) [] [] }
     ensures ended { ((E.seen core.new).view conn).ended ≡ ((E.seen core.old).view conn).ended }
     ensures others { Elsewhere conn (E.seen core.old).view (E.seen core.new).view }
     ensures left { (E.seen core.new).left < (E.seen core.old).left }
     ensures given { Adds (RunGiven conn node) (E.seen core.old).events (E.seen core.new).events }
-    ensures steady { ((E.seen core.new).terms ≡ (E.seen core.old).terms) × ((E.seen core.new).now ≡ (E.seen core.old).now) × (length (E.seen core.new).conns ≡ length (E.seen core.old).conns) }
+    ensures steady { ((E.seen core.new).terms ≡ (E.seen core.old).terms) ×
+        ((E.seen core.new).now ≡ (E.seen core.old).now) ×
+        (length (E.seen core.new).conns ≡ length (E.seen core.old).conns) }
     ensures counts { Counts (E.seen core.old).refused (E.seen core.new).refused }
 {
     core.step(Event::Run { conn, node });
@@ -123,7 +154,8 @@ pub fn gone<E: EventCore>(core: &mut E, conn: u32)
     ensures others { Elsewhere conn (E.seen core.old).view (E.seen core.new).view }
     ensures left { (E.seen core.new).left < (E.seen core.old).left }
     ensures given { Adds (GoneGiven conn) (E.seen core.old).events (E.seen core.new).events }
-    ensures steady { ((E.seen core.new).terms ≡ (E.seen core.old).terms) × ((E.seen core.new).now ≡ (E.seen core.old).now) }
+    ensures steady { ((E.seen core.new).terms ≡ (E.seen core.old).terms) ×
+        ((E.seen core.new).now ≡ (E.seen core.old).now) }
     ensures fewer { length (E.seen core.old).conns ≡ length (E.seen core.new).conns + 1 }
     ensures counts { Counts (E.seen core.old).refused (E.seen core.new).refused }
 {
@@ -132,14 +164,20 @@ pub fn gone<E: EventCore>(core: &mut E, conn: u32)
 
 /// A connection opens. Whether the core holds it now.
 pub fn opened<E: EventCore>(core: &mut E, conn: u32, local: Addr, peer: Addr) -> bool
-    ensures fresh { result ≡ true → Fresh ((E.seen core.old).terms.fresh local peer) ((E.seen core.new).view conn) }
+    ensures fresh { result ≡ true → Fresh ((E.seen core.old).terms.fresh local peer)
+        ((E.seen core.new).view conn) }
     ensures same { result ≡ false → (E.seen core.new).view conn ≡ (E.seen core.old).view conn }
-    ensures more { result ≡ true → length (E.seen core.new).conns ≡ length (E.seen core.old).conns + 1 }
-    ensures as_many { result ≡ false → length (E.seen core.new).conns ≡ length (E.seen core.old).conns }
-    ensures why { result ≡ false → (opens_at (E.seen core.old) conn local ≡ false) ⊎ Rose (E.seen core.old).refused (E.seen core.new).refused }
+    ensures more { result ≡ true → length (E.seen core.new).conns ≡ length
+        (E.seen core.old).conns + 1 }
+    ensures as_many { result ≡ false → length (E.seen core.new).conns ≡ length
+        (E.seen core.old).conns }
+    ensures why { result ≡ false → (opens_at (E.seen core.old) conn local ≡ false) ⊎ Rose
+        (E.seen core.old).refused (E.seen core.new).refused }
     ensures others { Elsewhere conn (E.seen core.old).view (E.seen core.new).view }
-    ensures given { Adds (OpenedGiven conn local peer) (E.seen core.old).events (E.seen core.new).events }
-    ensures steady { ((E.seen core.new).terms ≡ (E.seen core.old).terms) × ((E.seen core.new).now ≡ (E.seen core.old).now) }
+    ensures given { Adds (OpenedGiven conn local peer) (E.seen core.old).events
+        (E.seen core.new).events }
+    ensures steady { ((E.seen core.new).terms ≡ (E.seen core.old).terms) ×
+        ((E.seen core.new).now ≡ (E.seen core.old).now) }
     ensures counts { Counts (E.seen core.old).refused (E.seen core.new).refused }
 {
     let answer = core.step(Event::Opened { conn, local, peer });
@@ -152,12 +190,14 @@ pub fn opened<E: EventCore>(core: &mut E, conn: u32, local: Addr, peer: Addr) ->
 
 /// The clock tells a moment.
 pub fn ticked<E: EventCore>(core: &mut E, moment: u64)
-    ensures ticked { (c : ℕ) → Ticked (kept_moment moment) ((E.seen core.old).view c) ((E.seen core.new).view c) }
+    ensures ticked { (c : ℕ) → Ticked (kept_moment moment) ((E.seen core.old).view c)
+        ((E.seen core.new).view c) }
     ensures ended { (c : ℕ) → ((E.seen core.new).view c).ended ≡ ((E.seen core.old).view c).ended }
     ensures moment { (E.seen core.new).now.moment ≡ kept_moment moment }
     ensures tree { (E.seen core.new).now.tree ≡ (E.seen core.old).now.tree }
     ensures given { Adds (TickGiven moment) (E.seen core.old).events (E.seen core.new).events }
-    ensures steady { ((E.seen core.new).terms ≡ (E.seen core.old).terms) × (length (E.seen core.new).conns ≡ length (E.seen core.old).conns) }
+    ensures steady { ((E.seen core.new).terms ≡ (E.seen core.old).terms) ×
+        (length (E.seen core.new).conns ≡ length (E.seen core.old).conns) }
     ensures refused { (E.seen core.new).refused ≡ (E.seen core.old).refused }
 {
     let answer = core.step(Event::Tick { now: moment });
@@ -175,7 +215,8 @@ pub fn tree_told<E: EventCore>(core: &mut E, to: u64)
     ensures moment { (E.seen core.new).now.moment ≡ (E.seen core.old).now.moment }
     ensures tree { (E.seen core.new).now.tree ≡ to }
     ensures given { Adds (TreeGiven to) (E.seen core.old).events (E.seen core.new).events }
-    ensures steady { ((E.seen core.new).terms ≡ (E.seen core.old).terms) × (length (E.seen core.new).conns ≡ length (E.seen core.old).conns) }
+    ensures steady { ((E.seen core.new).terms ≡ (E.seen core.old).terms) ×
+        (length (E.seen core.new).conns ≡ length (E.seen core.old).conns) }
     ensures refused { (E.seen core.new).refused ≡ (E.seen core.old).refused }
 {
     let answer = core.step(Event::Tree { to });

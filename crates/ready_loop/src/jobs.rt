@@ -19,12 +19,17 @@ use ngx_outside::{EventCore, FileFault, Files};
 /// Lets a node run that can.
 pub fn run_one<E: EventCore>(core: &mut E, conn: u32, node: u32)
     requires ready { Contains ((E.seen core.old).view conn).ready node }
-    ensures kept { (links : LinksSeen) (files : FilesSeen) → Keeps (E.seen core.old) (E.seen core.new) links links files files }
-    ensures beside { (links : Option (List LinkAnswer)) (files : Option (List FileAnswer)) (clock : Option (List ℕ)) → StandBeside (E.seen core.old).events (E.seen core.new).events links links files files clock clock }
+    ensures kept { (links : LinksSeen) (files : FilesSeen) →
+        Keeps (E.seen core.old) (E.seen core.new) links links files files }
+    ensures beside { (links : Option (List LinkAnswer)) (files : Option (List FileAnswer))
+        (clock : Option (List ℕ)) →
+        StandBeside (E.seen core.old).events
+        (E.seen core.new).events links links files files clock clock }
     ensures views { Elsewhere conn (E.seen core.old).view (E.seen core.new).view }
     ensures held { ((E.seen core.new).view conn).held ≡ true }
     ensures falls { (E.seen core.new).left < (E.seen core.old).left }
-    ensures steady { ((E.seen core.new).terms ≡ (E.seen core.old).terms) × ((E.seen core.new).now ≡ (E.seen core.old).now) }
+    ensures steady { ((E.seen core.new).terms ≡ (E.seen core.old).terms) ×
+        ((E.seen core.new).now ≡ (E.seen core.old).now) }
 {
     ran(core, conn, node);
 }
@@ -39,10 +44,14 @@ pub enum Found {
 // Asks the files; a block of a file is put in place of what was read before.
 fn find<F: Files>(files: &mut F, ask: &Ask, block: &mut ByteText) -> Result<Found, FileFault>
     requires { tree_of ask.now ≤ (F.seen files.old).newest }
-    ensures gives { IfOk result (λ found. Gives (F.seen files.old).tells (F.seen files.old).trees ask.now found block.new) }
-    ensures cause { IsErrOf result ReadFailed → Rose (F.seen files.old).faults (F.seen files.new).faults }
-    ensures answers { IfOk result (λ found. Adds (answer_found found block.new) (F.seen files.old).answers (F.seen files.new).answers) }
-    ensures failed { OnErr result (Adds FailedFile (F.seen files.old).answers (F.seen files.new).answers) }
+    ensures gives { IfOk result (λ found.
+        Gives (F.seen files.old).tells (F.seen files.old).trees ask.now found block.new) }
+    ensures cause { IsErrOf result ReadFailed →
+        Rose (F.seen files.old).faults (F.seen files.new).faults }
+    ensures answers { IfOk result (λ found.
+        Adds (answer_found found block.new) (F.seen files.old).answers (F.seen files.new).answers) }
+    ensures failed { OnErr result (Adds FailedFile (F.seen files.old).answers
+        (F.seen files.new).answers) }
     ensures grown { Grown (F.seen files.old) (F.seen files.new) }
     ensures versions { (F.seen files.new).versions ≡ (F.seen files.old).versions }
     ensures tells { (F.seen files.new).tells ≡ (F.seen files.old).tells }
@@ -75,12 +84,17 @@ pub fn job_one<E: EventCore, F: Files>(
 ) -> Result<(), OutOfMemory>
     requires waits { ask_in ((E.seen core.old).view conn).jobs node ≢ None }
     requires known { (E.seen core.old).now.tree ≤ (F.seen files.old).newest }
-    ensures kept { OnOk result ((links : LinksSeen) → Keeps (E.seen core.old) (E.seen core.new) links links (F.seen files.old) (F.seen files.new)) }
-    ensures beside { OnOk result ((links : Option (List LinkAnswer)) (clock : Option (List ℕ)) → StandBeside (E.seen core.old).events (E.seen core.new).events links links (F.seen files.old).answers (F.seen files.new).answers clock clock) }
+    ensures kept { OnOk result ((links : LinksSeen) →
+        Keeps (E.seen core.old) (E.seen core.new) links links (F.seen files.old)
+        (F.seen files.new)) }
+    ensures beside { OnOk result ((links : Option (List LinkAnswer)) (clock : Option (List ℕ)) →
+        StandBeside (E.seen core.old).events (E.seen core.new).events links links
+        (F.seen files.old).answers (F.seen files.new).answers clock clock) }
     ensures views { Elsewhere conn (E.seen core.old).view (E.seen core.new).view }
     ensures held { OnOk result (((E.seen core.new).view conn).held ≡ true) }
     ensures falls { OnOk result ((E.seen core.new).left < (E.seen core.old).left) }
-    ensures steady { ((E.seen core.new).terms ≡ (E.seen core.old).terms) × ((E.seen core.new).now ≡ (E.seen core.old).now) }
+    ensures steady { ((E.seen core.new).terms ≡ (E.seen core.old).terms) ×
+        ((E.seen core.new).now ≡ (E.seen core.old).now) }
     ensures grown { (F.seen files.old).newest ≤ (F.seen files.new).newest }
     ensures versions { (F.seen files.new).versions ≡ (F.seen files.old).versions }
     ensures tells { (F.seen files.new).tells ≡ (F.seen files.old).tells }

@@ -3,7 +3,7 @@ ghost use Rattle.std.specs.Prelude.{◌≡◌, ◌≢◌, ◌<◌, ◌≤◌, �
 ghost use Rattle.ngx_outside.specs.Causes.{Rose};
 ghost use Rattle.ngx_outside.specs.Linked.{Same, Unchanged};
 ghost use Rattle.ready_loop.specs.Standing.{KeptThrough, IsMatched};
-ghost use Rattle.ready_loop.specs.Turns.{AtRest, DueHasWants, IsHeard, TurnsTaken, ending_of};
+ghost use Rattle.ready_loop.specs.Turns.{AtRest, IsHeard, TurnsTaken, ending_of};
 ghost use Rattle.ready_loop.specs.Tellings.{StandBeside, moments_told};
 
 use crate::conns::{Memory, remember_all, serve_all};
@@ -34,13 +34,19 @@ const INPUT: usize = 8192;
 
 // Listens on each address, until one fails. Whether none did.
 fn listen_all<L: Links>(links: &mut L, addrs: &[Addr]) -> bool
-    ensures told { (L.seen links.old).tells ≡ true → Unchanged (L.seen links.old).link (L.seen links.new).link }
-    ensures ids { Same (L.seen links.old).used (L.seen links.new).used × Same (L.seen links.old).is_open (L.seen links.new).is_open }
-    ensures listens { result ≡ true → (L.seen links.new).listening ≡ (L.seen links.old).listening ++ addrs.now }
-    ensures counts { (L.seen links.old).tells ≡ true → ((L.seen links.new).crowd ≡ (L.seen links.old).crowd) × ((L.seen links.new).notices ≡ (L.seen links.old).notices) }
+    ensures told { (L.seen links.old).tells ≡ true →
+        Unchanged (L.seen links.old).link (L.seen links.new).link }
+    ensures ids { Same (L.seen links.old).used (L.seen links.new).used ×
+        Same (L.seen links.old).is_open (L.seen links.new).is_open }
+    ensures listens { result ≡ true → (L.seen links.new).listening ≡ (L.seen links.old).listening
+        ++ addrs.now }
+    ensures counts { (L.seen links.old).tells ≡ true →
+        ((L.seen links.new).crowd ≡ (L.seen links.old).crowd) ×
+        ((L.seen links.new).notices ≡ (L.seen links.old).notices) }
     ensures tells { (L.seen links.new).tells ≡ (L.seen links.old).tells }
     ensures answers { (L.seen links.new).answers ≡ (L.seen links.old).answers }
-    ensures link_faults { (id : ℕ) → (L.seen links.old).link_faults id ≤ (L.seen links.new).link_faults id }
+    ensures link_faults { (id : ℕ) → (L.seen links.old).link_faults id ≤
+        (L.seen links.new).link_faults id }
     ensures later { (L.seen links.old).faults ≤ (L.seen links.new).faults }
     ensures stays_over { (L.seen links.old).over ≡ true → (L.seen links.new).over ≡ true }
     ensures cause { result ≡ false → Rose (L.seen links.old).faults (L.seen links.new).faults }
@@ -78,20 +84,34 @@ fn take_turns<E: EventCore, F: Files, L: Links, C: Clock>(
 ) -> Result<Ending, OutOfMemory>
     requires matched { IsMatched (E.seen core.old).view (L.seen links.old).is_open }
     requires known { (E.seen core.old).now.tree ≤ (F.seen files.old).newest }
-    ensures kept { OnOk result (KeptThrough (E.seen core.old) (E.seen core.new) (L.seen links.old) (L.seen links.new) (F.seen files.old) (F.seen files.new) (C.seen clock.old) (C.seen clock.new)) }
+    ensures kept { OnOk result (KeptThrough (E.seen core.old) (E.seen core.new) (L.seen links.old)
+        (L.seen links.new) (F.seen files.old) (F.seen files.new) (C.seen clock.old)
+        (C.seen clock.new)) }
     ensures matched { OnOk result (IsMatched (E.seen core.new).view (L.seen links.new).is_open) }
-    ensures heard { (L.seen links.old).tells ≡ true → IsHeard (L.seen links.old).is_open (L.seen links.old).link memory.old.unread → OnOk result (IsHeard (L.seen links.new).is_open (L.seen links.new).link memory.new.unread) }
+    ensures heard { (L.seen links.old).tells ≡ true →
+        IsHeard (L.seen links.old).is_open (L.seen links.old).link memory.old.unread →
+        OnOk result (IsHeard (L.seen links.new).is_open (L.seen links.new).link memory.new.unread) }
     ensures known { OnOk result ((E.seen core.new).now.tree ≤ (F.seen files.new).newest) }
-    ensures turns { IfOk result (λ e. (L.seen links.old).tells ≡ true → (L.seen links.old).notices ≤ 2 ^ 64 - 1 → TurnsTaken e turns (L.seen links.old).notices (L.seen links.new).notices) }
+    ensures turns { IfOk result (λ e. (L.seen links.old).tells ≡ true →
+        (L.seen links.old).notices ≤ 2 ^ 64 - 1 →
+        TurnsTaken e turns (L.seen links.old).notices (L.seen links.new).notices) }
     ensures listened { IfOk result (λ e. e ≢ Ending.ListenFault) }
     ensures ended { result ≡ Ok Ending.Ended → (L.seen links.new).over ≡ true }
-    ensures failed { result ≡ Ok Ending.NextFault → Rose (L.seen links.old).faults (L.seen links.new).faults }
-    ensures beside { OnOk result (StandBeside (E.seen core.old).events (E.seen core.new).events (L.seen links.old).answers (L.seen links.new).answers (F.seen files.old).answers (F.seen files.new).answers (moments_told (C.seen clock.old).tells (C.seen clock.old).told) (moments_told (C.seen clock.new).tells (C.seen clock.new).told)) }
+    ensures failed { result ≡ Ok Ending.NextFault →
+        Rose (L.seen links.old).faults (L.seen links.new).faults }
+    ensures beside { OnOk result (StandBeside (E.seen core.old).events (E.seen core.new).events
+        (L.seen links.old).answers (L.seen links.new).answers (F.seen files.old).answers
+        (F.seen files.new).answers (moments_told (C.seen clock.old).tells (C.seen clock.old).told)
+        (moments_told (C.seen clock.new).tells (C.seen clock.new).told)) }
     ensures steady { OnOk result ((E.seen core.new).terms ≡ (E.seen core.old).terms) }
     ensures grown { OnOk result ((F.seen files.old).newest ≤ (F.seen files.new).newest) }
     ensures later { OnOk result ((L.seen links.old).faults ≤ (L.seen links.new).faults) }
-    ensures stays_over { OnOk result ((L.seen links.old).over ≡ true → (L.seen links.new).over ≡ true) }
-    ensures tells { OnOk result ((((L.seen links.new).tells ≡ (L.seen links.old).tells) × ((L.seen links.new).listening ≡ (L.seen links.old).listening) × ((F.seen files.new).tells ≡ (F.seen files.old).tells)) × ((C.seen clock.new).tells ≡ (C.seen clock.old).tells)) }
+    ensures stays_over { OnOk result ((L.seen links.old).over ≡ true →
+        (L.seen links.new).over ≡ true) }
+    ensures tells { OnOk result ((((L.seen links.new).tells ≡ (L.seen links.old).tells) ×
+        ((L.seen links.new).listening ≡ (L.seen links.old).listening) ×
+        ((F.seen files.new).tells ≡ (F.seen files.old).tells)) ×
+        ((C.seen clock.new).tells ≡ (C.seen clock.old).tells)) }
 {
     let mut last = None;
     for _turn in 0..turns {
@@ -115,20 +135,34 @@ fn serve_turns<E: EventCore, F: Files, L: Links, C: Clock>(
 ) -> Result<Ending, OutOfMemory>
     requires matched { IsMatched (E.seen core.old).view (L.seen links.old).is_open }
     requires known { (E.seen core.old).now.tree ≤ (F.seen files.old).newest }
-    ensures kept { OnOk result (KeptThrough (E.seen core.old) (E.seen core.new) (L.seen links.old) (L.seen links.new) (F.seen files.old) (F.seen files.new) (C.seen clock.old) (C.seen clock.new)) }
+    ensures kept { OnOk result (KeptThrough (E.seen core.old) (E.seen core.new) (L.seen links.old)
+        (L.seen links.new) (F.seen files.old) (F.seen files.new) (C.seen clock.old)
+        (C.seen clock.new)) }
     ensures matched { OnOk result (IsMatched (E.seen core.new).view (L.seen links.new).is_open) }
-    ensures rests { OnOk result ((c : ℕ) → ((E.seen core.new).view c).held ≡ true → AtRest (((L.seen links.old).tells ≡ true) × DueHasWants (L.seen links.old).is_open (L.seen links.old).link (E.seen core.old).view) ((L.seen links.old).tells ≡ true) ((E.seen core.new).view c) ((L.seen links.new).link c)) }
+    ensures rests { OnOk result ((c : ℕ) → ((E.seen core.new).view c).held ≡ true →
+        AtRest ((L.seen links.old).tells ≡ true) ((L.seen links.old).tells ≡ true)
+        ((E.seen core.new).view c) ((L.seen links.new).link c)) }
     ensures known { OnOk result ((E.seen core.new).now.tree ≤ (F.seen files.new).newest) }
-    ensures turns { IfOk result (λ e. (L.seen links.old).tells ≡ true → (L.seen links.old).notices ≤ 2 ^ 64 - 1 → TurnsTaken e turns (L.seen links.old).notices (L.seen links.new).notices) }
+    ensures turns { IfOk result (λ e. (L.seen links.old).tells ≡ true →
+        (L.seen links.old).notices ≤ 2 ^ 64 - 1 →
+        TurnsTaken e turns (L.seen links.old).notices (L.seen links.new).notices) }
     ensures listened { IfOk result (λ e. e ≢ Ending.ListenFault) }
     ensures ended { result ≡ Ok Ending.Ended → (L.seen links.new).over ≡ true }
-    ensures failed { result ≡ Ok Ending.NextFault → Rose (L.seen links.old).faults (L.seen links.new).faults }
-    ensures beside { OnOk result (StandBeside (E.seen core.old).events (E.seen core.new).events (L.seen links.old).answers (L.seen links.new).answers (F.seen files.old).answers (F.seen files.new).answers (moments_told (C.seen clock.old).tells (C.seen clock.old).told) (moments_told (C.seen clock.new).tells (C.seen clock.new).told)) }
+    ensures failed { result ≡ Ok Ending.NextFault →
+        Rose (L.seen links.old).faults (L.seen links.new).faults }
+    ensures beside { OnOk result (StandBeside (E.seen core.old).events (E.seen core.new).events
+        (L.seen links.old).answers (L.seen links.new).answers (F.seen files.old).answers
+        (F.seen files.new).answers (moments_told (C.seen clock.old).tells (C.seen clock.old).told)
+        (moments_told (C.seen clock.new).tells (C.seen clock.new).told)) }
     ensures steady { OnOk result ((E.seen core.new).terms ≡ (E.seen core.old).terms) }
     ensures grown { OnOk result ((F.seen files.old).newest ≤ (F.seen files.new).newest) }
     ensures later { OnOk result ((L.seen links.old).faults ≤ (L.seen links.new).faults) }
-    ensures stays_over { OnOk result ((L.seen links.old).over ≡ true → (L.seen links.new).over ≡ true) }
-    ensures tells { OnOk result ((((L.seen links.new).tells ≡ (L.seen links.old).tells) × ((L.seen links.new).listening ≡ (L.seen links.old).listening) × ((F.seen files.new).tells ≡ (F.seen files.old).tells)) × ((C.seen clock.new).tells ≡ (C.seen clock.old).tells)) }
+    ensures stays_over { OnOk result ((L.seen links.old).over ≡ true →
+        (L.seen links.new).over ≡ true) }
+    ensures tells { OnOk result ((((L.seen links.new).tells ≡ (L.seen links.old).tells) ×
+        ((L.seen links.new).listening ≡ (L.seen links.old).listening) ×
+        ((F.seen files.new).tells ≡ (F.seen files.old).tells)) ×
+        ((C.seen clock.new).tells ≡ (C.seen clock.old).tells)) }
 {
     let mut memory = Memory {
         buffers: Buffers {
@@ -138,7 +172,7 @@ fn serve_turns<E: EventCore, F: Files, L: Links, C: Clock>(
         unread: Ids::new(alloc),
     };
     let mut conns = Vec::new(alloc);
-    remember_all(&mut memory.unread, core.wants())?;
+    remember_all(&mut memory.unread, core.conns())?;
     serve_all(core, files, links, &mut memory, &mut conns)?;
     let ending = take_turns(core, files, links, clock, &mut memory, &mut conns, turns)?;
     serve_all(core, files, links, &mut memory, &mut conns)?;
@@ -169,24 +203,35 @@ pub fn serve<E: EventCore, F: Files, L: Links, C: Clock>(
     requires known { (E.seen core.old).now.tree ≤ (F.seen files.old).newest }
 
     // Where links and files tell what they do, what came and went on each connection stays accounted for.
-    ensures kept { OnOk result (KeptThrough (E.seen core.old) (E.seen core.new) (L.seen links.old) (L.seen links.new) (F.seen files.old) (F.seen files.new) (C.seen clock.old) (C.seen clock.new)) }
+    ensures kept { OnOk result (KeptThrough (E.seen core.old) (E.seen core.new) (L.seen links.old)
+        (L.seen links.new) (F.seen files.old) (F.seen files.new) (C.seen clock.old)
+        (C.seen clock.new)) }
     ensures matched { OnOk result (IsMatched (E.seen core.new).view (L.seen links.new).is_open) }
 
     // What links and files answered and what the clock told, the core was given, each in its order: as far as it is told.
-    ensures beside { OnOk result (StandBeside (E.seen core.old).events (E.seen core.new).events (L.seen links.old).answers (L.seen links.new).answers (F.seen files.old).answers (F.seen files.new).answers (moments_told (C.seen clock.old).tells (C.seen clock.old).told) (moments_told (C.seen clock.new).tells (C.seen clock.new).told)) }
+    ensures beside { OnOk result (StandBeside (E.seen core.old).events (E.seen core.new).events
+        (L.seen links.old).answers (L.seen links.new).answers (F.seen files.old).answers
+        (F.seen files.new).answers (moments_told (C.seen clock.old).tells (C.seen clock.old).told)
+        (moments_told (C.seen clock.new).tells (C.seen clock.new).told)) }
 
-    // Nothing is left to do. Of a link that was due at the start that is said where its connection had a want then.
-    ensures rests { IfOk result (λ e. e ≢ Ending.ListenFault → (c : ℕ) → ((E.seen core.new).view c).held ≡ true →
-        AtRest (((L.seen links.old).tells ≡ true) × DueHasWants (L.seen links.old).is_open (L.seen links.old).link (E.seen core.old).view)
-        ((L.seen links.old).tells ≡ true) ((E.seen core.new).view c) ((L.seen links.new).link c)) }
+    // Nothing is left to do.
+    ensures rests { IfOk result (λ e. e ≢ Ending.ListenFault → (c : ℕ) →
+        ((E.seen core.new).view c).held ≡ true →
+        AtRest ((L.seen links.old).tells ≡ true) ((L.seen links.old).tells ≡ true)
+        ((E.seen core.new).view c) ((L.seen links.new).link c)) }
 
     // How it ends. Each turn handles one notice.
-    ensures turns { IfOk result (λ e. (L.seen links.old).tells ≡ true → (L.seen links.old).notices ≤ 2 ^ 64 - 1 → TurnsTaken e turns (L.seen links.old).notices (L.seen links.new).notices) }
-    ensures listens { IfOk result (λ e. e ≢ Ending.ListenFault → (L.seen links.new).listening ≡ (L.seen links.old).listening ++ addrs.now) }
+    ensures turns { IfOk result (λ e. (L.seen links.old).tells ≡ true →
+        (L.seen links.old).notices ≤ 2 ^ 64 - 1 →
+        TurnsTaken e turns (L.seen links.old).notices (L.seen links.new).notices) }
+    ensures listens { IfOk result (λ e. e ≢ Ending.ListenFault →
+        (L.seen links.new).listening ≡ (L.seen links.old).listening ++ addrs.now) }
     ensures ended { result ≡ Ok Ending.Ended → (L.seen links.new).over ≡ true }
     ensures refused { OnOk result ((L.seen links.new).refused ≡ (E.seen core.new).refused) }
-    ensures listen_fault { result ≡ Ok Ending.ListenFault → Rose (L.seen links.old).faults (L.seen links.new).faults }
-    ensures next_fault { result ≡ Ok Ending.NextFault → Rose (L.seen links.old).faults (L.seen links.new).faults }
+    ensures listen_fault { result ≡ Ok Ending.ListenFault →
+        Rose (L.seen links.old).faults (L.seen links.new).faults }
+    ensures next_fault { result ≡ Ok Ending.NextFault →
+        Rose (L.seen links.old).faults (L.seen links.new).faults }
 
     // What stays, so that it can be served on.
     ensures known { OnOk result ((E.seen core.new).now.tree ≤ (F.seen files.new).newest) }

@@ -23,10 +23,14 @@ fn tell_tree<E: EventCore, F: Files>(core: &mut E, files: &mut F, tree: Option<u
     ensures told { result ≡ (F.seen files.new).newest }
     ensures versions { Adds result (F.seen files.old).versions (F.seen files.new).versions }
     ensures grown { Grown (F.seen files.old) (F.seen files.new) }
-    ensures same { ((F.seen files.new).tells ≡ (F.seen files.old).tells) × ((F.seen files.new).answers ≡ (F.seen files.old).answers) }
-    ensures beside { (links : Option (List LinkAnswer)) (files : Option (List FileAnswer)) (clock : Option (List ℕ)) →
-        StandBeside (E.seen core.old).events (E.seen core.new).events links links files files clock clock }
-    ensures steady { ((E.seen core.new).terms ≡ (E.seen core.old).terms) × (length (E.seen core.new).conns ≡ length (E.seen core.old).conns) }
+    ensures same { ((F.seen files.new).tells ≡ (F.seen files.old).tells) ×
+        ((F.seen files.new).answers ≡ (F.seen files.old).answers) }
+    ensures beside { (links : Option (List LinkAnswer)) (files : Option (List FileAnswer))
+        (clock : Option (List ℕ)) →
+        StandBeside (E.seen core.old).events
+        (E.seen core.new).events links links files files clock clock }
+    ensures steady { ((E.seen core.new).terms ≡ (E.seen core.old).terms) ×
+        (length (E.seen core.new).conns ≡ length (E.seen core.old).conns) }
     ensures refused { (E.seen core.new).refused ≡ (E.seen core.old).refused }
 {
     let newest = files.version();
@@ -62,18 +66,25 @@ pub fn tick<E: EventCore, F: Files, C: Clock>(
 ) -> Told
     requires known { (E.seen core.old).now.tree ≤ (F.seen files.old).newest }
     requires told { IfSome last (λ to. (E.seen core.old).now.tree ≡ to.tree) }
-    ensures kept { (marks : Marks) (whole : ℕ → End → End → Course) (links : LinksSeen) (ticks : List Tick) →
-        Kept marks whole (E.seen core.old) links (F.seen files.old) ticks → Kept marks whole (E.seen core.new) links (F.seen files.new) (ticks ++ tick_at result ∷ []) }
-    ensures ticked { (c : ℕ) → Ticked (kept_moment result.moment) ((E.seen core.old).view c) ((E.seen core.new).view c) }
-    ensures tree { ((E.seen core.new).now.tree ≡ result.tree) × (result.tree ≡ (F.seen files.new).newest) }
-    ensures moments { (C.seen clock.old).tells ≡ true → (C.seen clock.new).told ≡ (C.seen clock.old).told ++ result.moment ∷ [] }
+    ensures kept { (marks : Marks) (whole : ℕ → End → End → Course) (links : LinksSeen)
+        (ticks : List Tick) → Kept marks whole (E.seen core.old) links (F.seen files.old) ticks →
+        Kept marks whole (E.seen core.new) links (F.seen files.new) (ticks ++ tick_at result ∷ []) }
+    ensures ticked { (c : ℕ) → Ticked (kept_moment result.moment) ((E.seen core.old).view c)
+        ((E.seen core.new).view c) }
+    ensures tree { ((E.seen core.new).now.tree ≡ result.tree) ×
+        (result.tree ≡ (F.seen files.new).newest) }
+    ensures moments { (C.seen clock.old).tells ≡ true →
+        (C.seen clock.new).told ≡ (C.seen clock.old).told ++ result.moment ∷ [] }
     ensures versions { Adds result.tree (F.seen files.old).versions (F.seen files.new).versions }
     ensures tells { (C.seen clock.new).tells ≡ (C.seen clock.old).tells }
-    ensures same { ((F.seen files.new).tells ≡ (F.seen files.old).tells) × ((F.seen files.new).answers ≡ (F.seen files.old).answers) }
+    ensures same { ((F.seen files.new).tells ≡ (F.seen files.old).tells) ×
+        ((F.seen files.new).answers ≡ (F.seen files.old).answers) }
     ensures grown { (F.seen files.old).newest ≤ (F.seen files.new).newest }
     ensures beside { (links : Option (List LinkAnswer)) →
-        StandBeside (E.seen core.old).events (E.seen core.new).events links links (F.seen files.old).answers (F.seen files.new).answers
-        (moments_told (C.seen clock.old).tells (C.seen clock.old).told) (moments_told (C.seen clock.new).tells (C.seen clock.new).told) }
+        StandBeside (E.seen core.old).events (E.seen core.new).events links links
+        (F.seen files.old).answers (F.seen files.new).answers
+        (moments_told (C.seen clock.old).tells (C.seen clock.old).told)
+        (moments_told (C.seen clock.new).tells (C.seen clock.new).told) }
     ensures steady { (E.seen core.new).terms ≡ (E.seen core.old).terms }
 {
     let moment = clock.now();

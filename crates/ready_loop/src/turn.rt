@@ -26,17 +26,33 @@ fn serve_late<E: EventCore, F: Files, L: Links>(
 ) -> Result<(), OutOfMemory>
     requires matched { IsMatched (E.seen core.old).view (L.seen links.old).is_open }
     requires known { (E.seen core.old).now.tree ≤ (F.seen files.old).newest }
-    ensures kept { OnOk result (Keeps (E.seen core.old) (E.seen core.new) (L.seen links.old) (L.seen links.new) (F.seen files.old) (F.seen files.new)) }
+    ensures kept { OnOk result (Keeps (E.seen core.old) (E.seen core.new) (L.seen links.old)
+        (L.seen links.new) (F.seen files.old) (F.seen files.new)) }
     ensures matched { OnOk result (IsMatched (E.seen core.new).view (L.seen links.new).is_open) }
-    ensures heard { (L.seen links.old).tells ≡ true → IsHeard (L.seen links.old).is_open (L.seen links.old).link memory.old.unread → OnOk result (IsHeard (L.seen links.new).is_open (L.seen links.new).link memory.new.unread) }
-    ensures rests { (h : Bool) → (h ≡ true → ((L.seen links.old).tells ≡ true) × IsHeard (L.seen links.old).is_open (L.seen links.old).link memory.old.unread) → AllRest (h ≡ true) ((L.seen links.old).tells ≡ true) (Unit {0}) (E.seen core.old).view (L.seen links.old).link → OnOk result (AllRest (h ≡ true) ((L.seen links.old).tells ≡ true) (is_late ≡ false) (E.seen core.new).view (L.seen links.new).link) }
-    ensures beside { OnOk result ((clock : Option (List ℕ)) → StandBeside (E.seen core.old).events (E.seen core.new).events (L.seen links.old).answers (L.seen links.new).answers (F.seen files.old).answers (F.seen files.new).answers clock clock) }
-    ensures steady { OnOk result (((E.seen core.new).terms ≡ (E.seen core.old).terms) × ((E.seen core.new).now ≡ (E.seen core.old).now)) }
+    ensures heard { (L.seen links.old).tells ≡ true →
+        IsHeard (L.seen links.old).is_open (L.seen links.old).link memory.old.unread →
+        OnOk result (IsHeard (L.seen links.new).is_open (L.seen links.new).link memory.new.unread) }
+    ensures rests { (h : Bool) → (h ≡ true → ((L.seen links.old).tells ≡ true) ×
+        IsHeard (L.seen links.old).is_open (L.seen links.old).link memory.old.unread) →
+        AllRest (h ≡ true) ((L.seen links.old).tells ≡ true) (Unit {0}) (E.seen core.old).view
+        (L.seen links.old).link →
+        OnOk result (AllRest (h ≡ true) ((L.seen links.old).tells ≡ true) (is_late ≡ false)
+        (E.seen core.new).view (L.seen links.new).link) }
+    ensures beside { OnOk result ((clock : Option (List ℕ)) →
+        StandBeside (E.seen core.old).events (E.seen core.new).events (L.seen links.old).answers
+        (L.seen links.new).answers (F.seen files.old).answers
+        (F.seen files.new).answers clock clock) }
+    ensures steady { OnOk result (((E.seen core.new).terms ≡ (E.seen core.old).terms) ×
+        ((E.seen core.new).now ≡ (E.seen core.old).now)) }
     ensures later { OnOk result ((L.seen links.old).faults ≤ (L.seen links.new).faults) }
-    ensures stays_over { OnOk result ((L.seen links.old).over ≡ true → (L.seen links.new).over ≡ true) }
-    ensures notices { OnOk result ((L.seen links.old).tells ≡ true → (L.seen links.new).notices ≡ (L.seen links.old).notices) }
+    ensures stays_over { OnOk result ((L.seen links.old).over ≡ true →
+        (L.seen links.new).over ≡ true) }
+    ensures notices { OnOk result ((L.seen links.old).tells ≡ true →
+        (L.seen links.new).notices ≡ (L.seen links.old).notices) }
     ensures versions { OnOk result ((F.seen files.new).versions ≡ (F.seen files.old).versions) }
-    ensures tells { OnOk result (((L.seen links.new).tells ≡ (L.seen links.old).tells) × ((L.seen links.new).listening ≡ (L.seen links.old).listening) × ((F.seen files.new).tells ≡ (F.seen files.old).tells)) }
+    ensures tells { OnOk result (((L.seen links.new).tells ≡ (L.seen links.old).tells) ×
+        ((L.seen links.new).listening ≡ (L.seen links.old).listening) ×
+        ((F.seen files.new).tells ≡ (F.seen files.old).tells)) }
     ensures grown { OnOk result ((F.seen files.old).newest ≤ (F.seen files.new).newest) }
 {
     if is_late {
@@ -55,17 +71,33 @@ fn serve_heard<E: EventCore, F: Files, L: Links>(
 ) -> Result<(), OutOfMemory>
     requires matched { IsMatched (E.seen core.old).view (L.seen links.old).is_open }
     requires known { (E.seen core.old).now.tree ≤ (F.seen files.old).newest }
-    ensures kept { OnOk result (Keeps (E.seen core.old) (E.seen core.new) (L.seen links.old) (L.seen links.new) (F.seen files.old) (F.seen files.new)) }
+    ensures kept { OnOk result (Keeps (E.seen core.old) (E.seen core.new) (L.seen links.old)
+        (L.seen links.new) (F.seen files.old) (F.seen files.new)) }
     ensures matched { OnOk result (IsMatched (E.seen core.new).view (L.seen links.new).is_open) }
-    ensures heard { (L.seen links.old).tells ≡ true → HeardAs heard (L.seen links.old).is_open (L.seen links.old).link memory.old.unread → OnOk result (IsHeard (L.seen links.new).is_open (L.seen links.new).link memory.new.unread) }
-    ensures rests { (h up : Bool) → (h ≡ true → ((L.seen links.old).tells ≡ true) × HeardAs heard (L.seen links.old).is_open (L.seen links.old).link memory.old.unread) → RestsBut heard (h ≡ true) ((L.seen links.old).tells ≡ true) (up ≡ true) (E.seen core.old).view (L.seen links.old).link → OnOk result (AllRest (h ≡ true) ((L.seen links.old).tells ≡ true) (up ≡ true) (E.seen core.new).view (L.seen links.new).link) }
-    ensures beside { OnOk result ((clock : Option (List ℕ)) → StandBeside (E.seen core.old).events (E.seen core.new).events (L.seen links.old).answers (L.seen links.new).answers (F.seen files.old).answers (F.seen files.new).answers clock clock) }
-    ensures steady { OnOk result (((E.seen core.new).terms ≡ (E.seen core.old).terms) × ((E.seen core.new).now ≡ (E.seen core.old).now)) }
+    ensures heard { (L.seen links.old).tells ≡ true →
+        HeardAs heard (L.seen links.old).is_open (L.seen links.old).link memory.old.unread →
+        OnOk result (IsHeard (L.seen links.new).is_open (L.seen links.new).link memory.new.unread) }
+    ensures rests { (h up : Bool) → (h ≡ true → ((L.seen links.old).tells ≡ true) ×
+        HeardAs heard (L.seen links.old).is_open (L.seen links.old).link memory.old.unread) →
+        RestsBut heard (h ≡ true) ((L.seen links.old).tells ≡ true) (up ≡ true)
+        (E.seen core.old).view (L.seen links.old).link →
+        OnOk result (AllRest (h ≡ true) ((L.seen links.old).tells ≡ true) (up ≡ true)
+        (E.seen core.new).view (L.seen links.new).link) }
+    ensures beside { OnOk result ((clock : Option (List ℕ)) →
+        StandBeside (E.seen core.old).events (E.seen core.new).events (L.seen links.old).answers
+        (L.seen links.new).answers (F.seen files.old).answers
+        (F.seen files.new).answers clock clock) }
+    ensures steady { OnOk result (((E.seen core.new).terms ≡ (E.seen core.old).terms) ×
+        ((E.seen core.new).now ≡ (E.seen core.old).now)) }
     ensures later { OnOk result ((L.seen links.old).faults ≤ (L.seen links.new).faults) }
-    ensures stays_over { OnOk result ((L.seen links.old).over ≡ true → (L.seen links.new).over ≡ true) }
-    ensures notices { OnOk result ((L.seen links.old).tells ≡ true → (L.seen links.new).notices ≡ (L.seen links.old).notices) }
+    ensures stays_over { OnOk result ((L.seen links.old).over ≡ true →
+        (L.seen links.new).over ≡ true) }
+    ensures notices { OnOk result ((L.seen links.old).tells ≡ true →
+        (L.seen links.new).notices ≡ (L.seen links.old).notices) }
     ensures versions { OnOk result ((F.seen files.new).versions ≡ (F.seen files.old).versions) }
-    ensures tells { OnOk result (((L.seen links.new).tells ≡ (L.seen links.old).tells) × ((L.seen links.new).listening ≡ (L.seen links.old).listening) × ((F.seen files.new).tells ≡ (F.seen files.old).tells)) }
+    ensures tells { OnOk result (((L.seen links.new).tells ≡ (L.seen links.old).tells) ×
+        ((L.seen links.new).listening ≡ (L.seen links.old).listening) ×
+        ((F.seen files.new).tells ≡ (F.seen files.old).tells)) }
     ensures grown { OnOk result ((F.seen files.old).newest ≤ (F.seen files.new).newest) }
 {
     match heard {
@@ -97,24 +129,46 @@ pub fn take_turn<E: EventCore, F: Files, L: Links, C: Clock>(
     requires matched { IsMatched (E.seen core.old).view (L.seen links.old).is_open }
     requires known { (E.seen core.old).now.tree ≤ (F.seen files.old).newest }
     requires told { IfSome last (λ to. (E.seen core.old).now.tree ≡ to.tree) }
-    ensures kept { IfOk result (λ t. (L.seen links.old).tells ≡ true → (F.seen files.old).tells ≡ true →
+    ensures kept { IfOk result (λ t. (L.seen links.old).tells ≡ true →
+        (F.seen files.old).tells ≡ true →
         (marks : Marks) (whole : ℕ → End → End → Course) (ticks : List Tick) →
-        Kept marks whole (E.seen core.old) (L.seen links.old) (F.seen files.old) ticks → Kept marks whole (E.seen core.new) (L.seen links.new) (F.seen files.new) (ticks ++ tick_at t.told ∷ [])) }
-    ensures versions { IfOk result (λ t. Adds t.told.tree (F.seen files.old).versions (F.seen files.new).versions) }
-    ensures notices { IfOk result (λ t. (L.seen links.old).tells ≡ true → HeardCounts t.heard (L.seen links.old).notices (L.seen links.new).notices) }
+        Kept marks whole (E.seen core.old) (L.seen links.old) (F.seen files.old) ticks →
+        Kept marks whole (E.seen core.new) (L.seen links.new) (F.seen files.new)
+        (ticks ++ tick_at t.told ∷ [])) }
+    ensures versions { IfOk result (λ t. Adds t.told.tree (F.seen files.old).versions
+        (F.seen files.new).versions) }
+    ensures notices { IfOk result (λ t. (L.seen links.old).tells ≡ true →
+        HeardCounts t.heard (L.seen links.old).notices (L.seen links.new).notices) }
     ensures matched { OnOk result (IsMatched (E.seen core.new).view (L.seen links.new).is_open) }
-    ensures heard { (L.seen links.old).tells ≡ true → IsHeard (L.seen links.old).is_open (L.seen links.old).link memory.old.unread → OnOk result (IsHeard (L.seen links.new).is_open (L.seen links.new).link memory.new.unread) }
-    ensures rests { (h : Bool) → (h ≡ true → ((L.seen links.old).tells ≡ true) × IsHeard (L.seen links.old).is_open (L.seen links.old).link memory.old.unread) → AllRest (h ≡ true) ((L.seen links.old).tells ≡ true) (Unit {0}) (E.seen core.old).view (L.seen links.old).link → IfOk result (λ t. AllRest (h ≡ true) ((L.seen links.old).tells ≡ true) (WasTold last t.told.moment) (E.seen core.new).view (L.seen links.new).link) }
-    ensures known { IfOk result (λ t. ((E.seen core.new).now.tree ≡ t.told.tree) × ((E.seen core.new).now.tree ≤ (F.seen files.new).newest)) }
+    ensures heard { (L.seen links.old).tells ≡ true →
+        IsHeard (L.seen links.old).is_open (L.seen links.old).link memory.old.unread →
+        OnOk result (IsHeard (L.seen links.new).is_open (L.seen links.new).link memory.new.unread) }
+    ensures rests { (h : Bool) → (h ≡ true → ((L.seen links.old).tells ≡ true) ×
+        IsHeard (L.seen links.old).is_open (L.seen links.old).link memory.old.unread) →
+        AllRest (h ≡ true) ((L.seen links.old).tells ≡ true) (Unit {0}) (E.seen core.old).view
+        (L.seen links.old).link →
+        IfOk result (λ t. AllRest (h ≡ true) ((L.seen links.old).tells ≡ true)
+        (WasTold last t.told.moment) (E.seen core.new).view (L.seen links.new).link) }
+    ensures known { IfOk result (λ t. ((E.seen core.new).now.tree ≡ t.told.tree) ×
+        ((E.seen core.new).now.tree ≤ (F.seen files.new).newest)) }
     ensures ended { IfOk result (λ t. t.heard ≡ Heard.Ended → (L.seen links.new).over ≡ true) }
-    ensures failed { IfOk result (λ t. t.heard ≡ Heard.Failed → Rose (L.seen links.old).faults (L.seen links.new).faults) }
-    ensures moments { IfOk result (λ t. (C.seen clock.old).tells ≡ true → (C.seen clock.new).told ≡ (C.seen clock.old).told ++ t.told.moment ∷ []) }
-    ensures beside { OnOk result (StandBeside (E.seen core.old).events (E.seen core.new).events (L.seen links.old).answers (L.seen links.new).answers (F.seen files.old).answers (F.seen files.new).answers (moments_told (C.seen clock.old).tells (C.seen clock.old).told) (moments_told (C.seen clock.new).tells (C.seen clock.new).told)) }
+    ensures failed { IfOk result (λ t. t.heard ≡ Heard.Failed →
+        Rose (L.seen links.old).faults (L.seen links.new).faults) }
+    ensures moments { IfOk result (λ t. (C.seen clock.old).tells ≡ true →
+        (C.seen clock.new).told ≡ (C.seen clock.old).told ++ t.told.moment ∷ []) }
+    ensures beside { OnOk result (StandBeside (E.seen core.old).events (E.seen core.new).events
+        (L.seen links.old).answers (L.seen links.new).answers (F.seen files.old).answers
+        (F.seen files.new).answers (moments_told (C.seen clock.old).tells (C.seen clock.old).told)
+        (moments_told (C.seen clock.new).tells (C.seen clock.new).told)) }
     ensures steady { OnOk result ((E.seen core.new).terms ≡ (E.seen core.old).terms) }
     ensures grown { OnOk result ((F.seen files.old).newest ≤ (F.seen files.new).newest) }
     ensures later { OnOk result ((L.seen links.old).faults ≤ (L.seen links.new).faults) }
-    ensures stays_over { OnOk result ((L.seen links.old).over ≡ true → (L.seen links.new).over ≡ true) }
-    ensures tells { OnOk result ((((L.seen links.new).tells ≡ (L.seen links.old).tells) × ((L.seen links.new).listening ≡ (L.seen links.old).listening) × ((F.seen files.new).tells ≡ (F.seen files.old).tells)) × ((C.seen clock.new).tells ≡ (C.seen clock.old).tells)) }
+    ensures stays_over { OnOk result ((L.seen links.old).over ≡ true →
+        (L.seen links.new).over ≡ true) }
+    ensures tells { OnOk result ((((L.seen links.new).tells ≡ (L.seen links.old).tells) ×
+        ((L.seen links.new).listening ≡ (L.seen links.old).listening) ×
+        ((F.seen files.new).tells ≡ (F.seen files.old).tells)) ×
+        ((C.seen clock.new).tells ≡ (C.seen clock.old).tells)) }
 {
     let told = tick(core, files, clock, last);
     serve_late(

@@ -8,3 +8,4 @@ pub mod LineStands
 pub mod Numbers
 pub mod PlaysLaws
 pub mod Openings
+pub mod Drains

@@ -4,7 +4,7 @@ use Rattle.std.proofs.lemmas.List.Elements.{All-nil, All-cons, All-head, All-tai
 use Rattle.std.proofs.lemmas.Bool.Decides.{nat_tests}
 use Rattle.std.specs.List.{All}
 use Rattle.ngx_outside.specs.Views.{ConnView, Job, no_bytes, ask_in}
-use Rattle.ngx_outside.specs.Wants.{wants_at, wants_in, read_want}
+use Rattle.ngx_outside.specs.Wants.{wants_at, read_want}
 use Rattle.ngx_outside.specs.declared.event.Want.{Want}
 use Rattle.ngx_outside.specs.declared.event.Want.TheVariants as want
 use Rattle.replay_run.specs.Scene.{Lane, is_served, first_served, IsWanted}
@@ -52,10 +52,6 @@ wanted_at view c =
     closes true = All-cons (IsWanted view) (want.Close c) [] tt (All-nil (IsWanted view))
     closes false = All-nil (IsWanted view)
 
-wanted_in : (view : ℕ → ConnView) (conns : List ℕ) → All (IsWanted view) (wants_in conns view)
-wanted_in view [] = All-nil (IsWanted view)
-wanted_in view (c ∷ conns) = All-append (IsWanted view) (wants_at c (view c)) (wants_in conns view) (wanted_at view c) (wanted_in view conns)
-
 -- what holds of all wants holds of the first that can be served
 first_all : (P : Want → Type 0) (lanes : ℕ → Lane) (wants : List Want) (w : Want) → All P wants → first_served lanes wants ≡ Some w → P w
 first_all P lanes [] w all e = cc
@@ -65,8 +61,8 @@ first_all P lanes (x ∷ wants) w all e = case (is_served lanes x) e (λ f. firs
     case true e later = subst P (let f : x ≡ w = cc in f) (All-head P x wants all)
     case false e later = later e
 
-pub served_wanted : (view : ℕ → ConnView) (conns : List ℕ) (lanes : ℕ → Lane) (wants : List Want) (w : Want) → wants ≡ wants_in conns view → first_served lanes wants ≡ Some w → IsWanted view w
-served_wanted view conns lanes wants w e f = first_all (IsWanted view) lanes wants w (subst (All (IsWanted view)) (sym e) (wanted_in view conns)) f
+pub served_wanted : (view : ℕ → ConnView) (c : ℕ) (lanes : ℕ → Lane) (w : Want) → first_served lanes (wants_at c (view c)) ≡ Some w → IsWanted view w
+served_wanted view c lanes w f = first_all (IsWanted view) lanes (wants_at c (view c)) w (wanted_at view c) f
 
 pub served_is : (lanes : ℕ → Lane) (wants : List Want) (w : Want) → first_served lanes wants ≡ Some w → is_served lanes w ≡ true
 served_is lanes [] w e = cc

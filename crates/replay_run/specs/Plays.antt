@@ -19,12 +19,14 @@ ChangesTree fresh told a old new = Plain fresh (ev.Tree (next_number told.newest
 -- What a line does, where the files tell so, and what became of its step.
 abbrev pub LineDoes : Terms → Told → EventLine → StepAnswer → Stage → Stage → Type 0
 LineDoes terms told (line.Open conn local peer) a old new =
-    OpensLine terms.fresh conn (record { local = local; peer = peer }) a old new × Openable terms conn (record { local = local; peer = peer }) a old.view
+    OpensLine terms.fresh conn (record { local = local; peer = peer }) a old new ×
+    Openable terms conn (record { local = local; peer = peer }) a old.view
 LineDoes terms told (line.Bytes conn bytes) a old new = SendsLine terms.fresh conn bytes a old new
 LineDoes terms told (line.End conn) a old new = EndsLine terms.fresh conn a old new
 LineDoes terms told (line.Room conn count) a old new = WritesLine terms.fresh conn count a old new
 LineDoes terms told (line.File conn node) a old new = JobLine terms.fresh told conn node a old new
-LineDoes terms told (line.FileFails conn node) a old new = Plain terms.fresh (ev.JobFailed conn node) a old new
+LineDoes terms told (line.FileFails conn node) a old new = Plain terms.fresh
+    (ev.JobFailed conn node) a old new
 LineDoes terms told (line.Run conn node) a old new = Plain terms.fresh (ev.Run conn node) a old new
 LineDoes terms told (line.Tick now) a old new = Plain terms.fresh (ev.Tick now) a old new
 LineDoes terms told (line.Tree change) a old new = ChangesTree terms.fresh told a old new
@@ -43,10 +45,16 @@ refused_after Skipped n = n
 refused_after OutOfMemory n = next_number n
 
 -- the lines are run one after another, each where the files tell what those before it came to
-pub data Plays (terms : Terms) : List EventLine → Told → Stage → ℕ → ℕ → Stage → ℕ → ℕ → Type 0 where
-  Over : (told : Told) (s : Stage) (skipped refused : ℕ) → Plays terms [] told s skipped refused s skipped refused
-  Line : (l : EventLine) (lines : List EventLine) (a : StepAnswer) (told : Told) (old mid new : Stage) (skipped refused skipped' refused' : ℕ) → LineDoes terms told l a old mid →
-      Plays terms lines (told_after l told) mid (skipped_after a skipped) (refused_after a refused) new skipped' refused' → Plays terms (l ∷ lines) told old skipped refused new skipped' refused'
+pub data Plays (terms : Terms) : List EventLine → Told → Stage → ℕ → ℕ → Stage → ℕ → ℕ →
+    Type 0 where
+  Over : (told : Told) (s : Stage) (skipped refused : ℕ) →
+      Plays terms [] told s skipped refused s skipped refused
+  Line : (l : EventLine) (lines : List EventLine) (a : StepAnswer) (told : Told)
+      (old mid new : Stage) (skipped refused skipped' refused' : ℕ) →
+      LineDoes terms told l a old mid →
+      Plays terms lines (told_after l told) mid (skipped_after a skipped)
+      (refused_after a refused) new skipped' refused' →
+      Plays terms (l ∷ lines) told old skipped refused new skipped' refused'
 
 -- the bytes that a line sends on a connection
 abbrev pub sent_by : EventLine → ℕ → List ℕ
@@ -60,4 +68,5 @@ sent_in (l ∷ lines) c = sent_by l c ++ sent_in lines c
 
 -- the ends of each connection are those that it had before, or those of a line that opens it
 abbrev pub AreOpenedBy : List EventLine → (ℕ → Lane) → (ℕ → Lane) → Type 0
-AreOpenedBy lines old new = (c : ℕ) (ends : LinkEnds) → (new c).ends ≡ Some ends → ((old c).ends ≡ Some ends) ⊎ Contains lines (line.Open c ends.local ends.peer)
+AreOpenedBy lines old new = (c : ℕ) (ends : LinkEnds) → (new c).ends ≡ Some ends →
+    ((old c).ends ≡ Some ends) ⊎ Contains lines (line.Open c ends.local ends.peer)

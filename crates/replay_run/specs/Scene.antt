@@ -1,6 +1,6 @@
 -- A run of a script, between two of its lines.
 use Rattle.std.specs.Prelude.{◌≡◌, ◌≢◌, ℕ, ◌+◌, ◌*◌, ◌≤◌, ◌==◌, ◌||◌, ◌&&◌, not, nat_lt, min, Bool, true, false, List, [], ◌∷◌, ◌++◌, length, take, drop, sum_by, Option, None, Some, if◌then◌else◌}
-use Rattle.std.specs.List.{Contains}
+use Rattle.std.specs.List.{All, Contains}
 use Rattle.std.specs.Prelude.{◌↔◌}
 use Rattle.std.specs.List.Sorted.{IsStrictlyIncreasing}
 use Rattle.http_types.specs.declared.words.Addr.{Addr}
@@ -10,7 +10,7 @@ use Rattle.file_tree.specs.declared.job.Ask.TheVariants as ask
 use Rattle.file_tree.specs.declared.job.JobAnswer.{JobAnswer}
 use Rattle.ngx_outside.specs.Seen.{Terms}
 use Rattle.ngx_outside.specs.Views.{ConnView, Course, Start, Steps, OpensIf, now_after, ended_after, no_bytes, ask_in}
-use Rattle.ngx_outside.specs.Wants.{wants_in}
+use Rattle.ngx_outside.specs.Wants.{wants_at, wants_in}
 use Rattle.ngx_outside.specs.declared.event.Event.{Event}
 use Rattle.ngx_outside.specs.declared.event.Event.TheVariants.{Opened, Arrived, Ended, Wrote, FileDone, JobFailed, Run}
 use Rattle.ngx_outside.specs.declared.event.StepAnswer.{StepAnswer}
@@ -25,8 +25,8 @@ use Rattle.replay_run.specs.declared.lane.InputEnd.TheVariants as input
 use Rattle.replay_run.specs.declared.lane.Lane.{Lane as LaneOf}
 use Rattle.replay_run.specs.declared.lane.LinkEnds.{LinkEnds}
 
--- what a script keeps of a connection: the bytes that wait to arrive, how they end, what was emitted on it, and the ends of its
--- last opening that was done
+-- what a script keeps of a connection: the bytes that wait to arrive, how they end, what was
+-- emitted on it, and the ends of its last opening that was done
 pub record Lane : Type 0 where
   pub queue : List ℕ
   pub tail : InputEnd
@@ -54,7 +54,8 @@ abbrev pub stage : (ℕ → ConnView) → Start → List LaneOf → Stage
 stage view now lanes = record { view = view; now = now; lanes = lane_in lanes }
 
 -- a core is given an event, and answers so
-pub record Gives (fresh : Addr → Addr → Course) (e : Event) (a : StepAnswer) (view : ℕ → ConnView) (now : Start) (view' : ℕ → ConnView) (now' : Start) : Type 0 where
+pub record Gives (fresh : Addr → Addr → Course) (e : Event) (a : StepAnswer) (view : ℕ → ConnView)
+    (now : Start) (view' : ℕ → ConnView) (now' : Start) : Type 0 where
   pub steps : Steps fresh now e a view view'
   pub moment : now' ≡ now_after now e a
   pub ended : (c : ℕ) → (view' c).ended ≡ ended_after e a c (view c).ended
@@ -78,13 +79,15 @@ taken_of Skipped = 0
 taken_of OutOfMemory = 0
 
 -- all that waits is offered to a connection
-pub record Offers (fresh : Addr → Addr → Course) (c : ℕ) (queue : List ℕ) (a : StepAnswer) (view : ℕ → ConnView) (now : Start) (view' : ℕ → ConnView) (now' : Start) : Type 0 where
+pub record Offers (fresh : Addr → Addr → Course) (c : ℕ) (queue : List ℕ) (a : StepAnswer)
+    (view : ℕ → ConnView) (now : Start) (view' : ℕ → ConnView) (now' : Start) : Type 0 where
   pub event : Event
   pub arrival : IsArrival event c queue
   pub gives : Gives fresh event a view now view' now'
 
 abbrev pub offered_lane : Lane → StepAnswer → Lane
-offered_lane l a = record { queue = drop (taken_of a) l.queue; tail = l.tail; went = l.went; ends = l.ends }
+offered_lane l a = record
+    { queue = drop (taken_of a) l.queue; tail = l.tail; went = l.went; ends = l.ends }
 
 -- whether a lane's input ends now
 abbrev pub is_ending : Lane → Bool
@@ -101,12 +104,16 @@ tail_after Skipped tail = tail
 tail_after OutOfMemory tail = tail
 
 abbrev pub ended_lane : Lane → StepAnswer → Lane
-ended_lane l a = record { queue = l.queue; tail = tail_after a l.tail; went = l.went; ends = l.ends }
+ended_lane l a = record
+    { queue = l.queue; tail = tail_after a l.tail; went = l.went; ends = l.ends }
 
 -- the core is told that a lane's input ends, where it does
-pub data EndsIfDue (fresh : Addr → Addr → Course) (c : ℕ) (lane lane' : Lane) (a : StepAnswer) (view : ℕ → ConnView) (now : Start) (view' : ℕ → ConnView) (now' : Start) : Type 0 where
-  Ends : is_ending lane ≡ true → Gives fresh (Ended c) a view now view' now' → lane' ≡ ended_lane lane a → EndsIfDue fresh c lane lane' a view now view' now'
-  Waits : is_ending lane ≡ false → a ≡ Skipped → view' ≡ view → now' ≡ now → lane' ≡ lane → EndsIfDue fresh c lane lane' a view now view' now'
+pub data EndsIfDue (fresh : Addr → Addr → Course) (c : ℕ) (lane lane' : Lane) (a : StepAnswer)
+    (view : ℕ → ConnView) (now : Start) (view' : ℕ → ConnView) (now' : Start) : Type 0 where
+  Ends : is_ending lane ≡ true → Gives fresh (Ended c) a view now view' now' →
+      lane' ≡ ended_lane lane a → EndsIfDue fresh c lane lane' a view now view' now'
+  Waits : is_ending lane ≡ false → a ≡ Skipped → view' ≡ view → now' ≡ now → lane' ≡ lane →
+      EndsIfDue fresh c lane lane' a view now view' now'
 
 -- a line of two steps is refused where one of them was, and done where one was
 abbrev pub either : StepAnswer → StepAnswer → StepAnswer
@@ -121,10 +128,12 @@ written_of Skipped count pending = []
 written_of OutOfMemory count pending = []
 
 abbrev pub written_lane : Lane → StepAnswer → ℕ → List ℕ → Lane
-written_lane l a count pending = record { queue = l.queue; tail = l.tail; went = l.went ++ written_of a count pending; ends = l.ends }
+written_lane l a count pending = record
+    { queue = l.queue; tail = l.tail; went = l.went ++ written_of a count pending; ends = l.ends }
 
 -- An event that touches no lane.
-pub record Plain (fresh : Addr → Addr → Course) (e : Event) (a : StepAnswer) (old new : Stage) : Type 0 where
+pub record Plain (fresh : Addr → Addr → Course) (e : Event) (a : StepAnswer)
+    (old new : Stage) : Type 0 where
   pub gives : Gives fresh e a old.view old.now new.view new.now
   pub lanes : SameLanes old.lanes new.lanes
 
@@ -141,38 +150,47 @@ ends_after ends Skipped kept = kept
 ends_after ends OutOfMemory kept = kept
 
 abbrev pub opened_lane : Lane → LinkEnds → StepAnswer → Lane
-opened_lane l ends a = record { queue = l.queue; tail = l.tail; went = l.went; ends = ends_after ends a l.ends }
+opened_lane l ends a = record
+    { queue = l.queue; tail = l.tail; went = l.went; ends = ends_after ends a l.ends }
 
-pub record Opens (fresh : Addr → Addr → Course) (c : ℕ) (ends : LinkEnds) (a : StepAnswer) (view : ℕ → ConnView) (now : Start) (view' : ℕ → ConnView) (now' : Start) (lane lane' : Lane) : Type 0 where
+pub record Opens (fresh : Addr → Addr → Course) (c : ℕ) (ends : LinkEnds) (a : StepAnswer)
+    (view : ℕ → ConnView) (now : Start) (view' : ℕ → ConnView) (now' : Start)
+    (lane lane' : Lane) : Type 0 where
   pub gives : Gives fresh (Opened c ends.local ends.peer) a view now view' now'
   pub keeps : lane' ≡ opened_lane lane ends a
 
 abbrev pub longer_lane : Lane → List ℕ → Lane
-longer_lane l bytes = record { queue = l.queue ++ bytes; tail = l.tail; went = l.went; ends = l.ends }
+longer_lane l bytes = record
+    { queue = l.queue ++ bytes; tail = l.tail; went = l.went; ends = l.ends }
 
 -- the connections that are held, by number
 pub record AreHeld (conns : List ℕ) (view : ℕ → ConnView) : Type 0 where
   pub order : IsStrictlyIncreasing conns
   pub held : (c : ℕ) → Contains conns c ↔ ((view c).held ≡ true)
 
--- A connection can be opened exactly where its number isn't held, fewer connections than the limit are, and somebody answers at
--- its local end: its opening is skipped exactly where it can't.
+-- A connection can be opened exactly where its number isn't held, fewer connections than the limit
+-- are, and somebody answers at its local end: its opening is skipped exactly where it can't.
 abbrev pub can_open : Terms → List ℕ → (ℕ → ConnView) → ℕ → Addr → Bool
-can_open terms conns view conn local = not (view conn).held && (nat_lt (length conns) terms.limit && terms.serves local)
+can_open terms conns view conn local = not (view conn).held &&
+    (nat_lt (length conns) terms.limit && terms.serves local)
 
-pub record Openable (terms : Terms) (c : ℕ) (ends : LinkEnds) (a : StepAnswer) (view : ℕ → ConnView) : Type 0 where
+pub record Openable (terms : Terms) (c : ℕ) (ends : LinkEnds) (a : StepAnswer)
+    (view : ℕ → ConnView) : Type 0 where
   pub conns : List ℕ
   pub held : AreHeld conns view
   pub opens : OpensIf (can_open terms conns view) (Opened c ends.local ends.peer) a
 
 -- Bytes are put behind those that wait, and all are offered; then the input ends where it is due.
-pub record Sends (fresh : Addr → Addr → Course) (c : ℕ) (bytes : List ℕ) (a : StepAnswer) (view : ℕ → ConnView) (now : Start) (view' : ℕ → ConnView) (now' : Start) (lane lane' : Lane) : Type 0 where
+pub record Sends (fresh : Addr → Addr → Course) (c : ℕ) (bytes : List ℕ) (a : StepAnswer)
+    (view : ℕ → ConnView) (now : Start) (view' : ℕ → ConnView) (now' : Start)
+    (lane lane' : Lane) : Type 0 where
   pub first : StepAnswer
   pub second : StepAnswer
   pub mid_view : ℕ → ConnView
   pub mid_now : Start
   pub offers : Offers fresh c (lane.queue ++ bytes) first view now mid_view mid_now
-  pub ends : EndsIfDue fresh c (offered_lane (longer_lane lane bytes) first) lane' second mid_view mid_now view' now'
+  pub ends : EndsIfDue fresh c
+      (offered_lane (longer_lane lane bytes) first) lane' second mid_view mid_now view' now'
   pub answer : a ≡ either first second
 
 abbrev pub due_after : InputEnd → InputEnd
@@ -184,51 +202,70 @@ abbrev pub due_lane : Lane → Lane
 due_lane l = record { queue = l.queue; tail = due_after l.tail; went = l.went; ends = l.ends }
 
 -- At most so many of the pending bytes are written.
-pub record Writes (fresh : Addr → Addr → Course) (c most : ℕ) (a : StepAnswer) (view : ℕ → ConnView) (now : Start) (view' : ℕ → ConnView) (now' : Start) (lane lane' : Lane) : Type 0 where
+pub record Writes (fresh : Addr → Addr → Course) (c most : ℕ) (a : StepAnswer) (view : ℕ → ConnView)
+    (now : Start) (view' : ℕ → ConnView) (now' : Start) (lane lane' : Lane) : Type 0 where
   pub count : ℕ
   pub counts : count ≡ min most (length (view c).pending)
   pub gives : Gives fresh (Wrote c count) a view now view' now'
   pub emits : lane' ≡ written_lane lane a count (view c).pending
 
 -- what waits is offered, or where nothing waits its end is told
-pub data Reads (fresh : Addr → Addr → Course) (c : ℕ) (a : StepAnswer) (view : ℕ → ConnView) (now : Start) (view' : ℕ → ConnView) (now' : Start) (lane lane' : Lane) : Type 0 where
-  Offered : no_bytes lane.queue ≡ false → Offers fresh c lane.queue a view now view' now' → lane' ≡ offered_lane lane a → Reads fresh c a view now view' now' lane lane'
-  Ending : no_bytes lane.queue ≡ true → EndsIfDue fresh c lane lane' a view now view' now' → Reads fresh c a view now view' now' lane lane'
+pub data Reads (fresh : Addr → Addr → Course) (c : ℕ) (a : StepAnswer) (view : ℕ → ConnView)
+    (now : Start) (view' : ℕ → ConnView) (now' : Start) (lane lane' : Lane) : Type 0 where
+  Offered : no_bytes lane.queue ≡ false → Offers fresh c lane.queue a view now view' now' →
+      lane' ≡ offered_lane lane a → Reads fresh c a view now view' now' lane lane'
+  Ending : no_bytes lane.queue ≡ true → EndsIfDue fresh c lane lane' a view now view' now' →
+      Reads fresh c a view now view' now' lane lane'
 
--- What a line does, from stage to stage: a connection is opened, bytes are sent, the input ends as soon as nothing waits, bytes
--- are written.
+-- What a line does, from stage to stage: a connection is opened, bytes are sent, the input ends as
+-- soon as nothing waits, bytes are written.
 abbrev pub OpensLine : (Addr → Addr → Course) → ℕ → LinkEnds → StepAnswer → Stage → Stage → Type 0
-OpensLine fresh c ends a old new = OnLane c (Opens fresh c ends a old.view old.now new.view new.now) old.lanes new.lanes
+OpensLine fresh c ends a old new = OnLane c
+    (Opens fresh c ends a old.view old.now new.view new.now) old.lanes new.lanes
 
 abbrev pub SendsLine : (Addr → Addr → Course) → ℕ → List ℕ → StepAnswer → Stage → Stage → Type 0
-SendsLine fresh c bytes a old new = OnLane c (Sends fresh c bytes a old.view old.now new.view new.now) old.lanes new.lanes
+SendsLine fresh c bytes a old new = OnLane c
+    (Sends fresh c bytes a old.view old.now new.view new.now) old.lanes new.lanes
 
 abbrev pub EndsLine : (Addr → Addr → Course) → ℕ → StepAnswer → Stage → Stage → Type 0
-EndsLine fresh c a old new = OnLane c (λ l l'. EndsIfDue fresh c (due_lane l) l' a old.view old.now new.view new.now) old.lanes new.lanes
+EndsLine fresh c a old new = OnLane c
+    (λ l l'. EndsIfDue fresh c (due_lane l) l' a old.view old.now new.view new.now) old.lanes
+    new.lanes
 
 abbrev pub WritesLine : (Addr → Addr → Course) → ℕ → ℕ → StepAnswer → Stage → Stage → Type 0
-WritesLine fresh c most a old new = OnLane c (Writes fresh c most a old.view old.now new.view new.now) old.lanes new.lanes
+WritesLine fresh c most a old new = OnLane c
+    (Writes fresh c most a old.view old.now new.view new.now) old.lanes new.lanes
 
--- What the files found for a job, with the bytes of a block that was read; nothing where the trees have no answer to it.
+-- What the files found for a job, with the bytes of a block that was read; nothing where the trees
+-- have no answer to it.
 abbrev pub IsFound : Trees → Ask → Found → List ℕ → Type 0
 IsFound trees (ask.Stat path of) (found.Stands node) block = node ≡ node_of (trees of path)
 IsFound trees (ask.Stat path of) found.Block block = ⊥
 IsFound trees (ask.Stat path of) found.Nothing block = ⊥
 IsFound trees (ask.Read path start count of) (found.Stands node) block = ⊥
-IsFound trees (ask.Read path start count of) found.Block block = HoldsBytes (trees of path) start count block × (length block ≡ count)
-IsFound trees (ask.Read path start count of) found.Nothing block = (bytes : List ℕ) → ¬ HoldsBytes (trees of path) start count bytes
+IsFound trees (ask.Read path start count of) found.Block block = HoldsBytes
+    (trees of path) start count block × (length block ≡ count)
+IsFound trees (ask.Read path start count of) found.Nothing block = (bytes : List ℕ) →
+    ¬ HoldsBytes (trees of path) start count bytes
 
--- A node's job is answered by what the trees say to it, or fails where they have no answer; where the node has no job nothing
--- happens.
-pub data AnswersJob (fresh : Addr → Addr → Course) (told : Told) (c node : ℕ) (a : StepAnswer) (view : ℕ → ConnView) (now : Start) (view' : ℕ → ConnView) (now' : Start) : Type 0 where
-  Answers : (ask : Ask) (answer : JobAnswer) → ask_in (view c).jobs node ≡ Some ask → tree_of ask ≤ told.newest → IsFrom told.trees ask answer →
-      Gives fresh (FileDone c node answer) a view now view' now' → AnswersJob fresh told c node a view now view' now'
-  Fails : (ask : Ask) → ask_in (view c).jobs node ≡ Some ask → ((answer : JobAnswer) → ¬ IsFrom told.trees ask answer) →
-      Gives fresh (JobFailed c node) a view now view' now' → AnswersJob fresh told c node a view now view' now'
-  Unasked : ask_in (view c).jobs node ≡ None → a ≡ Skipped → view' ≡ view → now' ≡ now → AnswersJob fresh told c node a view now view' now'
+-- A node's job is answered by what the trees say to it, or fails where they have no answer; where
+-- the node has no job nothing happens.
+pub data AnswersJob (fresh : Addr → Addr → Course) (told : Told) (c node : ℕ) (a : StepAnswer)
+    (view : ℕ → ConnView) (now : Start) (view' : ℕ → ConnView) (now' : Start) : Type 0 where
+  Answers : (ask : Ask) (answer : JobAnswer) → ask_in (view c).jobs node ≡ Some ask →
+      tree_of ask ≤ told.newest → IsFrom told.trees ask answer →
+      Gives fresh (FileDone c node answer) a view now view' now' →
+      AnswersJob fresh told c node a view now view' now'
+  Fails : (ask : Ask) → ask_in (view c).jobs node ≡ Some ask →
+      ((answer : JobAnswer) → ¬ IsFrom told.trees ask answer) →
+      Gives fresh (JobFailed c node) a view now view' now' →
+      AnswersJob fresh told c node a view now view' now'
+  Unasked : ask_in (view c).jobs node ≡ None → a ≡ Skipped → view' ≡ view → now' ≡ now →
+      AnswersJob fresh told c node a view now view' now'
 
 abbrev pub JobLine : (Addr → Addr → Course) → Told → ℕ → ℕ → StepAnswer → Stage → Stage → Type 0
-JobLine fresh told c node a old new = AnswersJob fresh told c node a old.view old.now new.view new.now × SameLanes old.lanes new.lanes
+JobLine fresh told c node a old new = AnswersJob fresh told c node a old.view old.now new.view
+    new.now × SameLanes old.lanes new.lanes
 
 -- whether bytes wait, or their end is due
 abbrev pub is_read : Lane → Bool
@@ -253,18 +290,24 @@ abbrev pub first_served : (ℕ → Lane) → List Want → Option Want
 first_served lanes [] = None
 first_served lanes (w ∷ wants) = if is_served lanes w then Some w else first_served lanes wants
 
--- serving a want: what waits is offered, or its end told; a node runs; its job is answered; all that is pending is written
+-- serving a want: what waits is offered, or its end told; a node runs; its job is answered; all
+-- that is pending is written
 abbrev pub Serves : (Addr → Addr → Course) → Told → Want → Stage → Stage → Type 0
-Serves fresh told (want.Read conn room) old new = (a : StepAnswer) × OnLane conn (Reads fresh conn a old.view old.now new.view new.now) old.lanes new.lanes
-Serves fresh told (want.Run conn node) old new = (a : StepAnswer) × Plain fresh (Run conn node) a old new
-Serves fresh told (want.Job conn node) old new = (a : StepAnswer) × JobLine fresh told conn node a old new
-Serves fresh told (want.Write conn) old new = (a : StepAnswer) × WritesLine fresh conn (length (old.view conn).pending) a old new
+Serves fresh told (want.Read conn room) old new = (a : StepAnswer) ×
+    OnLane conn (Reads fresh conn a old.view old.now new.view new.now) old.lanes new.lanes
+Serves fresh told (want.Run conn node) old new = (a : StepAnswer) ×
+    Plain fresh (Run conn node) a old new
+Serves fresh told (want.Job conn node) old new = (a : StepAnswer) ×
+    JobLine fresh told conn node a old new
+Serves fresh told (want.Write conn) old new = (a : StepAnswer) ×
+    WritesLine fresh conn (length (old.view conn).pending) a old new
 Serves fresh told (want.Close conn) old new = ⊥
 
 -- Wants are served, each the first that can be.
 pub data Drained (fresh : Addr → Addr → Course) (told : Told) (old : Stage) : Stage → Type 0 where
   Begun : Drained fresh told old old
-  Then : (mid new : Stage) (conns : List ℕ) (w : Want) → Drained fresh told old mid → AreHeld conns mid.view → first_served mid.lanes (wants_in conns mid.view) ≡ Some w →
+  Then : (mid new : Stage) (conns : List ℕ) (w : Want) → Drained fresh told old mid →
+      AreHeld conns mid.view → first_served mid.lanes (wants_in conns mid.view) ≡ Some w →
       Serves fresh told w mid new → Drained fresh told old new
 
 -- as long as one can be
@@ -273,6 +316,39 @@ pub record Drains (fresh : Addr → Addr → Course) (told : Told) (old new : St
   pub conns : List ℕ
   pub held : AreHeld conns new.view
   pub none : first_served new.lanes (wants_in conns new.view) ≡ None
+
+-- nothing can be served on a connection
+abbrev pub RestsAt : Stage → ℕ → Type 0
+RestsAt s c = first_served s.lanes (wants_at c (s.view c)) ≡ None
+
+-- The wants of one connection are served, each the first that can be: no other connection changes,
+-- each stays held, and where nothing could be served on the connections before it, these are the
+-- first wants of all.
+pub record DrainsOne (fresh : Addr → Addr → Course) (told : Told) (c : ℕ)
+    (old new : Stage) : Type 0 where
+  pub others : (d : ℕ) → d ≢ c → (new.view d ≡ old.view d) × (new.lanes d ≡ old.lanes d)
+  pub held : (d : ℕ) → (new.view d).held ≡ (old.view d).held
+  pub path : (first : Stage) (conns front back : List ℕ) → AreHeld conns old.view →
+      conns ≡ front ++ c ∷ back →
+      All (λ d. d ≢ c) front → All (RestsAt old) front → Drained fresh told first old →
+      Drained fresh told first new
+
+-- the connection of a want
+abbrev pub conn_of : Want → ℕ
+conn_of (want.Read conn room) = conn
+conn_of (want.Run conn node) = conn
+conn_of (want.Job conn node) = conn
+conn_of (want.Write conn) = conn
+conn_of (want.Close conn) = conn
+
+-- a script closes no link
+abbrev pub unless_close : Option Want → Option Want
+unless_close None = None
+unless_close (Some (want.Read conn room)) = Some (want.Read conn room)
+unless_close (Some (want.Run conn node)) = Some (want.Run conn node)
+unless_close (Some (want.Job conn node)) = Some (want.Job conn node)
+unless_close (Some (want.Write conn)) = Some (want.Write conn)
+unless_close (Some (want.Close conn)) = None
 
 -- the work that is left: each byte that waits may cost its price, and each end one step
 abbrev pub work_of : ℕ → LaneOf → ℕ

@@ -1,4 +1,5 @@
--- What the files of a script tell: the first tree is that of its tree lines, and each line that changes it makes one more.
+-- What the files of a script tell: the first tree is that of its tree lines, and each line that
+-- changes it makes one more.
 use Rattle.std.specs.Prelude.{ℕ, ◌+◌, ◌-◌, ◌^◌, ◌&&◌, min, max, nat_le, nat_lt, bytes_eq, List, [], ◌∷◌, if◌then◌else◌}
 use Rattle.file_tree.specs.Tree.{Item, AFile, AFolder, ALocked, Nothing, Tree, Trees}
 use Rattle.memory_outside.specs.declared.files.MemoryFiles.{MemoryFiles}
@@ -19,10 +20,12 @@ item_of (entry.File path date bytes) = AFile bytes date
 item_of (entry.Folder path) = AFolder
 item_of (entry.Locked path) = ALocked
 
--- what stands at a path by these lines: what the last of them puts there, or what stood there before
+-- what stands at a path by these lines: what the last of them puts there, or what stood there
+-- before
 abbrev pub item_by : Item → List TreeLine → List ℕ → Item
 item_by below [] path = below
-item_by below (l ∷ lines) path = item_by (if bytes_eq (path_of l) path then item_of l else below) lines path
+item_by below (l ∷ lines) path = item_by
+    (if bytes_eq (path_of l) path then item_of l else below) lines path
 
 -- the tree of these lines: what they don't list isn't there, folders too
 abbrev pub tree_by : List TreeLine → Tree
@@ -52,7 +55,11 @@ changed from path item old of q = if nat_le from of && bytes_eq path q then item
 abbrev pub told_next : List ℕ → Item → Told → Told
 told_next path item told =
     if nat_lt told.newest (next_number told.newest)
-    then record { trees = changed (next_number told.newest) path item told.trees; newest = next_number told.newest }
+    then record {
+      trees = changed
+          (next_number told.newest) path item told.trees;
+      newest = next_number told.newest;
+    }
     else told
 
 -- what the files tell behind a line

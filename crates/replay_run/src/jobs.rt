@@ -60,8 +60,14 @@ fn give_found<E: EventCore>(
     found: Found,
     block: &ByteText,
 ) -> StepAnswer
-    ensures answers { (told : Told) (ask : AskOf) → ask_in ((E.seen core.old).view conn).jobs node ≡ Some ask → tree_of ask ≤ told.newest → IsFound told.trees ask found block.now → AnswersJob (E.seen core.old).terms.fresh told conn node result (E.seen core.old).view (E.seen core.old).now (E.seen core.new).view (E.seen core.new).now }
-    ensures falls { (told : Told) (ask : AskOf) → ask_in ((E.seen core.old).view conn).jobs node ≡ Some ask → IsFound told.trees ask found block.now → (E.seen core.new).left < (E.seen core.old).left }
+    ensures answers { (told : Told) (ask : AskOf) →
+        ask_in ((E.seen core.old).view conn).jobs node ≡ Some ask → tree_of ask ≤ told.newest →
+        IsFound told.trees ask found block.now →
+        AnswersJob (E.seen core.old).terms.fresh told conn node result (E.seen core.old).view
+        (E.seen core.old).now (E.seen core.new).view (E.seen core.new).now }
+    ensures falls { (told : Told) (ask : AskOf) →
+        ask_in ((E.seen core.old).view conn).jobs node ≡ Some ask →
+        IsFound told.trees ask found block.now → (E.seen core.new).left < (E.seen core.old).left }
     ensures steady { (E.seen core.new).terms ≡ (E.seen core.old).terms }
 {
     match found {
@@ -90,10 +96,13 @@ pub(crate) fn answer_job<E: EventCore>(
 ) -> Result<StepAnswer, OutOfMemory>
     requires newest { newest_of files.old ≡ (E.seen core.old).now.tree }
     requires sure { failing_of files.old ≡ [] }
-    ensures answers { IfOk result (λ a. AnswersJob (E.seen core.old).terms.fresh (told_of files.old) conn node a (E.seen core.old).view (E.seen core.old).now (E.seen core.new).view (E.seen core.new).now) }
+    ensures answers { IfOk result (λ a. AnswersJob (E.seen core.old).terms.fresh
+        (told_of files.old) conn node a (E.seen core.old).view (E.seen core.old).now
+        (E.seen core.new).view (E.seen core.new).now) }
     ensures told { told_of files.new ≡ told_of files.old }
     ensures sure { failing_of files.new ≡ [] }
-    ensures falls { OnOk result (ask_in ((E.seen core.old).view conn).jobs node ≢ None → (E.seen core.new).left < (E.seen core.old).left) }
+    ensures falls { OnOk result (ask_in ((E.seen core.old).view conn).jobs node ≢ None →
+        (E.seen core.new).left < (E.seen core.old).left) }
     ensures steady { OnOk result ((E.seen core.new).terms ≡ (E.seen core.old).terms) }
 {
     let Some(ask) = core.ask(conn, node) else {

@@ -30,8 +30,12 @@ fn change_tree<E: EventCore>(
     item: StoredItem,
 ) -> Result<StepAnswer, OutOfMemory>
     requires { newest_of files.old ≡ (E.seen core.old).now.tree }
-    ensures plain { IfOk result (λ a. ChangesTree (E.seen core.old).terms.fresh (told_of files.old) a (stage (E.seen core.old).view (E.seen core.old).now player.now.lanes.items) (stage (E.seen core.new).view (E.seen core.new).now player.now.lanes.items)) }
-    ensures told { OnOk result (told_of files.new ≡ told_next path.now (stored_item item) (told_of files.old)) }
+    ensures plain { IfOk result (λ a. ChangesTree (E.seen core.old).terms.fresh
+        (told_of files.old) a
+        (stage (E.seen core.old).view (E.seen core.old).now player.now.lanes.items)
+        (stage (E.seen core.new).view (E.seen core.new).now player.now.lanes.items)) }
+    ensures told { OnOk result (told_of files.new ≡ told_next path.now (stored_item item)
+        (told_of files.old)) }
     ensures sure { failing_of files.new ≡ failing_of files.old }
     ensures newest { OnOk result (newest_of files.new ≡ (E.seen core.new).now.tree) }
     ensures steady { (E.seen core.new).terms ≡ (E.seen core.old).terms }
@@ -57,7 +61,9 @@ fn run_line<E: EventCore>(
 ) -> Result<StepAnswer, OutOfMemory>
     requires newest { newest_of files.old ≡ (E.seen core.old).now.tree }
     requires sure { failing_of files.old ≡ [] }
-    ensures does { IfOk result (λ a. LineDoes (E.seen core.old).terms (told_of files.old) line.now a (stage (E.seen core.old).view (E.seen core.old).now player.old.lanes.items) (stage (E.seen core.new).view (E.seen core.new).now player.new.lanes.items)) }
+    ensures does { IfOk result (λ a. LineDoes (E.seen core.old).terms (told_of files.old) line.now a
+        (stage (E.seen core.old).view (E.seen core.old).now player.old.lanes.items)
+        (stage (E.seen core.new).view (E.seen core.new).now player.new.lanes.items)) }
     ensures told { OnOk result (told_of files.new ≡ told_after line.now (told_of files.old)) }
     ensures sure { OnOk result (failing_of files.new ≡ []) }
     ensures newest { OnOk result (newest_of files.new ≡ (E.seen core.new).now.tree) }
@@ -143,10 +149,20 @@ pub fn run_lines<E: EventCore>(
 ) -> Result<Counts, OutOfMemory>
     requires newest { newest_of files.old ≡ (E.seen core.old).now.tree }
     requires sure { failing_of files.old ≡ [] }
-    ensures plays { IfOk result (λ counts. Plays (E.seen core.old).terms lines.now (told_of files.old) (stage (E.seen core.old).view (E.seen core.old).now player.old.lanes.items) 0 0 (stage (E.seen core.new).view (E.seen core.new).now player.new.lanes.items) counts.skipped counts.refused) }
+    ensures plays { IfOk result (λ counts.
+        Plays (E.seen core.old).terms lines.now (told_of files.old)
+        (stage (E.seen core.old).view (E.seen core.old).now player.old.lanes.items) 0 0
+        (stage (E.seen core.new).view (E.seen core.new).now player.new.lanes.items) counts.skipped
+        counts.refused) }
     ensures told { OnOk result (told_of files.new ≡ told_in lines.now (told_of files.old)) }
-    ensures opened { OnOk result (AreOpenedBy lines.now (lane_in player.old.lanes.items) (lane_in player.new.lanes.items)) }
-    ensures stands { OnOk result ((sent : ℕ → List ℕ) → AllStanding (E.seen core.old).terms.fresh (told_of files.old) (stage (E.seen core.old).view (E.seen core.old).now player.old.lanes.items) sent → AllStanding (E.seen core.old).terms.fresh (told_in lines.now (told_of files.old)) (stage (E.seen core.new).view (E.seen core.new).now player.new.lanes.items) (λ c. sent c ++ sent_in lines.now c)) }
+    ensures opened { OnOk result (AreOpenedBy lines.now (lane_in player.old.lanes.items)
+        (lane_in player.new.lanes.items)) }
+    ensures stands { OnOk result ((sent : ℕ → List ℕ) →
+        AllStanding (E.seen core.old).terms.fresh (told_of files.old)
+        (stage (E.seen core.old).view (E.seen core.old).now player.old.lanes.items) sent →
+        AllStanding (E.seen core.old).terms.fresh (told_in lines.now (told_of files.old))
+        (stage (E.seen core.new).view (E.seen core.new).now player.new.lanes.items)
+        (λ c. sent c ++ sent_in lines.now c)) }
 {
     let mut counts = Counts {
         skipped: 0,

@@ -63,7 +63,8 @@ pub(crate) fn change(
     item: StoredItem,
 ) -> Result<(), OutOfMemory>
     requires { newest_of files.old < 2 ^ 64 - 1 }
-    ensures told { OnOk result (told_of files.new ≡ told_next path.now (stored_item item) (told_of files.old)) }
+    ensures told { OnOk result (told_of files.new ≡ told_next path.now (stored_item item)
+        (told_of files.old)) }
     ensures sure { failing_of files.new ≡ failing_of files.old }
 {
     let path = ByteText::from_slice(alloc, path)?;

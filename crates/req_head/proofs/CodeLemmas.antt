@@ -1,7 +1,8 @@
 -- What single functions rest on.
-use Rattle.std.proofs.Common.{◌≡◌, ℕ, zero, suc, ◌+◌, ◌-◌, ◌*◌, ◌^◌, ◌<◌, ◌≤◌, ◌⊎◌, inl, inr, min, Bool, true, false, not, ◌&&◌, ◌||◌, cond, eqb, leb, List, [], ◌∷◌, ◌++◌, length, take, drop, get_or, Option, Some, None, refl, sym, ap, ◌∙◌, subst, arith, append-nil, lit<}
+use Rattle.std.proofs.Common.{◌≡◌, ℕ, zero, suc, ◌+◌, ◌-◌, ◌*◌, ◌^◌, ◌<◌, ◌≤◌, ◌⊎◌, inl, inr, min, Bool, true, false, not, ◌&&◌, ◌||◌, cond, eqb, leb, List, [], ◌∷◌, ◌++◌, length, take, drop, get_or, Option, Some, None, refl, sym, ap, ◌∙◌, subst, arith, append-nil, length-drop, lit<}
 use Rattle.std.specs.List.{list_all, list_any}
-use Rattle.std.proofs.lemmas.List.{take_all, take_more, drop_more, take-append-drop}
+use Rattle.std.proofs.lemmas.List.{take_all, take_more, drop_more, take-append-drop, get_or-drop}
+use Rattle.memchr.specs.Find.{Nowhere, NoneAfter, Passes, is_byte}
 use Rattle.std.proofs.lemmas.Bool.{and_parts, and_from, cases_lt, not-true, true≢false, leb-true, lt-ltb}
 use Rattle.std.proofs.Math.Nat.{pow-suc, pow-le-pow_right}
 use Rattle.std.proofs.lemmas.Int.Digits.{digits_value_more}
@@ -53,18 +54,27 @@ end_here xs i h lf none =
     let whole : xs ≡ (take i xs ++ 10 ∷ []) ++ drop (i + 1) xs = sym (take-append-drop (i + 1) xs) ∙ ap (λ z. z ++ drop (i + 1) xs) e in
     e ∙ sym (ap whole_lines whole ∙ whole_lines-through (take i xs) (drop (i + 1) xs) none)
 
-abbrev EndsAt : List ℕ → ℕ → Type 0
-EndsAt xs n = get_or xs (n - 1) 0 ≡ 10 → list_all is_no_lf (drop n xs) ≡ true → take n xs ≡ whole_lines xs
+-- no line feed is among bytes of which none passes
+none_passes : (xs : List ℕ) → ((k : ℕ) → k < length xs → get_or xs k 0 ≡ 10 → ⊥) → list_all is_no_lf xs ≡ true
+none_passes [] h = refl
+none_passes (x ∷ xs) h = both (eqb x 10) refl (none_passes xs (λ k lt. h (suc k) (omega (arith, lt))))
+  where
+    both : (t : Bool) → eqb x 10 ≡ t → list_all is_no_lf xs ≡ true → (not t && list_all is_no_lf xs) ≡ true
+    both true e rest = absurd (h 0 (omega arith) (grind (arith, nat_tests)))
+    both false e rest = rest
 
-pub end_at : (xs : List ℕ) (n : ℕ) → 0 < n → n ≤ length xs → EndsAt xs n
-end_at xs zero h l = absurd (omega arith)
-end_at xs (suc n) h l = λ lf none.
-    let e : suc n ≡ n + 1 = omega arith in
-    let m : suc n - 1 ≡ n = omega arith in
-    ap (λ z. take z xs) e ∙ end_here xs n (omega arith) (ap (λ z. get_or xs z 0) (sym m) ∙ lf) (ap (λ z. list_all is_no_lf (drop z xs)) (sym e) ∙ none)
+after_passes : (xs : List ℕ) (n : ℕ) → Nowhere (Passes (is_byte 10) xs) n (length xs) → list_all is_no_lf (drop n xs) ≡ true
+after_passes xs n none =
+    none_passes (drop n xs) (λ k lt e.
+    let size : length (drop n xs) ≡ length xs - n = length-drop n xs in
+    let at : n + k < length xs = omega (arith, lt, size) in
+    none (n + k) (omega arith) at (let q : get_or xs (n + k) 0 ≡ 10 = sym (get_or-drop n xs k 0) ∙ e in grind (arith, nat_tests)))
 
-pub end_nowhere : (xs : List ℕ) (n : ℕ) → n ≤ 0 → list_all is_no_lf (drop n xs) ≡ true → [] ≡ whole_lines xs
-end_nowhere xs n h none = let e : n ≡ 0 = omega arith in sym (whole_lines-none xs (ap (λ z. list_all is_no_lf (drop z xs)) (sym e) ∙ none))
+pub end_after : (xs : List ℕ) (i : ℕ) → NoneAfter (Passes (is_byte 10) xs) 0 (length xs) i → Passes (is_byte 10) xs i → take (i + 1) xs ≡ whole_lines xs
+end_after xs i n p = end_here xs i n.high (let q : eqb (get_or xs i 0) 10 ≡ true = p in grind (arith, nat_tests)) (after_passes xs (i + 1) n.after)
+
+pub end_nowhere_after : (xs : List ℕ) → Nowhere (Passes (is_byte 10) xs) 0 (length xs) → [] ≡ whole_lines xs
+end_nowhere_after xs none = sym (whole_lines-none xs (after_passes xs 0 none))
 
 -- one more byte at the front of the rest
 pub front_passes : (p : ℕ → Bool) (xs : List ℕ) (i : ℕ) → i < length xs → p (get_or xs i 0) ≡ true → list_all p (drop (i + 1) xs) ≡ true → list_all p (drop i xs) ≡ true

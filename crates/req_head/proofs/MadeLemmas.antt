@@ -25,7 +25,7 @@ use Rattle.http_types.specs.declared.words.Version.{Version}
 use Rattle.http_types.specs.declared.words.BodyKind.{BodyKind}
 use Rattle.http_types.specs.declared.words.BodyKind.TheVariants.{Chunked}
 use Rattle.req_head.specs.Lines.{print_line, lines, whole_lines}
-use Rattle.req_head.specs.Reading.{Reading, Whole, read_request}
+use Rattle.req_head.specs.Reading.{Reading, Whole, Short, read_request}
 use Rattle.req_head.specs.FirstLine.{asks_head}
 use Rattle.req_head.specs.Fields.{with_fields, fields_of}
 use Rattle.req_head.specs.Host.{host_of, without_port, named_host}
@@ -33,7 +33,7 @@ use Rattle.req_head.specs.Heads.{method_of, version_of, body_of, body_by_length,
 use Rattle.req_head.specs.Step.{looked, tested, step_of, head_step}
 use Rattle.req_head.specs.declared.head.Head.{Head as HeadParts}
 use Rattle.req_head.specs.declared.head.HeadStep.{HeadStep}
-use Rattle.req_head.specs.declared.head.HeadStep.TheVariants.{Head, Bad}
+use Rattle.req_head.specs.declared.head.HeadStep.TheVariants.{More, Head, Bad}
 use Rattle.req_head.proofs.LineLemmas.{lines-whole_lines, whole_lines-is}
 use Rattle.req_head.proofs.ScanLemmas.{count_is, length-whole_lines}
 
@@ -103,6 +103,15 @@ pub decided_by : (bytes seen text : List ℕ) (r : Reading RequestHead) (step : 
 decided_by bytes seen text r step es et er e =
     e ∙ ap (step_of seen) (sym er ∙ ap (λ z. read_request (lines z)) et ∙ ap read_request (lines-whole_lines seen))
     ∙ ap (λ z. step_of z (read_request (lines z))) es ∙ sym (decided-is bytes)
+
+pub empty-short : read_request (lines []) ≡ Short
+unfolding read_request lines
+empty-short = refl
+
+pub empty-more : (bytes : List ℕ) → length bytes ≡ 0 → More ≡ head_step bytes
+unfolding whole_lines lines looked
+empty-more [] e = decided_by [] (looked []) (whole_lines (looked [])) Short More refl refl empty-short refl
+empty-more (b ∷ bytes) e = absurd (omega arith)
 
 pub ok_map : {A E : Type 0} (r : Result A E) (P Q : A → Type 0) → ((a : A) → P a → Q a) → IfOk r P → IfOk r Q
 ok_map (Ok a) P Q f h = f a h

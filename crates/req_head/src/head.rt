@@ -155,14 +155,8 @@ fn read_long(alloc: Global, seen: &[u8], text: &[u8]) -> Result<HeadStep, OutOfM
     }
 }
 
-/// Reads the head of a request at the front of the bytes that a connection holds.
-///
-/// Looks at no more than 8192 bytes, and parses only those up to the last line feed.
-///
-/// # Errors
-///
-/// Want of memory alone.
-pub fn read_head(alloc: Global, bytes: &[u8]) -> Result<HeadStep, OutOfMemory>
+// Reads a head where some bytes are held.
+fn read_lines(alloc: Global, bytes: &[u8]) -> Result<HeadStep, OutOfMemory>
     ensures { IfOk result (λ step. step ≡ head_step bytes.now) }
 {
     let seen = seen_of(bytes);
@@ -174,4 +168,21 @@ pub fn read_head(alloc: Global, bytes: &[u8]) -> Result<HeadStep, OutOfMemory>
         Scan::Whole(spans) => test_head(alloc, seen, text, &slots, &spans),
         Scan::NoRoom => read_long(alloc, seen, text),
     }
+}
+
+/// Reads the head of a request at the front of the bytes that a connection holds.
+///
+/// Looks at no more than 8192 bytes, and parses only those up to the last line feed.
+///
+/// # Errors
+///
+/// Want of memory alone.
+pub fn read_head(alloc: Global, bytes: &[u8]) -> Result<HeadStep, OutOfMemory>
+    ensures { IfOk result (λ step. step ≡ head_step bytes.now) }
+{
+    if bytes.is_empty() {
+        return Ok(HeadStep::More);
+    }
+    let step = read_lines(alloc, bytes)?;
+    Ok(step)
 }

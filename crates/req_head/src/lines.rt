@@ -6,6 +6,8 @@ ghost use Rattle.req_head.specs.FirstLine.{asks_head, begins_with};
 ghost use Rattle.req_head.specs.Step.{looked, head_step};
 ghost use Rattle.req_head.specs.declared.head.HeadStep.TheVariants.{More};
 
+use memchr::memrchr;
+
 /// So many bytes of a connection's input are looked at.
 pub(crate) const LIMIT: usize = 8192;
 
@@ -31,14 +33,10 @@ fn lines_end(seen: &[u8]) -> usize
     ensures within { result ≤ length seen.now }
     ensures lines { take result seen.now ≡ whole_lines seen.now }
 {
-    let mut end = seen.len();
-    while end > 0 {
-        if seen[end - 1] == b'\n' {
-            return end;
-        }
-        end -= 1;
+    match memrchr(b'\n', seen) {
+        Some(at) => at + 1,
+        None => 0,
     }
-    0
 }
 
 /// The bytes up to the last line feed.

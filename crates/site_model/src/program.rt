@@ -1,8 +1,8 @@
 // Rewrite programs (nginx's rewrite module).
-ghost use Rattle.std.specs.Prelude.{◌≡◌, List, []};
+ghost use Rattle.std.specs.Prelude.{◌≡◌, ◌∷◌, ◌++◌, List, [], OnOk, OnErr};
 ghost use Rattle.site_model.specs.declared.program.RewriteStep.{RewriteStep as Step};
 
-use byte_text::ByteText;
+use byte_text::{ByteText, OutOfMemory};
 use ngx_variables::{Piece, Value};
 use std::alloc::Global;
 use std::marker::Model;
@@ -81,6 +81,15 @@ impl Program {
         Program {
             steps: Vec::new(alloc),
         }
+    }
+
+    /// Adds a directive behind those that are there.
+    pub fn push(&mut self, step: RewriteStep) -> Result<(), OutOfMemory>
+        ensures ok { OnOk result (self.new ≡ self.old ++ step ∷ []) }
+        ensures err { OnErr result (self.new ≡ self.old) }
+    {
+        self.steps.push(step)?;
+        Ok(())
     }
 
     pub fn as_slice(&self) -> &[RewriteStep]

@@ -1,10 +1,10 @@
 -- What became of each link that was served.
-use Rattle.std.proofs.Common.{◌≡◌, ◌≢◌, ℕ, ◌≤◌, Bool, true, false, ◌&&◌, List, [], ◌∷◌, ◌++◌, map, flat_map, None, refl, sym, ap, ◌∙◌, subst, arith}
+use Rattle.std.proofs.Common.{◌≡◌, ◌≢◌, ℕ, ◌≤◌, Bool, true, false, ◌&&◌, ◌||◌, List, [], ◌∷◌, ◌++◌, map, flat_map, None, refl, sym, ap, ◌∙◌, subst, arith}
 use Rattle.std.specs.Prelude.{is_none}
 use Rattle.ngx_outside.specs.Causes.{Rose}
 use Rattle.ngx_outside.specs.Linked.{LinkView}
 use Rattle.ngx_outside.specs.Views.{ConnView, Course, IsSound, is_idle, is_live, no_bytes, no_nodes, no_jobs}
-use Rattle.ngx_outside.specs.Runs.{AllIsSentWhenIdle}
+use Rattle.ngx_outside.specs.Runs.{AllIsSentWhenIdle, ShutIsExact}
 use Rattle.ngx_outside.specs.declared.event.StopCause.{StopCause}
 use Rattle.ngx_outside.specs.declared.event.StopCause.TheVariants as stop
 use Rattle.ngx_outside.specs.Seen.{FilesSeen, Terms}
@@ -28,6 +28,11 @@ rose_since before later now le rose = omega arith
 pub never : {A : Type 0} (b : Bool) → b ≡ true → b ≡ false → A
 never true e f = absurd (let g : true ≡ false = f in cc)
 never false e f = absurd (let g : false ≡ true = e in cc)
+
+-- where neither holds the second doesn't
+second : (a b : Bool) → (a || b) ≡ false → b ≡ false
+second true b e = cc
+second false b e = e
 
 -- what a cause comes of, by something weaker
 weaker : {L F R H L' F' R' H' : Type 0} (T : Type 0) → (L → L') → (F → F') → (R → R') → (H → H') → (cause : StopCause) → Behind L F R H T cause → Behind L' F' R' H' T cause
@@ -65,13 +70,13 @@ reason_since terms l r (NobodyAnswers h) = NobodyAnswers h
 reason_since terms l r (NoPlaceLeft h) = NoPlaceLeft h
 reason_since terms l r (NoMemory h) = NoMemory (r h)
 
-pub became : AllIsSentWhenIdle → ClosedUnstoppedSentAll → ClosedUnendedSentAll → (site : Site) (o : Outside) (rests : Type 0) (ticks : List Tick) (before id : ℕ) (v : ConnView) → IsSound v →
+pub became : AllIsSentWhenIdle → ShutIsExact → ClosedUnstoppedSentAll → ClosedUnendedSentAll → (site : Site) (o : Outside) (rests : Type 0) (ticks : List Tick) (before id : ℕ) (v : ConnView) → IsSound v →
     (rests → v.held ≡ true → AtRest (Unit {0}) (Unit {0}) v (o.links'.link id)) → o.links'.used id ≡ true →
     Stands (Rose (o.links.link_faults id) (o.links'.link_faults id)) (Rose o.files.faults o.files'.faults) (Rose before o.links'.refused) (site_terms site) (fresh_course site) o.files' ticks v (o.links'.link id) (o.links'.used id) (o.links'.is_open id) →
     Became site o rests ticks id
-became idle_sent closed_sent unended_sent site o rests ticks before id v sound at used (Unused held shut unused) = never (o.links'.used id) used unused
-became idle_sent closed_sent unended_sent site o rests ticks before id v sound at used (TurnedAway held shut taken sent why) = WasTurnedAway shut taken sent (reason_since (site_terms site) (o.links'.link id) (rose_since 0 before o.links'.refused (omega arith)) why)
-became idle_sent closed_sent unended_sent site o rests ticks before id v sound at used (Open held is a) = Served (record {
+became idle_sent shut_exact closed_sent unended_sent site o rests ticks before id v sound at used (Unused held shut unused) = never (o.links'.used id) used unused
+became idle_sent shut_exact closed_sent unended_sent site o rests ticks before id v sound at used (TurnedAway held shut taken sent why) = WasTurnedAway shut taken sent (reason_since (site_terms site) (o.links'.link id) (rose_since 0 before o.links'.refused (omega arith)) why)
+became idle_sent shut_exact closed_sent unended_sent site o rests ticks before id v sound at used (Open held is a) = Served (record {
   last = v;
   sound = sound;
   front = λ trees agree. a.tracked.front refl trees agree;
@@ -81,6 +86,11 @@ became idle_sent closed_sent unended_sent site o rests ticks before id v sound a
       let r : AtRest (Unit {0}) (Unit {0}) v (o.links'.link id) = at resting held in
       idle_sent (fresh_course site (o.links'.link id).local (o.links'.link id).peer) o.files'.trees o.files'.newest v (o.links'.link id).taken (o.links'.link id).sent a.tracked sound
       (idle v (live v held none) (written (Unit {0}) v (o.links'.link id) r room) r.ready r.jobs) refl trees agree later;
+  stays = λ none was resting room trees agree later.
+      let r : AtRest (Unit {0}) (Unit {0}) v (o.links'.link id) = at resting held in
+      second (v.ended) _
+      (sym (shut_exact (fresh_course site (o.links'.link id).local (o.links'.link id).peer) o.files'.trees o.files'.newest v (o.links'.link id).taken (o.links'.link id).sent a.tracked sound
+      (idle v (live v held none) (written (Unit {0}) v (o.links'.link id) r room) r.ready r.jobs) refl trees agree later) ∙ r.shut);
   read = λ none was resting room.
       let r : AtRest (Unit {0}) (Unit {0}) v (o.links'.link id) = at resting held in
       r.read tt (sound.reads (idle v (live v held none) (written (Unit {0}) v (o.links'.link id) r room) r.ready r.jobs) r.shut);
@@ -89,7 +99,7 @@ became idle_sent closed_sent unended_sent site o rests ticks before id v sound a
   shut = λ cause e resting. never v.shut (sound.stopped cause held e) (at resting held).shut;
   left = λ resting was. at resting held;
 })
-became idle_sent closed_sent unended_sent site o rests ticks before id v sound at used (Closed last held shut sound' closing a) = Served (record {
+became idle_sent shut_exact closed_sent unended_sent site o rests ticks before id v sound at used (Closed last held shut sound' closing a) = Served (record {
   last = last;
   sound = sound';
   front = λ trees agree. a.tracked.front refl trees agree;
@@ -100,6 +110,7 @@ became idle_sent closed_sent unended_sent site o rests ticks before id v sound a
       unended_sent whole o.files' ticks last (o.links'.link id).taken (o.links'.link id).sent
       (subst (λ t. Account (Unit {0}) (Unit {0}) (Unit {0}) whole o.files' ticks last (o.links'.link id).taken (o.links'.link id).sent t) unended (bare a)) sound' closing none refl trees agree more later;
   rested = λ none was resting room. never (o.links'.is_open id) was shut;
+  stays = λ none was resting room. never (o.links'.is_open id) was shut;
   read = λ none was resting room. never (o.links'.is_open id) was shut;
   stopped = λ cause e. weaker ((fresh_course site (o.links'.link id).local (o.links'.link id).peer).timed ≡ true) (λ l. l) (λ f. f) (rose_since 0 before o.links'.refused (omega arith)) (λ h. h refl) cause (a.cause cause e);
   dated = a.dated;

@@ -6,7 +6,7 @@ ghost use Rattle.site_service.specs.Serving.{AreNew, Outside, Serving};
 use byte_text::OutOfMemory;
 use connection_core::{Hub, cores_are_sound};
 use http_types::Addr;
-use ngx_outside::{Clock, Files, Links, all_is_sent_when_idle};
+use ngx_outside::{Clock, Files, Links, all_is_sent_when_idle, shut_is_exact};
 use ready_loop::{Ending, closed_unended_sent_all, closed_unstopped_sent_all, kept_begins, serve};
 use site_model::{Server, Site};
 use std::alloc::Global;
@@ -42,16 +42,19 @@ pub fn serve_site<F: Files, L: Links, C: Clock>(
     })) }
     ensures grown { OnOk result ((F.seen files.old).newest ≤ (F.seen files.new).newest) }
     ensures ended { result ≡ Ok Ending.Ended → (L.seen links.new).over ≡ true }
-    ensures listen_fault { result ≡ Ok Ending.ListenFault → Rose (L.seen links.old).faults (L.seen links.new).faults }
-    ensures next_fault { result ≡ Ok Ending.NextFault → Rose (L.seen links.old).faults (L.seen links.new).faults }
+    ensures listen_fault { result ≡ Ok Ending.ListenFault →
+        Rose (L.seen links.old).faults (L.seen links.new).faults }
+    ensures next_fault { result ≡ Ok Ending.NextFault →
+        Rose (L.seen links.old).faults (L.seen links.new).faults }
 {
     kept_begins();
     closed_unstopped_sent_all();
     closed_unended_sent_all();
     all_is_sent_when_idle();
+    shut_is_exact();
     cores_are_sound();
     let addrs = addresses(alloc, site.servers.as_slice())?;
-    let mut hub = Hub::new(alloc, site)?;
+    let mut hub = Hub::new(alloc, site);
     let ending = serve(
         alloc,
         &mut hub,

@@ -55,8 +55,9 @@ use Rattle.site_views.specs.Views.ServerName.{Whole, Ending, Beginning, WithSubd
 
 -- ---- what is named by a number
 
+-- a number that no pattern has: a text that is no UTF-8, which nothing matches
 abbrev pub no_pattern : Pattern
-no_pattern = record { text = []; nocase = false }
+no_pattern = record { text = 0xFF ∷ []; nocase = false }
 
 abbrev pub pattern_at : List Pattern → ℕ → Pattern
 pattern_at patterns number = unwrap_or (slice_get patterns number) no_pattern

@@ -34,8 +34,10 @@ pub struct Ready {
 pub struct Mark {
     /// Its last write found no room.
     pub full: bool,
-    /// It is to be reported readable again.
+    /// It is to be reported again.
     pub again: bool,
+    /// It had its share of a turn, so that it is to be reported writable where nothing is there to be read.
+    pub paused: bool,
     /// Its last read took all that was there, and no event of it was reported since.
     pub drained: bool,
     /// An event said that its peer sends no more.
@@ -47,6 +49,7 @@ pub struct Mark {
 pub const UNMARKED: Mark = Mark {
     full: false,
     again: false,
+    paused: false,
     drained: false,
     closed: false,
     ended: false,
@@ -154,7 +157,7 @@ pub fn notice_of(
     Notice::Readable { id }
 }
 
-/// A link that is to be reported readable again.
+/// A link that is to be reported again.
 pub fn again_of(links: &[Option<Link>], marks: &mut [Mark], id: u32) -> Notice
     ensures { IsReport result links.now }
 {
@@ -167,10 +170,32 @@ pub fn again_of(links: &[Option<Link>], marks: &mut [Mark], id: u32) -> Notice
         id,
         Mark {
             again: false,
+            paused: false,
             ..mark
         },
     );
+    if mark.paused && mark.drained {
+        return Notice::Writable { id };
+    }
     Notice::Readable { id }
+}
+
+/// Has a link reported again, once, that had its share of this turn.
+pub fn pause(marks: &mut [Mark], again: &mut VecDeque<u32>, id: u32) {
+    let mark = mark_of(marks, id);
+    set_mark(
+        marks,
+        id,
+        Mark {
+            again: true,
+            paused: true,
+            ..mark
+        },
+    );
+    if !mark.again {
+        // Room for it was made before.
+        let _kept = again.push_back(id);
+    }
 }
 
 /// Keeps the events of links, and wakes the listeners of others.

@@ -8,7 +8,7 @@ ghost use Rattle.socket_links.specs.Slots.{GoesOn, OpensIn, open_in, untold, use
 use crate::bind::{is_covered, listen_on};
 use crate::closing::ClosingLinks;
 use crate::notices::{
-    Listener, Mark, Ready, UNMARKED, again_of, collect, end_input, mark_of, notice_of,
+    Listener, Mark, Ready, UNMARKED, again_of, collect, end_input, mark_of, notice_of, pause,
     ready_listener, report_again, retry, set_mark, token_of,
 };
 use crate::slots::{
@@ -18,7 +18,7 @@ use byte_text::OutOfMemory;
 use http_types::Addr;
 use mio::net::TcpListener;
 use mio::{Events, Interest, Poll, Token};
-use ngx_outside::{Failed, Input, Links, Notice, Output, Want};
+use ngx_outside::{Failed, Input, Links, Notice, Output};
 use std::alloc::{AllocError, Global};
 use std::collections::VecDeque;
 use std::io;
@@ -32,6 +32,10 @@ const EVENTS: usize = 256;
 const NOTICES: u32 = 64;
 
 const ACCEPTS: u32 = 4;
+
+// So many bytes are written between two notices, or a few more: then the other links come first, so that one that takes all
+// that it is sent lets none wait for long.
+const SHARE: usize = 262144;
 
 /// Why an address isn't listened on.
 #[derive(Clone, Copy)]
@@ -68,6 +72,7 @@ pub struct SocketLinks<'a, R> {
     batch: Vec<Ready>,
     again: VecDeque<u32>,
     notices: u32,
+    written: usize,
     faults: u64,
     link_faults: u64,
     refused: u64,
@@ -184,6 +189,7 @@ impl<'a, R: Net + Ticks> SocketLinks<'a, R> {
             batch: Vec::with_capacity(alloc, 2 * EVENTS)?,
             again: VecDeque::with_capacity(alloc, SLOTS as usize)?,
             notices: 0,
+            written: 0,
             faults: 0,
             link_faults: 0,
             refused: 0,
@@ -460,7 +466,8 @@ impl<R: Net + Ticks> Links for SocketLinks<'_, R> {
         }
     }
 
-    fn next(&mut self, _wants: &[Want]) -> Notice {
+    fn next(&mut self) -> Notice {
+        self.written = 0;
         match self.reported() {
             Some(notice) => notice,
             None => self.wait(),
@@ -498,8 +505,17 @@ impl<R: Net + Ticks> Links for SocketLinks<'_, R> {
     }
 
     fn write(&mut self, id: u32, bytes: &[u8]) -> Output {
+        if self.written >= SHARE && self.again.reserve(1).is_ok() {
+            pause(self.marks.as_mut_slice(), &mut self.again, id);
+            // The poll is asked before any link goes on.
+            self.notices = NOTICES;
+            return Output::NotYet;
+        }
         match write_at(self.links.as_slice(), id, bytes) {
-            Output::Put(count) => Output::Put(count),
+            Output::Put(count) => {
+                self.written = self.written.saturating_add(count);
+                Output::Put(count)
+            }
             Output::NotYet => {
                 let mark = mark_of(self.marks.as_slice(), id);
                 set_mark(self.marks.as_mut_slice(), id, Mark { full: true, ..mark });

@@ -4,6 +4,3 @@
 mod filter;
 
 pub use filter::SsiFilter;
-
-#[cfg(test)]
-mod tests;

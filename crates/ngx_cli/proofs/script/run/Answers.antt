@@ -17,14 +17,14 @@ pub returns : goal.returns
 returns c =
     let site = c.args.site in
     let events = c.args.events.now in
-    let hub = c.in_ok-hub.hub in
+    let hub = c.new-hub.result in
     let files = c.in_ok-files.files in
     let told : told_of files ≡ told_first c.args.tree.now = c.in_ok-files.ensures.told in
     let end = c.run_lines.new.core in
     let counts = c.in_ok-counts.counts in
     let first : Stage = stage (view_at hub) (now_at hub) c.new-player.result.lanes.items in
     let last : Stage = stage (view_at end) (now_at end) c.run_lines.new.player.lanes.items in
-    let new : IsNew first = record { view = c.in_ok-hub.ensures.empty; now = c.in_ok-hub.ensures.now; lanes = c.new-player.ensures } in (
+    let new : IsNew first = record { view = c.new-hub.ensures.empty; now = c.new-hub.ensures.now; lanes = c.new-player.ensures } in (
       run_text (map (report_in last (journal_at end)) (conns_held end)) counts.skipped counts.refused,
       c.in_ok-put_run.ensures.text,
       record {
@@ -34,7 +34,7 @@ returns c =
         refused = counts.refused;
         begins = new;
         plays = subst (λ t. Plays (site_terms site) events t first 0 0 last counts.skipped counts.refused) told
-            (subst (λ (m : Terms). Plays m events (told_of files) first 0 0 last counts.skipped counts.refused) c.in_ok-hub.ensures.terms c.in_ok-counts.ensures.plays);
+            (subst (λ (m : Terms). Plays m events (told_of files) first 0 0 last counts.skipped counts.refused) c.new-hub.ensures.terms c.in_ok-counts.ensures.plays);
         conns = conns_held end;
         held = c.put_run.ensures.held;
         journals = journal_at end;
@@ -42,11 +42,11 @@ returns c =
         logged = λ q. (c.cores_are_sound.ensures end q).logged;
         opened = opened_by_lines events first last.lanes new c.in_ok-counts.ensures.opened;
         printed = refl;
-        answered = λ q among. answered c.all_is_sent_when_idle.ensures c.all_is_sent_when_shut.ensures c.all_is_logged_when_idle.ensures site (told_in events (told_first c.args.tree.now)) (last.view q) (last.lanes q) (sent_in events q) ((c.put_run.ensures.held.held q).0 among) (c.cores_are_sound.ensures end q).sound (c.cores_are_sound.ensures end q).exact
+        answered = λ q among. answered c.all_is_sent_when_idle.ensures c.all_is_sent_when_shut.ensures c.shut_is_exact.ensures c.all_is_logged_when_idle.ensures site (told_in events (told_first c.args.tree.now)) (last.view q) (last.lanes q) (sent_in events q) ((c.put_run.ensures.held.held q).0 among) (c.cores_are_sound.ensures end q).sound (c.cores_are_sound.ensures end q).exact
             (subst (λ t. AllStanding (fresh_course site) (told_in events t) last (λ k. sent_in events k)) told
-            (subst (λ (m : Terms). AllStanding m.fresh (told_in events (told_of files)) last (λ k. sent_in events k)) c.in_ok-hub.ensures.terms (c.in_ok-counts.ensures.stands (λ k. []) (begins_standing (fresh_at hub) (told_of files) first new))) q);
+            (subst (λ (m : Terms). AllStanding m.fresh (told_in events (told_of files)) last (λ k. sent_in events k)) c.new-hub.ensures.terms (c.in_ok-counts.ensures.stands (λ k. []) (begins_standing (fresh_at hub) (told_of files) first new))) q);
       },
     )
 
 pub run_lines-requires-clause-newest : goal.run_lines-requires-clause-newest
-run_lines-requires-clause-newest c = ap (λ (t : Told). t.newest) c.in_ok-files.ensures.told ∙ sym (ap (λ (s : Start). s.tree) c.in_ok-hub.ensures.now)
+run_lines-requires-clause-newest c = ap (λ (t : Told). t.newest) c.in_ok-files.ensures.told ∙ sym (ap (λ (s : Start). s.tree) c.new-hub.ensures.now)

@@ -1,4 +1,4 @@
-use Rattle.memory_outside.specs.Core.{events_of}
+use Rattle.telling_core.specs.Core.{events_of}
 use Rattle.memory_outside.specs.Told.{answers_of}
 use Rattle.ngx_outside.specs.Records.{beside_link}
 use Rattle.ready_loop.specs.Tellings.{of_link}

@@ -1,9 +1,9 @@
 use Rattle.std.proofs.Common.{◌≡◌, ◌∙◌, true, false, sym, ap, subst, arith, get_or}
 use Rattle.std.specs.Prelude.{nat_eq}
-use Rattle.std.specs.List.{All, list_any}
+use Rattle.std.specs.List.{Contains, list_any}
 use Rattle.std.proofs.lemmas.List.{take_all}
 use Rattle.ngx_outside.specs.Views.{Start}
-use Rattle.ready_loop.specs.Turns.{IsHeard, IsHeardBut, conn_of}
+use Rattle.ready_loop.specs.Turns.{IsHeard, IsHeardBut}
 use Rattle.ready_loop.proofs.RestLemmas.{rest_served, rest_listed, apart_at, heard_all}
 use Rattle.ready_loop.proofs.BesideLemmas.{stand_then}
 use Rattle.ready_loop.proofs.conns.serve_all.Goals as goal
@@ -45,7 +45,8 @@ returns-clause-rests g c = λ d held.
     let k = g.L.Links in
     let i = c.loop-conn.invariant in
     let conns = c.as_slice-conn-items.result.now in
+    let whole : conns ≡ (e.seen c.args.core.now).conns = c.as_slice-conn-items.ensures.value ∙ c.in_ok-list.ensures ∙ c.conns.ensures.conns in
     rest_listed (((k.seen c.args.links.now).tells ≡ true) × IsHeard (k.seen c.args.links.now).is_open (k.seen c.args.links.now).link c.args.memory.now.unread) ((k.seen c.args.links.now).tells ≡ true)
-    conns c.wants.result.now (e.seen c.args.core.now).conns (e.seen c.args.core.now).view (e.seen c.loop-conn.core).view (k.seen c.loop-conn.links).link d
-    c.wants.ensures.wants (λ h. (c.wants.ensures.held d).1 h) (subst (λ xs. All (λ w. list_any (nat_eq (conn_of w)) xs ≡ true) c.wants.result.now) (sym c.as_slice-conn-items.ensures.value) c.in_ok-list_conns.ensures)
+    conns (e.seen c.args.core.now).view (e.seen c.loop-conn.core).view (k.seen c.loop-conn.links).link d
+    (λ h. subst (λ xs. Contains xs d) (sym whole) ((c.conns.ensures.held d).1 h))
     (λ listed. i.rested d (subst (λ xs. list_any (nat_eq d) xs ≡ true) (sym (take_all c.loop-conn.conn-index conns (omega arith))) listed) held) (i.same d) held

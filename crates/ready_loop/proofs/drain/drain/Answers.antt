@@ -1,13 +1,20 @@
-use Rattle.std.proofs.Common.{◌≡◌, ◌∙◌, true, false, refl, ap, subst, arith}
-use Rattle.std.specs.List.{All}
+use Rattle.std.proofs.Common.{◌≡◌, ◌∙◌, true, false, refl, sym, ap, arith}
 use Rattle.ngx_outside.specs.Views.{Start}
-use Rattle.ready_loop.specs.Turns.{doable}
-use Rattle.ready_loop.proofs.WantLemmas.{is_wanted}
+use Rattle.ngx_outside.specs.Wants.{wants_at, doable}
+use Rattle.ready_loop.proofs.WantLemmas.{is_wanted, first_there, first_can, none_can}
 use Rattle.ready_loop.proofs.BesideLemmas.{stand_none, stand_then}
 use Rattle.ready_loop.proofs.drain.drain.Goals as goal
 
 pub serve_want-requires-clause-wanted : goal.serve_want-requires-clause-wanted
-serve_want-requires-clause-wanted g c = is_wanted c.args.conn ((g.E.EventCore.seen c.loop-want.core).view c.args.conn) c.wants_of.result.now c.in-Some.want c.wants_of.ensures.wants c.in-Some.ensures.found.0
+serve_want-requires-clause-wanted g c =
+    let v = (g.E.EventCore.seen c.loop-want.core).view c.args.conn in
+    is_wanted c.args.conn v c.in-Some.want
+    (first_there c.loop-want.ready.due c.loop-want.ready.full (wants_at c.args.conn v) c.in-Some.want (sym c.next_want.ensures.want ∙ c.in-Some.is))
+
+pub serve_want-requires-clause-doable : goal.serve_want-requires-clause-doable
+serve_want-requires-clause-doable g c =
+    first_can c.loop-want.ready.due c.loop-want.ready.full (wants_at c.args.conn ((g.E.EventCore.seen c.loop-want.core).view c.args.conn)) c.in-Some.want
+    (sym c.next_want.ensures.want ∙ c.in-Some.is)
 
 pub loop-want-preserved : goal.loop-want-preserved
 loop-want-preserved g c =
@@ -39,7 +46,7 @@ pub returns-clause-rests : goal.returns-clause-rests
 returns-clause-rests g c = record {
   full = c.loop-want.ready.full;
   told = c.loop-want.invariant.full;
-  none = subst (All (λ w. doable c.loop-want.ready.due c.loop-want.ready.full w ≡ false)) c.wants_of.ensures.wants c.in_default.ensures.none;
+  none = none_can c.loop-want.ready.due c.loop-want.ready.full (wants_at c.args.conn ((g.E.EventCore.seen c.loop-want.core).view c.args.conn)) (sym c.next_want.ensures.want ∙ c.in_default.is);
 }
 
 pub loop-want-init : goal.loop-want-init

@@ -1,5 +1,7 @@
-use Rattle.std.proofs.Common.{◌≡◌, ◌∙◌, true, refl}
-use Rattle.ready_loop.specs.Turns.{DueHasWants, IsHeard}
+use Rattle.std.proofs.Common.{◌≡◌, ◌∙◌, true, refl, subst}
+use Rattle.std.specs.List.{All}
+use Rattle.ready_loop.specs.Ids.{has}
+use Rattle.ready_loop.specs.Turns.{IsHeard}
 use Rattle.ready_loop.proofs.RestLemmas.{rest_same, heard_at_start}
 use Rattle.ready_loop.specs.Tellings.{moments_told}
 use Rattle.ready_loop.proofs.BesideLemmas.{stand_then}
@@ -28,10 +30,10 @@ returns-clause-rests g c = λ d held.
     let a = c.in_ok-serve_all.ensures in
     let b = c.in_ok-ending.ensures in
     rest_same (((k.seen c.take_turns.new.links).tells ≡ true) × IsHeard (k.seen c.take_turns.new.links).is_open (k.seen c.take_turns.new.links).link c.take_turns.new.memory.unread)
-    (((k.seen c.args.links.now).tells ≡ true) × DueHasWants (k.seen c.args.links.now).is_open (k.seen c.args.links.now).link (e.seen c.args.core.now).view)
+    ((k.seen c.args.links.now).tells ≡ true)
     ((k.seen c.take_turns.new.links).tells ≡ true) ((k.seen c.args.links.now).tells ≡ true)
     ((e.seen c.serve_all-2.new.core).view d) ((e.seen c.serve_all-2.new.core).view d) ((k.seen c.serve_all-2.new.links).link d) ((k.seen c.serve_all-2.new.links).link d)
-    (λ h. (b.tells.0.0 ∙ a.tells.0 ∙ h.0, b.heard (a.tells.0 ∙ h.0) (a.heard h.0 (heard_at_start (e.seen c.args.core.now).view (k.seen c.args.links.now).is_open (k.seen c.args.links.now).link c.remember_all.new.unread (e.seen c.args.core.now).conns c.wants.result.now c.wants.ensures.wants (λ n is. (c.wants.ensures.held n).1 is) c.requires.matched c.in_ok-remember_all.ensures h.1))))
+    (λ h. (b.tells.0.0 ∙ a.tells.0 ∙ h, b.heard (a.tells.0 ∙ h) (a.heard h (heard_at_start (e.seen c.args.core.now).view (k.seen c.args.links.now).is_open (k.seen c.args.links.now).link c.remember_all.new.unread (e.seen c.args.core.now).conns (λ n is. (c.conns.ensures.held n).1 is) c.requires.matched (subst (All (λ n. has c.remember_all.new.unread n ≡ true)) c.conns.ensures.conns c.in_ok-remember_all.ensures)))))
     (λ tl. b.tells.0.0 ∙ a.tells.0 ∙ tl) refl (λ h. refl) (λ h. refl) (c.in_ok-serve_all-2.ensures.rests d held)
 
 pub returns-clause-beside : goal.returns-clause-beside

@@ -1,9 +1,8 @@
-use Rattle.req_head.proofs.CodeLemmas.{end_at, end_nowhere}
+use Rattle.req_head.proofs.CodeLemmas.{end_after, end_nowhere_after}
 use Rattle.req_head.proofs.lines.lines_end.Goals as goal
 
-pub returns-then-seen-end-eq10-clause-lines : goal.returns-then-seen-end-eq10-clause-lines
-returns-then-seen-end-eq10-clause-lines c =
-    end_at c.args.seen.now c.loop-end.end c.loop-end-test.true c.loop-end.invariant.0 c.if-seen-end-eq10.true c.loop-end.invariant.1
+pub returns-in-Some-clause-lines : goal.returns-in-Some-clause-lines
+returns-in-Some-clause-lines c = end_after c.args.seen.now c.in-Some.at c.in-Some.ensures.0 c.in-Some.ensures.1
 
-pub returns-clause-lines : goal.returns-clause-lines
-returns-clause-lines c = end_nowhere c.args.seen.now c.loop-end.end c.loop-end-test.false c.loop-end.invariant.1
+pub returns-in-None-clause-lines : goal.returns-in-None-clause-lines
+returns-in-None-clause-lines c = end_nowhere_after c.args.seen.now c.in-None.ensures

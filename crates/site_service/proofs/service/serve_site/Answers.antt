@@ -6,7 +6,6 @@ use Rattle.ngx_outside.specs.Views.{ConnView, Start}
 use Rattle.ready_loop.specs.Seen.{Tick, last_start}
 use Rattle.ready_loop.specs.Standing.{Kept, Stands}
 use Rattle.ready_loop.specs.Laws.{marks_of}
-use Rattle.ready_loop.specs.Turns.{DueHasWants}
 use Rattle.ready_loop.specs.declared.service.Ending.TheVariants as ending
 use Rattle.connection_core.specs.Core.{view_at, now_at, seen_at, site_terms}
 use Rattle.site_service.specs.Serving.{Outside}
@@ -20,8 +19,8 @@ begun now e = e
 
 pub serve-requires : goal.serve-requires
 serve-requires g c = record {
-  matched = λ id. ap (λ (v : ConnView). v.held) (c.in_ok-hub.ensures.empty id) ∙ sym (c.requires.links.shut id);
-  known = (let e : (now_at c.in_ok-hub.hub).tree ≡ 0 = ap (λ (s : Start). s.tree) c.in_ok-hub.ensures.now in omega (arith, e));
+  matched = λ id. ap (λ (v : ConnView). v.held) (c.new-hub.ensures.empty id) ∙ sym (c.requires.links.shut id);
+  known = (let e : (now_at c.new-hub.result).tree ≡ 0 = ap (λ (s : Start). s.tree) c.new-hub.ensures.now in omega (arith, e));
 }
 
 pub returns-clause-serving : goal.returns-clause-serving
@@ -30,7 +29,7 @@ returns-clause-serving g c =
     let k = g.L.Links in
     let t = g.C.Clock in
     let site = c.args.site in
-    let hub = c.in_ok-hub.hub in
+    let hub = c.new-hub.result in
     let end = c.serve.new.core in
     let s = c.in_ok-ending.ensures in
     let core : CoreSeen = seen_at hub in
@@ -39,20 +38,19 @@ returns-clause-serving g c =
     let links' : LinksSeen = k.seen c.serve.new.links in
     let files' : FilesSeen = f.seen c.serve.new.files in
     let o : Outside = record { files = files; files' = files'; links = links; links' = links'; clock = t.seen c.args.clock.now; clock' = t.seen c.serve.new.clock } in
-    let none : (id : ℕ) → (view_at hub id).held ≡ false = λ id. ap (λ (v : ConnView). v.held) (c.in_ok-hub.ensures.empty id) in
-    let terms : core.terms ≡ site_terms site = c.in_ok-hub.ensures.terms in
-    let few : links.tells ≡ true → length core.conns ≡ links.crowd = λ tl. ap length c.in_ok-hub.ensures.none ∙ sym (c.requires.links.nobody tl) in
+    let none : (id : ℕ) → (view_at hub id).held ≡ false = λ id. ap (λ (v : ConnView). v.held) (c.new-hub.ensures.empty id) in
+    let terms : core.terms ≡ site_terms site = c.new-hub.ensures.terms in
+    let few : links.tells ≡ true → length core.conns ≡ links.crowd = λ tl. ap length c.new-hub.ensures.none ∙ sym (c.requires.links.nobody tl) in
     let begins : links.tells ≡ true → Kept (marks_of core links files) (λ id. core.terms.fresh) core links files [] =
-    λ tl. c.kept_begins.ensures core links files none c.requires.links.shut c.requires.links.unused (few tl) (begun core.now c.in_ok-hub.ensures.now) in
+    λ tl. c.kept_begins.ensures core links files none c.requires.links.shut c.requires.links.unused (few tl) (begun core.now c.new-hub.ensures.now) in
     record {
       ticks = s.kept.since;
       told = s.kept.told;
       links = λ tl tf id used.
           let kept = s.kept.kept tl tf (marks_of core links files) (λ q. core.terms.fresh) [] (begins tl) in
-          became c.all_is_sent_when_idle.ensures c.closed_unstopped_sent_all.ensures c.closed_unended_sent_all.ensures site o (c.in_ok-ending.ending ≢ ending.ListenFault) s.kept.since core.refused id (view_at end id)
+          became c.all_is_sent_when_idle.ensures c.shut_is_exact.ensures c.closed_unstopped_sent_all.ensures c.closed_unended_sent_all.ensures site o (c.in_ok-ending.ending ≢ ending.ListenFault) s.kept.since core.refused id (view_at end id)
           (c.cores_are_sound.ensures end id).sound
-          (λ ne held. at_rest ((links.tells ≡ true) × DueHasWants links.is_open links.link (view_at hub)) (links.tells ≡ true) (view_at end id) (links'.link id)
-          (tl, λ d was due. never (links.is_open d) was (c.requires.links.shut d)) tl (s.rests ne id held))
+          (λ ne held. at_rest (links.tells ≡ true) (links.tells ≡ true) (view_at end id) (links'.link id) tl tl (s.rests ne id held))
           used
           (subst (λ r. Stands (Rose (links.link_faults id) (links'.link_faults id)) (Rose files.faults files'.faults) (Rose core.refused r) (site_terms site) (site_terms site).fresh files' s.kept.since (view_at end id) (links'.link id) (links'.used id) (links'.is_open id)) (sym s.refused)
           (subst (λ (m : Terms). Stands (Rose (links.link_faults id) (links'.link_faults id)) (Rose files.faults files'.faults) (Rose core.refused (seen_at end).refused) m m.fresh files' s.kept.since (view_at end id) (links'.link id) (links'.used id) (links'.is_open id)) terms (kept.all id)));

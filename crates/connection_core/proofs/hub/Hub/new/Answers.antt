@@ -4,7 +4,7 @@ use Rattle.connection_core.specs.Table.{AllKnown}
 use Rattle.connection_core.proofs.hub.Hub.new.Goals as goal
 
 pub returns-clause-terms : goal.returns-clause-terms
-returns-clause-terms c = ap site_terms c.in_ok-table.ensures.0
+returns-clause-terms c = ap site_terms c.new-2.ensures.0
 
 pub invariant_of-result : goal.invariant_of-result
-invariant_of-result c = record { known = subst (AllKnown 0) (sym c.in_ok-table.ensures.2) tt }
+invariant_of-result c = record { known = subst (AllKnown 0) (sym c.new-2.ensures.2) tt }

@@ -10,17 +10,17 @@ pub returns-in-Ok-clause-view : goal.returns-in-Ok-clause-view
 returns-in-Ok-clause-view c =
     let t = c.args.self.now in
     let even : length t.conns.items ≡ length t.ids.items = omega (arith, t.paired, t.ids.ok.0, t.conns.ok.0) in
-    let s = seat_at t.site c.args.conn c.in-Ok.at t.ids.items t.conns.items t.wants.items (stands_in c.args.conn c.in-Ok.at c.as_slice.result.now t.ids.items c.as_slice.ensures.value c.in-Ok.ensures) even t.told in
-    seen t.site c.args.conn c.in-Ok.at t.ids.items t.conns.items t.wants.items s
-    ∙ ap (λ x. view_of t.site x) (sym (here_is t.site c.args.conn c.in-Ok.at t.conns.items t.wants.items s.placed c.index.result.now c.index.ensures))
+    let s = seat_at c.args.conn c.in-Ok.at t.ids.items t.conns.items (stands_in c.args.conn c.in-Ok.at c.as_slice.result.now t.ids.items c.as_slice.ensures.value c.in-Ok.ensures) even in
+    seen t.site c.args.conn c.in-Ok.at t.ids.items t.conns.items s
+    ∙ ap (λ x. view_of t.site x) (sym (here_is c.in-Ok.at t.conns.items s.placed c.index.result.now c.index.ensures))
 
 pub returns-in-Ok-clause-journal : goal.returns-in-Ok-clause-journal
 returns-in-Ok-clause-journal c =
     let t = c.args.self.now in
     let even : length t.conns.items ≡ length t.ids.items = omega (arith, t.paired, t.ids.ok.0, t.conns.ok.0) in
-    let s = seat_at t.site c.args.conn c.in-Ok.at t.ids.items t.conns.items t.wants.items (stands_in c.args.conn c.in-Ok.at c.as_slice.result.now t.ids.items c.as_slice.ensures.value c.in-Ok.ensures) even t.told in
-    journal_seen t.site c.args.conn c.in-Ok.at t.ids.items t.conns.items t.wants.items s
-    ∙ ap (λ (x : Conn). x.journal.items) (sym (here_is t.site c.args.conn c.in-Ok.at t.conns.items t.wants.items s.placed c.index.result.now c.index.ensures))
+    let s = seat_at c.args.conn c.in-Ok.at t.ids.items t.conns.items (stands_in c.args.conn c.in-Ok.at c.as_slice.result.now t.ids.items c.as_slice.ensures.value c.in-Ok.ensures) even in
+    journal_seen t.site c.args.conn c.in-Ok.at t.ids.items t.conns.items s
+    ∙ ap (λ (x : Conn). x.journal.items) (sym (here_is c.in-Ok.at t.conns.items s.placed c.index.result.now c.index.ensures))
 
 pub returns-in-Err-clause-view : goal.returns-in-Err-clause-view
 returns-in-Err-clause-view c =
@@ -36,5 +36,5 @@ pub returns-in-Ok-clause-known : goal.returns-in-Ok-clause-known
 returns-in-Ok-clause-known c = λ tree known.
     let t = c.args.self.now in
     let even : length t.conns.items ≡ length t.ids.items = omega (arith, t.paired, t.ids.ok.0, t.conns.ok.0) in
-    let s = seat_at t.site c.args.conn c.in-Ok.at t.ids.items t.conns.items t.wants.items (stands_in c.args.conn c.in-Ok.at c.as_slice.result.now t.ids.items c.as_slice.ensures.value c.in-Ok.ensures) even t.told in
-    subst (λ x. asked_of x ≤ tree) (sym (here_is t.site c.args.conn c.in-Ok.at t.conns.items t.wants.items s.placed c.index.result.now c.index.ensures)) (known_at tree t.site c.args.conn c.in-Ok.at t.ids.items t.conns.items t.wants.items s known)
+    let s = seat_at c.args.conn c.in-Ok.at t.ids.items t.conns.items (stands_in c.args.conn c.in-Ok.at c.as_slice.result.now t.ids.items c.as_slice.ensures.value c.in-Ok.ensures) even in
+    subst (λ x. asked_of x ≤ tree) (sym (here_is c.in-Ok.at t.conns.items s.placed c.index.result.now c.index.ensures)) (known_at tree t.site c.args.conn c.in-Ok.at t.ids.items t.conns.items s known)

@@ -1,43 +1,50 @@
-use Rattle.std.proofs.Common.{◌≡◌, ◌∙◌, refl, sym, ap, subst, Some}
-use Rattle.ngx_outside.specs.Wants.{wants_in}
+use Rattle.std.proofs.Common.{◌≡◌, ◌∙◌, get_or, refl, sym, subst, arith}
 use Rattle.ngx_outside.specs.Seen.{Terms}
-use Rattle.ngx_outside.specs.Views.{Start}
-use Rattle.replay_run.specs.Told.{Told, told_of}
-use Rattle.replay_run.specs.Scene.{stage, lane_in, first_served, Serves, Begun, Then}
-use Rattle.replay_run.proofs.Numbers.{serves_now}
-use Rattle.replay_run.proofs.Wanted.{served_wanted, served_is}
+use Rattle.replay_run.specs.Told.{told_of}
+use Rattle.replay_run.specs.Scene.{stage, AreHeld, DrainsOne}
+use Rattle.replay_run.proofs.Drains.{some_begun, some_more, all_drained}
 use Rattle.replay_run.proofs.player.Player.drain.Goals as goal
 
-pub loop-want-init : goal.loop-want-init
-loop-want-init g c = record { terms = refl; newest = c.requires.newest; sure = c.requires.sure; told = refl; path = Begun }
-
-pub serve-requires-clause-wanted : goal.serve-requires-clause-wanted
-serve-requires-clause-wanted g c =
+pub loop-conn-init : goal.loop-conn-init
+loop-conn-init g c =
     let e = g.E.EventCore in
-    let lanes = c.loop-want.self.lanes.items in
-    served_wanted (e.seen c.loop-want.core).view (e.seen c.loop-want.core).conns (lane_in lanes) c.wants.result.now c.in-Some.want c.wants.ensures.wants
-    (ap (λ l. first_served (lane_in l) c.wants.result.now) (sym c.deref.ensures.value) ∙ sym c.pick.ensures ∙ c.in-Some.is)
-
-pub serve-requires-clause-served : goal.serve-requires-clause-served
-serve-requires-clause-served g c =
-    served_is (lane_in c.loop-want.self.lanes.items) c.wants.result.now c.in-Some.want
-    (ap (λ l. first_served (lane_in l) c.wants.result.now) (sym c.deref.ensures.value) ∙ sym c.pick.ensures ∙ c.in-Some.is)
-
-pub loop-want-preserved : goal.loop-want-preserved
-loop-want-preserved g c =
-    let e = g.E.EventCore in
-    let lanes = c.loop-want.self.lanes.items in
-    let mid = stage (e.seen c.loop-want.core).view (e.seen c.loop-want.core).now lanes in
-    let new = stage (e.seen c.serve.new.core).view (e.seen c.serve.new.core).now c.serve.new.self.lanes.items in
-    let served : first_served (lane_in lanes) (wants_in (e.seen c.loop-want.core).conns (e.seen c.loop-want.core).view) ≡ Some c.in-Some.want =
-    ap (first_served (lane_in lanes)) (sym c.wants.ensures.wants) ∙ ap (λ l. first_served (lane_in l) c.wants.result.now) (sym c.deref.ensures.value) ∙ sym c.pick.ensures ∙ c.in-Some.is in
     record {
-      terms = c.in_ok-serve.ensures.steady ∙ c.loop-want.invariant.terms;
-      newest = ap (λ (t : Told). t.newest) c.in_ok-serve.ensures.told ∙ c.loop-want.invariant.newest ∙ sym (ap (λ (s : Start). s.tree) (serves_now (e.seen c.loop-want.core).terms.fresh (told_of c.loop-want.files) c.in-Some.want mid new c.in_ok-serve.ensures.serves));
-      sure = c.in_ok-serve.ensures.sure;
-      told = c.in_ok-serve.ensures.told ∙ c.loop-want.invariant.told;
-      path = Then mid new (e.seen c.loop-want.core).conns c.in-Some.want c.loop-want.invariant.path
-          (record { order = c.wants.ensures.order; held = c.wants.ensures.held }) served
-          (subst (λ t. Serves (e.seen c.args.core.now).terms.fresh t c.in-Some.want mid new) c.loop-want.invariant.told
-          (subst (λ (t : Terms). Serves t.fresh (told_of c.loop-want.files) c.in-Some.want mid new) c.loop-want.invariant.terms c.in_ok-serve.ensures.serves));
+      terms = refl;
+      newest = c.requires.newest;
+      sure = c.requires.sure;
+      told = refl;
+      drained = some_begun (e.seen c.args.core.now).terms.fresh (told_of c.args.files.now) c.as_slice-conn-items.result.now (stage (e.seen c.args.core.now).view (e.seen c.args.core.now).now c.args.self.now.lanes.items);
     }
+
+pub loop-conn-preserved : goal.loop-conn-preserved
+loop-conn-preserved g c =
+    let e = g.E.EventCore in
+    let i = c.loop-conn.invariant in
+    let s = c.in_ok-drain_one.ensures in
+    let conns = c.as_slice-conn-items.result.now in
+    let conn = get_or conns c.loop-conn.conn-index 0 in
+    let old = stage (e.seen c.args.core.now).view (e.seen c.args.core.now).now c.args.self.now.lanes.items in
+    let mid = stage (e.seen c.loop-conn.core).view (e.seen c.loop-conn.core).now c.loop-conn.self.lanes.items in
+    let new = stage (e.seen c.drain_one.new.core).view (e.seen c.drain_one.new.core).now c.drain_one.new.self.lanes.items in
+    let listed : conns ≡ (e.seen c.args.core.now).conns = c.as_slice-conn-items.ensures.value ∙ c.in_ok-conns.ensures ∙ c.conns.ensures.conns in
+    let held : AreHeld conns old.view = subst (λ l. AreHeld l old.view) (sym listed) (record { order = c.conns.ensures.order; held = c.conns.ensures.held }) in
+    record {
+      terms = s.steady ∙ i.terms;
+      newest = s.newest;
+      sure = s.sure;
+      told = s.told ∙ i.told;
+      drained = some_more (e.seen c.args.core.now).terms.fresh (told_of c.args.files.now) conns c.loop-conn.conn-index old mid new held c.loop-conn-test.true i.drained
+          (subst (λ t. DrainsOne (e.seen c.args.core.now).terms.fresh t conn mid new) i.told
+          (subst (λ (t : Terms). DrainsOne t.fresh (told_of c.loop-conn.files) conn mid new) i.terms s.drains))
+          s.rests;
+    }
+
+pub returns-clause-drains : goal.returns-clause-drains
+returns-clause-drains g c =
+    let e = g.E.EventCore in
+    let conns = c.as_slice-conn-items.result.now in
+    let old = stage (e.seen c.args.core.now).view (e.seen c.args.core.now).now c.args.self.now.lanes.items in
+    let new = stage (e.seen c.loop-conn.core).view (e.seen c.loop-conn.core).now c.loop-conn.self.lanes.items in
+    let listed : conns ≡ (e.seen c.args.core.now).conns = c.as_slice-conn-items.ensures.value ∙ c.in_ok-conns.ensures ∙ c.conns.ensures.conns in
+    let held : AreHeld conns old.view = subst (λ l. AreHeld l old.view) (sym listed) (record { order = c.conns.ensures.order; held = c.conns.ensures.held }) in
+    all_drained (e.seen c.args.core.now).terms.fresh (told_of c.args.files.now) conns c.loop-conn.conn-index old new held (omega (arith, c.loop-conn-test.false)) c.loop-conn.invariant.drained

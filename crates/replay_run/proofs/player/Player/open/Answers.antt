@@ -20,7 +20,7 @@ returns-clause-why g c =
     let e = (g.E.EventCore.seen c.args.core.now) in
     record {
       conns = e.conns;
-      held = record { order = c.wants.ensures.order; held = c.wants.ensures.held };
+      held = record { order = c.conns.ensures.order; held = c.conns.ensures.held };
       opens = subst (λ k. OpensIf (opens_at e) (Opened k c.args.ends.local c.args.ends.peer) c.open-answer.result)
           (conn_at c.args.conn c.place_or_add.new.lanes.items c.in_ok-at.at c.index_mut-lane.result.now c.in_ok-at.ensures.place c.index_mut-lane.ensures.value) c.open-answer.ensures.why;
     }

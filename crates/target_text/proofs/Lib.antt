@@ -1,0 +1,2 @@
+mod Settles
+mod Divides
