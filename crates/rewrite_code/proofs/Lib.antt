@@ -1,0 +1,5 @@
+mod Finds
+mod Values
+mod Acts
+mod Programs
+mod Cuts

@@ -1,0 +1,220 @@
+// Programs, worked off directive by directive.
+ghost use Rattle.std.specs.Prelude.{◌≡◌, ℕ, ◌+◌, ◌-◌, ◌<◌, ◌≤◌, ◌^◌, List, length, drop, slice_index_or, IfOk};
+ghost use Rattle.file_tree.specs.Tree.{Item, node_of};
+ghost use Rattle.site_model.specs.declared.site.Site.{Site as SiteRow};
+ghost use Rattle.site_views.specs.Pattern.{Pattern};
+ghost use Rattle.site_whole.specs.Whole.{step_seen};
+ghost use Rattle.request_meaning.specs.Serving.{World};
+ghost use Rattle.request_meaning.specs.Rewriting.{rewritten, program_run, stays_first};
+ghost use Rattle.rewrite_code.specs.Found.{finding};
+ghost use Rattle.rewrite_code.specs.Places.{progress_seen, standing_seen};
+ghost use Rattle.rewrite_code.specs.Runs.{program_of, resumed, still, ComesTo};
+ghost use Rattle.rewrite_code.specs.Steps.{ahead, next_made, LeadsOn};
+ghost use Rattle.rewrite_code.specs.declared.program.Next.TheVariants.{At};
+
+use crate::place::{Ending, Progress, RunStep};
+use crate::step::{Done, Move, step, tell};
+use byte_text::OutOfMemory;
+use file_tree::Node;
+use ngx_pattern::PatternSet;
+use ngx_variables::{Main, VarTable};
+use site_model::{Program, RewriteStep, Site};
+use std::alloc::Global;
+
+/// Whether the run of `set`s that begins a program goes on past a directive.
+fn stays_leading(leading: bool, directive: &RewriteStep) -> bool
+    ensures { (ps : List Pattern) (site : SiteRow)
+        → result ≡ stays_first leading (step_seen ps site directive.now) }
+{
+    match directive {
+        RewriteStep::Set { name: _, text: _ } => leading,
+        RewriteStep::If {
+            test: _,
+            negated: _,
+            block: _,
+            level: _,
+        } => false,
+        RewriteStep::Rewrite {
+            pattern: _,
+            to: _,
+            is_url: _,
+            flag: _,
+        } => false,
+        RewriteStep::Return { code: _, text: _ } => false,
+        RewriteStep::Stop => false,
+    }
+}
+
+/// Where a program goes on.
+#[derive(Drop)]
+pub enum Next {
+    /// At this place; `leading` where nothing but `set`s stands before it.
+    At { at: usize, leading: bool },
+    /// Nowhere, for now.
+    Answered(RunStep),
+}
+
+/// Where a directive at a place leads.
+fn next_after(made: Move, directive: &RewriteStep, at: usize, leading: bool) -> Next
+    requires { at < 2 ^ 63 }
+    ensures next { (ps : List Pattern) (site : SiteRow)
+        → result ≡ next_made (stays_first leading (step_seen ps site directive.now)) at made }
+    ensures further { LeadsOn at result }
+{
+    match made {
+        Move::On { skip } => Next::At {
+            at: at + 1 + skip as usize,
+            leading: skip == 0 && stays_leading(leading, directive),
+        },
+        Move::Stop(ending) => Next::Answered(RunStep::Ended(ending)),
+    }
+}
+
+/// Does the directive at a place.
+fn advance(
+    alloc: Global,
+    site: &Site,
+    program: &[RewriteStep],
+    directive: &RewriteStep,
+    patterns: &mut PatternSet,
+    main: &Main,
+    progress: &mut Progress,
+    vars: &mut VarTable,
+    at: usize,
+    leading: bool,
+) -> Result<Next, OutOfMemory>
+    requires bound { at < 2 ^ 63 }
+    requires there { at < length program.now }
+    requires item { directive.now ≡ slice_index_or program.now at directive.now }
+    ensures does { IfOk result (λ next. (w : World)
+        → let whole = program_of patterns.old site.now program.now in
+        ahead (finding w) main.now site.now whole progress.new vars.new next
+        ≡ ahead (finding w) main.now site.now whole progress.old vars.old (At at leading)) }
+    ensures kept { patterns.new ≡ patterns.old }
+    ensures further { IfOk result (LeadsOn at) }
+{
+    let done = step(
+        alloc, site, directive, leading, patterns, main, progress, vars,
+    )?;
+    match done {
+        Done::Moved(made) => Ok(next_after(made, directive, at, leading)),
+        Done::Asks(path) => Ok(Next::Answered(RunStep::Test { path, at })),
+    }
+}
+
+/// Works a program off from a place on.
+fn run_from(
+    alloc: Global,
+    site: &Site,
+    program: &[RewriteStep],
+    patterns: &mut PatternSet,
+    main: &Main,
+    progress: &mut Progress,
+    vars: &mut VarTable,
+    at: usize,
+    leading: bool,
+) -> Result<RunStep, OutOfMemory>
+    ensures does { IfOk result (λ step. (w : World)
+        → let whole = program_of patterns.old site.now program.now in
+        ComesTo (rewritten (finding w) main.now leading 0 (drop at whole)
+        (progress_seen site.now progress.old)) vars.old
+        (still (finding w) main.now site.now whole progress.new step) vars.new) }
+    ensures kept { patterns.new ≡ patterns.old }
+{
+    let mut at = at;
+    let mut leading = leading;
+    'steps: loop {
+        match program.get(at) {
+            None => return Ok(RunStep::Ended(Ending::End)),
+            Some(directive) => {
+                let next = advance(
+                    alloc, site, program, directive, patterns, main, progress, vars, at, leading,
+                )?;
+                match next {
+                    Next::Answered(step) => return Ok(step),
+                    Next::At {
+                        at: place,
+                        leading: first,
+                    } => {
+                        at = place;
+                        leading = first;
+                    }
+                }
+            }
+        }
+    }
+}
+
+/// Runs the rewrite program of a level from its beginning
+/// (<https://nginx.org/en/docs/http/ngx_http_rewrite_module.html>): up to its end, or to the first test of a file that a
+/// file can be at. A location is then sought again exactly where `progress.seeks`.
+///
+/// `patterns` is the set beside the site, which to contracts stays as it is: no search changes what another finds. A level or
+/// a pattern with a number that there is none of is as the site and the set have it: one that states nothing, one that
+/// nothing matches.
+///
+/// # Errors
+/// `OutOfMemory`; `progress` and `vars` are then fit to be dropped alone. A text that is too long is no error here: the
+/// program ends with `Failed`.
+pub fn run(
+    alloc: Global,
+    site: &Site,
+    program: &Program,
+    patterns: &mut PatternSet,
+    main: &Main,
+    progress: &mut Progress,
+    vars: &mut VarTable,
+) -> Result<RunStep, OutOfMemory>
+    ensures does { IfOk result (λ step. (w : World)
+        → let whole = program_of patterns.old site.now program.now in
+        ComesTo (program_run (finding w) main.now whole (standing_seen site.now progress.old))
+        vars.old (still (finding w) main.now site.now whole progress.new step) vars.new) }
+    ensures kept { patterns.new ≡ patterns.old }
+{
+    progress.seeks = false;
+    let steps = program.as_slice();
+    let step = run_from(alloc, site, steps, patterns, main, progress, vars, 0, true)?;
+    Ok(step)
+}
+
+/// Goes on with a program at the file test at which it waits, by what is at its path: again up to its end, or to the next.
+/// At a place where no `if` is it ends.
+///
+/// # Errors
+/// As `run`.
+pub fn resume(
+    alloc: Global,
+    site: &Site,
+    program: &Program,
+    patterns: &mut PatternSet,
+    main: &Main,
+    progress: &mut Progress,
+    vars: &mut VarTable,
+    at: usize,
+    node: Node,
+) -> Result<RunStep, OutOfMemory>
+    ensures does { IfOk result (λ step. (w : World) (item : Item) → node_of item ≡ node
+        → let whole = program_of patterns.old site.now program.now in
+        ComesTo (resumed (finding w) main.now (drop at whole)
+        (progress_seen site.now progress.old) item) vars.old
+        (still (finding w) main.now site.now whole progress.new step) vars.new) }
+    ensures kept { patterns.new ≡ patterns.old }
+{
+    let steps = program.as_slice();
+    match steps.get(at) {
+        None => Ok(RunStep::Ended(Ending::End)),
+        Some(directive) => {
+            let made = tell(alloc, site, directive, node, progress)?;
+            match made {
+                Move::Stop(ending) => Ok(RunStep::Ended(ending)),
+                Move::On { skip } => {
+                    let next = at + 1 + skip as usize;
+                    let step = run_from(
+                        alloc, site, steps, patterns, main, progress, vars, next, false,
+                    )?;
+                    Ok(step)
+                }
+            }
+        }
+    }
+}
