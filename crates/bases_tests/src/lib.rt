@@ -1,0 +1,10 @@
+//! Tests of the crates that find what is answered: names that are tried, pages of errors. What a definition answers is in
+//! rows (`proofs/Rows.antt`), which the check computes; the tests run the code.
+#![tactic(auto)]
+
+#[cfg(test)]
+mod pages;
+#[cfg(test)]
+mod samples;
+#[cfg(test)]
+mod tries;

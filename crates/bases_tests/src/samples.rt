@@ -1,0 +1,53 @@
+// A request to `/d/` with the arguments `a=1`, whose files are below `/w`.
+use byte_text::ByteText;
+use http_header::HeaderMap;
+use http_types::{Addr, Method, Version};
+use ngx_variables::{Groups, Main, Place, Request, Role, Value};
+use std::alloc::Global;
+use std::net::{IpAddr, Ipv4Addr};
+use std::test::Fail;
+
+pub fn text(alloc: Global, bytes: &[u8]) -> Result<ByteText, Fail> {
+    Ok(ByteText::from_slice(alloc, bytes)?)
+}
+
+pub fn value(alloc: Global, bytes: &[u8]) -> Result<Value, Fail> {
+    Ok(Value::compile(alloc, bytes)?)
+}
+
+pub fn place(alloc: Global) -> Result<Place, Fail> {
+    Ok(Place::Root(value(alloc, b"/w")?))
+}
+
+pub fn main_request(alloc: Global) -> Result<Main, Fail> {
+    let end = Addr {
+        ip: IpAddr::V4(Ipv4Addr::new(10, 0, 0, 1)),
+        port: 80,
+    };
+    Ok(Main {
+        received: text(alloc, b"GET /d/?a=1 HTTP/1.1")?,
+        method: Method::Get,
+        version: Version::V11,
+        target: text(alloc, b"/d/?a=1")?,
+        host: text(alloc, b"h.x")?,
+        server_name: text(alloc, b"s.x")?,
+        local: end,
+        peer: end,
+        moment: 0,
+        tree: 0,
+        date: ByteText::new(alloc),
+        fields: HeaderMap::new(alloc),
+        folder: text(alloc, b"/etc/ngx")?,
+    })
+}
+
+pub fn request(alloc: Global) -> Result<Request, Fail> {
+    Ok(Request {
+        method: Method::Get,
+        path: text(alloc, b"/d/")?,
+        args: text(alloc, b"a=1")?,
+        groups: Groups::new(alloc),
+        place: None,
+        role: Role::Main,
+    })
+}
