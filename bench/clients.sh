@@ -81,6 +81,25 @@ told('600 links at once: 512 are served and the others closed (%d)' % served, se
 for s in links: s.close()
 time.sleep(0.5)
 s = link(); s.sendall(ask); told('and then one more is served', answer(s).startswith(b'HTTP/1.1 200')); s.close()
+time.sleep(1)
+# 512 peers that never come to the end of a head are given up, each a minute after its opening (`client_header_timeout`)
+slow = [link() for i in range(512)]
+began = time.monotonic()
+answered = 0
+while not answered and time.monotonic() - began < 120:
+    for s in slow:
+        try: s.sendall(ask[:1])
+        except OSError: pass
+    pause = time.monotonic() + 10
+    while not answered and time.monotonic() < pause:
+        time.sleep(0.5)
+        try:
+            s = link(); s.sendall(ask)
+            if answer(s).startswith(b'HTTP/1.1 200'): answered = time.monotonic() - began
+            s.close()
+        except OSError: pass
+told('512 links that send a byte every ten seconds: a 513th is answered (after %d seconds)' % answered, 30 < answered < 120)
+for s in slow: s.close()
 sys.exit(bad)
 PY
 "$program" serve "$work/conf" </dev/null

@@ -1,10 +1,18 @@
-//! Tests of the crates that find what is answered: names that are tried, pages of errors. What a definition answers is in
-//! rows (`proofs/Rows.antt`), which the check computes; the tests run the code.
+//! Tests of the crates that find what is answered: names that are tried, pages of errors, servers and locations, the race
+//! check. What a definition answers is in rows (`proofs/Rows.antt`), which the check computes; the tests run the code.
 #![tactic(auto)]
 
 #[cfg(test)]
+mod locations;
+#[cfg(test)]
 mod pages;
 #[cfg(test)]
+mod races;
+#[cfg(test)]
 mod samples;
+#[cfg(test)]
+mod servers;
+#[cfg(test)]
+mod sites;
 #[cfg(test)]
 mod tries;

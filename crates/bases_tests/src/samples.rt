@@ -3,6 +3,7 @@ use byte_text::ByteText;
 use http_header::HeaderMap;
 use http_types::{Addr, Method, Version};
 use ngx_variables::{Groups, Main, Place, Request, Role, Value};
+use site_model::{Level, Program};
 use std::alloc::Global;
 use std::net::{IpAddr, Ipv4Addr};
 use std::test::Fail;
@@ -49,5 +50,40 @@ pub fn request(alloc: Global) -> Result<Request, Fail> {
         groups: Groups::new(alloc),
         place: None,
         role: Role::Main,
+    })
+}
+
+/// A level that states nothing.
+pub fn level(alloc: Global) -> Result<Level, Fail> {
+    Ok(Level {
+        place: place(alloc)?,
+        types: 0,
+        requests: 1000,
+        idle: 75_000,
+        returned: None,
+        index: None,
+        tries: None,
+        internal: false,
+        pages: None,
+        recursive: false,
+        body_most: 1_048_576,
+        send_wait: 60_000,
+        head_wait: 60_000,
+        absolute: true,
+        with_port: true,
+        with_server_name: false,
+        any: false,
+        rules: None,
+        auth: None,
+        auth_sets: None,
+        ssi: false,
+        silent: false,
+        ssi_types: None,
+        value_most: 256,
+        capture_most: 4096,
+        before: None,
+        after: None,
+        addition_types: None,
+        program: Program::new(alloc),
     })
 }

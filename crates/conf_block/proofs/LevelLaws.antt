@@ -1,10 +1,10 @@
 -- What is looked for in a level, directive by directive.
-use Rattle.std.proofs.Common.{◌≡◌, ℕ, true, false, List, [], ◌∷◌, ◌++◌, Option, None, Some, is_some, MatchOption, cond, bytes_eq, refl, sym, ap, ◌∙◌, append_assoc, append-nil}
+use Rattle.std.proofs.Common.{◌≡◌, ℕ, Bool, true, false, List, [], ◌∷◌, ◌++◌, Option, None, Some, is_some, MatchOption, cond, bytes_eq, refl, sym, ap, ◌∙◌, append_assoc, append-nil}
 use Rattle.std.specs.Prelude.{codes}
 use Rattle.conf_text.specs.declared.directive.Directive.{Directive}
 use Rattle.http_types.specs.declared.words.Addr.{Addr}
 use Rattle.conf_block.specs.Forest.{Forest, End, Branch, roots, forest_of}
-use Rattle.conf_block.specs.Blocks.{Block, block_with, blocks_of, first_of, body_in, http_in}
+use Rattle.conf_block.specs.Blocks.{Block, block_with, blocks_of, from_first, first_of, body_in, http_in}
 use Rattle.conf_block.specs.Roles.{role_of}
 use Rattle.conf_block.specs.Listening.{in_front, address_by, listens_of}
 use Rattle.conf_block.proofs.ForestLaws.{forest-none}
@@ -26,6 +26,24 @@ blocks-here name d f block beside e t =
 pub blocks-beside : (name : List ℕ) (d : Directive) (f block beside : Forest) → f ≡ Branch d block beside → bytes_eq d.name name ≡ false → blocks_of name f ≡ blocks_of name beside
 blocks-beside name d f block beside e t =
     ap (blocks_of name) e ∙ blocks-branch name d block beside ∙ ap (λ t. cond t (block_with d block ∷ blocks_of name beside) (blocks_of name beside)) t
+
+-- from the first on that passes a test
+
+pub first-none : (test : Directive → Bool) (f : Forest) → f ≡ End → from_first test f ≡ End
+unfolding from_first
+first-none test f e = ap (from_first test) e
+
+from-branch : (test : Directive → Bool) (d : Directive) (block beside : Forest) → from_first test (Branch d block beside) ≡ cond (test d) (Branch d block beside) (from_first test beside)
+unfolding from_first
+from-branch test d block beside = refl
+
+pub first-here : (test : Directive → Bool) (d : Directive) (f block beside : Forest) → f ≡ Branch d block beside → test d ≡ true → from_first test f ≡ Branch d block beside
+first-here test d f block beside e t =
+    ap (from_first test) e ∙ from-branch test d block beside ∙ ap (λ t. cond t (Branch d block beside) (from_first test beside)) t
+
+pub first-beside : (test : Directive → Bool) (d : Directive) (f block beside : Forest) → f ≡ Branch d block beside → test d ≡ false → from_first test f ≡ from_first test beside
+first-beside test d f block beside e t =
+    ap (from_first test) e ∙ from-branch test d block beside ∙ ap (λ t. cond t (Branch d block beside) (from_first test beside)) t
 
 -- the directives of a level
 

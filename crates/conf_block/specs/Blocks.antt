@@ -1,5 +1,5 @@
 -- The directives of a name in a level, with their blocks.
-use Rattle.std.specs.Prelude.{ℕ, List, [], ◌∷◌, codes, Option, None, Some, bytes_eq, if◌then◌else◌}
+use Rattle.std.specs.Prelude.{ℕ, Bool, List, [], ◌∷◌, codes, Option, None, Some, bytes_eq, if◌then◌else◌}
 use Rattle.conf_text.specs.declared.directive.Directive.{Directive}
 use Rattle.conf_block.specs.Forest.{Forest, End, Branch}
 
@@ -19,6 +19,11 @@ if_named name b blocks = if bytes_eq b.head.name name then b ∷ blocks else blo
 unfoldable pub blocks_of : List ℕ → Forest → List Block
 blocks_of name End = []
 blocks_of name (Branch d block beside) = if_named name (block_with d block) (blocks_of name beside)
+
+-- the directives of a level from the first on that passes a test
+unfoldable pub from_first : (Directive → Bool) → Forest → Forest
+from_first test End = End
+from_first test (Branch d block beside) = if test d then Branch d block beside else from_first test beside
 
 abbrev pub first_of : {A : Type 0} → List A → Option A
 first_of [] = None

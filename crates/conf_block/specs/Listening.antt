@@ -3,8 +3,8 @@ use Rattle.std.specs.Prelude.{List, [], ◌∷◌, Option, None, Some}
 use Rattle.http_types.specs.declared.words.Addr.{Addr}
 use Rattle.conf_text.specs.declared.directive.Directive.{Directive}
 use Rattle.conf_values.specs.Listening.{wildcard, listened_by}
-use Rattle.conf_block.specs.declared.role.Role.{Role}
-use Rattle.conf_block.specs.declared.role.Role.TheVariants as roles
+use Rattle.conf_table.specs.declared.role.Role.{Role}
+use Rattle.conf_table.specs.declared.role.Role.TheVariants as roles
 use Rattle.conf_block.specs.Roles.{role_of}
 
 abbrev pub in_front : Option Addr → List Addr → List Addr

@@ -1,14 +1,15 @@
 -- The words of `location` (nginx's core module): a text, behind a modifier or alone.
-use Rattle.std.specs.Prelude.{ℕ, List, [], ◌∷◌, Bool, true, false, ◌&&◌, ◌||◌, Option, None, Some, bytes_eq, codes, if◌then◌else◌}
+use Rattle.std.specs.Prelude.{ℕ, List, [], ◌∷◌, Bool, true, false, not, ◌&&◌, ◌||◌, Option, None, Some, bytes_eq, codes, if◌then◌else◌}
 use Rattle.conf_table.specs.declared.rule.Place.{Place}
 use Rattle.conf_table.specs.declared.rule.Place.TheVariants as places
-use Rattle.conf_block.specs.declared.role.Role.{Role}
-use Rattle.conf_block.specs.declared.role.Role.TheVariants as roles
+use Rattle.conf_table.specs.declared.role.Role.{Role}
+use Rattle.conf_table.specs.declared.role.Role.TheVariants as roles
 use Rattle.conf_block.specs.declared.role.Content.{Content}
 use Rattle.conf_block.specs.declared.role.Content.TheVariants.{Directives, Closed}
 use Rattle.conf_block.specs.declared.location.Kind.{Kind}
 use Rattle.conf_block.specs.declared.location.Kind.TheVariants.{Prefix, Exact, Named}
-use Rattle.conf_block.specs.Roles.{is_named}
+use Rattle.conf_text.specs.declared.directive.Directive.{Directive}
+use Rattle.conf_block.specs.Roles.{is_named, role_of}
 
 -- what a location is found by, where none like it may stand beside it in its level
 abbrev pub Key : Type 0
@@ -65,3 +66,18 @@ abbrev pub text_in : List (List ℕ) → List ℕ
 text_in [] = []
 text_in (word ∷ []) = word
 text_in (modifier ∷ word ∷ words) = word
+
+-- The text that is taken off a path under `alias`: the location's own, none in one of a name; with a regular expression `alias`
+-- is the whole path.
+unfoldable pub alias_prefix : List (List ℕ) → Option (List ℕ)
+alias_prefix [] = Some []
+alias_prefix (word ∷ []) = Some (if is_named word then [] else word)
+alias_prefix (modifier ∷ word ∷ words) = if bytes_eq modifier (codes "~") || bytes_eq modifier (codes "~*") then None else Some word
+
+abbrev pub is_location_as : Role → (named : Bool) → List (List ℕ) → Bool
+is_location_as roles.Location named args = if named then has_name args else not (has_name args)
+is_location_as _ named args = false
+
+-- a location: of a name, or one that a path finds
+abbrev pub is_found : (named : Bool) → Directive → Bool
+is_found named d = is_location_as (role_of d.name) named d.args

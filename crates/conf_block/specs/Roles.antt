@@ -1,10 +1,12 @@
--- The directives that have a part in the reading of the others, or a value today.
-use Rattle.std.specs.Prelude.{ℕ, List, [], ◌∷◌, Bool, true, false, ◌==◌, codes, bytes_eq, if◌then◌else◌}
+-- What a directive is by its name, and what its block holds.
+use Rattle.std.specs.Prelude.{ℕ, List, [], ◌∷◌, Bool, true, false, ◌==◌, Option, None, Some, codes, bytes_eq, if◌then◌else◌}
 use Rattle.conf_table.specs.declared.rule.Place.{Place}
 use Rattle.conf_table.specs.declared.rule.Place.TheVariants as places
 use Rattle.conf_text.specs.declared.directive.Directive.{Directive}
-use Rattle.conf_block.specs.declared.role.Role.{Role}
-use Rattle.conf_block.specs.declared.role.Role.TheVariants as roles
+use Rattle.conf_table.specs.declared.role.Role.{Role}
+use Rattle.conf_table.specs.declared.role.Role.TheVariants as roles
+use Rattle.conf_table.specs.declared.rule.DirectiveRule.{DirectiveRule}
+use Rattle.conf_table.specs.Table.{entry_of}
 use Rattle.conf_block.specs.declared.role.Content.{Content}
 use Rattle.conf_block.specs.declared.role.Content.TheVariants.{Directives, Closed, Lines}
 
@@ -13,24 +15,13 @@ abbrev pub is_named : List ℕ → Bool
 is_named [] = false
 is_named (b ∷ bs) = b == 64
 
+abbrev pub role_by : Option DirectiveRule → Role
+role_by None = roles.Other
+role_by (Some rule) = rule.role
+
+-- what a directive is by its name
 unfoldable pub role_of : List ℕ → Role
-role_of name =
-    if bytes_eq name (codes "http") then roles.Http
-    else (if bytes_eq name (codes "events") then roles.Events
-    else (if bytes_eq name (codes "server") then roles.Server
-    else (if bytes_eq name (codes "location") then roles.Location
-    else (if bytes_eq name (codes "if") then roles.If
-    else (if bytes_eq name (codes "types") then roles.Types
-    else (if bytes_eq name (codes "listen") then roles.Listen
-    else (if bytes_eq name (codes "return") then roles.Return
-    else (if bytes_eq name (codes "root") then roles.Root
-    else (if bytes_eq name (codes "alias") then roles.Alias
-    else (if bytes_eq name (codes "default_type") then roles.DefaultType
-    else (if bytes_eq name (codes "keepalive_requests") then roles.Requests
-    else (if bytes_eq name (codes "keepalive_timeout") then roles.Idle
-    else (if bytes_eq name (codes "set") then roles.Set
-    else (if bytes_eq name (codes "auth_request_set") then roles.Set
-    else roles.Other))))))))))))))
+role_of name = role_by (entry_of name)
 
 -- the place in the block of an `if` that stands here
 abbrev pub place_in_if : Place → Place

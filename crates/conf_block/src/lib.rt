@@ -10,6 +10,8 @@ mod role;
 
 pub use branch::{Branch, blocks_stand_behind, first_branch};
 pub use listen::{address_by, addresses, listens_of};
-pub use location::{Key, Kind, has_modifier, is_misplaced, is_plain, key_of, text_in};
+pub use location::{
+    Key, Kind, alias_prefix, has_modifier, is_misplaced, is_plain, key_of, next_location, text_in,
+};
 pub use named::{has_named, http_in, next_named};
-pub use role::{Content, Role, are_directives, content_inside, place_of, role_of};
+pub use role::{Content, are_directives, content_inside, place_of, role_of};

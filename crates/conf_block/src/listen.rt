@@ -4,8 +4,9 @@ ghost use Rattle.conf_block.specs.Forest.{forest_of, roots};
 ghost use Rattle.conf_block.specs.Listening.{address_by, in_front, listens_of as addresses, or_default};
 
 use crate::branch::first_branch;
-use crate::role::{Role, role_of};
+use crate::role::role_of;
 use byte_text::OutOfMemory;
+use conf_table::Role;
 use conf_text::Directive;
 use conf_values::{listened_by, wildcard};
 use http_types::Addr;

@@ -1,30 +1,10 @@
-// The directives that have a part in the reading of the others, or a value today.
+// What a directive is by its name, and what its block holds.
 ghost use Rattle.std.specs.Prelude.{◌≡◌};
 ghost use Rattle.conf_block.specs.Roles.{role_of, place_in_if, is_named, is_closed, content_of, place_of, are_directives, content_inside};
 
 use byte_text::ByteText;
-use conf_table::Place;
+use conf_table::{Place, Role, entry};
 use conf_text::Directive;
-
-/// What a directive is by its name.
-#[derive(Clone, Copy, PartialEq, Eq)]
-pub enum Role {
-    Http,
-    Events,
-    Server,
-    Location,
-    If,
-    Types,
-    Listen,
-    Return,
-    Root,
-    Alias,
-    DefaultType,
-    Requests,
-    Idle,
-    Set,
-    Other,
-}
 
 /// What a block holds.
 #[derive(Clone, Copy)]
@@ -42,38 +22,9 @@ pub enum Content {
 pub fn role_of(name: &[u8]) -> Role
     ensures { result ≡ role_of name.now }
 {
-    if name == b"http".as_slice() {
-        Role::Http
-    } else if name == b"events".as_slice() {
-        Role::Events
-    } else if name == b"server".as_slice() {
-        Role::Server
-    } else if name == b"location".as_slice() {
-        Role::Location
-    } else if name == b"if".as_slice() {
-        Role::If
-    } else if name == b"types".as_slice() {
-        Role::Types
-    } else if name == b"listen".as_slice() {
-        Role::Listen
-    } else if name == b"return".as_slice() {
-        Role::Return
-    } else if name == b"root".as_slice() {
-        Role::Root
-    } else if name == b"alias".as_slice() {
-        Role::Alias
-    } else if name == b"default_type".as_slice() {
-        Role::DefaultType
-    } else if name == b"keepalive_requests".as_slice() {
-        Role::Requests
-    } else if name == b"keepalive_timeout".as_slice() {
-        Role::Idle
-    } else if name == b"set".as_slice() {
-        Role::Set
-    } else if name == b"auth_request_set".as_slice() {
-        Role::Set
-    } else {
-        Role::Other
+    match entry(name) {
+        None => Role::Other,
+        Some(rule) => rule.role,
     }
 }
 

@@ -4,4 +4,4 @@ pub mod BeforeLaws
 pub mod CheckLaws
 pub mod ServedLaws
 pub mod NamesLaws
-pub mod AcceptedLaws
+pub mod FaultlessLaws

@@ -10,8 +10,8 @@ use Rattle.conf_block.specs.Forest.{Forest, End, Branch}
 use Rattle.conf_check.specs.Gives.{faulty, ◌>>=◌, ◌>>◌}
 use Rattle.http_types.specs.declared.words.Addr.{Addr}
 use Rattle.conf_values.specs.Listening.{listened_by, is_marked}
-use Rattle.conf_block.specs.declared.role.Role.{Role}
-use Rattle.conf_block.specs.declared.role.Role.TheVariants as roles
+use Rattle.conf_table.specs.declared.role.Role.{Role}
+use Rattle.conf_table.specs.declared.role.Role.TheVariants as roles
 use Rattle.conf_block.specs.Roles.{role_of, content_inside, are_directives}
 use Rattle.conf_check.specs.Ends.{with_end}
 use Rattle.conf_check.specs.Faults.{own_fault}

@@ -1,19 +1,22 @@
 -- The faults of a directive alone, in the order in which they are looked for.
-use Rattle.std.specs.Prelude.{ℕ, List, [], ◌∷◌, length, Bool, true, false, not, ◌&&◌, ◌||◌, nat_le, Option, None, Some, is_some, bytes_eq, codes, if◌then◌else◌}
-use Rattle.std.specs.List.{list_any, list_all}
+use Rattle.std.specs.Prelude.{ℕ, List, [], ◌∷◌, length, Bool, true, false, not, ◌&&◌, ◌||◌, nat_le, Option, None, Some, bytes_eq, codes, if◌then◌else◌}
+use Rattle.std.specs.List.{list_any}
 use Rattle.conf_text.specs.declared.directive.Directive.{Directive}
 use Rattle.conf_text.specs.declared.fault.FaultKind.{FaultKind}
-use Rattle.conf_text.specs.declared.fault.FaultKind.TheVariants.{Unknown, NotHere, Count, Duplicate, BadValue}
+use Rattle.conf_text.specs.declared.fault.FaultKind.TheVariants.{Unknown, NotHere, Count, Duplicate, BadValue, BuiltinSet}
 use Rattle.http_types.specs.declared.words.Addr.{Addr}
 use Rattle.conf_table.specs.declared.rule.DirectiveRule.{DirectiveRule}
 use Rattle.conf_table.specs.Rules.{has_place}
 use Rattle.conf_table.specs.Table.{entry_of}
-use Rattle.conf_block.specs.declared.role.Role.{Role}
-use Rattle.conf_block.specs.declared.role.Role.TheVariants as roles
+use Rattle.conf_table.specs.declared.role.Role.{Role}
+use Rattle.conf_table.specs.declared.role.Role.TheVariants as roles
 use Rattle.conf_block.specs.declared.role.Content.{Content}
-use Rattle.conf_values.specs.Numbers.{count_of, time_of}
+use Rattle.ngx_variables.specs.Names.{is_builtin}
+use Rattle.conf_values.specs.Settings.{are_values}
+use Rattle.conf_values.specs.Listing.{are_listed}
+use Rattle.conf_check.specs.Names.{variable_in}
 use Rattle.conf_values.specs.Listening.{listened_by, has_known_parameters, is_marked}
-use Rattle.conf_values.specs.Texts.{is_folder_text}
+use Rattle.conf_values.specs.Texts.{is_text, is_folder_text}
 use Rattle.conf_values.specs.Returning.{is_return}
 use Rattle.conf_block.specs.Roles.{role_of, place_of}
 use Rattle.conf_check.specs.Ends.{same_addr}
@@ -60,11 +63,20 @@ abbrev pub first_word : (List ℕ → Bool) → List (List ℕ) → Bool
 first_word test [] = false
 first_word test (word ∷ words) = test word
 
-abbrev pub is_time : List ℕ → Bool
-is_time word = is_some (time_of word)
+abbrev pub begins_with_digit : List ℕ → Bool
+begins_with_digit [] = false
+begins_with_digit (b ∷ bs) = nat_le 49 b && nat_le b 57
 
-abbrev pub is_count : List ℕ → Bool
-is_count word = is_some (count_of word)
+-- a variable that is built in isn't set
+abbrev pub named_fault : (known : List ℕ → Bool) → Option (List ℕ) → (text : List (List ℕ)) → Option FaultKind
+named_fault known None text = Some BadValue
+named_fault known (Some name) text =
+    if is_builtin name then Some BuiltinSet
+    else (if begins_with_digit name then Some BadValue else unless (first_word (is_text known) text))
+
+abbrev pub set_fault : (known : List ℕ → Bool) → List (List ℕ) → Option FaultKind
+set_fault known [] = Some BadValue
+set_fault known (word ∷ words) = named_fault known (variable_in word) words
 
 -- What is wrong with the values of a directive that stands behind these of its level, where these names are those of the
 -- variables that are set, and these addresses have a default server.
@@ -74,8 +86,9 @@ value_fault known marked roles.Location earlier d = location_fault (key_of d.arg
 value_fault known marked roles.Return earlier d = unless (is_return known d.args)
 value_fault known marked roles.Root earlier d = unless (first_word (is_folder_text known) d.args)
 value_fault known marked roles.Alias earlier d = unless (first_word (is_folder_text known) d.args)
-value_fault known marked roles.Requests earlier d = unless (first_word is_count d.args)
-value_fault known marked roles.Idle earlier d = unless (list_all is_time d.args)
+value_fault known marked (roles.Setting setting) earlier d = unless (are_values setting d.args)
+value_fault known marked (roles.Listing listing) earlier d = unless (are_listed known listing d.args)
+value_fault known marked roles.Set earlier d = set_fault known d.args
 value_fault known marked _ earlier d = None
 
 -- `root` and `alias` don't stand beside each other

@@ -1,8 +1,8 @@
 -- Which locations are alike.
 use Rattle.std.specs.Prelude.{ℕ, List, [], ◌∷◌, Bool, true, false, ◌&&◌, Option, None, Some, bytes_eq}
 use Rattle.conf_text.specs.declared.directive.Directive.{Directive}
-use Rattle.conf_block.specs.declared.role.Role.{Role}
-use Rattle.conf_block.specs.declared.role.Role.TheVariants as roles
+use Rattle.conf_table.specs.declared.role.Role.{Role}
+use Rattle.conf_table.specs.declared.role.Role.TheVariants as roles
 use Rattle.conf_block.specs.declared.location.Kind.{Kind}
 use Rattle.conf_block.specs.declared.location.Kind.TheVariants.{Prefix, Exact, Named}
 use Rattle.conf_block.specs.Roles.{role_of}

@@ -2,9 +2,9 @@ pub mod Gives
 pub mod Ends
 pub mod Keys
 pub mod LocationSet
+pub mod Names
 pub mod Faults
 pub mod Before
-pub mod Names
 pub mod Checked
 pub mod Served
-pub mod Accepted
+pub mod Faultless

@@ -3,8 +3,8 @@ use Rattle.std.specs.Prelude.{ℕ, List, [], ◌∷◌, Bool, false, ◌&&◌, �
 use Rattle.std.specs.List.{list_all}
 use Rattle.ngx_variables.specs.Grammar.{is_name_byte, lowercase}
 use Rattle.conf_text.specs.declared.directive.Directive.{Directive}
-use Rattle.conf_block.specs.declared.role.Role.{Role}
-use Rattle.conf_block.specs.declared.role.Role.TheVariants as roles
+use Rattle.conf_table.specs.declared.role.Role.{Role}
+use Rattle.conf_table.specs.declared.role.Role.TheVariants as roles
 use Rattle.conf_block.specs.declared.role.Content.{Content}
 use Rattle.conf_block.specs.Forest.{Forest, End, Branch}
 use Rattle.conf_block.specs.Roles.{role_of, content_inside, are_directives}

@@ -6,6 +6,8 @@ use Rattle.conf_text.specs.declared.fault.FaultKind.TheVariants.{NotServed}
 use Rattle.conf_text.specs.declared.fault.ConfFault.{ConfFault}
 use Rattle.conf_table.specs.declared.rule.Place.{Place}
 use Rattle.conf_table.specs.declared.rule.Place.TheVariants as places
+use Rattle.conf_table.specs.declared.rule.Feature.{Feature}
+use Rattle.conf_table.specs.declared.rule.Feature.TheVariants.{Core, Deadlines}
 use Rattle.conf_table.specs.declared.rule.DirectiveRule.{DirectiveRule}
 use Rattle.conf_table.specs.Table.{entry_of}
 use Rattle.http_types.specs.declared.words.Addr.{Addr}
@@ -13,8 +15,8 @@ use Rattle.conf_values.specs.declared.returned.Form.{Form}
 use Rattle.conf_values.specs.declared.returned.Form.TheVariants.{Wrong, Later, Answer}
 use Rattle.conf_values.specs.Listening.{wildcard, listened_by}
 use Rattle.conf_values.specs.Returning.{form_of}
-use Rattle.conf_block.specs.declared.role.Role.{Role}
-use Rattle.conf_block.specs.declared.role.Role.TheVariants as roles
+use Rattle.conf_table.specs.declared.role.Role.{Role}
+use Rattle.conf_table.specs.declared.role.Role.TheVariants as roles
 use Rattle.conf_block.specs.declared.role.Content.{Content}
 use Rattle.conf_block.specs.Forest.{Forest, End, Branch, roots}
 use Rattle.conf_check.specs.Gives.{faulty, ◌>>=◌, ◌>>◌}
@@ -23,10 +25,16 @@ use Rattle.conf_block.specs.Listening.{listens_of}
 use Rattle.conf_check.specs.Ends.{with_end}
 use Rattle.conf_block.specs.Locations.{is_plain}
 
--- accepted without effect
-abbrev pub is_ignored : Option DirectiveRule → Bool
-is_ignored None = false
-is_ignored (Some rule) = rule.ignored
+-- The features that this server has: a directive of another has no effect yet.
+abbrev pub has_feature : Feature → Bool
+has_feature Core = true
+has_feature Deadlines = true
+has_feature _ = false
+
+-- a directive by whose feature it is served
+abbrev pub served_by : Option DirectiveRule → Bool
+served_by None = false
+served_by (Some rule) = has_feature rule.served_by
 
 abbrev pub is_answered : Form → Bool
 is_answered Wrong = false
@@ -56,31 +64,20 @@ abbrev pub is_server : Place → Bool
 is_server places.Server = true
 is_server _ = false
 
--- locations with a plain prefix are served that stand in a server, and `return` with a text and a code that doesn't redirect
-abbrev pub is_served_as : Role → Place → Directive → Bool
-is_served_as roles.Http here d = true
-is_served_as roles.Events here d = true
-is_served_as roles.Server here d = true
-is_served_as roles.Location here d = is_server here && is_plain d.args
-is_served_as roles.If here d = false
-is_served_as roles.Types here d = true
-is_served_as roles.Listen here d = true
-is_served_as roles.Return here d = is_answered (form_of d.args)
-is_served_as roles.Root here d = true
-is_served_as roles.Alias here d = true
-is_served_as roles.DefaultType here d = true
-is_served_as roles.Requests here d = true
-is_served_as roles.Idle here d = true
-is_served_as roles.Set here d = false
-is_served_as roles.Other here d = false
+-- The forms of directives that are served: locations with a plain prefix in a server, and `return` with a code that doesn't
+-- redirect; of all others each form.
+abbrev pub has_form : Role → Place → Directive → Bool
+has_form roles.Location here d = is_server here && is_plain d.args
+has_form roles.Return here d = is_answered (form_of d.args)
+has_form _ here d = true
 
--- one that has an effect, and takes no address of a server before
+-- one that has an effect, or needs none, and takes no address of a server before
 abbrev pub has_effect : (taken : Addr → Bool) → Content → Directive → Option Addr → Bool
-has_effect taken here d addr = is_served_as (role_of d.name) (place_of here) d && is_free taken addr
+has_effect taken here d addr = served_by (entry_of d.name) && (has_form (role_of d.name) (place_of here) d && is_free taken addr)
 
--- each line of `types`, and each directive that is accepted without effect, or has one
+-- each line of `types`, and each directive that has an effect
 abbrev pub is_served : (taken : Addr → Bool) → Content → Directive → Option Addr → Bool
-is_served taken here d addr = not (are_directives here) || (is_ignored (entry_of d.name) || has_effect taken here d addr)
+is_served taken here d addr = not (are_directives here) || has_effect taken here d addr
 
 -- one that isn't served is refused, by a fault of its own: its name is known
 abbrev pub refusal : Bool → Option FaultKind

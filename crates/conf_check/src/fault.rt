@@ -3,10 +3,10 @@ ghost use Rattle.std.specs.Prelude.{◌≡◌, ℕ, List, Some, not, ◌&&◌, �
 ghost use Rattle.conf_text.specs.declared.directive.Directive.{Directive as Line};
 ghost use Rattle.conf_table.specs.Table.{entry_of};
 ghost use Rattle.conf_check.specs.Gives.{IsError, fault_of, faulty, Gives};
-ghost use Rattle.std.specs.List.{list_any, list_all};
+ghost use Rattle.std.specs.List.{list_any};
 ghost use Rattle.http_types.specs.declared.words.Addr.{Addr as End};
 ghost use Rattle.conf_values.specs.TextSet.{holds};
-ghost use Rattle.conf_values.specs.Texts.{is_folder_text};
+ghost use Rattle.conf_values.specs.Texts.{is_text, is_folder_text};
 ghost use Rattle.conf_values.specs.Listening.{listened_by as address, is_marked};
 ghost use Rattle.conf_block.specs.declared.location.Kind.{Kind as Like};
 ghost use Rattle.conf_block.specs.Locations.{Key as Place, key_of as key};
@@ -14,20 +14,22 @@ ghost use Rattle.conf_check.specs.Keys.{same_key};
 ghost use Rattle.conf_check.specs.LocationSet.{has_location};
 ghost use Rattle.conf_block.specs.Roles.{role_of as role};
 ghost use Rattle.conf_check.specs.Ends.{same_addr, has_end};
-ghost use Rattle.conf_check.specs.Faults.{within, is_counted, is_named, listen_fault, location_fault, unless, first_word, is_count, is_time, value_fault, is_beside, rule_fault, own_fault};
+ghost use Rattle.conf_check.specs.Faults.{within, is_counted, is_named, listen_fault, location_fault, unless, first_word, begins_with_digit, named_fault, set_fault, value_fault, is_beside, rule_fault, own_fault};
 ghost use Rattle.conf_check.specs.Before.{Remembers};
 
 use crate::before::Before;
 use crate::ends::Ends;
+use crate::names::variable_in;
 use byte_text::{ByteText, OutOfMemory};
-use conf_block::{Content, Role, has_modifier, is_misplaced, key_of, place_of, role_of};
-use conf_table::{DirectiveRule, entry};
+use conf_block::{Content, has_modifier, is_misplaced, key_of, place_of, role_of};
+use conf_table::{DirectiveRule, Role, entry};
 use conf_text::{ConfError, ConfFault, Directive, FaultKind};
 use conf_values::{
-    TextSet, count_of, has_known_parameters, is_folder_text, is_marked, is_return, listened_by,
-    time_of,
+    TextSet, are_listed, are_values, has_known_parameters, is_folder_text, is_marked, is_return,
+    is_text, listened_by,
 };
 use http_types::Addr;
+use ngx_variables::is_builtin;
 use std::alloc::Global;
 
 /// A fault of this kind of the directive.
@@ -147,24 +149,60 @@ fn is_folder(alloc: Global, known: &TextSet, words: &[ByteText]) -> Result<bool,
     }
 }
 
-fn is_count(words: &[ByteText]) -> bool
-    ensures { result ≡ first_word is_count words.now }
+/// Whether the first word is a text.
+fn is_first_text(alloc: Global, known: &TextSet, words: &[ByteText]) -> Result<bool, OutOfMemory>
+    ensures { IfOk result (λ r. r ≡ first_word (is_text (holds known.now.keys)) words.now) }
 {
     match words {
-        [] => false,
-        [word, ..] => count_of(word.as_slice()).is_some(),
+        [] => Ok(false),
+        [word, ..] => is_text(alloc, known, word.as_slice()),
     }
 }
 
-fn are_times(words: &[ByteText]) -> bool
-    ensures { result ≡ list_all is_time words.now }
+fn begins_with_digit(name: &[u8]) -> bool
+    ensures { result ≡ begins_with_digit name.now }
 {
-    for word in words {
-        if time_of(word.as_slice()).is_none() {
-            return false;
+    match name {
+        [] => false,
+        [first, ..] => 49 <= *first && *first <= 57,
+    }
+}
+
+/// What is wrong with the variable that is set, and with its text.
+fn named_fault(
+    alloc: Global,
+    known: &TextSet,
+    name: Option<ByteText>,
+    text: &[ByteText],
+) -> Result<Option<FaultKind>, OutOfMemory>
+    ensures { IfOk result (λ kind. kind ≡ named_fault (holds known.now.keys) name text.now) }
+{
+    let Some(name) = name else {
+        return Ok(Some(FaultKind::BadValue));
+    };
+    if is_builtin(name.as_slice()) {
+        return Ok(Some(FaultKind::BuiltinSet));
+    }
+    if begins_with_digit(name.as_slice()) {
+        return Ok(Some(FaultKind::BadValue));
+    }
+    Ok(unless(is_first_text(alloc, known, text)?))
+}
+
+fn set_fault(
+    alloc: Global,
+    known: &TextSet,
+    words: &[ByteText],
+) -> Result<Option<FaultKind>, OutOfMemory>
+    ensures { IfOk result (λ kind. kind ≡ set_fault (holds known.now.keys) words.now) }
+{
+    match words {
+        [] => Ok(Some(FaultKind::BadValue)),
+        [word, text @ ..] => {
+            let name = variable_in(alloc, word.as_slice())?;
+            named_fault(alloc, known, name, text)
         }
     }
-    true
 }
 
 /// The names of the variables that are set, and the addresses that have a default server.
@@ -191,8 +229,9 @@ fn value_fault(
         Role::Location => Ok(location_fault(before, words)),
         Role::Return => Ok(unless(is_return(alloc, around.known, words)?)),
         Role::Root | Role::Alias => Ok(unless(is_folder(alloc, around.known, words)?)),
-        Role::Requests => Ok(unless(is_count(words))),
-        Role::Idle => Ok(unless(are_times(words))),
+        Role::Setting(setting) => Ok(unless(are_values(setting, words))),
+        Role::Listing(listing) => Ok(unless(are_listed(alloc, around.known, listing, words)?)),
+        Role::Set => set_fault(alloc, around.known, words),
         _ => Ok(None),
     }
 }

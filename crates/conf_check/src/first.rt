@@ -5,7 +5,7 @@ ghost use Rattle.conf_values.specs.TextSet.{holds};
 ghost use Rattle.conf_block.specs.Forest.{forest_of};
 ghost use Rattle.conf_check.specs.Gives.{sound, Gives};
 ghost use Rattle.conf_check.specs.Names.{is_set_in};
-ghost use Rattle.conf_check.specs.Accepted.{some_server, no_fault, all_served, accepted};
+ghost use Rattle.conf_check.specs.Faultless.{some_server, no_fault, all_served, faultless};
 
 use crate::ends::Ends;
 use crate::levels::check_level;
@@ -62,8 +62,16 @@ fn check_all(alloc: Global, directives: &[Directive]) -> Result<(), ConfError>
     )
 }
 
-/// The first directive that isn't served, in the order of the text.
-fn serve_all(alloc: Global, directives: &[Directive]) -> Result<(), ConfError>
+/// Looks for the first directive that has no effect yet, in the order of the text.
+///
+/// Today servers have an effect, each on addresses that no server before listens on, with locations of plain prefixes, what
+/// `return` answers in either that doesn't redirect, where files are, of which types they are and how long a connection is
+/// kept; and what needs none, as it is accepted without effect.
+///
+/// # Errors
+///
+/// `Fault` for the first such directive, and `OutOfMemory`.
+pub fn check_effects(alloc: Global, directives: &[Directive]) -> Result<(), ConfError>
     ensures { Gives (λ x. x) result (all_served (forest_of directives.now)) }
 {
     let mut taken = Ends::new(alloc);
@@ -76,24 +84,18 @@ fn serve_all(alloc: Global, directives: &[Directive]) -> Result<(), ConfError>
 }
 
 /// Looks for the first fault of a configuration, whose files are put in their places (nginx's documentation, "Core
-/// functionality" and "Module ngx_http_core_module"). The main file's number is 0. Without a fault it can be served.
-///
-/// Today servers are served, each on addresses that no server before listens on, with locations of plain prefixes, what
-/// `return` answers in either that doesn't redirect, where files stand, of which types they are and how long a connection
-/// is kept, and what is accepted without effect.
+/// functionality" and "Module ngx_http_core_module"). The main file's number is 0.
 ///
 /// # Errors
 ///
 /// `Fault` for the first fault in the order of the text, where at one directive come an unknown name, a place where it
 /// may not stand, a wrong number of words or a block, a second one where one alone may stand, and a wrong value; then
-/// `NoServer`, at the beginning of the main file; and last, as of an unknown name, the first directive that is not
-/// served yet. And `OutOfMemory`.
+/// `NoServer`, at the beginning of the main file. And `OutOfMemory`.
 pub fn check(alloc: Global, directives: &[Directive]) -> Result<(), ConfError>
-    ensures ok { OnOk result (accepted directives.now ≡ sound) }
-    ensures fault { IfErr result (λ e. OnFault e (λ fault. accepted directives.now ≡ Err fault)) }
+    ensures ok { OnOk result (faultless directives.now ≡ sound) }
+    ensures fault { IfErr result (λ e. OnFault e (λ fault. faultless directives.now ≡ Err fault)) }
 {
     check_all(alloc, directives)?;
     some_server(http_in(directives))?;
-    serve_all(alloc, directives)?;
     Ok(())
 }

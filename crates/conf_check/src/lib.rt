@@ -1,4 +1,4 @@
-//! The first fault of a configuration, in the order of its text.
+//! The first fault of a configuration, in the order of its text, and its first directive that has no effect yet.
 #![tactic(auto)]
 
 mod before;
@@ -10,4 +10,4 @@ mod locations;
 mod names;
 mod served;
 
-pub use first::check;
+pub use first::{check, check_effects};

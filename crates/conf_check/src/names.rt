@@ -7,7 +7,8 @@ ghost use Rattle.conf_block.specs.Forest.{forest_of};
 ghost use Rattle.conf_check.specs.Names.{is_name, variable_in, first_variable, set_with, set_by, is_it, is_set_in};
 
 use byte_text::{ByteText, OutOfMemory};
-use conf_block::{Content, Role, are_directives, content_inside, first_branch, role_of};
+use conf_block::{Content, are_directives, content_inside, first_branch, role_of};
+use conf_table::Role;
 use conf_text::Directive;
 use conf_values::TextSet;
 use std::alloc::Global;
@@ -45,7 +46,7 @@ fn lowercase(alloc: Global, name: &[u8]) -> Result<ByteText, OutOfMemory>
 
 /// The variable of a word `$NAME`, in lower case.
 #[tactic(auto, unfolding(crate::specs::Names::variable_in))]
-fn variable_in(alloc: Global, word: &[u8]) -> Result<Option<ByteText>, OutOfMemory>
+pub fn variable_in(alloc: Global, word: &[u8]) -> Result<Option<ByteText>, OutOfMemory>
     ensures { IfOk result (λ name. name ≡ variable_in word.now) }
 {
     match word {

@@ -5,28 +5,38 @@ ghost use Rattle.conf_values.specs.Returning.{form_of as form};
 ghost use Rattle.conf_block.specs.Forest.{forest_of};
 ghost use Rattle.conf_check.specs.Gives.{Gives};
 ghost use Rattle.conf_check.specs.Ends.{has_end};
-ghost use Rattle.conf_check.specs.Served.{is_ignored as ignored, is_answered, is_free, default_end, end_with, end_by, is_server, is_served_as, has_effect, is_served, refusal, served};
+ghost use Rattle.conf_check.specs.Served.{has_feature, served_by, is_answered, is_free, default_end, end_with, end_by, is_server, has_form, has_effect, is_served, refusal, served};
 
 use crate::ends::Ends;
 use crate::fault::faulty;
 use byte_text::{ByteText, OutOfMemory};
 use conf_block::{
-    Branch, Content, Role, addresses, are_directives, content_inside, first_branch, is_plain,
-    place_of, role_of,
+    Branch, Content, addresses, are_directives, content_inside, first_branch, is_plain, place_of,
+    role_of,
 };
-use conf_table::{Place, entry};
+use conf_table::{Feature, Place, Role, entry};
 use conf_text::{ConfError, Directive, FaultKind};
 use conf_values::{Form, form_of, listened_by, wildcard};
 use http_types::Addr;
 use std::alloc::Global;
 
-/// Whether a directive of this name is accepted without effect.
-fn is_ignored(name: &[u8]) -> bool
-    ensures { result ≡ ignored (entry_of name.now) }
+/// The features that this server has.
+fn has_feature(feature: Feature) -> bool
+    ensures { result ≡ has_feature feature }
+{
+    match feature {
+        Feature::Core | Feature::Deadlines => true,
+        _ => false,
+    }
+}
+
+/// Whether a directive of this name is of one of these features.
+fn is_featured(name: &[u8]) -> bool
+    ensures { result ≡ served_by (entry_of name.now) }
 {
     match entry(name) {
         None => false,
-        Some(rule) => rule.ignored,
+        Some(rule) => has_feature(rule.served_by),
     }
 }
 
@@ -48,13 +58,13 @@ fn is_server(here: Place) -> bool
     }
 }
 
-fn is_served_as(role: Role, here: Place, directive: &Directive) -> bool
-    ensures { result ≡ is_served_as role here directive.now }
+/// Whether a directive has a form that is served.
+fn has_form(role: Role, here: Place, directive: &Directive) -> bool
+    ensures { result ≡ has_form role here directive.now }
 {
     match role {
         Role::Location => is_server(here) && is_plain(directive.args.as_slice()),
         Role::Return => is_answered(directive.args.as_slice()),
-        Role::If | Role::Set | Role::Other => false,
         _ => true,
     }
 }
@@ -108,17 +118,15 @@ fn is_free(taken: &Ends, addr: Option<Addr>) -> bool
 fn has_effect(taken: &Ends, here: Content, directive: &Directive, addr: Option<Addr>) -> bool
     ensures { result ≡ has_effect (has_end taken.now.keys) here directive.now addr }
 {
-    let role = role_of(directive.name.as_slice());
-    is_served_as(role, place_of(here), directive) && is_free(taken, addr)
+    let name = directive.name.as_slice();
+    is_featured(name) && has_form(role_of(name), place_of(here), directive) && is_free(taken, addr)
 }
 
 /// Whether a directive that stands here is served, which takes this address.
 fn is_served(taken: &Ends, here: Content, directive: &Directive, addr: Option<Addr>) -> bool
     ensures { result ≡ is_served (has_end taken.now.keys) here directive.now addr }
 {
-    !are_directives(here)
-        || is_ignored(directive.name.as_slice())
-        || has_effect(taken, here, directive, addr)
+    !are_directives(here) || has_effect(taken, here, directive, addr)
 }
 
 /// A directive that isn't served is refused as such, and not as one of an unknown name.

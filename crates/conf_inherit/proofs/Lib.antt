@@ -1,4 +1,5 @@
 pub mod EntriesLaws
+pub mod NestLaws
 pub mod SiteLaws
 pub mod InheritLaws
 pub mod BuiltLaws

@@ -1,23 +1,28 @@
 -- What a site under construction shows.
-use Rattle.std.proofs.Common.{◌≡◌, ℕ, zero, suc, length, List, [], ◌∷◌, ◌++◌, map, false, cond, Option, Some, None, is_some, unwrap_or, refl, sym, ap, ◌∙◌, append_assoc, append-nil}
+use Rattle.std.proofs.Common.{◌≡◌, ℕ, zero, suc, ◌+◌, ◌&&◌, length, Bool, List, [], ◌∷◌, ◌++◌, map, true, false, cond, Option, Some, None, is_some, unwrap_or, refl, sym, ap, subst, ◌∙◌, append_assoc, append-nil}
 use Rattle.std.specs.List.{slice_get}
+use Rattle.std.proofs.lemmas.Bool.{and_parts}
 use Rattle.std.proofs.lemmas.List.{map_push}
 use Rattle.file_type.specs.Types.{TypeList}
 use Rattle.site_model.specs.declared.site.Return.{Return}
 use Rattle.site_model.specs.declared.site.Level.{Level}
-use Rattle.site_model.specs.declared.site.Location.{Location}
-use Rattle.http_types.specs.declared.words.Addr.{Addr}
+use Rattle.site_model.specs.declared.site.Location.{Location as CodeLocation}
+use Rattle.site_model.specs.declared.site.NamedLocation.{NamedLocation}
 use Rattle.site_model.specs.declared.site.Site.{Site}
-use Rattle.site_model.specs.Levels.{location_seen, server_seen, types_at, raw_level, level_at, level_seen}
+use Rattle.site_model.specs.Levels.{types_at, raw_level}
+use Rattle.site_views.specs.Views.{LevelView, LocationView, Locations, NamedView}
+use Rattle.site_views.specs.Views.Locations.{NoMore, Location}
+use Rattle.site_whole.specs.Whole.{values_seen, program_seen, level_whole, location_whole, named_whole, matching_by, returned_first}
 use Rattle.std.specs.Prelude.{codes}
 use Rattle.std.specs.Option.{option_and_then}
 use Rattle.conf_text.specs.declared.directive.Directive.{Directive}
-use Rattle.conf_block.specs.Forest.{Forest, roots}
-use Rattle.conf_block.specs.Listening.{listens_of, or_default}
-use Rattle.conf_block.specs.Locations.{text_in}
-use Rattle.conf_block.specs.Blocks.{Block, block_with, block_of, blocks_of}
-use Rattle.conf_inherit.specs.Values.{Values, all_entries, entries_in, first_word, word_in, stated, over, level_with, returned_in}
-use Rattle.conf_inherit.specs.Pools.{Keeps, Holds, level_by, location_in, server_in}
+use Rattle.conf_block.specs.Forest.{Forest, End, Branch}
+use Rattle.conf_block.specs.Locations.{text_in, is_found}
+use Rattle.conf_block.specs.Blocks.{block_of, blocks_of, from_first}
+use Rattle.conf_inherit.specs.Values.{Values, all_values, all_entries, entries_in, first_word, word_in, stated, over, level_with, level_of, internal_in, returned_in}
+use Rattle.conf_inherit.specs.Pools.{Keeps, Holds, is_nil, are_free, IsFree, AreDeep, Added, level_by, follow, list_seen}
+use Rattle.conf_inherit.specs.Built.{kind_of, inner_values, location_with, locations_in, named_with, named_in}
+use Rattle.conf_inherit.proofs.NestLaws.{seen-none, seen-one, follow-none, follow-first, deep-append, deep-one}
 
 -- lists that grow
 
@@ -55,72 +60,212 @@ types-there : (site : Site) (n : ℕ) (types : TypeList) → slice_get site.type
 unfolding types_at
 types-there site n types h = ap (λ o. unwrap_or o site.plain) h
 
-pub level-shown : (site : Site) (levels : List Level) (types : List TypeList) (v : Values) (n number : ℕ) (returned : Option Return) (level : Level)
-    → Holds levels types site → slice_get levels n ≡ Some level → level ≡ level_by v number returned → slice_get types number ≡ Some v.types
-    → level_at site n ≡ level_with v returned
-level-shown site levels types v n number returned level h l e t =
-    ap (level_seen site) (raw-there site n level (h.0 n level l) ∙ e)
-    ∙ ap (λ types. level_with (record v { types = types }) returned) (types-there site number v.types (h.1 number v.types t))
+abbrev seen_level : Site → Level → LevelView
+seen_level site l = record { values = values_seen site l; program = program_seen [] site l }
+
+seen-by : (site : Site) (v : Values) (number : ℕ) (internal : Bool) (returned : Option Return) → types_at site number ≡ v.types
+    → seen_level site (level_by v number internal returned) ≡ level_with v internal returned
+unfolding values_seen
+seen-by site v number internal returned t = λ i. record { values = all_values (record v { types = t i }) internal; program = append-nil (returned_first returned) i }
+
+level-step : (site : Site) (n : ℕ) → level_whole [] site n ≡ seen_level site (raw_level site n)
+unfolding level_whole
+level-step site n = refl
+
+pub level-shown : (site : Site) (levels : List Level) (types : List TypeList) (v : Values) (n number : ℕ) (body : Forest) (level : Level)
+    → Holds levels types site → slice_get levels n ≡ Some level → level ≡ level_by v number (internal_in body) (returned_in body) → slice_get types number ≡ Some v.types
+    → level_whole [] site n ≡ level_of v body
+level-shown site levels types v n number body level h l e t =
+    level-step site n ∙ ap (seen_level site) (raw-there site n level (h.0 n level l) ∙ e)
+    ∙ seen-by site v number (internal_in body) (returned_in body) (types-there site number v.types (h.1 number v.types t))
+
+-- levels without a rewrite program
+
+free-last : (ls : List Level) (level : Level) → are_free ls ≡ true → level.program ≡ [] → are_free (ls ++ level ∷ []) ≡ true
+unfolding are_free
+free-last [] level h p = ap (λ steps. is_nil steps && true) p
+free-last (l ∷ ls) level h p =
+    let parts = and_parts (is_nil l.program) (are_free ls) h in
+    ap (λ t. t && are_free (ls ++ level ∷ [])) parts.0 ∙ free-last ls level parts.1 p
+
+-- pushed or not
+pub free-either : (old new : List Level) (level : Level) (pushed : Bool) → new ≡ cond pushed (old ++ level ∷ []) old → are_free old ≡ true → level.program ≡ [] → are_free new ≡ true
+free-either old new level true e h p = ap are_free e ∙ free-last old level h p
+free-either old new level false e h p = ap are_free e ∙ h
+
+pub free-none : (levels : List Level) → levels ≡ [] → are_free levels ≡ true
+unfolding are_free
+free-none levels e = ap are_free e
+
+nil-is : {A : Type 0} (xs : List A) → is_nil xs ≡ true → xs ≡ []
+nil-is [] e = refl
+nil-is (x ∷ xs) e = cc
+
+free-or : (ls : List Level) (n : ℕ) (other : Level) → are_free ls ≡ true → other.program ≡ [] → (unwrap_or (slice_get ls n) other).program ≡ []
+unfolding are_free
+free-or [] n other h p = p
+free-or (l ∷ ls) zero other h p = nil-is l.program (and_parts (is_nil l.program) (are_free ls) h).0
+free-or (l ∷ ls) (suc n) other h p = free-or ls n other (and_parts (is_nil l.program) (are_free ls) h).1 p
+
+pub free-site : (site : Site) → are_free site.levels.items ≡ true → site.outside.program ≡ [] → IsFree site
+unfolding raw_level
+free-site site h p = λ n. free-or site.levels.items n site.outside h p
 
 -- items that are shown so far, and those that are to come
 
-pub record SoFar {A C : Type 0} (seen : Site → A → C) (meant : Block → C) (first_levels levels : List Level) (first_types types : List TypeList) (items : List A) (left all : List Block) : Type 0 where
+pub record SoFar {A C : Type 0} (seen : Site → A → C) (first_levels levels : List Level) (first_types types : List TypeList) (items : List A) (left all : List C) : Type 0 where
   pub levels_kept : Keeps first_levels levels
   pub types_kept : Keeps first_types types
-  pub same : (site : Site) → Holds levels types site → map (seen site) items ++ map meant left ≡ map meant all
+  pub same : (site : Site) → Holds levels types site → map (seen site) items ++ left ≡ all
 
-holds-before : (levels levels' : List Level) (types types' : List TypeList) (site : Site) → Keeps levels levels' → Keeps types types' → Holds levels' types' site → Holds levels types site
+pub holds-before : (levels levels' : List Level) (types types' : List TypeList) (site : Site) → Keeps levels levels' → Keeps types types' → Holds levels' types' site → Holds levels types site
 holds-before levels levels' types types' site l t h = (keeps-then levels levels' site.levels.items l h.0, keeps-then types types' site.types.items t h.1)
 
-pub so-far-begin : {A C : Type 0} (seen : Site → A → C) (meant : Block → C) (levels : List Level) (types : List TypeList) (items : List A) (all : List Block) → items ≡ []
-    → SoFar seen meant levels levels types types items all all
-so-far-begin seen meant levels types items all e =
-    record { levels_kept = λ n x h. h; types_kept = λ n x h. h; same = λ site h. ap (λ items. map (seen site) items ++ map meant all) e }
+pub so-far-begin : {A C : Type 0} (seen : Site → A → C) (levels : List Level) (types : List TypeList) (items : List A) (all : List C) → items ≡ []
+    → SoFar seen levels levels types types items all all
+so-far-begin seen levels types items all e =
+    record { levels_kept = λ n x h. h; types_kept = λ n x h. h; same = λ site h. ap (λ items. map (seen site) items ++ all) e }
 
-one-more : {A B C : Type 0} (seen : A → C) (meant : B → C) (items items' : List A) (x : A) (b : B) (left more : List B) → items' ≡ items ++ x ∷ [] → left ≡ b ∷ more → seen x ≡ meant b
-    → map seen items' ++ map meant more ≡ map seen items ++ map meant left
-one-more seen meant items items' x b left more i l s =
-    ap (λ xs. map seen xs ++ map meant more) i ∙ ap (λ xs. xs ++ map meant more) (map_push seen items x)
-    ∙ append_assoc (map seen items) (seen x ∷ []) (map meant more)
-    ∙ ap (λ y. map seen items ++ y ∷ map meant more) s ∙ ap (λ bs. map seen items ++ map meant bs) (sym l)
+one-more : {A C : Type 0} (seen : A → C) (items items' : List A) (x : A) (c : C) (left more : List C) → items' ≡ items ++ x ∷ [] → left ≡ c ∷ more → seen x ≡ c
+    → map seen items' ++ more ≡ map seen items ++ left
+one-more seen items items' x c left more i l s =
+    ap (λ xs. map seen xs ++ more) i ∙ ap (λ xs. xs ++ more) (map_push seen items x)
+    ∙ append_assoc (map seen items) (seen x ∷ []) more
+    ∙ ap (λ y. map seen items ++ y ∷ more) s ∙ ap (λ cs. map seen items ++ cs) (sym l)
 
-pub so-far-more : {A C : Type 0} {seen : Site → A → C} {meant : Block → C} {first_levels levels : List Level} {first_types types : List TypeList} {items : List A} {left all : List Block}
-    → SoFar seen meant first_levels levels first_types types items left all
-    → (levels' : List Level) (types' : List TypeList) (items' : List A) (x : A) (b : Block) (more : List Block)
-    → Keeps levels levels' → Keeps types types' → items' ≡ items ++ x ∷ [] → left ≡ b ∷ more → ((site : Site) → Holds levels' types' site → seen site x ≡ meant b)
-    → SoFar seen meant first_levels levels' first_types types' items' more all
-so-far-more {A} {C} {seen} {meant} {first_levels} {levels} {first_types} {types} {items} {left} {all} s levels' types' items' x b more l t i e shown = record {
+pub so-far-more : {A C : Type 0} {seen : Site → A → C} {first_levels levels : List Level} {first_types types : List TypeList} {items : List A} {left all : List C}
+    → SoFar seen first_levels levels first_types types items left all
+    → (levels' : List Level) (types' : List TypeList) (items' : List A) (x : A) (c : C) (more : List C)
+    → Keeps levels levels' → Keeps types types' → items' ≡ items ++ x ∷ [] → left ≡ c ∷ more → ((site : Site) → Holds levels' types' site → seen site x ≡ c)
+    → SoFar seen first_levels levels' first_types types' items' more all
+so-far-more {A} {C} {seen} {first_levels} {levels} {first_types} {types} {items} {left} {all} s levels' types' items' x c more l t i e shown = record {
   levels_kept = keeps-then first_levels levels levels' s.levels_kept l;
   types_kept = keeps-then first_types types types' s.types_kept t;
   same = λ site h.
-      one-more (seen site) meant items items' x b left more i e (shown site h) ∙ s.same site (holds-before levels levels' types types' site l t h);
+      one-more (seen site) items items' x c left more i e (shown site h) ∙ s.same site (holds-before levels levels' types types' site l t h);
 }
 
-pub so-far-end : {A C : Type 0} {seen : Site → A → C} {meant : Block → C} {first_levels levels : List Level} {first_types types : List TypeList} {items : List A} {left all : List Block}
-    → SoFar seen meant first_levels levels first_types types items left all → left ≡ [] → (site : Site) → Holds levels types site → map (seen site) items ≡ map meant all
-so-far-end {A} {C} {seen} {meant} {first_levels} {levels} {first_types} {types} {items} {left} {all} s e site h =
-    sym (append-nil (map (seen site) items)) ∙ ap (λ bs. map (seen site) items ++ map meant bs) (sym e) ∙ s.same site h
+pub so-far-end : {A C : Type 0} {seen : Site → A → C} {first_levels levels : List Level} {first_types types : List TypeList} {items : List A} {left all : List C}
+    → SoFar seen first_levels levels first_types types items left all → left ≡ [] → (site : Site) → Holds levels types site → map (seen site) items ≡ all
+so-far-end {A} {C} {seen} {first_levels} {levels} {first_types} {types} {items} {left} {all} s e site h =
+    sym (append-nil (map (seen site) items)) ∙ ap (λ cs. map (seen site) items ++ cs) (sym e) ∙ s.same site h
 
--- a location and a server
+-- ---- locations
 
-pub location-shown : (site : Site) (levels : List Level) (types : List TypeList) (l : Location) (d : Directive) (body : Forest) (outer v : Values) (number : ℕ) (level : Level)
-    → Holds levels types site → l.text ≡ text_in d.args → slice_get levels l.level ≡ Some level → v ≡ over (stated (text_in d.args) body) outer
-    → level ≡ level_by v number (returned_in body) → slice_get types number ≡ Some v.types → location_seen site l ≡ location_in outer (block_with d body)
-location-shown site levels types l d body outer v number level h t n e shown ts = λ i. record {
-  text = t i;
-  level = (level-shown site levels types v l.level number (returned_in body) level h n shown ts ∙ ap (λ v. level_with v (returned_in body)) e) i;
+locations-first : (outer : Values) (f : Forest) → locations_in outer f ≡ locations_in outer (from_first (is_found false) f)
+unfolding locations_in from_first
+locations-first outer End = refl
+locations-first outer (Branch d block beside) =
+    let here : Locations = Location (location_with (inner_values outer d block) d block) (locations_in (inner_values outer d block) block) (locations_in outer beside) in
+    elim (is_found false d) as (λ t. is_found false d ≡ t → cond t here (locations_in outer beside) ≡ locations_in outer (cond t (Branch d block beside) (from_first (is_found false) beside))) [
+      | true ↦ λ e. sym (ap (λ t. cond t here (locations_in outer beside)) e)
+      | false ↦ λ e. locations-first outer beside
+    ] refl
+
+location-branch : (outer : Values) (d : Directive) (block beside : Forest) → is_found false d ≡ true
+    → locations_in outer (Branch d block beside) ≡ Location (location_with (inner_values outer d block) d block) (locations_in (inner_values outer d block) block) (locations_in outer beside)
+unfolding locations_in
+location-branch outer d block beside e =
+    ap (λ t. cond t (Location (location_with (inner_values outer d block) d block) (locations_in (inner_values outer d block) block) (locations_in outer beside)) (locations_in outer beside)) e
+
+no-locations : (outer : Values) → locations_in outer End ≡ NoMore
+unfolding locations_in
+no-locations outer = refl
+
+pub locations-none : (outer : Values) (f : Forest) → from_first (is_found false) f ≡ End → locations_in outer f ≡ NoMore
+locations-none outer f e = locations-first outer f ∙ ap (locations_in outer) e ∙ no-locations outer
+
+pub locations-here : (outer : Values) (f : Forest) (d : Directive) (block beside : Forest) → from_first (is_found false) f ≡ Branch d block beside → is_found false d ≡ true
+    → locations_in outer f ≡ Location (location_with (inner_values outer d block) d block) (locations_in (inner_values outer d block) block) (locations_in outer beside)
+locations-here outer f d block beside e t = locations-first outer f ∙ ap (locations_in outer) e ∙ location-branch outer d block beside t
+
+pub locations-by : (outer v : Values) (f : Forest) (d : Directive) (block beside : Forest) → from_first (is_found false) f ≡ Branch d block beside → is_found false d ≡ true → v ≡ inner_values outer d block
+    → locations_in outer f ≡ Location (location_with v d block) (locations_in v block) (locations_in outer beside)
+locations-by outer v f d block beside e t n =
+    locations-here outer f d block beside e t ∙ ap (λ v. Location (location_with v d block) (locations_in v block) (locations_in outer beside)) (sym n)
+
+pub location-shown : (site : Site) (l : CodeLocation) (d : Directive) (body : Forest) (v : Values) → l.text ≡ text_in d.args → l.kind ≡ kind_of d.args
+    → level_whole [] site l.level ≡ level_of v body → location_whole [] site l ≡ location_with v d body
+location-shown site l d body v t k e = λ i. record { matching = matching_by [] (t i) (k i); level = e i }
+
+pub added-none : (outer : Values) (depth : ℕ) (levels : List Level) (types : List TypeList) (items : List CodeLocation) (all : Locations)
+    → Added outer depth levels levels types types items items all all
+added-none outer depth levels types items all = record {
+  added = [];
+  is = sym (append-nil items);
+  deep = tt;
+  levels_kept = λ n x h. h;
+  types_kept = λ n x h. h;
+  same = λ site h. ap (λ f. follow f all) (seen-none site) ∙ follow-first all;
 }
 
-pub server-shown : (site : Site) (levels : List Level) (types : List TypeList) (listens : List Addr) (own : ℕ) (locations : List Location) (d : Directive) (body : Forest) (outer v : Values) (number : ℕ) (level : Level)
-    → Holds levels types site → listens ≡ or_default (listens_of (roots body)) → slice_get levels own ≡ Some level → v ≡ over (stated [] body) outer
-    → level ≡ level_by v number (returned_in body) → slice_get types number ≡ Some v.types
-    → map (location_seen site) locations ≡ map (location_in v) (blocks_of (codes "location") body)
-    → record { listens = listens; level = level_at site own; locations = map (location_seen site) locations } ≡ server_in outer (block_with d body)
-server-shown site levels types listens own locations d body outer v number level h a n e shown ts ls = λ i. record {
-  listens = a i;
-  level = (level-shown site levels types v own number (returned_in body) level h n shown ts ∙ ap (λ v. level_with v (returned_in body)) e) i;
-  locations = (ls ∙ ap (λ v. map (location_in v) (blocks_of (codes "location") body)) e) i;
-}
+-- A location is pushed, and then those in it.
+pub added-more : {outer : Values} {depth : ℕ} {first levels : List Level} {first_types types : List TypeList} {old now : List CodeLocation} {left all : Locations}
+    → Added outer depth first levels first_types types old now left all
+    → (v : Values) (deeper : ℕ) (levels' levels'' : List Level) (types' types'' : List TypeList) (then last : List CodeLocation) (l : CodeLocation) (here : LocationView) (inner more : Locations)
+    → Keeps levels levels' → Keeps types types' → then ≡ now ++ l ∷ [] → l.depth ≡ depth → deeper ≡ depth + 1 → left ≡ Location here inner more
+    → ((site : Site) → Holds levels' types' site → location_whole [] site l ≡ here)
+    → Added v deeper levels' levels'' types' types'' then last NoMore inner
+    → Added outer depth first levels'' first_types types'' old last more all
+added-more {outer} {depth} {first} {levels} {first_types} {types} {old} {now} {left} {all} a v deeper levels' levels'' types' types'' then last l here inner more lk tk p d g e shown b =
+    let deep : AreDeep (depth + 1) b.added = subst (λ k. AreDeep k b.added) g b.deep in record {
+      added = a.added ++ l ∷ b.added;
+      is = b.is ∙ ap (λ xs. xs ++ b.added) p ∙ append_assoc now (l ∷ []) b.added ∙ ap (λ xs. xs ++ l ∷ b.added) a.is ∙ append_assoc old a.added (l ∷ b.added);
+      deep = deep-append depth a.added (l ∷ b.added) a.deep (deep-one depth l b.added d deep);
+      levels_kept = keeps-then first levels levels'' a.levels_kept (keeps-then levels levels' levels'' lk b.levels_kept);
+      types_kept = keeps-then first_types types types'' a.types_kept (keeps-then types types' types'' tk b.types_kept);
+      same = λ site h.
+          let h' : Holds levels' types' site = holds-before levels' levels'' types' types'' site b.levels_kept b.types_kept h in
+          let inside : list_seen site b.added ≡ inner = sym (follow-none (list_seen site b.added)) ∙ b.same site h in
+          seen-one site depth a.added l b.added more a.deep d deep
+          ∙ ap (λ x. follow (list_seen site a.added) (Location x (list_seen site b.added) more)) (shown site h')
+          ∙ ap (λ x. follow (list_seen site a.added) (Location here x more)) inside
+          ∙ ap (follow (list_seen site a.added)) (sym e)
+          ∙ a.same site (holds-before levels levels' types types' site lk tk h');
+    }
+
+pub added-end : {outer : Values} {depth : ℕ} {first levels : List Level} {first_types types : List TypeList} {old now : List CodeLocation} {left all : Locations}
+    → Added outer depth first levels first_types types old now left all → left ≡ NoMore → Added outer depth first levels first_types types old now NoMore all
+added-end {outer} {depth} {first} {levels} {first_types} {types} {old} {now} {left} {all} a e =
+    record { added = a.added; is = a.is; deep = a.deep; levels_kept = a.levels_kept; types_kept = a.types_kept; same = λ site h. ap (follow (list_seen site a.added)) (sym e) ∙ a.same site h }
+
+-- what was added to no locations is what there is
+pub added-all : {outer : Values} {depth : ℕ} {first levels : List Level} {first_types types : List TypeList} {old now : List CodeLocation} {all : Locations}
+    → Added outer depth first levels first_types types old now NoMore all → old ≡ [] → (site : Site) → Holds levels types site → list_seen site now ≡ all
+added-all {outer} {depth} {first} {levels} {first_types} {types} {old} {now} {all} a e site h =
+    ap (list_seen site) (a.is ∙ ap (λ xs. xs ++ a.added) e) ∙ sym (follow-none (list_seen site a.added)) ∙ a.same site h
+
+-- ---- locations of a name
+
+named-first : (outer : Values) (f : Forest) → named_in outer f ≡ named_in outer (from_first (is_found true) f)
+unfolding named_in from_first
+named-first outer End = refl
+named-first outer (Branch d block beside) =
+    let here : List NamedView = named_with (inner_values outer d block) d block ∷ named_in outer beside in
+    elim (is_found true d) as (λ t. is_found true d ≡ t → cond t here (named_in outer beside) ≡ named_in outer (cond t (Branch d block beside) (from_first (is_found true) beside))) [
+      | true ↦ λ e. sym (ap (λ t. cond t here (named_in outer beside)) e)
+      | false ↦ λ e. named-first outer beside
+    ] refl
+
+named-branch : (outer : Values) (d : Directive) (block beside : Forest) → is_found true d ≡ true
+    → named_in outer (Branch d block beside) ≡ named_with (inner_values outer d block) d block ∷ named_in outer beside
+unfolding named_in
+named-branch outer d block beside e = ap (λ t. cond t (named_with (inner_values outer d block) d block ∷ named_in outer beside) (named_in outer beside)) e
+
+no-named : (outer : Values) → named_in outer End ≡ []
+unfolding named_in
+no-named outer = refl
+
+pub named-none : (outer : Values) (f : Forest) → from_first (is_found true) f ≡ End → named_in outer f ≡ []
+named-none outer f e = named-first outer f ∙ ap (named_in outer) e ∙ no-named outer
+
+pub named-here : (outer : Values) (f : Forest) (d : Directive) (block beside : Forest) → from_first (is_found true) f ≡ Branch d block beside → is_found true d ≡ true
+    → named_in outer f ≡ named_with (inner_values outer d block) d block ∷ named_in outer beside
+named-here outer f d block beside e t = named-first outer f ∙ ap (named_in outer) e ∙ named-branch outer d block beside t
+
+pub named-shown : (site : Site) (n : NamedLocation) (d : Directive) (body : Forest) (v : Values) → n.name ≡ text_in d.args → level_whole [] site n.level ≡ level_of v body
+    → named_whole [] site n ≡ named_with v d body
+named-shown site n d body v t e = λ i. record { name = t i; level = e i }
 
 -- where neither media types nor their default are stated, those around hold
 
@@ -128,7 +273,7 @@ none-by : {A : Type 0} (o : Option A) → is_some o ≡ false → o ≡ None
 none-by None e = refl
 none-by (Some a) e = cc
 
-pub types-around : (prefix : List ℕ) (level : Forest) (v : Values) → is_some (block_of (codes "types") level) ≡ false → is_some (block_of (codes "default_type") level) ≡ false
+pub types-around : (prefix : Option (List ℕ)) (level : Forest) (v : Values) → is_some (block_of (codes "types") level) ≡ false → is_some (block_of (codes "default_type") level) ≡ false
     → (over (stated prefix level) v).types ≡ v.types
 unfolding stated
 types-around prefix level v t d =

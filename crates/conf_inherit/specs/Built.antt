@@ -1,34 +1,82 @@
 -- The site that directives describe.
-use Rattle.std.specs.Prelude.{ℕ, List, [], ◌∷◌, ◌++◌, map, Result, Ok, codes}
+use Rattle.std.specs.Prelude.{ℕ, Bool, true, false, ◌||◌, List, [], ◌∷◌, map, None, Some, Result, Ok, codes, bytes_eq, if◌then◌else◌}
 use Rattle.conf_text.specs.declared.directive.Directive.{Directive}
 use Rattle.conf_text.specs.declared.fault.ConfFault.{ConfFault}
-use Rattle.site_model.specs.Levels.{LocationView, ServerView, SiteView}
-use Rattle.conf_block.specs.Forest.{Forest, roots, forest_of}
+use Rattle.site_model.specs.declared.site.LocationKind.{LocationKind}
+use Rattle.site_model.specs.declared.site.LocationKind.TheVariants.{Prefix, FirmPrefix, Exactly, Regex}
+use Rattle.site_views.specs.Views.{LocationView, Locations, NamedView, ServerView, SiteView}
+use Rattle.site_views.specs.Views.Locations.{NoMore, Location}
+use Rattle.site_whole.specs.Whole.{matching_by, listen_seen}
+use Rattle.conf_block.specs.Forest.{Forest, End, Branch, roots, forest_of}
 use Rattle.conf_block.specs.Blocks.{Block, blocks_of, http_in}
 use Rattle.conf_block.specs.Listening.{listens_of, or_default}
-use Rattle.conf_block.specs.Locations.{text_in}
-use Rattle.conf_check.specs.Gives.{◌>>◌}
-use Rattle.conf_check.specs.Accepted.{accepted}
-use Rattle.conf_inherit.specs.Values.{Stated, stated, level_of}
+use Rattle.conf_block.specs.Locations.{text_in, alias_prefix, is_found}
+use Rattle.conf_check.specs.Gives.{◌>>◌, sound}
+use Rattle.conf_check.specs.Faultless.{faultless, all_served}
+use Rattle.conf_inherit.specs.Values.{Values, defaults, stated, over, level_of}
+use Rattle.conf_inherit.specs.declared.site.Purpose.{Purpose}
+use Rattle.conf_inherit.specs.declared.site.Purpose.TheVariants.{Reading, Serving}
 
--- a location, within blocks that state these values
-abbrev pub location_of : (enclosing : List Stated) → Block → LocationView
-location_of enclosing b =
-    let prefix = text_in b.head.args in
-    record { text = prefix; level = level_of (enclosing ++ stated prefix b.body ∷ []) b.body }
+-- How a location is matched. Patterns are not read yet: one with a regular expression is matched by none.
+unfoldable pub kind_of : List (List ℕ) → LocationKind
+kind_of [] = Prefix
+kind_of (word ∷ []) = Prefix
+kind_of (modifier ∷ word ∷ words) =
+    if bytes_eq modifier (codes "=") then Exactly
+    else (if bytes_eq modifier (codes "^~") then FirmPrefix
+    else (if bytes_eq modifier (codes "~") || bytes_eq modifier (codes "~*") then Regex 0 else Prefix))
 
--- a server
-abbrev pub server_of : (enclosing : List Stated) → Block → ServerView
-server_of enclosing b =
-    let inner = enclosing ++ stated [] b.body ∷ [] in
-    record { listens = or_default (listens_of (roots b.body)); level = level_of inner b.body; locations = map (location_of inner) (blocks_of (codes "location") b.body) }
+-- the values of a location within these
+abbrev pub inner_values : (outer : Values) → Directive → (block : Forest) → Values
+inner_values outer d block = over (stated (alias_prefix d.args) block) outer
+
+abbrev pub location_with : Values → Directive → (block : Forest) → LocationView
+location_with v d block = record { matching = matching_by [] (text_in d.args) (kind_of d.args); level = level_of v block }
+
+-- The locations of a level that paths find, in the order of the text, each with those in it.
+unfoldable pub locations_in : (outer : Values) → Forest → Locations
+locations_in outer End = NoMore
+locations_in outer (Branch d block beside) =
+    if is_found false d then Location (location_with (inner_values outer d block) d block) (locations_in (inner_values outer d block) block) (locations_in outer beside)
+    else locations_in outer beside
+
+abbrev pub named_with : Values → Directive → (block : Forest) → NamedView
+named_with v d block = record { name = text_in d.args; level = level_of v block }
+
+-- the locations `@name` of a server
+unfoldable pub named_in : (outer : Values) → Forest → List NamedView
+named_in outer End = []
+named_in outer (Branch d block beside) = if is_found true d then named_with (inner_values outer d block) d block ∷ named_in outer beside else named_in outer beside
+
+-- A server within these values. Names and default servers are not read yet.
+abbrev pub server_with : Values → (block : Forest) → ServerView
+server_with v block = record {
+  listens = map (listen_seen []) (or_default (listens_of (roots block)));
+  names = [];
+  first_name = [];
+  level = level_of v block;
+  locations = locations_in v block;
+  named = named_in v block;
+  merge = v.settings.merge;
+  visible = None;
+}
+
+abbrev pub server_in : (outer : Values) → Block → ServerView
+server_in outer b = server_with (over (stated (Some []) b.body) outer) b.body
 
 -- the site, whose relative paths start at this folder
 unfoldable pub site_of : (folder : List ℕ) → (http : Forest) → SiteView
-site_of folder http = record { folder = folder; servers = map (server_of (stated [] http ∷ [])) (blocks_of (codes "server") http) }
+site_of folder http = record { folder = folder; servers = map (server_in (over (stated (Some []) http) defaults)) (blocks_of (codes "server") http) }
 
--- What directives are read as, where relative paths start at this folder: the first fault of the configuration, or the site.
-unfoldable pub built : (folder : List ℕ) → List Directive → Result SiteView ConfFault
-built folder ds = do
-  accepted ds
+-- to be read, a configuration needs nothing more; to be served, each of its directives has an effect
+abbrev pub suits : Purpose → List Directive → Result (Unit {0}) ConfFault
+suits Reading ds = sound
+suits Serving ds = all_served (forest_of ds)
+
+-- What directives are read as, where relative paths start at this folder: the first fault of the configuration; or, to be
+-- served, its first directive that has no effect yet; or the site.
+unfoldable pub built : Purpose → (folder : List ℕ) → List Directive → Result SiteView ConfFault
+built purpose folder ds = do
+  faultless ds
+  suits purpose ds
   Ok (site_of folder (http_in (forest_of ds)))

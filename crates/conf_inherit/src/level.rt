@@ -1,15 +1,14 @@
 // The values that hold in a level.
-ghost use Rattle.std.specs.Prelude.{◌≡◌, codes, option_map, unwrap_or, IfOk};
-ghost use Rattle.std.specs.Option.{option_and_then};
-ghost use Rattle.conf_values.specs.Numbers.{count_of, time_of};
-ghost use Rattle.conf_block.specs.Forest.{forest_of};
-ghost use Rattle.conf_inherit.specs.Values.{word_in, entries_in, place_in, stated, over, defaults, returned_in};
+ghost use Rattle.std.specs.Prelude.{◌≡◌, option_map, unwrap_or, IfOk};
+ghost use Rattle.conf_block.specs.Forest.{forest_of, roots};
+ghost use Rattle.conf_inherit.specs.Values.{word_in, entries_in, alias_place, place_in, with_role, with_directive, settings_in, stated, over, defaults, internal_in, returned_in};
 ghost use Rattle.conf_inherit.specs.Pools.{place_by, entries_by, values_by, level_by};
 
 use byte_text::{ByteText, OutOfMemory};
-use conf_block::{has_named, next_named};
+use conf_block::{first_branch, has_named, next_named, role_of};
+use conf_table::Role;
 use conf_text::Directive;
-use conf_values::{count_of, return_by, time_of, value_of};
+use conf_values::{Settings, return_by, value_of};
 use ngx_variables::Place;
 use site_model::{Level, Program, Return};
 use std::alloc::Global;
@@ -27,11 +26,12 @@ fn word_in<'a>(level: &'a [Directive], name: &[u8]) -> Option<&'a [u8]>
     }
 }
 
-/// The text of `root`, or of `alias` with its location's prefix.
+/// The text of `root`, or of `alias` with the prefix that it takes off a path, or of one that is the whole path.
 #[derive(Clone, Copy)]
 pub enum PlaceText<'a> {
     Root(&'a [u8]),
     Rest { text: &'a [u8], prefix: &'a [u8] },
+    Whole(&'a [u8]),
 }
 
 /// The values that hold in a level and are inherited, by the directives that state them.
@@ -43,8 +43,7 @@ pub struct Inherited<'a> {
     pub default_type: &'a [u8],
     /// The number of the list of media types.
     pub types: u32,
-    pub requests: u32,
-    pub idle: u64,
+    pub settings: Settings,
 }
 
 /// The values that hold where nothing is stated.
@@ -57,31 +56,61 @@ pub fn defaults() -> Inherited<'static>
         entries: None,
         default_type: b"text/plain",
         types: 0,
-        requests: 1000,
-        idle: 75_000,
+        settings: Settings::new(),
     }
 }
 
-fn place_in<'a>(prefix: &'a [u8], level: &'a [Directive]) -> Option<PlaceText<'a>>
-    ensures { option_map place_by result ≡ place_in prefix.now (forest_of level.now) }
+/// `alias` of a location that takes this prefix off a path, or that is the whole path.
+fn alias_place<'a>(prefix: Option<&'a [u8]>, text: &'a [u8]) -> PlaceText<'a>
+    ensures { place_by result ≡ alias_place (option_map (λ t. t.now) prefix.entry) text.now }
+{
+    match prefix {
+        None => PlaceText::Whole(text),
+        Some(prefix) => PlaceText::Rest { text, prefix },
+    }
+}
+
+fn place_in<'a>(prefix: Option<&'a [u8]>, level: &'a [Directive]) -> Option<PlaceText<'a>>
+    ensures { option_map place_by result ≡ place_in (option_map (λ t. t.now) prefix.entry) (forest_of level.now) }
 {
     if let Some(text) = word_in(level, b"root") {
         return Some(PlaceText::Root(text));
     }
     let text = word_in(level, b"alias")?;
-    Some(PlaceText::Rest { text, prefix })
+    Some(alias_place(prefix, text))
 }
 
-fn requests_in(level: &[Directive]) -> Option<u32>
-    ensures { result ≡ option_and_then count_of (word_in (codes "keepalive_requests") (forest_of level.now)) }
+fn with_role(settings: Settings, role: Role, words: &[ByteText]) -> Settings
+    ensures { result ≡ with_role role words.now settings }
 {
-    count_of(word_in(level, b"keepalive_requests")?)
+    match role {
+        Role::Setting(setting) => settings.with_words(setting, words),
+        _ => settings,
+    }
 }
 
-fn idle_in(level: &[Directive]) -> Option<u64>
-    ensures { result ≡ option_and_then time_of (word_in (codes "keepalive_timeout") (forest_of level.now)) }
+/// A directive over the settings that hold before it.
+fn with_directive(settings: Settings, directive: &Directive) -> Settings
+    ensures { result ≡ with_directive directive.now settings }
 {
-    time_of(word_in(level, b"keepalive_timeout")?)
+    with_role(
+        settings,
+        role_of(directive.name.as_slice()),
+        directive.args.as_slice(),
+    )
+}
+
+/// The settings of a level, over those around it.
+fn settings_in(level: &[Directive], outer: Settings) -> Settings
+    ensures { result ≡ settings_in (roots (forest_of level.now)) outer }
+{
+    let mut settings = outer;
+    let mut rest = level;
+    while let Some(branch) = first_branch(rest) {
+        settings = with_directive(settings, branch.directive);
+        rest = branch.beside;
+    }
+    settings
 }
 
 fn entries_over<'a>(
@@ -97,15 +126,15 @@ fn entries_over<'a>(
     }
 }
 
-/// What a block that belongs to a location with this prefix (or to none) states, over the values around it. The number of
-/// the media types is that of those around it.
+/// What a block states whose `alias` takes this prefix off, if any, over the values around it. The number of the media types
+/// is that of those around it.
 #[tactic(auto, unfolding(crate::specs::Values::stated))]
 pub fn stated_over<'a>(
-    prefix: &'a [u8],
+    prefix: Option<&'a [u8]>,
     level: &'a [Directive],
     outer: Inherited<'a>,
 ) -> Inherited<'a>
-    ensures values { values_by result ≡ over (stated prefix.now (forest_of level.now)) (values_by outer.entry) }
+    ensures values { values_by result ≡ over (stated (option_map (λ t. t.now) prefix.entry) (forest_of level.now)) (values_by outer.entry) }
     ensures types { result.types ≡ outer.entry.types }
 {
     Inherited {
@@ -113,8 +142,7 @@ pub fn stated_over<'a>(
         entries: entries_over(level, outer.entries),
         default_type: word_in(level, b"default_type").unwrap_or(outer.default_type),
         types: outer.types,
-        requests: requests_in(level).unwrap_or(outer.requests),
-        idle: idle_in(level).unwrap_or(outer.idle),
+        settings: settings_in(level, outer.settings),
     }
 }
 
@@ -127,6 +155,7 @@ fn place_of(alloc: Global, place: PlaceText<'_>) -> Result<Place, OutOfMemory>
             text: value_of(alloc, text)?,
             prefix: ByteText::from_slice(alloc, prefix)?,
         }),
+        PlaceText::Whole(text) => Ok(Place::Whole(value_of(alloc, text)?)),
     }
 }
 
@@ -141,40 +170,41 @@ fn returned_in(alloc: Global, level: &[Directive]) -> Result<Option<Return>, Out
     }
 }
 
-/// A level with these values, and with its own `return`. What no directive that is served states has its default.
+/// A level with these values, and with what it alone states. Lists of values are not read yet, and have their defaults.
 pub fn level_of(
     alloc: Global,
     values: Inherited<'_>,
     level: &[Directive],
 ) -> Result<Level, OutOfMemory>
-    ensures { IfOk result (λ l. l ≡ level_by (values_by values.entry) values.entry.types (returned_in (forest_of level.now))) }
+    ensures { IfOk result (λ l. l ≡ level_by (values_by values.entry) values.entry.types (internal_in (forest_of level.now)) (returned_in (forest_of level.now))) }
 {
+    let settings = values.settings;
     Ok(Level {
         place: place_of(alloc, values.place)?,
         types: values.types,
-        requests: values.requests,
-        idle: values.idle,
+        requests: settings.requests,
+        idle: settings.idle,
         returned: returned_in(alloc, level)?,
         index: None,
         tries: None,
-        internal: false,
+        internal: has_named(level, b"internal"),
         pages: None,
-        recursive: false,
-        body_most: 1_048_576,
-        send_wait: 60_000,
-        head_wait: 60_000,
-        absolute: true,
-        with_port: true,
-        with_server_name: false,
-        any: false,
+        recursive: settings.recursive,
+        body_most: settings.body_most,
+        send_wait: settings.send_wait,
+        head_wait: settings.head_wait,
+        absolute: settings.absolute,
+        with_port: settings.with_port,
+        with_server_name: settings.with_server_name,
+        any: settings.any,
         rules: None,
         auth: None,
         auth_sets: None,
-        ssi: false,
-        silent: false,
+        ssi: settings.ssi,
+        silent: settings.silent,
         ssi_types: None,
-        value_most: 256,
-        capture_most: 4096,
+        value_most: settings.value_most,
+        capture_most: settings.capture_most,
         before: None,
         after: None,
         addition_types: None,

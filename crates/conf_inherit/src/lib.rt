@@ -7,5 +7,5 @@ mod level;
 mod pool;
 mod site;
 
-pub use laws::{defaults_hold, values_hold_by_block, what_is_stated_holds};
-pub use site::build;
+pub use laws::{the_last_holds, what_is_around_holds, what_is_stated_holds};
+pub use site::{Purpose, build};

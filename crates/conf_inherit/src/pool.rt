@@ -1,8 +1,8 @@
 // The levels and the lists of media types of a site, under numbers.
-ghost use Rattle.std.specs.Prelude.{◌≡◌, Some, List, [], ◌∷◌, slice_get, IfOk};
+ghost use Rattle.std.specs.Prelude.{◌≡◌, [], true, Some, slice_get, option_map, IfOk};
 ghost use Rattle.conf_block.specs.Forest.{forest_of};
 ghost use Rattle.conf_inherit.specs.Values.{stated, over, defaults as default_values};
-ghost use Rattle.conf_inherit.specs.Pools.{Keeps, values_by};
+ghost use Rattle.conf_inherit.specs.Pools.{Keeps, are_free, values_by};
 
 use crate::entries::types_of;
 use crate::level::{Inherited, defaults, stated_over};
@@ -18,6 +18,7 @@ use std::alloc::Global;
 pub struct Pool {
     pub levels: Vec<Level>,
     pub types: Vec<Types>,
+    ghost free: { are_free levels.items ≡ true },
 }
 
 /// The number that the next of so many gets.
@@ -37,14 +38,13 @@ impl Pool {
     {
         let mut types = Vec::new(alloc);
         types.push(types_of(alloc, defaults())?)?;
-        Ok(Pool {
-            levels: Vec::new(alloc),
-            types,
-        })
+        let levels = Vec::new(alloc);
+        Ok(Pool { levels, types })
     }
 
     /// Keeps a level, and gives its number.
     pub fn add_level(&mut self, level: Level) -> Result<u32, OutOfMemory>
+        requires { level.program ≡ [] }
         ensures there { IfOk result (λ n. slice_get self.new.levels.items n ≡ Some level) }
         ensures levels { IfOk result (λ n. Keeps self.old.levels.items self.new.levels.items) }
         ensures types { IfOk result (λ n. self.new.types.items ≡ self.old.types.items) }
@@ -69,12 +69,12 @@ impl Pool {
     pub fn inner<'a>(
         &mut self,
         alloc: Global,
-        prefix: &'a [u8],
+        prefix: Option<&'a [u8]>,
         block: &'a [Directive],
         outer: Inherited<'a>,
     ) -> Result<Inherited<'a>, OutOfMemory>
         requires { slice_get self.old.types.items outer.types ≡ Some (values_by outer).types }
-        ensures values { IfOk result (λ inner. values_by inner ≡ over (stated prefix.now (forest_of block.now)) (values_by outer.entry)) }
+        ensures values { IfOk result (λ inner. values_by inner ≡ over (stated (option_map (λ t. t.now) prefix.entry) (forest_of block.now)) (values_by outer.entry)) }
         ensures there { IfOk result (λ inner. slice_get self.new.types.items inner.types ≡ Some (values_by inner).types) }
         ensures levels { IfOk result (λ inner. self.new.levels.items ≡ self.old.levels.items) }
         ensures types { IfOk result (λ inner. Keeps self.old.types.items self.new.types.items) }

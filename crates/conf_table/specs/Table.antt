@@ -3,7 +3,13 @@ use Rattle.std.specs.Prelude.{ℕ, Bool, true, false, ◌||◌, List, [], ◌∷
 use Rattle.std.specs.List.{starts_with}
 use Rattle.conf_table.specs.declared.rule.Places.{Places}
 use Rattle.conf_table.specs.declared.rule.Feature.{Feature}
-use Rattle.conf_table.specs.declared.rule.Feature.TheVariants.{Core, Matching, Rewriting, Content, Access, Includes, Addition}
+use Rattle.conf_table.specs.declared.rule.Feature.TheVariants.{Core, Matching, Rewriting, Content, Access, Includes, Addition, Deadlines}
+use Rattle.conf_table.specs.declared.role.Role.{Role}
+use Rattle.conf_table.specs.declared.role.Role.TheVariants as roles
+use Rattle.conf_table.specs.declared.role.Setting.TheVariants as settings
+use Rattle.conf_table.specs.declared.role.Listing.TheVariants as listings
+use Rattle.conf_table.specs.declared.role.Switch.TheVariants as switches
+use Rattle.conf_table.specs.declared.role.Time.TheVariants as times
 use Rattle.conf_table.specs.declared.rule.DirectiveRule.{DirectiveRule}
 
 -- at the top alone
@@ -47,102 +53,102 @@ abbrev pub anywhere : Places
 anywhere = record { top = true; events = true; http = true; server = true; location = true; server_if = true; location_if = true }
 
 -- a directive that stands once in a level, with so many words, and at most so many
-abbrev pub once : Places → ℕ → Option ℕ → Feature → DirectiveRule
-once places least greatest feature =
-    record { places = places; least = least; greatest = greatest; block = false; many = false; ignored = false; served_by = feature }
+abbrev pub once : Places → ℕ → Option ℕ → Feature → Role → DirectiveRule
+once places least greatest feature role =
+    record { places = places; least = least; greatest = greatest; block = false; many = false; ignored = false; served_by = feature; role = role }
 
 -- one that may stand several times
-abbrev pub many : Places → ℕ → Option ℕ → Feature → DirectiveRule
-many places least greatest feature =
-    record { places = places; least = least; greatest = greatest; block = false; many = true; ignored = false; served_by = feature }
+abbrev pub many : Places → ℕ → Option ℕ → Feature → Role → DirectiveRule
+many places least greatest feature role =
+    record { places = places; least = least; greatest = greatest; block = false; many = true; ignored = false; served_by = feature; role = role }
 
 -- one with a block, which stands once
-abbrev pub one_block : Places → ℕ → Option ℕ → Feature → DirectiveRule
-one_block places least greatest feature =
-    record { places = places; least = least; greatest = greatest; block = true; many = false; ignored = false; served_by = feature }
+abbrev pub one_block : Places → ℕ → Option ℕ → Feature → Role → DirectiveRule
+one_block places least greatest feature role =
+    record { places = places; least = least; greatest = greatest; block = true; many = false; ignored = false; served_by = feature; role = role }
 
 -- one with a block, of which there may be several
-abbrev pub blocks : Places → ℕ → Option ℕ → Feature → DirectiveRule
-blocks places least greatest feature =
-    record { places = places; least = least; greatest = greatest; block = true; many = true; ignored = false; served_by = feature }
+abbrev pub blocks : Places → ℕ → Option ℕ → Feature → Role → DirectiveRule
+blocks places least greatest feature role =
+    record { places = places; least = least; greatest = greatest; block = true; many = true; ignored = false; served_by = feature; role = role }
 
 -- one that is accepted anywhere, with any words and several times, and has no effect
 abbrev pub ignored : DirectiveRule
-ignored = record { places = anywhere; least = 0; greatest = None; block = false; many = true; ignored = true; served_by = Core }
+ignored = record { places = anywhere; least = 0; greatest = None; block = false; many = true; ignored = true; served_by = Core; role = roles.Ignored }
 
 -- the directives by name
 unfoldable pub rows : List (List ℕ × DirectiveRule)
 rows =
-    (codes "absolute_redirect", once http_server_location 1 (Some 1) Rewriting)
+    (codes "absolute_redirect", once http_server_location 1 (Some 1) Rewriting (roles.Setting (settings.Switch switches.AbsoluteRedirect)))
     ∷ (codes "access_log", ignored)
-    ∷ (codes "add_after_body", once http_server_location 1 (Some 1) Addition)
-    ∷ (codes "add_before_body", once http_server_location 1 (Some 1) Addition)
-    ∷ (codes "addition_types", many http_server_location 1 None Addition)
-    ∷ (codes "alias", once location 1 (Some 1) Core)
-    ∷ (codes "allow", many http_server_location 1 (Some 1) Access)
-    ∷ (codes "auth_request", once http_server_location 1 (Some 1) Access)
-    ∷ (codes "auth_request_set", many http_server_location 2 (Some 2) Access)
-    ∷ (codes "break", many server_location_ifs 0 (Some 0) Rewriting)
+    ∷ (codes "add_after_body", once http_server_location 1 (Some 1) Addition roles.Other)
+    ∷ (codes "add_before_body", once http_server_location 1 (Some 1) Addition roles.Other)
+    ∷ (codes "addition_types", many http_server_location 1 None Addition roles.Other)
+    ∷ (codes "alias", once location 1 (Some 1) Core roles.Alias)
+    ∷ (codes "allow", many http_server_location 1 (Some 1) Access roles.Other)
+    ∷ (codes "auth_request", once http_server_location 1 (Some 1) Access roles.Other)
+    ∷ (codes "auth_request_set", many http_server_location 2 (Some 2) Access roles.Set)
+    ∷ (codes "break", many server_location_ifs 0 (Some 0) Rewriting roles.Other)
     ∷ (codes "client_body_buffer_size", ignored)
     ∷ (codes "client_body_timeout", ignored)
     ∷ (codes "client_header_buffer_size", ignored)
-    ∷ (codes "client_header_timeout", ignored)
-    ∷ (codes "client_max_body_size", once http_server_location 1 (Some 1) Content)
+    ∷ (codes "client_header_timeout", once http_server 1 (Some 1) Deadlines (roles.Setting (settings.Time times.ClientHeaderTimeout)))
+    ∷ (codes "client_max_body_size", once http_server_location 1 (Some 1) Content (roles.Setting settings.ClientMaxBodySize))
     ∷ (codes "daemon", ignored)
-    ∷ (codes "default_type", once http_server_location 1 (Some 1) Core)
-    ∷ (codes "deny", many http_server_location 1 (Some 1) Access)
+    ∷ (codes "default_type", once http_server_location 1 (Some 1) Core roles.DefaultType)
+    ∷ (codes "deny", many http_server_location 1 (Some 1) Access roles.Other)
     ∷ (codes "error_log", ignored)
-    ∷ (codes "error_page", many http_server_location_if 2 None Content)
+    ∷ (codes "error_page", many http_server_location_if 2 None Content (roles.Listing listings.ErrorPage))
     ∷ (codes "etag", ignored)
-    ∷ (codes "events", one_block top 0 (Some 0) Core)
+    ∷ (codes "events", one_block top 0 (Some 0) Core roles.Events)
     ∷ (codes "gzip", ignored)
-    ∷ (codes "http", one_block top 0 (Some 0) Core)
-    ∷ (codes "if", blocks server_location 1 None Rewriting)
-    ∷ (codes "include", many anywhere 1 (Some 1) Core)
-    ∷ (codes "index", many http_server_location 1 None Content)
-    ∷ (codes "internal", once location 0 (Some 0) Content)
-    ∷ (codes "keepalive_requests", once http_server_location 1 (Some 1) Core)
-    ∷ (codes "keepalive_timeout", once http_server_location 1 (Some 2) Core)
+    ∷ (codes "http", one_block top 0 (Some 0) Core roles.Http)
+    ∷ (codes "if", blocks server_location 1 None Rewriting roles.If)
+    ∷ (codes "include", many anywhere 1 (Some 1) Core roles.Other)
+    ∷ (codes "index", many http_server_location 1 None Content (roles.Listing listings.Index))
+    ∷ (codes "internal", once location 0 (Some 0) Content roles.Internal)
+    ∷ (codes "keepalive_requests", once http_server_location 1 (Some 1) Core (roles.Setting settings.KeepaliveRequests))
+    ∷ (codes "keepalive_timeout", once http_server_location 1 (Some 2) Core (roles.Setting (settings.Time times.KeepaliveTimeout)))
     ∷ (codes "large_client_header_buffers", ignored)
-    ∷ (codes "listen", many server 1 (Some 2) Core)
-    ∷ (codes "location", blocks server_location 1 (Some 2) Core)
+    ∷ (codes "listen", many server 1 (Some 2) Core roles.Listen)
+    ∷ (codes "location", blocks server_location 1 (Some 2) Core roles.Location)
     ∷ (codes "log_format", ignored)
     ∷ (codes "log_not_found", ignored)
-    ∷ (codes "merge_slashes", once http_server 1 (Some 1) Matching)
+    ∷ (codes "merge_slashes", once http_server 1 (Some 1) Matching (roles.Setting (settings.Switch switches.MergeSlashes)))
     ∷ (codes "multi_accept", ignored)
     ∷ (codes "open_file_cache", ignored)
     ∷ (codes "output_buffers", ignored)
     ∷ (codes "pcre_jit", ignored)
     ∷ (codes "pid", ignored)
-    ∷ (codes "port_in_redirect", once http_server_location 1 (Some 1) Rewriting)
+    ∷ (codes "port_in_redirect", once http_server_location 1 (Some 1) Rewriting (roles.Setting (settings.Switch switches.PortInRedirect)))
     ∷ (codes "postpone_output", ignored)
-    ∷ (codes "recursive_error_pages", once http_server_location 1 (Some 1) Content)
-    ∷ (codes "return", many server_location_ifs 1 (Some 2) Core)
-    ∷ (codes "rewrite", many server_location_ifs 2 (Some 3) Rewriting)
+    ∷ (codes "recursive_error_pages", once http_server_location 1 (Some 1) Content (roles.Setting (settings.Switch switches.RecursiveErrorPages)))
+    ∷ (codes "return", many server_location_ifs 1 (Some 2) Core roles.Return)
+    ∷ (codes "rewrite", many server_location_ifs 2 (Some 3) Rewriting (roles.Listing listings.Rewrite))
     ∷ (codes "rewrite_log", ignored)
-    ∷ (codes "root", once http_server_location_if 1 (Some 1) Core)
-    ∷ (codes "satisfy", once http_server_location 1 (Some 1) Access)
-    ∷ (codes "send_timeout", ignored)
+    ∷ (codes "root", once http_server_location_if 1 (Some 1) Core roles.Root)
+    ∷ (codes "satisfy", once http_server_location 1 (Some 1) Access (roles.Setting settings.Satisfy))
+    ∷ (codes "send_timeout", once http_server_location 1 (Some 1) Deadlines (roles.Setting (settings.Time times.SendTimeout)))
     ∷ (codes "sendfile", ignored)
-    ∷ (codes "server", blocks http 0 (Some 0) Core)
-    ∷ (codes "server_name", many server 1 None Matching)
-    ∷ (codes "server_name_in_redirect", once http_server_location 1 (Some 1) Rewriting)
+    ∷ (codes "server", blocks http 0 (Some 0) Core roles.Server)
+    ∷ (codes "server_name", many server 1 None Matching roles.Other)
+    ∷ (codes "server_name_in_redirect", once http_server_location 1 (Some 1) Rewriting (roles.Setting (settings.Switch switches.ServerNameInRedirect)))
     ∷ (codes "server_names_hash_bucket_size", ignored)
     ∷ (codes "server_names_hash_max_size", ignored)
     ∷ (codes "server_tokens", ignored)
-    ∷ (codes "set", many server_location_ifs 2 (Some 2) Rewriting)
-    ∷ (codes "ssi", once http_server_location_if 1 (Some 1) Includes)
-    ∷ (codes "ssi_silent_errors", once http_server_location 1 (Some 1) Includes)
-    ∷ (codes "ssi_types", many http_server_location 1 None Includes)
-    ∷ (codes "ssi_value_length", once http_server_location 1 (Some 1) Includes)
-    ∷ (codes "ssi_visible", once http_server 1 None Includes)
+    ∷ (codes "set", many server_location_ifs 2 (Some 2) Rewriting roles.Set)
+    ∷ (codes "ssi", once http_server_location_if 1 (Some 1) Includes (roles.Setting (settings.Switch switches.Ssi)))
+    ∷ (codes "ssi_silent_errors", once http_server_location 1 (Some 1) Includes (roles.Setting (settings.Switch switches.SsiSilentErrors)))
+    ∷ (codes "ssi_types", many http_server_location 1 None Includes roles.Other)
+    ∷ (codes "ssi_value_length", once http_server_location 1 (Some 1) Includes (roles.Setting settings.SsiValueLength))
+    ∷ (codes "ssi_visible", once http_server 1 None Includes roles.Other)
     ∷ (codes "ssl_prefer_server_ciphers", ignored)
     ∷ (codes "ssl_protocols", ignored)
-    ∷ (codes "subrequest_output_buffer_size", once http_server_location 1 (Some 1) Includes)
+    ∷ (codes "subrequest_output_buffer_size", once http_server_location 1 (Some 1) Includes (roles.Setting settings.SubrequestOutputBufferSize))
     ∷ (codes "tcp_nodelay", ignored)
     ∷ (codes "tcp_nopush", ignored)
-    ∷ (codes "try_files", once server_location 2 None Content)
-    ∷ (codes "types", blocks http_server_location 0 (Some 0) Core)
+    ∷ (codes "try_files", once server_location 2 None Content (roles.Listing listings.TryFiles))
+    ∷ (codes "types", blocks http_server_location 0 (Some 0) Core roles.Types)
     ∷ (codes "types_hash_bucket_size", ignored)
     ∷ (codes "types_hash_max_size", ignored)
     ∷ (codes "uninitialized_variable_warn", ignored)

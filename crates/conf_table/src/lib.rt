@@ -1,8 +1,10 @@
 //! The directives that a configuration may hold, and the places and words of each.
 #![tactic(auto)]
 
+mod role;
 mod rule;
 mod table;
 
+pub use role::{Listing, Role, Setting, Switch, Time};
 pub use rule::{DirectiveRule, Feature, Place, Places};
 pub use table::entry;

@@ -2,6 +2,8 @@
 ghost use Rattle.std.specs.Prelude.{◌≡◌};
 ghost use Rattle.conf_table.specs.Rules.{has_place};
 
+use crate::role::Role;
+
 /// A place in which directives stand.
 #[derive(Clone, Copy, Debug, PartialEq, Eq)]
 pub enum Place {
@@ -68,6 +70,8 @@ pub enum Feature {
     Includes,
     /// Texts added before and after a response.
     Addition,
+    /// How long a peer may take.
+    Deadlines,
 }
 
 /// What holds of a directive: where it may stand, how many words may follow its name, and whether it has a block and
@@ -87,4 +91,6 @@ pub struct DirectiveRule {
     pub ignored: bool,
     /// The feature that gives it its effect.
     pub served_by: Feature,
+    /// What it is to those who read it.
+    pub role: Role,
 }

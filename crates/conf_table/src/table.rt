@@ -7,6 +7,7 @@ ghost use Rattle.std.specs.List.Sorted.{IsNonDecreasingBy};
 ghost use Rattle.std.specs.Option.{option_copied};
 ghost use Rattle.conf_table.specs.Table.{rows, in_family, entry_of};
 
+use crate::role::{Listing, Role, Setting, Switch, Time};
 use crate::rule::{DirectiveRule, Feature, Places};
 use std::cmp::Ordering;
 
@@ -119,7 +120,7 @@ const ANYWHERE: Places = Places {
 
 // A row with each of its parts.
 macro_rules! row {
-    ($name:expr, $places:expr, $least:expr, $greatest:expr, $block:expr, $many:expr, $ignored:expr, $feature:ident) => {
+    ($name:expr, $places:expr, $least:expr, $greatest:expr, $block:expr, $many:expr, $ignored:expr, $feature:ident, $role:expr) => {
         Row {
             name: $name,
             rule: DirectiveRule {
@@ -130,6 +131,7 @@ macro_rules! row {
                 many: $many,
                 ignored: $ignored,
                 served_by: Feature::$feature,
+                role: $role,
             },
         }
     };
@@ -137,36 +139,36 @@ macro_rules! row {
 
 // A directive without a block that stands once in a level.
 macro_rules! once {
-    ($name:expr, $places:expr, $least:expr, $greatest:expr, $feature:ident) => {
-        row!($name, $places, $least, $greatest, false, false, false, $feature)
+    ($name:expr, $places:expr, $least:expr, $greatest:expr, $feature:ident, $role:expr) => {
+        row!($name, $places, $least, $greatest, false, false, false, $feature, $role)
     };
 }
 
 // One without a block that may stand several times.
 macro_rules! many {
-    ($name:expr, $places:expr, $least:expr, $greatest:expr, $feature:ident) => {
-        row!($name, $places, $least, $greatest, false, true, false, $feature)
+    ($name:expr, $places:expr, $least:expr, $greatest:expr, $feature:ident, $role:expr) => {
+        row!($name, $places, $least, $greatest, false, true, false, $feature, $role)
     };
 }
 
 // One with a block that stands once.
 macro_rules! one_block {
-    ($name:expr, $places:expr, $least:expr, $greatest:expr, $feature:ident) => {
-        row!($name, $places, $least, $greatest, true, false, false, $feature)
+    ($name:expr, $places:expr, $least:expr, $greatest:expr, $feature:ident, $role:expr) => {
+        row!($name, $places, $least, $greatest, true, false, false, $feature, $role)
     };
 }
 
 // One with a block of which there may be several.
 macro_rules! blocks {
-    ($name:expr, $places:expr, $least:expr, $greatest:expr, $feature:ident) => {
-        row!($name, $places, $least, $greatest, true, true, false, $feature)
+    ($name:expr, $places:expr, $least:expr, $greatest:expr, $feature:ident, $role:expr) => {
+        row!($name, $places, $least, $greatest, true, true, false, $feature, $role)
     };
 }
 
 // One that is accepted anywhere, with any words, and has no effect.
 macro_rules! ignored {
     ($name:expr) => {
-        row!($name, ANYWHERE, 0, None, false, true, true, Core)
+        row!($name, ANYWHERE, 0, None, false, true, true, Core, Role::Ignored)
     };
 }
 
@@ -177,7 +179,8 @@ static TABLE: [Row; 80] = [
         HTTP_SERVER_LOCATION,
         1,
         Some(1),
-        Rewriting
+        Rewriting,
+        Role::Setting(Setting::Switch(Switch::AbsoluteRedirect))
     ),
     ignored!(b"access_log"),
     once!(
@@ -185,65 +188,154 @@ static TABLE: [Row; 80] = [
         HTTP_SERVER_LOCATION,
         1,
         Some(1),
-        Addition
+        Addition,
+        Role::Other
     ),
     once!(
         b"add_before_body",
         HTTP_SERVER_LOCATION,
         1,
         Some(1),
-        Addition
+        Addition,
+        Role::Other
     ),
-    many!(b"addition_types", HTTP_SERVER_LOCATION, 1, None, Addition),
-    once!(b"alias", LOCATION, 1, Some(1), Core),
-    many!(b"allow", HTTP_SERVER_LOCATION, 1, Some(1), Access),
-    once!(b"auth_request", HTTP_SERVER_LOCATION, 1, Some(1), Access),
+    many!(
+        b"addition_types",
+        HTTP_SERVER_LOCATION,
+        1,
+        None,
+        Addition,
+        Role::Other
+    ),
+    once!(b"alias", LOCATION, 1, Some(1), Core, Role::Alias),
+    many!(
+        b"allow",
+        HTTP_SERVER_LOCATION,
+        1,
+        Some(1),
+        Access,
+        Role::Other
+    ),
+    once!(
+        b"auth_request",
+        HTTP_SERVER_LOCATION,
+        1,
+        Some(1),
+        Access,
+        Role::Other
+    ),
     many!(
         b"auth_request_set",
         HTTP_SERVER_LOCATION,
         2,
         Some(2),
-        Access
+        Access,
+        Role::Set
     ),
-    many!(b"break", SERVER_LOCATION_IFS, 0, Some(0), Rewriting),
+    many!(
+        b"break",
+        SERVER_LOCATION_IFS,
+        0,
+        Some(0),
+        Rewriting,
+        Role::Other
+    ),
     ignored!(b"client_body_buffer_size"),
     ignored!(b"client_body_timeout"),
     ignored!(b"client_header_buffer_size"),
-    ignored!(b"client_header_timeout"),
+    once!(
+        b"client_header_timeout",
+        HTTP_SERVER,
+        1,
+        Some(1),
+        Deadlines,
+        Role::Setting(Setting::Time(Time::ClientHeaderTimeout))
+    ),
     once!(
         b"client_max_body_size",
         HTTP_SERVER_LOCATION,
         1,
         Some(1),
-        Content
+        Content,
+        Role::Setting(Setting::ClientMaxBodySize)
     ),
     ignored!(b"daemon"),
-    once!(b"default_type", HTTP_SERVER_LOCATION, 1, Some(1), Core),
-    many!(b"deny", HTTP_SERVER_LOCATION, 1, Some(1), Access),
+    once!(
+        b"default_type",
+        HTTP_SERVER_LOCATION,
+        1,
+        Some(1),
+        Core,
+        Role::DefaultType
+    ),
+    many!(
+        b"deny",
+        HTTP_SERVER_LOCATION,
+        1,
+        Some(1),
+        Access,
+        Role::Other
+    ),
     ignored!(b"error_log"),
-    many!(b"error_page", HTTP_SERVER_LOCATION_IF, 2, None, Content),
+    many!(
+        b"error_page",
+        HTTP_SERVER_LOCATION_IF,
+        2,
+        None,
+        Content,
+        Role::Listing(Listing::ErrorPage)
+    ),
     ignored!(b"etag"),
-    one_block!(b"events", TOP, 0, Some(0), Core),
+    one_block!(b"events", TOP, 0, Some(0), Core, Role::Events),
     ignored!(b"gzip"),
-    one_block!(b"http", TOP, 0, Some(0), Core),
-    blocks!(b"if", SERVER_LOCATION, 1, None, Rewriting),
-    many!(b"include", ANYWHERE, 1, Some(1), Core),
-    many!(b"index", HTTP_SERVER_LOCATION, 1, None, Content),
-    once!(b"internal", LOCATION, 0, Some(0), Content),
+    one_block!(b"http", TOP, 0, Some(0), Core, Role::Http),
+    blocks!(b"if", SERVER_LOCATION, 1, None, Rewriting, Role::If),
+    many!(b"include", ANYWHERE, 1, Some(1), Core, Role::Other),
+    many!(
+        b"index",
+        HTTP_SERVER_LOCATION,
+        1,
+        None,
+        Content,
+        Role::Listing(Listing::Index)
+    ),
+    once!(b"internal", LOCATION, 0, Some(0), Content, Role::Internal),
     once!(
         b"keepalive_requests",
         HTTP_SERVER_LOCATION,
         1,
         Some(1),
-        Core
+        Core,
+        Role::Setting(Setting::KeepaliveRequests)
     ),
-    once!(b"keepalive_timeout", HTTP_SERVER_LOCATION, 1, Some(2), Core),
+    once!(
+        b"keepalive_timeout",
+        HTTP_SERVER_LOCATION,
+        1,
+        Some(2),
+        Core,
+        Role::Setting(Setting::Time(Time::KeepaliveTimeout))
+    ),
     ignored!(b"large_client_header_buffers"),
-    many!(b"listen", SERVER, 1, Some(2), Core),
-    blocks!(b"location", SERVER_LOCATION, 1, Some(2), Core),
+    many!(b"listen", SERVER, 1, Some(2), Core, Role::Listen),
+    blocks!(
+        b"location",
+        SERVER_LOCATION,
+        1,
+        Some(2),
+        Core,
+        Role::Location
+    ),
     ignored!(b"log_format"),
     ignored!(b"log_not_found"),
-    once!(b"merge_slashes", HTTP_SERVER, 1, Some(1), Matching),
+    once!(
+        b"merge_slashes",
+        HTTP_SERVER,
+        1,
+        Some(1),
+        Matching,
+        Role::Setting(Setting::Switch(Switch::MergeSlashes))
+    ),
     ignored!(b"multi_accept"),
     ignored!(b"open_file_cache"),
     ignored!(b"output_buffers"),
@@ -254,7 +346,8 @@ static TABLE: [Row; 80] = [
         HTTP_SERVER_LOCATION,
         1,
         Some(1),
-        Rewriting
+        Rewriting,
+        Role::Setting(Setting::Switch(Switch::PortInRedirect))
     ),
     ignored!(b"postpone_output"),
     once!(
@@ -262,45 +355,105 @@ static TABLE: [Row; 80] = [
         HTTP_SERVER_LOCATION,
         1,
         Some(1),
-        Content
+        Content,
+        Role::Setting(Setting::Switch(Switch::RecursiveErrorPages))
     ),
-    many!(b"return", SERVER_LOCATION_IFS, 1, Some(2), Core),
-    many!(b"rewrite", SERVER_LOCATION_IFS, 2, Some(3), Rewriting),
+    many!(
+        b"return",
+        SERVER_LOCATION_IFS,
+        1,
+        Some(2),
+        Core,
+        Role::Return
+    ),
+    many!(
+        b"rewrite",
+        SERVER_LOCATION_IFS,
+        2,
+        Some(3),
+        Rewriting,
+        Role::Listing(Listing::Rewrite)
+    ),
     ignored!(b"rewrite_log"),
-    once!(b"root", HTTP_SERVER_LOCATION_IF, 1, Some(1), Core),
-    once!(b"satisfy", HTTP_SERVER_LOCATION, 1, Some(1), Access),
-    ignored!(b"send_timeout"),
+    once!(
+        b"root",
+        HTTP_SERVER_LOCATION_IF,
+        1,
+        Some(1),
+        Core,
+        Role::Root
+    ),
+    once!(
+        b"satisfy",
+        HTTP_SERVER_LOCATION,
+        1,
+        Some(1),
+        Access,
+        Role::Setting(Setting::Satisfy)
+    ),
+    once!(
+        b"send_timeout",
+        HTTP_SERVER_LOCATION,
+        1,
+        Some(1),
+        Deadlines,
+        Role::Setting(Setting::Time(Time::SendTimeout))
+    ),
     ignored!(b"sendfile"),
-    blocks!(b"server", HTTP, 0, Some(0), Core),
-    many!(b"server_name", SERVER, 1, None, Matching),
+    blocks!(b"server", HTTP, 0, Some(0), Core, Role::Server),
+    many!(b"server_name", SERVER, 1, None, Matching, Role::Other),
     once!(
         b"server_name_in_redirect",
         HTTP_SERVER_LOCATION,
         1,
         Some(1),
-        Rewriting
+        Rewriting,
+        Role::Setting(Setting::Switch(Switch::ServerNameInRedirect))
     ),
     ignored!(b"server_names_hash_bucket_size"),
     ignored!(b"server_names_hash_max_size"),
     ignored!(b"server_tokens"),
-    many!(b"set", SERVER_LOCATION_IFS, 2, Some(2), Rewriting),
-    once!(b"ssi", HTTP_SERVER_LOCATION_IF, 1, Some(1), Includes),
+    many!(
+        b"set",
+        SERVER_LOCATION_IFS,
+        2,
+        Some(2),
+        Rewriting,
+        Role::Set
+    ),
+    once!(
+        b"ssi",
+        HTTP_SERVER_LOCATION_IF,
+        1,
+        Some(1),
+        Includes,
+        Role::Setting(Setting::Switch(Switch::Ssi))
+    ),
     once!(
         b"ssi_silent_errors",
         HTTP_SERVER_LOCATION,
         1,
         Some(1),
-        Includes
+        Includes,
+        Role::Setting(Setting::Switch(Switch::SsiSilentErrors))
     ),
-    many!(b"ssi_types", HTTP_SERVER_LOCATION, 1, None, Includes),
+    many!(
+        b"ssi_types",
+        HTTP_SERVER_LOCATION,
+        1,
+        None,
+        Includes,
+        Role::Other
+    ),
     once!(
         b"ssi_value_length",
         HTTP_SERVER_LOCATION,
         1,
         Some(1),
-        Includes
+        Includes,
+        Role::Setting(Setting::SsiValueLength)
     ),
-    once!(b"ssi_visible", HTTP_SERVER, 1, None, Includes),
+    once!(b"ssi_visible", HTTP_SERVER, 1, None, Includes, Role::Other),
     ignored!(b"ssl_prefer_server_ciphers"),
     ignored!(b"ssl_protocols"),
     once!(
@@ -308,12 +461,27 @@ static TABLE: [Row; 80] = [
         HTTP_SERVER_LOCATION,
         1,
         Some(1),
-        Includes
+        Includes,
+        Role::Setting(Setting::SubrequestOutputBufferSize)
     ),
     ignored!(b"tcp_nodelay"),
     ignored!(b"tcp_nopush"),
-    once!(b"try_files", SERVER_LOCATION, 2, None, Content),
-    blocks!(b"types", HTTP_SERVER_LOCATION, 0, Some(0), Core),
+    once!(
+        b"try_files",
+        SERVER_LOCATION,
+        2,
+        None,
+        Content,
+        Role::Listing(Listing::TryFiles)
+    ),
+    blocks!(
+        b"types",
+        HTTP_SERVER_LOCATION,
+        0,
+        Some(0),
+        Core,
+        Role::Types
+    ),
     ignored!(b"types_hash_bucket_size"),
     ignored!(b"types_hash_max_size"),
     ignored!(b"uninitialized_variable_warn"),
@@ -335,6 +503,7 @@ static IGNORED: DirectiveRule = DirectiveRule {
     many: true,
     ignored: true,
     served_by: Feature::Core,
+    role: Role::Ignored,
 };
 
 /// The whole table. It takes no memory.

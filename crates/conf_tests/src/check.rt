@@ -1,21 +1,32 @@
 use byte_text::{ByteText, OutOfMemory};
-use conf_check::check;
+use conf_check::{check, check_effects};
 use conf_text::{ConfError, ConfFault, FaultKind, parse};
 use std::alloc::Global;
 use std::process::Abort;
 use std::test::Fail;
 
-/// The first fault of a configuration, if there is one.
-fn first_fault(alloc: Global, text: &[u8]) -> Result<Option<ConfFault>, OutOfMemory> {
-    let read = match parse(alloc, 0, text) {
-        Ok(directives) => check(alloc, directives.as_slice()),
-        Err(error) => Err(error),
-    };
+fn fault_of(read: Result<(), ConfError>) -> Result<Option<ConfFault>, OutOfMemory> {
     match read {
         Ok(()) => Ok(None),
         Err(ConfError::Fault(fault)) => Ok(Some(fault)),
         Err(ConfError::OutOfMemory) => Err(OutOfMemory),
     }
+}
+
+/// The first fault of a configuration, if there is one.
+fn first_fault(alloc: Global, text: &[u8]) -> Result<Option<ConfFault>, OutOfMemory> {
+    fault_of(match parse(alloc, 0, text) {
+        Ok(directives) => check(alloc, directives.as_slice()),
+        Err(error) => Err(error),
+    })
+}
+
+/// The first directive of a configuration that has no effect yet, if there is one.
+fn first_without_effect(alloc: Global, text: &[u8]) -> Result<Option<ConfFault>, OutOfMemory> {
+    fault_of(match parse(alloc, 0, text) {
+        Ok(directives) => check_effects(alloc, directives.as_slice()),
+        Err(error) => Err(error),
+    })
 }
 
 fn word_of(fault: &ConfFault) -> &[u8] {
@@ -49,7 +60,7 @@ fn have_no_fault(rt: &impl Abort, alloc: Global, texts: &[&[u8]]) -> Result<(), 
 }
 
 #[test]
-fn what_is_served_has_no_fault(rt: HostRuntime) -> Result<(), Fail> {
+fn what_is_right_has_no_fault(rt: HostRuntime) -> Result<(), Fail> {
     have_no_fault(
         &rt,
         rt.alloc(),
@@ -79,12 +90,27 @@ fn other_names_are_unknown(rt: HostRuntime) -> Result<(), Fail> {
     )
 }
 
+/// Each text has no fault, and its first directive without an effect is in this line and has this name.
+fn are_without_effect(
+    rt: &impl Abort,
+    alloc: Global,
+    cases: &[(&[u8], u64, &[u8])],
+) -> Result<(), Fail> {
+    for (text, line, word) in cases {
+        assert!(rt; first_fault(alloc, *text)?.is_none());
+        let fault = first_without_effect(alloc, *text)?.ok_or("a text that isn't served")?;
+        assert!(rt; matches!(fault.kind, FaultKind::NotServed));
+        assert_eq!(rt; fault.line, *line);
+        assert_eq!(rt; word_of(&fault), *word);
+    }
+    Ok(())
+}
+
 #[test]
-fn what_is_known_and_not_served_is_told_so(rt: HostRuntime) -> Result<(), Fail> {
-    are_refused(
+fn what_has_no_effect_yet_is_told_so(rt: HostRuntime) -> Result<(), Fail> {
+    are_without_effect(
         &rt,
         rt.alloc(),
-        FaultKind::NotServed,
         &[
             (
                 b"http { root $A$b; server { set $a 1; auth_request_set $B 1; } }",
@@ -99,16 +125,17 @@ fn what_is_known_and_not_served_is_told_so(rt: HostRuntime) -> Result<(), Fail> 
                 2,
                 b"location",
             ),
-            (b"http { server { location @a { } } }", 1, b"location"),
             (
                 b"http { server { return 200 a;\nreturn 302; } }",
                 2,
                 b"return",
             ),
-            (b"http { server { return https://a; } }", 1, b"return"),
-            (b"http { server { if (a) { return 200; } } }", 1, b"if"),
             (b"http { server { server_name a; } }", 1, b"server_name"),
-            (b"include a; http { server { } }", 1, b"include"),
+            (
+                b"http { keepalive_timeout 5;\nsend_timeout 5; server { } }",
+                2,
+                b"send_timeout",
+            ),
         ],
     )
 }
@@ -176,6 +203,11 @@ fn what_is_there_once_is_there_once(rt: HostRuntime) -> Result<(), Fail> {
         FaultKind::Duplicate,
         &[
             (b"events { }\nevents { }", 2, b"events"),
+            (
+                b"http { send_timeout 1;\nsend_timeout 1; }",
+                2,
+                b"send_timeout",
+            ),
             (b"http { } http { }", 1, b"http"),
             (b"http { root a; server { root b; }\nroot c; }", 2, b"root"),
             (
@@ -262,6 +294,15 @@ fn values_are_looked_at(rt: HostRuntime) -> Result<(), Fail> {
                 b"keepalive_timeout",
             ),
             (b"http { keepalive_timeout 1 ms; }", 1, b"keepalive_timeout"),
+            (
+                b"http { client_max_body_size 1025g; }",
+                1,
+                b"client_max_body_size",
+            ),
+            (b"http { absolute_redirect yes; }", 1, b"absolute_redirect"),
+            (b"http { satisfy none; }", 1, b"satisfy"),
+            (b"http { ssi_value_length 0; }", 1, b"ssi_value_length"),
+            (b"http { send_timeout 1w; }", 1, b"send_timeout"),
         ],
     )
 }

@@ -1,5 +1,5 @@
 use byte_text::{ByteText, OutOfMemory};
-use conf_inherit::build;
+use conf_inherit::{Purpose, build};
 use conf_text::{ConfError, parse};
 use file_type::Types;
 use ngx_variables::{Piece, Place, Value};
@@ -93,7 +93,7 @@ fn site_text(alloc: Global, site: &Site) -> Result<ByteText, OutOfMemory> {
 /// What a configuration is read as: its site, or the word of its first fault.
 fn read(alloc: Global, text: &[u8]) -> Result<ByteText, OutOfMemory> {
     let site = match parse(alloc, 0, text) {
-        Ok(directives) => build(alloc, b"/etc", directives.as_slice()),
+        Ok(directives) => build(alloc, Purpose::Serving, b"/etc", directives.as_slice()),
         Err(error) => Err(error),
     };
     match site {

@@ -3,3 +3,5 @@ pub mod Listening
 pub mod TextSet
 pub mod Texts
 pub mod Returning
+pub mod Settings
+pub mod Listing

@@ -2,7 +2,7 @@
 ghost use Rattle.std.specs.Prelude.{◌≡◌, ℕ, ◌^◌, ◌<◌, ◌≤◌, length, IfSome, MatchOption};
 ghost use Rattle.std.specs.Option.{ForSome};
 ghost use Rattle.std.specs.List.{list_all};
-ghost use Rattle.conf_values.specs.Numbers.{is_decimal as decimal, is_numeral, value_behind, port_of, count_of, unit_of, digits_before, milliseconds, time_of};
+ghost use Rattle.conf_values.specs.Numbers.{is_decimal as decimal, is_numeral, value_behind, port_of, count_to, count_of, unit_of, digits_before, in_units, time_of, bytes_of, size_to, size_of};
 
 /// `0` to `9`.
 pub fn is_decimal(byte: u8) -> bool
@@ -60,10 +60,10 @@ pub fn port_of(text: &[u8]) -> Option<u16>
     Some(value as u16)
 }
 
-/// A count from 1 to 1000000000, with no leading zero.
-#[tactic(auto, unfolding(crate::specs::Numbers::count_of))]
-pub fn count_of(text: &[u8]) -> Option<u32>
-    ensures { result ≡ count_of text.now }
+/// A count from 1 to this one, with no leading zero.
+#[tactic(auto, unfolding(crate::specs::Numbers::count_to))]
+pub fn count_to(text: &[u8], most: u32) -> Option<u32>
+    ensures { result ≡ count_to most text.now }
 {
     if !is_numeral(text) {
         return None;
@@ -71,10 +71,17 @@ pub fn count_of(text: &[u8]) -> Option<u32>
     let Some(value) = value_of(text) else {
         return None;
     };
-    if value > 1_000_000_000 {
+    if value > u64::from(most) {
         return None;
     }
     Some(value as u32)
+}
+
+/// A count from 1 to 1000000000, with no leading zero.
+pub fn count_of(text: &[u8]) -> Option<u32>
+    ensures { result ≡ count_of text.now }
+{
+    count_to(text, 1_000_000_000)
 }
 
 /// How many milliseconds a unit has.
@@ -118,10 +125,11 @@ fn digits_before(text: &[u8]) -> usize
     size
 }
 
-/// The time that digits and a unit give, in milliseconds.
-fn milliseconds(digits: &[u8], unit: Option<u64>) -> Option<u64>
+/// What digits and a unit give, where that is at most this number.
+fn in_units(digits: &[u8], unit: Option<u64>, most: u64) -> Option<u64>
     requires { ForSome unit (λ unit. 0 < unit) }
-    ensures { result ≡ milliseconds (value_behind 0 digits.now) unit }
+    ensures within { IfSome result (λ total. total ≤ most) }
+    ensures value { result ≡ in_units most (value_behind 0 digits.now) unit }
 {
     let Some(unit) = unit else {
         return None;
@@ -129,13 +137,13 @@ fn milliseconds(digits: &[u8], unit: Option<u64>) -> Option<u64>
     let Some(count) = value_of(digits) else {
         return None;
     };
-    let Some(time) = count.checked_mul(unit) else {
+    let Some(total) = count.checked_mul(unit) else {
         return None;
     };
-    if time > 1_099_511_627_776_000 {
+    if total > most {
         return None;
     }
-    Some(time)
+    Some(total)
 }
 
 /// A time in milliseconds, at most 2^40 seconds: digits and a unit, of which seconds are the one that may be left out
@@ -148,5 +156,45 @@ pub fn time_of(text: &[u8]) -> Option<u64>
     if size == 0 {
         return None;
     }
-    milliseconds(&text[..size], unit_of(&text[size..]))
+    in_units(&text[..size], unit_of(&text[size..]), 1_099_511_627_776_000)
+}
+
+/// How many bytes a unit has.
+#[tactic(auto, unfolding(crate::specs::Numbers::bytes_of))]
+fn bytes_of(word: &[u8]) -> Option<u64>
+    ensures value { result ≡ bytes_of word.now }
+    ensures some { IfSome result (λ unit. 0 < unit) }
+{
+    if word.is_empty() {
+        Some(1)
+    } else if word == b"k".as_slice() || word == b"K".as_slice() {
+        Some(1024)
+    } else if word == b"m".as_slice() || word == b"M".as_slice() {
+        Some(1_048_576)
+    } else if word == b"g".as_slice() || word == b"G".as_slice() {
+        Some(1_073_741_824)
+    } else {
+        None
+    }
+}
+
+/// A size in bytes, at most this one: digits and a unit, of which bytes are the one that may be left out (nginx's
+/// documentation, "Configuration file measurement units").
+#[tactic(auto, unfolding(crate::specs::Numbers::size_to))]
+pub fn size_to(text: &[u8], most: u64) -> Option<u64>
+    ensures value { result ≡ size_to most text.now }
+    ensures within { IfSome result (λ size. size ≤ most) }
+{
+    let size = digits_before(text);
+    if size == 0 {
+        return None;
+    }
+    in_units(&text[..size], bytes_of(&text[size..]), most)
+}
+
+/// A size of at most 2^40 bytes.
+pub fn size_of(text: &[u8]) -> Option<u64>
+    ensures { result ≡ size_of text.now }
+{
+    size_to(text, 1_099_511_627_776)
 }

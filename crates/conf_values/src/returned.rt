@@ -22,7 +22,7 @@ pub enum Form {
 
 /// A status from 200 to 599.
 #[tactic(auto, unfolding(crate::specs::Returning::code_of))]
-fn code_of(word: &[u8]) -> Option<u16>
+pub fn code_of(word: &[u8]) -> Option<u16>
     ensures { result ≡ code_of word.now }
 {
     match word {

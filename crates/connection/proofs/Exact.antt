@@ -1,5 +1,5 @@
 -- What a connection shows is exact.
-use Rattle.std.proofs.Common.{◌≡◌, ◌≢◌, ℕ, ◌+◌, drop, take, Bool, true, false, not, ◌&&◌, ◌||◌, cond, List, [], ◌∷◌, ◌++◌, length, map, Option, None, Some, refl, sym, ap, ◌∙◌}
+use Rattle.std.proofs.Common.{◌≡◌, ℕ, ◌+◌, drop, Bool, true, false, not, ◌&&◌, ◌||◌, List, [], ◌∷◌, ◌++◌, length, map, Option, None, Some, refl, sym, ap, ◌∙◌}
 use Rattle.std.specs.Prelude.{is_some}
 use Rattle.std.proofs.lemmas.List.{append-nil}
 use Rattle.file_tree.specs.Tree.{Trees}
@@ -15,8 +15,8 @@ use Rattle.connection.specs.declared.flow.Flow.{Flow}
 use Rattle.connection.specs.Answers.{Service, Answer, Sends, Closes, responses, first_response, logs_in, behind_body}
 use Rattle.connection.specs.Steps.{starts, logged_in, IsLogged}
 use Rattle.connection.specs.Flow.{flow_rest, flow_fits}
-use Rattle.connection.specs.Conn.{view_at, bytes_at, logs_at, idle_at, shut_at, IsExact}
-use Rattle.connection.proofs.Sound.{Idle, shut_parts, unshut, idle_shown}
+use Rattle.connection.specs.Conn.{view_at, bytes_at, logs_at, idle_at, IsExact}
+use Rattle.connection.proofs.Sound.{shut_parts, unshut, idle_shown}
 
 -- no response is sent
 abbrev are_none : List Answer → Bool

@@ -8,3 +8,5 @@ pub mod Begins
 pub mod Sound
 pub mod Exact
 pub mod Wanted
+pub mod Timed
+pub mod Least

@@ -1,18 +1,17 @@
 -- The first want of a connection that can be served.
 use Rattle.std.proofs.Common.{◌≡◌, ℕ, Bool, true, false, ◌&&◌, cond, List, [], ◌∷◌, ◌++◌, map, length, eqb, Option, None, Some, refl, ap, ◌∙◌, arith}
-use Rattle.std.specs.Prelude.{not, ◌==◌, is_some}
+use Rattle.std.specs.Prelude.{not, is_some}
 use Rattle.std.proofs.lemmas.Bool.Decides.{nat_tests}
 use Rattle.file_tree.specs.declared.job.Ask.{Ask}
 use Rattle.ngx_outside.specs.Views.{Job, no_bytes}
 use Rattle.ngx_outside.specs.Wants.{wants_at, read_want, first_doable}
 use Rattle.ngx_outside.specs.declared.event.Entry.{Entry}
 use Rattle.ngx_outside.specs.declared.event.StopCause.{StopCause}
-use Rattle.ngx_outside.specs.declared.event.Want.{Want}
 use Rattle.ngx_outside.specs.declared.event.Want.TheVariants as want
 use Rattle.req_head.specs.declared.head.HeadStep.{HeadStep}
 use Rattle.body_frame.specs.declared.state.BodyState.{BodyState}
 use Rattle.connection.specs.declared.flow.Flow.{Flow}
-use Rattle.connection.specs.Flow.{jobs_of, waits, is_waiting}
+use Rattle.connection.specs.Flow.{waits, is_waiting}
 use Rattle.connection.specs.Answers.{Service}
 use Rattle.connection.specs.Conn.{view_at, room_at, ready_at, shut_at, pending_at}
 use Rattle.connection.specs.Wants.{first_of, room_if}

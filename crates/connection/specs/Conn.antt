@@ -3,7 +3,7 @@ use Rattle.std.specs.Prelude.{◌≡◌, ◌≢◌, ◌≤◌, ◌⊎◌, ℕ, �
 use Rattle.file_tree.specs.Tree.{Trees}
 use Rattle.ngx_outside.specs.Views.{ConnView, Course, start_of, log_of, Log, Start, StepsOwn, LeftBy, TakesNone, IsSound, is_idle, is_live, no_bytes}
 use Rattle.ngx_outside.specs.declared.event.Event.{Event}
-use Rattle.ngx_outside.specs.declared.event.Event.TheVariants.{Ended}
+use Rattle.ngx_outside.specs.declared.event.Event.TheVariants.{Ended, Arrived, Wrote, FileDone, Run}
 use Rattle.ngx_outside.specs.declared.event.StepAnswer.{StepAnswer}
 use Rattle.ngx_outside.specs.declared.event.StepAnswer.TheVariants.{Done}
 use Rattle.ngx_outside.specs.declared.event.Entry.{Entry}
@@ -17,6 +17,8 @@ use Rattle.connection.specs.Flow.{Rest, flow_rest, closes_behind, may_run, jobs_
 use Rattle.connection.specs.Answers.{Service, Answer, then_closes, service_of, answers, answer_logs, answers_close, responses, bytes_in, logs_in, close_in}
 use Rattle.body_frame.specs.declared.state.BodyState.{BodyState}
 use Rattle.connection.specs.Steps.{starts, past_body, logged_in}
+use Rattle.connection.specs.declared.times.Awaited.{Awaited}
+use Rattle.connection.specs.Times.{awaited_by, due_of, mark_by, PacedFor}
 
 -- what is to come on a connection that is opened now, with these ends
 abbrev pub fresh_course : Site → Addr → Addr → Course
@@ -27,7 +29,7 @@ fresh_course site local peer =
       closes = λ trees more later. answers_close (service_of site local peer) 0 trees more later;
       heavy = λ trees more later. false;
       raceless = true;
-      timed = false;
+      timed = true;
     }
 
 -- the answers after the one in flight: those to what comes after the body that is dropped, unless
@@ -92,6 +94,10 @@ shut_at stopped flow closing ended out body next = stopped ||
 abbrev pub pending_at : Option Flow → List ℕ → List ℕ
 pending_at flow out = take (shown_of flow) out
 
+abbrev pub no_entries : List Entry → Bool
+no_entries [] = true
+no_entries (entry ∷ journal) = false
+
 -- a connection by its parts
 abbrev pub view_at : Service → Option StopCause → Option Flow → List ℕ → List Entry → Bool → Bool →
     Option BodyState → List ℕ → HeadStep → ConnView
@@ -108,7 +114,7 @@ view_at service cause flow out journal closing ended body held next =
         closes = closes_at service (flow_rest flow) journal closing body held;
         heavy = λ trees more later. false;
         raceless = true;
-        timed = false;
+        timed = true;
       };
       room = room_at (is_some cause) closing ended held;
       ready = if ready_at (is_some cause) flow closing out body next then 0 ∷ [] else [];
@@ -119,10 +125,28 @@ view_at service cause flow out journal closing ended body held next =
       deadline = None;
     }
 
+-- what is awaited of its peer
+abbrev pub awaited_at : Conn → Awaited
+awaited_at conn = awaited_by
+    (shut_at (is_some conn.cause) conn.flow conn.closing conn.ended conn.out conn.body conn.next)
+    (not (no_bytes (pending_at conn.flow conn.out)))
+    (is_some conn.flow || starts conn.body conn.next)
+    (no_entries conn.journal.items)
+    (not (no_bytes conn.held))
+
+-- the moment at which it is given up
+abbrev pub due_at : Conn → Option ℕ
+due_at conn = due_of (awaited_at conn) conn.times
+
+-- what is shown with this moment
+abbrev pub until : Option ℕ → ConnView → ConnView
+until due v = record v { deadline = due }
+
 abbrev pub view_of : Site → Conn → ConnView
-view_of site conn = view_at
+view_of site conn = until (due_at conn)
+    (view_at
     (service_of site conn.local conn.peer) conn.cause conn.flow conn.out conn.journal.items
-    conn.closing conn.ended conn.body conn.held conn.next
+    conn.closing conn.ended conn.body conn.held conn.next)
 
 -- What a request adds at most to the bytes for its peer and to what is left to do of its response:
 -- a head and a text of at most 65536 bytes, or the blocks of a file.
@@ -161,6 +185,51 @@ pub record StepsConn (site : Site) (now : Start) (e : Event) (a : StepAnswer)
   pub ended : new.ended ≡ ended_by e a old.ended
   pub taken : TakesNone e a
   pub asked : asked_of new ≤ asked_of old ⊎ asked_of new ≡ now.tree
+
+-- a request is in flight: it isn't over, or some of its response is unsent
+abbrev pub in_flight : Option Flow → List ℕ → Bool
+in_flight None out = not (no_bytes out)
+in_flight (Some flow) out = true
+
+-- no byte is held after a request that came to its end
+abbrev pub between : Conn → Bool
+between conn = not (no_entries conn.journal.items) && no_bytes conn.held &&
+    not (in_flight conn.flow conn.out)
+
+abbrev pub begun_by : (mark moment : ℕ) → Bool → List ℕ → ℕ
+begun_by mark moment between held = if between && not (no_bytes held) then moment else mark
+
+abbrev pub mark_ran : ℕ → Conn → Conn → ℕ
+mark_ran moment old new = mark_by old.times.mark moment
+    (not (no_bytes (pending_at old.flow old.out))) (in_flight old.flow old.out)
+    (not (no_bytes (pending_at new.flow new.out))) (in_flight new.flow new.out)
+
+-- The mark after an event at this moment. Each write sets it; so does the first byte that is held
+-- after a request that came to its end; and so does a step by which bytes come to be pending or a
+-- request comes to its end.
+abbrev pub mark_after : (moment : ℕ) → Event → StepAnswer → Conn → Conn → ℕ
+mark_after moment (Wrote conn count) (Done taken) old new = moment
+mark_after moment (Arrived conn bytes) (Done taken) old new = begun_by old.times.mark moment
+    (between old) new.held
+mark_after moment (FileDone conn node answer) (Done taken) old new = mark_ran moment old new
+mark_after moment (Run conn node) (Done taken) old new = mark_ran moment old new
+mark_after moment e a old new = old.times.mark
+
+-- The pace after an event: that of the request that starts, if one does.
+abbrev pub PaceRan : Site → Option Flow → Conn → Conn → Type 0
+PaceRan site None old new = PacedFor site old.local old.next new.times.pace
+PaceRan site (Some flow) old new = new.times.pace ≡ old.times.pace
+
+abbrev pub PaceAfter : Site → Event → StepAnswer → Conn → Conn → Type 0
+PaceAfter site (Run conn node) (Done taken) old new = PaceRan site old.flow old new
+PaceAfter site e a old new = new.times.pace ≡ old.times.pace
+
+-- what an event does to the times that its connection waits by
+pub record TimesConn (site : Site) (moment : ℕ) (e : Event) (a : StepAnswer)
+    (old new : Conn) : Type 0 where
+  pub mark : new.times.mark ≡ mark_after moment e a old new
+  pub head : new.times.head ≡ old.times.head
+  pub pace : PaceAfter site e a old new
 
 -- what each connection shows is sound
 abbrev pub AllSound : Type 0

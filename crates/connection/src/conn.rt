@@ -1,5 +1,5 @@
 // One connection.
-ghost use Rattle.std.specs.Prelude.{◌≡◌, ◌≤◌, ◌<◌, ◌+◌, ◌++◌, ◌∷◌, ◌^◌, ◌⊎◌, true, false, not, [], ℕ, length, take, drop, is_some, OnOk, OnErr, IfOk, vec_len, map, Some, None};
+ghost use Rattle.std.specs.Prelude.{◌≡◌, ◌≤◌, ◌<◌, ◌+◌, ◌-◌, ◌++◌, ◌∷◌, ◌^◌, ◌⊎◌, true, false, not, [], ℕ, length, take, drop, is_some, OnOk, OnErr, IfOk, vec_len, map, Some, None};
 ghost use Rattle.ngx_outside.specs.Views.{Start, start_of, log_of};
 ghost use Rattle.req_head.specs.Step.{head_step};
 ghost use Rattle.file_tree.specs.Tree.{Trees};
@@ -7,11 +7,16 @@ ghost use Rattle.ngx_outside.specs.declared.event.Entry.{Entry as Logged};
 ghost use Rattle.connection.specs.Flow.{flow_fits, tree_asked};
 ghost use Rattle.connection.specs.Steps.{begins as head_begins, starts, rest_of, RanOne, FitsNew, flow_in, closes_in, log_of_answer, logged_by, logged_in, IsLogged};
 ghost use Rattle.connection.specs.Answers.{service_of};
+ghost use Rattle.connection.specs.Times.{PacedFor};
 ghost use Rattle.body_frame.specs.Outcome.{Short};
 
 use crate::body::{drop_body, drop_rest};
-use crate::flow::{Flow, Onward, Stage, answered, may_run, run_on, waits, written};
+use crate::flow::{Flow, Onward, answered, may_run, run_on, waits, written};
 use crate::respond::{Answered, Workspace, put_answer, put_page};
+use crate::sending::{begun, front, is_fresh, is_in_flight, is_pending, sending};
+use crate::times::{
+    Awaited, NO_PACE, Times, awaited_of, due, head_wait_at, least_due, marked, pace_at,
+};
 use body_frame::BodyState;
 use byte_text::{ByteQueue, OutOfMemory};
 use file_tree::{Ask, JobAnswer, is_fitting};
@@ -21,9 +26,6 @@ use phase_engine::Meeting;
 use req_head::{HeadStep, head_stays, may_decide, read_head, refusal_stays, size_fits};
 use site_model::Site;
 use std::alloc::Global;
-
-/// No more bytes than these are shown as pending.
-const SHOWN: usize = 65536;
 
 fn begins(next: &HeadStep) -> bool
     ensures { result ≡ head_begins next.now }
@@ -157,6 +159,7 @@ fn run_one(
         (record { moment = meeting.moment; tree = meeting.tree })
         (vec_len journal.old) next.old held.old held.new body.new o.flow out.old out.new o.closing
         o.log) }
+    ensures paced { OnOk result (PacedFor site.now meeting.local next.old space.new.pace) }
     ensures looked { OnOk result (next.new ≡ head_step held.new) }
     ensures journal { IfOk result (λ o. (entry : Logged) ×
         (start_of entry ≡ record { moment = meeting.moment; tree = meeting.tree }) ×
@@ -182,6 +185,7 @@ fn run_one(
         HeadStep::Bad { code, no_body } => {
             let length = put_page(space, out, *code, meeting.moment, *no_body)?;
             let log = Some((*code, length as u64));
+            space.pace = pace_at(site, meeting.local);
             enter(journal, meeting.moment, meeting.tree, log)?;
             *body = None;
             Ok(Onward {
@@ -195,7 +199,7 @@ fn run_one(
 }
 
 /// One connection: the bytes that are held and what they begin, the request that seeks a file, the bytes that are kept for the
-/// peer, and the journal of its requests.
+/// peer, the journal of its requests, and how long it waits.
 #[derive(Drop)]
 pub struct Conn {
     local: Addr,
@@ -209,6 +213,7 @@ pub struct Conn {
     closing: bool,
     ended: bool,
     cause: Option<StopCause>,
+    times: Times,
     ghost looked: { is_some cause ≡ false → next ≡ head_step held },
     ghost dropped: { is_some cause ≡ true → out ≡ [] },
     ghost quit: { is_some cause ≡ true → flow ≡ None },
@@ -224,13 +229,27 @@ impl Conn {
     ghost use Rattle.ngx_outside.specs.Views.{Fresh, Start, ask_in, is_idle as idle_in};
     ghost use Rattle.ngx_outside.specs.declared.event.Event.TheVariants.{Arrived, Ended, Wrote, LinkFailed, FileDone, JobFailed, Run};
     ghost use Rattle.connection.specs.Conn.{view_of, left_of, fresh_course, room_at, starts_at, ready_at, idle_at, shut_at, pending_at, weight, asked_of, StepsConn};
-    ghost use Rattle.connection.specs.Flow.{shown_of, jobs_of, is_waiting};
+    ghost use Rattle.connection.specs.Flow.{jobs_of, is_waiting};
+    ghost use Rattle.connection.specs.Times.{WaitsForHead, soonest};
+    ghost use Rattle.connection.specs.Conn.{awaited_at, due_at, between, TimesConn};
+    ghost use Rattle.ngx_outside.specs.Views.{Ticked};
+    ghost use Rattle.site_model.specs.Levels.{seen};
+    ghost use Rattle.site_model.specs.Search.{server_for};
 
-    /// A connection with these two ends, on which nothing has come and gone.
+    /// A connection with these two ends, on which nothing has come and gone. Its waiting begins now.
     #[tactic(auto, unfolding(crate::specs::Steps::logged_in))]
-    pub fn new(alloc: Global, local: Addr, peer: Addr) -> Result<Self, OutOfMemory>
+    pub fn new(
+        alloc: Global,
+        site: &Site,
+        local: Addr,
+        peer: Addr,
+        moment: u64,
+    ) -> Result<Self, OutOfMemory>
         ensures fresh { IfOk result (λ c. (site : _) →
             Fresh (fresh_course site local peer) (view_of site c)) }
+        ensures mark { IfOk result (λ c. c.times.mark ≡ moment) }
+        ensures head { IfOk result (λ c. WaitsForHead site.now c.times.head
+            (server_for (seen site.now).servers local)) }
         ensures left { IfOk result (λ c. left_of c ≡ 1 + weight) }
         ensures asked { IfOk result (λ c. asked_of c ≡ 0) }
     {
@@ -248,29 +267,19 @@ impl Conn {
             closing: false,
             ended: false,
             cause: None,
-        })
-    }
-
-    // How many of the bytes that are kept for the peer are shown.
-    #[tactic(auto, unfolding(crate::specs::Flow::shown_most))]
-    fn shown(&self) -> usize
-        ensures { result ≡ shown_of self.now.flow }
-    {
-        match &self.flow {
-            Some(flow) => match flow.stage {
-                Stage::Came { left: _, placed } => placed.min(SHOWN),
-                _ => SHOWN,
+            times: Times {
+                mark: moment,
+                head: head_wait_at(site, local),
+                pace: NO_PACE,
             },
-            None => SHOWN,
-        }
+        })
     }
 
     /// The bytes that are to be written next.
     pub fn pending(&self) -> &[u8]
         ensures { result.now ≡ pending_at self.now.flow self.now.out }
     {
-        let bytes = self.out.front();
-        &bytes[..self.shown().min(bytes.len())]
+        front(&self.flow, &self.out)
     }
 
     /// The job of a node; none where it has no job that waits.
@@ -311,6 +320,13 @@ impl Conn {
         ensures { result ≡ self.now.cause }
     {
         self.cause
+    }
+
+    // Whether no byte is held behind a request that came to its end.
+    fn is_between(&self) -> bool
+        ensures { result ≡ between self.now }
+    {
+        !is_fresh(&self.journal) && self.held.is_empty() && !is_in_flight(&self.flow, &self.out)
     }
 
     fn is_stopped(&self) -> bool
@@ -386,6 +402,49 @@ impl Conn {
         self.is_stopped() || ((self.closing || self.ended) && self.rests())
     }
 
+    // What is awaited of the peer.
+    fn awaited(&self) -> Awaited
+        ensures { result ≡ awaited_at self.now }
+    {
+        awaited_of(
+            self.is_shut(),
+            is_pending(&self.flow, &self.out),
+            self.flow.is_some() || self.starts(),
+            is_fresh(&self.journal),
+            !self.held.is_empty(),
+        )
+    }
+
+    /// The moment at which it is given up, the type's last one where there is none.
+    pub fn due(&self) -> u64
+        ensures { result ≡ soonest (due_at self.now) }
+    {
+        due(self.awaited(), self.times)
+    }
+
+    /// A moment before which it isn't given up. It costs less than its own.
+    pub fn least_due(&self) -> u64
+        ensures { result ≤ soonest (due_at self.now) }
+    {
+        least_due(self.times)
+    }
+
+    /// The clock tells a moment: it is given up where its own has come.
+    pub fn ticks(&mut self, now: u64)
+        requires { now < 2 ^ 64 - 1 }
+        ensures ticked { (site : _) → Ticked now (view_of site self.old) (view_of site self.new) }
+        ensures left { left_of self.new ≤ left_of self.old }
+        ensures asked { asked_of self.new ≤ asked_of self.old }
+        ensures ended { self.new.ended ≡ self.old.ended }
+        ensures times { self.new.times ≡ self.old.times }
+    {
+        let due = self.due();
+        if due > now {
+            return;
+        }
+        self.stop(StopCause::Deadline { due, now });
+    }
+
     // It is stopped: what is unsent is dropped.
     fn stop(&mut self, cause: StopCause)
         ensures cause { self.new.cause ≡ Some cause }
@@ -393,6 +452,7 @@ impl Conn {
         ensures out { self.new.out ≡ [] }
         ensures journal { self.new.journal.items ≡ self.old.journal.items }
         ensures ended { self.new.ended ≡ self.old.ended }
+        ensures times { self.new.times ≡ self.old.times }
     {
         self.flow = None;
         self.out.clear();
@@ -400,9 +460,11 @@ impl Conn {
     }
 
     /// Bytes arrived: it takes as many as there is room for.
-    pub fn arrived(&mut self, alloc: Global, bytes: &[u8]) -> StepAnswer
-        ensures { (site : _) (now : Start) (conn : ℕ) →
+    pub fn arrived(&mut self, alloc: Global, moment: u64, bytes: &[u8]) -> StepAnswer
+        ensures steps { (site : _) (now : Start) (conn : ℕ) →
             StepsConn site now (Arrived conn bytes.entry) result self.old self.new }
+        ensures times { (site : _) (conn : ℕ) →
+            TimesConn site moment (Arrived conn bytes.entry) result self.old self.new }
     {
         let Some(room) = self.room() else {
             return StepAnswer::Skipped;
@@ -413,6 +475,7 @@ impl Conn {
         let taken = bytes.len().min(room);
         let bytes = first_bytes(bytes, taken);
         let dropped = drop_rest(self.body, bytes);
+        let is_between = self.is_between();
         match take_in(
             alloc,
             &mut self.held,
@@ -422,6 +485,7 @@ impl Conn {
             Ok(()) => {
                 self.body = dropped.body;
                 self.closing = dropped.broken;
+                self.times.mark = begun(self.times.mark, moment, is_between, &self.held);
                 StepAnswer::Done { taken }
             }
             Err(OutOfMemory) => {
@@ -437,8 +501,10 @@ impl Conn {
 
     /// The peer sends no more.
     pub fn input_ended(&mut self) -> StepAnswer
-        ensures { (site : _) (now : Start) (conn : ℕ) →
+        ensures steps { (site : _) (now : Start) (conn : ℕ) →
             StepsConn site now (Ended conn) result self.old self.new }
+        ensures times { (site : _) (moment conn : ℕ) →
+            TimesConn site moment (Ended conn) result self.old self.new }
     {
         match self.room() {
             None => StepAnswer::Skipped,
@@ -450,22 +516,27 @@ impl Conn {
     }
 
     /// The first pending bytes were written.
-    pub fn wrote(&mut self, count: usize) -> StepAnswer
-        ensures { (site : _) (now : Start) (conn : ℕ) →
+    pub fn wrote(&mut self, moment: u64, count: usize) -> StepAnswer
+        ensures steps { (site : _) (now : Start) (conn : ℕ) →
             StepsConn site now (Wrote conn count) result self.old self.new }
+        ensures times { (site : _) (conn : ℕ) →
+            TimesConn site moment (Wrote conn count) result self.old self.new }
     {
         if count == 0 || count > self.pending().len() {
             return StepAnswer::Skipped;
         }
         self.flow = written(self.flow.take(), count);
         self.out.used(count);
+        self.times.mark = moment;
         StepAnswer::Done { taken: 0 }
     }
 
     /// A node's job is answered: the only one is the main request's.
-    pub fn file_done(&mut self, node: u32, answer: JobAnswer) -> StepAnswer
-        ensures { (site : _) (now : Start) (conn : ℕ) →
+    pub fn file_done(&mut self, moment: u64, node: u32, answer: JobAnswer) -> StepAnswer
+        ensures steps { (site : _) (now : Start) (conn : ℕ) →
             StepsConn site now (FileDone conn node answer.entry) result self.old self.new }
+        ensures times { (site : _) (conn : ℕ) →
+            TimesConn site moment (FileDone conn node answer.entry) result self.old self.new }
     {
         match self.ask(node) {
             Some(ask) => {
@@ -475,12 +546,15 @@ impl Conn {
             }
             None => return StepAnswer::Skipped,
         }
+        let before = sending(&self.flow, &self.out);
         let Some(flow) = self.flow.take() else {
             return StepAnswer::Skipped;
         };
         match answered(flow, &mut self.out, answer) {
             Ok(flow) => {
                 self.flow = Some(flow);
+                let after = sending(&self.flow, &self.out);
+                self.times.mark = marked(self.times.mark, moment, before, after);
                 StepAnswer::Done { taken: 0 }
             }
             Err(OutOfMemory) => {
@@ -494,8 +568,10 @@ impl Conn {
 
     /// A node's job failed.
     pub fn job_failed(&mut self, node: u32) -> StepAnswer
-        ensures { (site : _) (now : Start) (conn : ℕ) →
+        ensures steps { (site : _) (now : Start) (conn : ℕ) →
             StepsConn site now (JobFailed conn node) result self.old self.new }
+        ensures times { (site : _) (moment conn : ℕ) →
+            TimesConn site moment (JobFailed conn node) result self.old self.new }
     {
         if self.ask(node).is_none() {
             return StepAnswer::Skipped;
@@ -506,8 +582,10 @@ impl Conn {
 
     /// Its link failed.
     pub fn link_failed(&mut self) -> StepAnswer
-        ensures { (site : _) (now : Start) (conn : ℕ) →
+        ensures steps { (site : _) (now : Start) (conn : ℕ) →
             StepsConn site now (LinkFailed conn) result self.old self.new }
+        ensures times { (site : _) (moment conn : ℕ) →
+            TimesConn site moment (LinkFailed conn) result self.old self.new }
     {
         if self.is_stopped() {
             return StepAnswer::Skipped;
@@ -517,13 +595,16 @@ impl Conn {
     }
 
     // The request that seeks a file runs on.
-    fn goes_on(&mut self, space: &mut Workspace) -> StepAnswer
+    fn goes_on(&mut self, space: &mut Workspace, moment: u64) -> StepAnswer
         requires some { is_some self.old.flow ≡ true }
         requires ready { ready_at (is_some self.old.cause) self.old.flow self.old.closing
             self.old.out self.old.body self.old.next ≡ true }
-        ensures { (site : _) (now : Start) (conn : ℕ) →
+        ensures steps { (site : _) (now : Start) (conn : ℕ) →
             StepsConn site now (Run conn 0) result self.old self.new }
+        ensures times { (site : _) (conn : ℕ) →
+            TimesConn site moment (Run conn 0) result self.old self.new }
     {
+        let before = sending(&self.flow, &self.out);
         let Some(flow) = self.flow.take() else {
             unreachable!()
         };
@@ -532,6 +613,8 @@ impl Conn {
                 finish(&mut self.journal, onward.log);
                 self.flow = onward.flow;
                 self.closing = onward.closing;
+                let after = sending(&self.flow, &self.out);
+                self.times.mark = marked(self.times.mark, moment, before, after);
                 StepAnswer::Done { taken: 0 }
             }
             Err(OutOfMemory) => {
@@ -554,12 +637,15 @@ impl Conn {
         requires none { self.old.flow ≡ None }
         requires ready { starts_at (is_some self.old.cause) self.old.closing self.old.out
             self.old.body self.old.next ≡ true }
-        ensures { (conn : ℕ) → StepsConn site.now (record { moment = moment; tree = tree })
+        ensures steps { (conn : ℕ) → StepsConn site.now (record { moment = moment; tree = tree })
             (Run conn 0) result self.old self.new }
+        ensures times { (conn : ℕ) →
+            TimesConn site.now moment (Run conn 0) result self.old self.new }
     {
         head_stays();
         refusal_stays();
         size_fits();
+        let before = sending(&self.flow, &self.out);
         match run_one(
             space,
             site,
@@ -578,6 +664,9 @@ impl Conn {
             Ok(onward) => {
                 self.flow = onward.flow;
                 self.closing = onward.closing;
+                let after = sending(&self.flow, &self.out);
+                self.times.mark = marked(self.times.mark, moment, before, after);
+                self.times.pace = space.pace;
                 StepAnswer::Done { taken: 0 }
             }
             Err(OutOfMemory) => {
@@ -600,14 +689,16 @@ impl Conn {
         tree: u64,
         node: u32,
     ) -> StepAnswer
-        ensures { (conn : ℕ) → StepsConn site.now (record { moment = moment; tree = tree })
+        ensures steps { (conn : ℕ) → StepsConn site.now (record { moment = moment; tree = tree })
             (Run conn node) result self.old self.new }
+        ensures times { (conn : ℕ) →
+            TimesConn site.now moment (Run conn node) result self.old self.new }
     {
         if node != 0 || !self.is_ready() {
             return StepAnswer::Skipped;
         }
         if self.flow.is_some() {
-            self.goes_on(space)
+            self.goes_on(space, moment)
         } else {
             self.starts_one(space, site, moment, tree)
         }

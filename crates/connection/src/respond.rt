@@ -8,9 +8,13 @@ ghost use Rattle.phase_engine.specs.declared.meaning.WholeReply.{WholeReply as R
 ghost use Rattle.phase_engine.specs.Outcomes.{page_reply as page_replied, text_reply as text_replied, reply_by};
 ghost use Rattle.phase_engine.specs.Shown.{IsReply, shown, level_asked as asked_level};
 ghost use Rattle.connection.specs.Flow.{response, reply_head, content_of, file_reply, start_of_wish, is_head as asks_head};
+ghost use Rattle.site_model.specs.Levels.{seen};
+ghost use Rattle.site_model.specs.Search.{server_for};
+ghost use Rattle.connection.specs.Times.{PacedHead, no_pace};
 ghost use Rattle.connection.specs.Answers.{Service, service_of, reply_at, reply_in, stays_in, stays_by, rest_after, Puts, Meets, Responds, SeeksFor, FitsOne};
 
 use crate::flow::{Flow, Stage, Wish};
+use crate::times::{NO_PACE, Pace, pace_of};
 use byte_text::{ByteQueue, ByteText, OutOfMemory};
 use error_page::page_text;
 use file_tree::Ask;
@@ -23,11 +27,13 @@ use resp_head::{HeadWriter, ReplyHead};
 use site_model::{Level, Server, Site};
 use std::alloc::Global;
 
-/// What connections work with, one after another: memory, and the writer of their responses' heads.
+/// What connections work with, one after another: memory, the writer of their responses' heads, and the pace of the last
+/// response.
 #[derive(Drop)]
 pub struct Workspace {
     pub alloc: Global,
     pub heads: HeadWriter,
+    pub pace: Pace,
 }
 
 impl Workspace {
@@ -36,6 +42,7 @@ impl Workspace {
         Workspace {
             alloc,
             heads: HeadWriter::new(alloc),
+            pace: NO_PACE,
         }
     }
 }
@@ -351,6 +358,8 @@ fn put_served(
         (head.now.keep && stays_in count head.now (Some (server_seen site.now server.now)))
         (rest_after a trees) out.old out.new) }
     ensures fits { IfOk result (λ a. FitsOne a meeting.tree (length out.old) (length out.new)) }
+    ensures paced { OnOk result (PacedHead site.now head.now space.new.pace
+        (Some (server_seen site.now server.now))) }
 {
     replies_are();
     let target = target_of(space.alloc, head)?;
@@ -365,6 +374,28 @@ fn put_served(
     let outcome = outcome_for(space.alloc, &asked)?;
     let stays = may_stay(head, level, count);
     let answered = put_outcome(space, out, &asked, outcome, stays)?;
+    space.pace = pace_of(level);
+    Ok(answered)
+}
+
+// Appends the built-in page that is answered where no server is.
+fn put_unserved(
+    space: &mut Workspace,
+    out: &mut ByteQueue,
+    head: &Head,
+    moment: u64,
+) -> Result<Answered, OutOfMemory>
+    ensures meets { (start : Start) → start.moment ≡ moment →
+        IfOk result (λ a. (trees : Trees) →
+        Meets (page_replied 404) start (asks_head head.now.method) false (rest_after a trees)
+        out.old out.new) }
+    ensures fits { (tree : ℕ) → IfOk result
+        (λ a. FitsOne a tree (length out.old) (length out.new)) }
+    ensures paced { OnOk result (space.new.pace ≡ no_pace) }
+{
+    let no_body = is_head(&head.method);
+    let answered = at_once(put_error(space, out, 404, moment, no_body, false))?;
+    space.pace = NO_PACE;
     Ok(answered)
 }
 
@@ -385,17 +416,12 @@ pub fn put_answer(
         Responds service (reply_at service trees start head.now) start count head.now
         (rest_after a trees) out.old out.new) }
     ensures fits { IfOk result (λ a. FitsOne a meeting.tree (length out.old) (length out.new)) }
+    ensures paced { OnOk result (PacedHead site.now head.now space.new.pace
+        (server_for (seen site.now).servers meeting.local)) }
 {
     match site.server_at(meeting.local) {
         Some(server) => put_served(space, site, server, out, head, count, meeting),
-        None => at_once(put_error(
-            space,
-            out,
-            404,
-            meeting.moment,
-            is_head(&head.method),
-            false,
-        )),
+        None => put_unserved(space, out, head, meeting.moment),
     }
 }
 

@@ -1,5 +1,5 @@
 -- A connection is held, or let go.
-use Rattle.std.proofs.Common.{◌≡◌, ◌≢◌, inl, inr, ℕ, ◌+◌, ◌*◌, ◌<◌, ◌≤◌, Bool, true, false, cond, eqb, not, ◌&&◌, ◌||◌, List, [], ◌∷◌, ◌++◌, length, get_or, refl, sym, ap, ◌∙◌, subst, arith, length-append, suc, zero}
+use Rattle.std.proofs.Common.{◌≡◌, ◌≢◌, inl, inr, ℕ, ◌+◌, ◌<◌, ◌≤◌, Bool, true, false, cond, eqb, not, ◌&&◌, ◌||◌, List, [], ◌∷◌, ◌++◌, length, get_or, refl, sym, ap, ◌∙◌, subst, arith, length-append, suc, zero}
 use Rattle.std.specs.Borrow.{Bor}
 use Rattle.std.specs.Prelude.{nat_lt, ◌↔◌, ◌⊎◌, Option, None, Some, IfSome, option_copied}
 use Rattle.std.specs.List.{AllByRecursion, Contains, insert, remove}
@@ -57,7 +57,7 @@ gap_at c at ids conns b paired = gap_of c at ids conns b (parted_between conns a
 ids_put : (c at : ℕ) (ids : List ℕ) (conns : List Conn) (g : Gap c at ids conns) → insert ids at c ≡ g.belongs.front ++ c ∷ g.belongs.back
 ids_put c at ids conns g = inserted ids g.belongs.front g.belongs.back c at g.belongs.whole g.belongs.size
 
-conns_put : (c at : ℕ) (ids : List ℕ) (conns : List Conn) (x : Conn) (g : Gap c at ids conns) → insert conns at x ≡ g.front ++ x ∷ g.back
+pub conns_put : (c at : ℕ) (ids : List ℕ) (conns : List Conn) (x : Conn) (g : Gap c at ids conns) → insert conns at x ≡ g.front ++ x ∷ g.back
 conns_put c at ids conns x g = inserted conns g.front g.back x at g.whole g.size
 
 pub put_rising : (c at : ℕ) (ids ids' : List ℕ) → BelongsAt c ids at → ids' ≡ insert ids at c → IsStrictlyIncreasing ids → IsStrictlyIncreasing ids'
@@ -135,7 +135,7 @@ cut_rising c at ids ids' b e s =
 ids_cut : (c at : ℕ) (ids : List ℕ) (conns : List Conn) (s : Seat c at ids conns) → remove ids at ≡ s.stands.front ++ s.stands.back
 ids_cut c at ids conns s = removed ids s.stands.front s.stands.back c at s.stands.whole s.stands.size
 
-conns_cut : (c at : ℕ) (ids : List ℕ) (conns : List Conn) (s : Seat c at ids conns) → remove conns at ≡ s.placed.front ++ s.placed.back
+pub conns_cut : (c at : ℕ) (ids : List ℕ) (conns : List Conn) (s : Seat c at ids conns) → remove conns at ≡ s.placed.front ++ s.placed.back
 conns_cut c at ids conns s = removed conns s.placed.front s.placed.back s.placed.here at s.placed.whole s.placed.size
 
 pub cut_after : (site : Site) (c at : ℕ) (ids ids' : List ℕ) (conns conns' : List Conn) (s : Seat c at ids conns) → ids' ≡ remove ids at → view_in site ids' conns' c ≡ nobody

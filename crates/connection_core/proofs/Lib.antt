@@ -5,3 +5,4 @@ pub mod Held
 pub mod Ends
 pub mod Steps
 pub mod Shown
+pub mod Ticks

@@ -1,17 +1,15 @@
 -- The steps of the core, by the event.
-use Rattle.std.proofs.Common.{◌≡◌, ◌≢◌, ◌⊎◌, inl, inr, ap, ◌∙◌, arith, ℕ, min, Bool, true, false, cond, eqb, List, [], ◌∷◌, Option, None, Some, refl, sym, subst}
+use Rattle.std.proofs.Common.{◌≡◌, ◌≢◌, ◌⊎◌, inl, inr, ap, ◌∙◌, arith, ℕ, min, Bool, true, false, cond, eqb, refl, sym, subst}
 use Rattle.std.proofs.lemmas.Bool.{cases_eq}
 use Rattle.std.proofs.lemmas.Bool.Decides.{nat_tests}
 use Rattle.http_types.specs.declared.words.Addr.{Addr}
-use Rattle.ngx_outside.specs.Views.{ConnView, Course, Start, StepsOwn, OneSteps, Steps, OpensIf, CountsRefused, TakesNone, IsSound, Ticked, Waits, now_after, ended_after, kept_moment, nobody}
+use Rattle.ngx_outside.specs.Views.{ConnView, Course, Start, StepsOwn, OneSteps, Steps, OpensIf, CountsRefused, TakesNone, IsSound, now_after, ended_after, kept_moment, nobody}
 use Rattle.ngx_outside.specs.declared.event.Event.{Event}
 use Rattle.ngx_outside.specs.declared.event.Event.TheVariants as ev
 use Rattle.ngx_outside.specs.declared.event.StepAnswer.{StepAnswer}
 use Rattle.ngx_outside.specs.declared.event.StepAnswer.TheVariants.{Done, Skipped, OutOfMemory}
-use Rattle.site_model.specs.declared.site.Site.{Site}
-use Rattle.connection.specs.declared.conn.Conn.{Conn}
-use Rattle.connection.specs.Conn.{view_of, ended_by}
-use Rattle.connection_core.specs.Table.{is_own, event_conn, view_in, Counted}
+use Rattle.connection.specs.Conn.{ended_by}
+use Rattle.connection_core.specs.Table.{is_own, event_conn, Counted}
 
 own_steps : (fresh : Addr → Addr → Course) (now : Start) (e : Event) (a : StepAnswer) (old new : ℕ → ConnView) → is_own e ≡ true →
     OneSteps (event_conn e) (StepsOwn nobody.course now e a) old new → Steps fresh now e a old new
@@ -70,19 +68,6 @@ refused_own e a old new o h = not_opening e a old new o h
 pub kept_is : (n : ℕ) → min n 253402300799 ≡ kept_moment n
 unfolding kept_moment
 kept_is n = refl
-
--- no connection is given up by the clock
-pub waits_in : (site : Site) (ids : List ℕ) (conns : List Conn) (moment q : ℕ) → Ticked moment (view_in site ids conns q) (view_in site ids conns q)
-waits_in site ids conns moment q = Waits (λ due h. absurd (never (dateless site ids conns q) h)) refl
-  where
-    dateless : (site : Site) (ids : List ℕ) (conns : List Conn) (q : ℕ) → (view_in site ids conns q).deadline ≡ None
-    dateless site [] conns q = refl
-    dateless site (id ∷ ids) [] q = refl
-    dateless site (id ∷ ids) (conn ∷ conns) q =
-        elim (eqb id q) as (λ t. (cond t (view_of site conn) (view_in site ids conns q)).deadline ≡ None) [ true ↦ refl | false ↦ dateless site ids conns q ]
-
-    never : {o : Option ℕ} {n : ℕ} → o ≡ None → o ≡ Some n → ⊥
-    never e f = cc
 
 -- closing is never refused
 pub gone_counts : (course : Course) (now : Start) (c : ℕ) (a : StepAnswer) (n : ℕ) (old new : ℕ → ConnView) → OneSteps c (StepsOwn course now (ev.Gone c) a) old new → CountsRefused (ev.Gone c) a n n

@@ -1,7 +1,7 @@
 -- The connections that are held, each under its number.
 use Rattle.std.specs.Prelude.{◌≡◌, Bool, true, false, ℕ, ◌+◌, ◌==◌, ◌<◌, ◌≤◌, List, [], ◌∷◌, ◌++◌, length, sum_by, not, ◌&&◌, ◌||◌, nat_lt, is_some, if◌then◌else◌}
 use Rattle.std.specs.List.{AllByRecursion}
-use Rattle.ngx_outside.specs.Views.{ConnView, nobody}
+use Rattle.ngx_outside.specs.Views.{ConnView, Ticked, nobody}
 use Rattle.ngx_outside.specs.Causes.{Rose}
 use Rattle.ngx_outside.specs.declared.event.StepAnswer.{StepAnswer}
 use Rattle.ngx_outside.specs.declared.event.StepAnswer.TheVariants.{Done, Skipped, OutOfMemory}
@@ -13,7 +13,8 @@ use Rattle.site_model.specs.Levels.{seen}
 use Rattle.site_model.specs.Search.{server_for}
 use Rattle.site_model.specs.declared.site.Site.{Site}
 use Rattle.connection.specs.declared.conn.Conn.{Conn}
-use Rattle.connection.specs.Conn.{view_of, left_of, asked_of, price}
+use Rattle.connection.specs.Conn.{view_of, left_of, asked_of, due_at, price}
+use Rattle.connection.specs.Times.{soonest}
 
 -- what the connection under a number shows
 abbrev pub view_in : Site → List ℕ → List Conn → ℕ → ConnView
@@ -36,6 +37,24 @@ left_in conns = sum_by (λ conn. 1 + left_of conn) conns
 -- no job asks of a tree with a higher number than this
 abbrev pub AllKnown : ℕ → List Conn → Type 0
 AllKnown tree conns = AllByRecursion (λ conn. asked_of conn ≤ tree) conns
+
+-- none of them is given up before this moment
+abbrev pub AllLater : ℕ → List Conn → Type 0
+AllLater soon conns = AllByRecursion (λ conn. soon ≤ soonest (due_at conn)) conns
+
+-- What the clock's telling does to a connection: it is given up exactly where its moment has come,
+-- and nothing more is left to do.
+pub record TickedOne (now : ℕ) (old new : Conn) : Type 0 where
+  pub ticked : (site : Site) → Ticked now (view_of site old) (view_of site new)
+  pub left : left_of new ≤ left_of old
+  pub asked : asked_of new ≤ asked_of old
+  pub ended : new.ended ≡ old.ended
+
+abbrev pub AllTicked : ℕ → List Conn → List Conn → Type 0
+AllTicked now [] [] = Unit {0}
+AllTicked now [] (new ∷ news) = ⊥
+AllTicked now (old ∷ olds) [] = ⊥
+AllTicked now (old ∷ olds) (new ∷ news) = TickedOne now old new × AllTicked now olds news
 
 -- the event is of a connection that is held, and leaves it held
 abbrev pub is_own : Event → Bool

@@ -148,7 +148,9 @@ impl EventCore for Hub {
         cores_are_sound();
         match event {
             Event::Opened { conn, local, peer } => {
-                let answer = self.table.open(self.space.alloc, conn, local, peer);
+                let answer = self
+                    .table
+                    .open(self.space.alloc, conn, local, peer, self.moment);
                 count(&mut self.refused, answer);
                 answer
             }
@@ -164,7 +166,9 @@ impl EventCore for Hub {
             Event::JobFailed { conn, node: _ } => self.own(conn, event),
             Event::Run { conn, node: _ } => self.own(conn, event),
             Event::Tick { now } => {
-                self.moment = now.min(LAST_MOMENT);
+                let moment = now.min(LAST_MOMENT);
+                self.moment = moment;
+                self.table.tick(moment);
                 StepAnswer::Done { taken: 0 }
             }
             Event::Tree { to } => {

@@ -1,8 +1,9 @@
 // One connection among those that are held.
-ghost use Rattle.std.specs.Prelude.{◌≡◌, ◌+◌, ◌≤◌, ◌<◌, true, length, vec_len, vec_capacity, insert, MatchResult, get_or};
+ghost use Rattle.std.specs.Prelude.{◌≡◌, ◌+◌, ◌-◌, ◌^◌, ◌≤◌, ◌<◌, true, length, vec_len, vec_capacity, insert, MatchResult, get_or};
 ghost use Rattle.std.specs.List.Sorted.{IsStrictlyIncreasing};
-ghost use Rattle.connection.specs.Conn.{StepsConn};
-ghost use Rattle.connection_core.specs.Table.{is_own, StandsAt, BelongsAt, Placed, Replaced};
+ghost use Rattle.connection.specs.Conn.{StepsConn, TimesConn, due_at};
+ghost use Rattle.connection.specs.Times.{soonest};
+ghost use Rattle.connection_core.specs.Table.{is_own, StandsAt, BelongsAt, Placed, Replaced, AllTicked, AllLater};
 
 use connection::{Conn, Workspace};
 use ngx_outside::{Event, StepAnswer};
@@ -51,6 +52,30 @@ pub(crate) fn put_at<T: Drop>(items: &mut Vec<T>, at: usize, item: T)
     }
 }
 
+/// The earlier one of a moment and that at which a connection is given up.
+pub(crate) fn earlier(soon: u64, conn: &Conn) -> u64
+    ensures { (result ≤ soon) × (result ≤ soonest (due_at conn.now)) }
+{
+    if soon <= conn.least_due() {
+        return soon;
+    }
+    soon.min(conn.due())
+}
+
+/// The clock tells all connections a moment. The first moment at which one of them is given up is answered, or an earlier one.
+pub(crate) fn tick_all(conns: &mut [Conn], now: u64) -> u64
+    requires { now < 2 ^ 64 - 1 }
+    ensures ticked { AllTicked now conns.old conns.new }
+    ensures later { AllLater result conns.new }
+{
+    let mut soon = u64::MAX;
+    for conn in conns.iter_mut() {
+        conn.ticks(now);
+        soon = earlier(soon, conn);
+    }
+    soon
+}
+
 /// Gives a connection one event of its own; any other event is skipped.
 pub(crate) fn happen(
     conn: &mut Conn,
@@ -60,9 +85,11 @@ pub(crate) fn happen(
     tree: u64,
     event: Event,
 ) -> StepAnswer
-    ensures { is_own event.entry ≡ true →
+    ensures steps { is_own event.entry ≡ true →
         StepsConn site.now (record { moment = moment; tree = tree }) event.entry result conn.old
         conn.new }
+    ensures times { is_own event.entry ≡ true →
+        TimesConn site.now moment event.entry result conn.old conn.new }
 {
     match event {
         Event::Opened {
@@ -70,15 +97,15 @@ pub(crate) fn happen(
             local: _,
             peer: _,
         } => StepAnswer::Skipped,
-        Event::Arrived { conn: _, bytes } => conn.arrived(space.alloc, bytes),
+        Event::Arrived { conn: _, bytes } => conn.arrived(space.alloc, moment, bytes),
         Event::Ended { conn: _ } => conn.input_ended(),
-        Event::Wrote { conn: _, count } => conn.wrote(count),
+        Event::Wrote { conn: _, count } => conn.wrote(moment, count),
         Event::LinkFailed { conn: _ } => conn.link_failed(),
         Event::FileDone {
             conn: _,
             node,
             answer,
-        } => conn.file_done(node, answer),
+        } => conn.file_done(moment, node, answer),
         Event::JobFailed { conn: _, node } => conn.job_failed(node),
         Event::Run { conn: _, node } => conn.runs(space, site, moment, tree, node),
         Event::Tick { now: _ } => StepAnswer::Skipped,

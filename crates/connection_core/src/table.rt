@@ -1,8 +1,10 @@
 // All connections that are held, each under its number.
 ghost use Rattle.std.specs.Prelude.{◌≡◌, vec_len};
 ghost use Rattle.std.specs.List.Sorted.{IsStrictlyIncreasing};
+ghost use Rattle.std.proofs.Props.{props};
+ghost use Rattle.connection_core.specs.Table.{AllLater};
 
-use crate::place::{happen_at, place, place_near, put_at};
+use crate::place::{earlier, happen_at, place, place_near, put_at, tick_all};
 use byte_text::OutOfMemory;
 use connection::{Conn, Workspace};
 use http_types::Addr;
@@ -13,24 +15,27 @@ use std::alloc::Global;
 /// So many connections are held at most (nginx's `worker_connections`).
 const MOST: usize = 512;
 
-/// The connections that are held for a site, each under its number, and the place of the one that had the last event.
+/// The connections that are held for a site, each under its number, the place of the one that had the last event, and a moment
+/// before which none of them is given up.
 #[derive(Drop)]
 pub(crate) struct Table {
     pub(crate) site: Site,
     pub(crate) ids: Vec<u32>,
     pub(crate) conns: Vec<Conn>,
     near: usize,
+    soon: u64,
     ghost rising: { IsStrictlyIncreasing ids.items },
     ghost paired: { vec_len conns ≡ vec_len ids },
+    ghost later: { AllLater soon conns.items } by { Prim.hlevel props },
 }
 
 impl Table {
-    ghost use Rattle.std.specs.Prelude.{◌≡◌, ◌≢◌, ◌+◌, ◌*◌, ◌<◌, ◌≤◌, ℕ, List, [], true, false, IfOk, IfSome, OnOk, MatchOption, length, insert, vec_len, vec_capacity};
+    ghost use Rattle.std.specs.Prelude.{◌≡◌, ◌≢◌, ◌+◌, ◌-◌, ◌^◌, ◌*◌, ◌<◌, ◌≤◌, ℕ, List, [], true, false, IfOk, IfSome, OnOk, MatchOption, length, insert, vec_len, vec_capacity};
     ghost use Rattle.http_types.specs.declared.words.Addr.{Addr as End};
     ghost use Rattle.ngx_outside.specs.Views.{Start, Steps, StepsOwn, OneSteps, LeftBy, OpensIf, TakesNone, CountsHeld, Course, Fresh, nobody};
     ghost use Rattle.ngx_outside.specs.declared.event.Event.TheVariants.{Opened, Gone};
     ghost use Rattle.connection.specs.Conn.{view_of, fresh_course, left_of, weight, asked_of, ended_by};
-    ghost use Rattle.connection_core.specs.Table.{is_own, view_in, journal_in, left_in, price_each, opens_in, AllKnown, BelongsAt};
+    ghost use Rattle.connection_core.specs.Table.{is_own, view_in, journal_in, left_in, price_each, opens_in, AllKnown, AllTicked, BelongsAt};
 
     /// No connection is held.
     pub(crate) fn new(alloc: Global, site: Site) -> Self
@@ -41,6 +46,7 @@ impl Table {
             ids: Vec::new(alloc),
             conns: Vec::new(alloc),
             near: 0,
+            soon: u64::MAX,
         }
     }
 
@@ -63,7 +69,13 @@ impl Table {
     }
 
     // Room for one connection more, and the connection.
-    fn make(&mut self, alloc: Global, local: Addr, peer: Addr) -> Result<Conn, OutOfMemory>
+    fn make(
+        &mut self,
+        alloc: Global,
+        local: Addr,
+        peer: Addr,
+        moment: u64,
+    ) -> Result<Conn, OutOfMemory>
         requires { vec_len self.old.ids < 512 }
         ensures site { self.new.site ≡ self.old.site }
         ensures ids { self.new.ids.items ≡ self.old.ids.items }
@@ -77,7 +89,7 @@ impl Table {
     {
         self.ids.reserve(1)?;
         self.conns.reserve(1)?;
-        let conn = Conn::new(alloc, local, peer)?;
+        let conn = Conn::new(alloc, &self.site, local, peer, moment)?;
         Ok(conn)
     }
 
@@ -91,12 +103,20 @@ impl Table {
         ensures site { self.new.site ≡ self.old.site }
     {
         self.near = at;
+        self.soon = earlier(self.soon, &fresh);
         put_at(&mut self.ids, at, conn);
         put_at(&mut self.conns, at, fresh);
     }
 
     /// Opens a connection under a number.
-    pub(crate) fn open(&mut self, alloc: Global, conn: u32, local: Addr, peer: Addr) -> StepAnswer
+    pub(crate) fn open(
+        &mut self,
+        alloc: Global,
+        conn: u32,
+        local: Addr,
+        peer: Addr,
+        moment: u64,
+    ) -> StepAnswer
         ensures steps { (now : Start) → OneSteps conn
             (StepsOwn (fresh_course self.old.site local peer) now (Opened conn local peer) result)
             (view_in self.old.site self.old.ids.items self.old.conns.items)
@@ -117,7 +137,7 @@ impl Table {
         }
         match place(self.ids.as_slice(), conn) {
             Ok(_) => StepAnswer::Skipped,
-            Err(at) => match self.make(alloc, local, peer) {
+            Err(at) => match self.make(alloc, local, peer, moment) {
                 Ok(fresh) => {
                     self.put(at, conn, fresh);
                     StepAnswer::Done { taken: 0 }
@@ -154,9 +174,23 @@ impl Table {
         match place_near(self.ids.as_slice(), self.near, conn) {
             Ok(at) => {
                 self.near = at;
-                happen_at(&mut self.conns, at, space, &self.site, moment, tree, event)
+                let answer = happen_at(&mut self.conns, at, space, &self.site, moment, tree, event);
+                self.soon = earlier(self.soon, &self.conns[at]);
+                answer
             }
             Err(_) => StepAnswer::Skipped,
+        }
+    }
+
+    /// The clock tells a moment: the connections whose own has come are given up.
+    pub(crate) fn tick(&mut self, now: u64)
+        requires { now < 2 ^ 64 - 1 }
+        ensures ticked { AllTicked now self.old.conns.items self.new.conns.items }
+        ensures ids { self.new.ids.items ≡ self.old.ids.items }
+        ensures site { self.new.site ≡ self.old.site }
+    {
+        if self.soon <= now {
+            self.soon = tick_all(self.conns.as_mut_slice(), now);
         }
     }
 

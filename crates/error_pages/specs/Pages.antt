@@ -1,16 +1,20 @@
 -- Where errors go (https://nginx.org/en/docs/http/ngx_http_core_module.html#error_page), beside what the meaning makes of it.
 use Rattle.std.specs.Prelude.{◌≡◌, ℕ, ◌==◌, ◌&&◌, ◌||◌, nat_lt, Bool, not, List, Option, None, Some, is_some}
 use Rattle.std.specs.List.{list_any}
+use Rattle.acts.specs.Vars.{Vars}
 use Rattle.ngx_variables.specs.declared.request.Main.{Main}
 use Rattle.ngx_variables.specs.declared.request.Request.{Request}
+use Rattle.ngx_variables.specs.Texts.{value_text}
 use Rattle.site_model.specs.declared.values.Shown.{Shown}
-use Rattle.site_views.specs.Values.{PageRule}
+use Rattle.site_views.specs.Values.{PageRule, PageTarget}
+use Rattle.site_views.specs.Values.PageTarget.{AtPath, AtLocation, AtUrl}
 use Rattle.site_whole.specs.Whole.{shown_seen}
 use Rattle.request_meaning.specs.Serving.{Asked, Standing}
 use Rattle.request_meaning.specs.Cuts.{Target, or_none}
 use Rattle.request_meaning.specs.Answering.{page, moved}
 use Rattle.request_meaning.specs.Errors.{Next, page_asked, page_named, closing, url_code}
 use Rattle.request_meaning.specs.Errors.Next.{Answered, Changed}
+use Rattle.target_text.specs.Settled.{fit, target_text}
 use Rattle.error_pages.specs.declared.page.PageStep.{PageStep}
 use Rattle.error_pages.specs.declared.page.PageStep.TheVariants.{Inside, Named, Url}
 
@@ -62,3 +66,16 @@ IsInside (Some t) shown step = step ≡ Inside t.path (or_none t.args) shown
 abbrev pub IsAway : Option (List ℕ) → Shown → PageStep → Type 0
 IsAway None shown step = ⊥
 IsAway (Some to) shown step = step ≡ Url (url_code (shown_seen shown)) to
+
+-- ---- when a text is too long
+
+-- the text of the page's path with its arguments, or of its address, has more than 16384 bytes
+abbrev pub IsTooLong : Main → Request → Vars → PageTarget → Type 0
+IsTooLong main request vars (AtPath text) = target_text main request vars text ≡ None
+IsTooLong main request vars (AtLocation name) = ⊥
+IsTooLong main request vars (AtUrl text) = fit (value_text main request vars text) ≡ None
+
+-- a rule applies, whose text is so
+abbrev pub IsTooLongBy : Main → Request → Vars → Option PageRule → Type 0
+IsTooLongBy main request vars None = ⊥
+IsTooLongBy main request vars (Some rule) = IsTooLong main request vars rule.target

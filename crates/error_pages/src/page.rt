@@ -4,9 +4,9 @@ ghost use Rattle.acts.specs.Act.{Done, settled};
 ghost use Rattle.ngx_variables.specs.Texts.{value_text};
 ghost use Rattle.site_whole.specs.Whole.{page_seen};
 ghost use Rattle.request_meaning.specs.Serving.{Asked, Standing};
-ghost use Rattle.request_meaning.specs.Errors.{by_rule, failed};
+ghost use Rattle.request_meaning.specs.Errors.{by_rule, failed, rule_for};
 ghost use Rattle.target_text.specs.Settled.{fit, target_text};
-ghost use Rattle.error_pages.specs.Pages.{IsErrorOf, IsFor, IsInside, IsAway, page_next, too_long_next, has_no_page};
+ghost use Rattle.error_pages.specs.Pages.{IsErrorOf, IsFor, IsInside, IsAway, page_next, too_long_next, has_no_page, IsTooLong, IsTooLongBy};
 
 use crate::rule::{may_apply, rule_for, url_code};
 use byte_text::ByteText;
@@ -92,6 +92,8 @@ fn page_by(
         → (a : Asked) (s : Standing) (code : ℕ) → IsErrorOf main.now request.now a s
         → settled (by_rule a s code (Some (page_seen rule.now))) vars.now
         ≡ (Done (too_long_next a s code), vars.now) }
+    ensures unfit { result ≡ Err EvalFault.TooLong
+        → IsTooLong main.now request.now vars.now (page_seen rule.now).target }
 {
     fit_value_settles();
     target_settles();
@@ -139,6 +141,8 @@ pub fn page_for(
         is_some step ≡ not (has_no_page (map page_seen rules.now) code changes used recursive)) }
     ensures some { result ≡ Err EvalFault.TooLong
         → has_no_page (map page_seen rules.now) code changes used recursive ≡ false }
+    ensures unfit { result ≡ Err EvalFault.TooLong → IsTooLongBy main.now request.now vars.now
+        (rule_for (map page_seen rules.now) code) }
 {
     if !may_apply(used, recursive, changes) {
         return Ok(None);

@@ -5,3 +5,4 @@ pub mod Counts
 pub mod Halves
 pub mod Nearest
 pub mod Grown
+pub mod Sorted

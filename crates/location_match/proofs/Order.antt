@@ -29,7 +29,7 @@ le_eq x r = grind (arith, nat_tests)
 le_of_eq : (x : ℕ) (r : Ordering) → is_le r ≡ true → is_le (ordering_then (nat_cmp x x) r) ≡ true
 le_of_eq x r h = le_eq x r ∙ h
 
-first_same : (x y : ℕ) (xs ys : List ℕ) → fits (y ∷ ys) (x ∷ xs) ≡ true → (x ≡ y) × (fits ys xs ≡ true)
+pub first_same : (x y : ℕ) (xs ys : List ℕ) → fits (y ∷ ys) (x ∷ xs) ≡ true → (x ≡ y) × (fits ys xs ≡ true)
 first_same x y xs ys h =
     let p = and_parts (nat_eq x y) (fits ys xs) h in
     let same : nat_eq x y ≡ true = p.0 in

@@ -1,11 +1,12 @@
 // The prefixes of a list of locations, with what keeps them in order.
-ghost use Rattle.std.specs.Prelude.{◌≡◌, ℕ, ◌-◌, ◌<◌, ◌≤◌, true, false, List, [], ◌∷◌, ◌++◌, length, IfOk, IfSome, IfNone, OnErr, IsTrue, slice_index};
+ghost use Rattle.std.specs.Prelude.{◌≡◌, ℕ, ◌-◌, ◌<◌, ◌≤◌, ◌==◌, true, false, List, [], ◌∷◌, ◌++◌, length, IfOk, IfSome, IfNone, OnErr, IsTrue, slice_index};
 ghost use Rattle.location_match.specs.Prefixes.{text_at, is_at_most, IsLongest, FitsNone, IsFast, IsAboveAll, AreSorted};
 ghost use Rattle.location_match.specs.Shared.{AllShare};
 ghost use Rattle.location_match.specs.Entries.{texts_of, AreSound};
 
 use crate::Steps;
 use crate::prefixes::{PrefixEntry, is_not_above, longest_from, longest_in, shared_with};
+use crate::texts::{NumberedText, sort_texts};
 use byte_text::{ByteText, OutOfMemory};
 use std::alloc::Global;
 use std::marker::{Brand, Model};
@@ -93,6 +94,9 @@ fn find_by<L: Ledger>(
 }
 
 impl Prefixes {
+    ghost use Rattle.location_match.specs.Numbers.{number_in, number_of, LeadsAs, IsLongestOf};
+    ghost use Rattle.location_match.specs.Prefixes.{fits};
+
     /// No prefix, which takes no memory.
     pub fn new(alloc: Global) -> Self
         ensures { result ≡ record { texts = []; locations = [] } }
@@ -145,6 +149,53 @@ impl Prefixes {
         ensures none { IfNone result (FitsNone self.now.texts path.now) }
     {
         find_by::<Brand>(&self.entries, self.common, path, Blank::new(1))
+    }
+
+    /// Texts of locations, in any order. Of those that are equal the first leads to its location.
+    pub fn of(alloc: Global, texts: Vec<NumberedText>) -> Result<Self, OutOfMemory>
+        ensures { IfOk result (λ p. LeadsAs p (number_in texts.items)) }
+    {
+        let mut texts = texts;
+        sort_texts(&mut texts)?;
+        let mut prefixes = Prefixes::new(alloc);
+        for NumberedText { text, number } in texts {
+            prefixes.add(text, number)?;
+        }
+        Ok(prefixes)
+    }
+
+    /// The number of the location with the longest text that a path begins with.
+    pub fn longest_number(&self, path: &[u8]) -> Option<u32>
+        ensures { IsLongestOf (λ text. fits path.now text) (number_of self.now) result }
+    {
+        match self.find(path) {
+            Some(place) => Some(self.entries[place].location),
+            None => None,
+        }
+    }
+
+    // Whether the text at a place is as long as this one.
+    fn is_as_long(&self, place: usize, text: &[u8]) -> bool
+        requires { place < length self.now.texts }
+        ensures { result ≡ (length (text_at self.now.texts place) == length text.now) }
+    {
+        self.entries[place].text.len() == text.len()
+    }
+
+    /// The number of the location with exactly this text.
+    pub fn number(&self, text: &[u8]) -> Option<u32>
+        ensures { result ≡ number_of self.now text.now }
+    {
+        match self.find(text) {
+            Some(place) => {
+                if self.is_as_long(place, text) {
+                    Some(self.entries[place].location)
+                } else {
+                    None
+                }
+            }
+            None => None,
+        }
     }
 
     /// The number of the location at a place.

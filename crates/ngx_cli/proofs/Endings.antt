@@ -14,7 +14,10 @@ use Rattle.conf_text.specs.declared.fault.FaultKind.TheVariants.{ReadFault}
 use Rattle.report_text.specs.Lines.{ended}
 use Rattle.report_text.specs.Faults.{conf_fault_line}
 use Rattle.site_model.specs.declared.site.Site.{Site}
-use Rattle.site_model.specs.Levels.{seen}
+use Rattle.site_whole.specs.Whole.{whole}
+use Rattle.conf_inherit.specs.Pools.{IsFree}
+use Rattle.conf_inherit.specs.declared.site.Purpose.{Purpose}
+use Rattle.conf_inherit.specs.declared.site.Purpose.TheVariants as purposes
 use Rattle.site_service.specs.Serving.{Outside, Serving}
 use Rattle.ngx_cli.specs.declared.script.Outcome.{Outcome}
 use Rattle.ngx_cli.specs.declared.status.Status.{Status}
@@ -22,20 +25,20 @@ use Rattle.ngx_cli.specs.declared.status.Status.TheVariants as status
 use Rattle.ngx_cli.specs.Commands.{Output, Printed, CutShort, ComesTo, Describes, IsFaultLine, OfFault, OfFiles, IsCheckLine, OfSite, OfNoSite, ReplayEnds, CheckEnds, ServeEnds, PutsText, counts_of, served_status}
 
 -- a site was served
-pub served : (o : Outside) (out : Output) (path : List ℕ) (turns : ℕ) (e : Ending) (site : Site) (reading : FilesSeen) → Describes o.files reading path (Ok (seen site)) →
+pub served : (o : Outside) (out : Output) (path : List ℕ) (turns : ℕ) (e : Ending) (site : Site) (reading : FilesSeen) → Describes purposes.Serving o.files reading path (Ok (whole [] site)) → IsFree site →
     Serving site turns e (record o { files = reading }) → Printed out [] → (e ≡ ending.Ended → o.links'.over ≡ true) → (e ≡ ending.ListenFault → Rose o.links.faults o.links'.faults) → (e ≡ ending.NextFault → Rose o.links.faults o.links'.faults) →
     ServeEnds o out path turns (served_status e)
-served o out path turns ending.Ended site reading d s p ends listen next = (ends refl, record { site = site; reading = reading; described = d; serving = s; printed = p })
-served o out path turns ending.TurnsUsed site reading d s p ends listen next = record { site = site; reading = reading; described = d; serving = s; printed = p }
-served o out path turns ending.ListenFault site reading d s p ends listen next = (listen refl, inl (record { site = site; reading = reading; described = d; serving = s; printed = p }))
-served o out path turns ending.NextFault site reading d s p ends listen next = (next refl, inr (record { site = site; reading = reading; described = d; serving = s; printed = p }))
+served o out path turns ending.Ended site reading d f s p ends listen next = (ends refl, record { site = site; reading = reading; described = d; free = f; serving = s; printed = p })
+served o out path turns ending.TurnsUsed site reading d f s p ends listen next = record { site = site; reading = reading; described = d; free = f; serving = s; printed = p }
+served o out path turns ending.ListenFault site reading d f s p ends listen next = (listen refl, inl (record { site = site; reading = reading; described = d; free = f; serving = s; printed = p }))
+served o out path turns ending.NextFault site reading d f s p ends listen next = (next refl, inr (record { site = site; reading = reading; described = d; free = f; serving = s; printed = p }))
 
 -- a text that was due couldn't be put
 cut : (IsDue : List ℕ → Type 0) (out : Output) (text : List ℕ) → IsDue text → PutsText out text (Err status.SinkFault) → CutShort IsDue out
 cut IsDue out text due p = record { rose = p.0; text = text; due = due; front = p.1 }
 
-pub unput_serving : (o : Outside) (out : Output) (path : List ℕ) (turns : ℕ) (text : List ℕ) (s : Status) → IsFaultLine o.files o.files' path text → PutsText out text (Err s) → ServeEnds o out path turns s
-unput_serving o out path turns text status.SinkFault due p = cut (IsFaultLine o.files o.files' path) out text due p
+pub unput_serving : (o : Outside) (out : Output) (path : List ℕ) (turns : ℕ) (text : List ℕ) (s : Status) → IsFaultLine purposes.Serving o.files o.files' path text → PutsText out text (Err s) → ServeEnds o out path turns s
+unput_serving o out path turns text status.SinkFault due p = cut (IsFaultLine purposes.Serving o.files o.files' path) out text due p
 unput_serving o out path turns text status.OutOfMemory due p = p
 unput_serving o out path turns text status.Done due p = absurd p
 unput_serving o out path turns text status.Usage due p = absurd p
@@ -68,21 +71,21 @@ unput_replay files files' out path text o status.ScriptFault due p = absurd p
 unput_replay files files' out path text o status.TurnsUsed due p = absurd p
 
 -- a configuration's first fault, as it was found
-pub fault_described : (files files' : FilesSeen) (path : List ℕ) (e : ExpandError) (placed : PlacedFault) → e ≡ error.Fault placed → Reading files files' →
-    (files.tells ≡ true → files'.newest ≡ files.newest → (names : Names) → IsNaming (files.trees files.newest) names → IsDescribed (Err e) (site_at (files.trees files.newest) names path)) →
-    Describes files files' path (Err (placed.fault, placed.path))
-fault_described files files' path e placed is reads exact = record {
+pub fault_described : (purpose : Purpose) (files files' : FilesSeen) (path : List ℕ) (e : ExpandError) (placed : PlacedFault) → e ≡ error.Fault placed → Reading files files' →
+    (files.tells ≡ true → files'.newest ≡ files.newest → (names : Names) → IsNaming (files.trees files.newest) names → IsDescribed (Err e) (site_at purpose (files.trees files.newest) names path)) →
+    Describes purpose files files' path (Err (placed.fault, placed.path))
+fault_described purpose files files' path e placed is reads exact = record {
   reads = reads;
-  is = subst (λ (x : ExpandError). files.tells ≡ true → files'.newest ≡ files.newest → (names : Names) → IsNaming (files.trees files.newest) names → IsDescribed (Err x) (site_at (files.trees files.newest) names path)) is exact;
+  is = subst (λ (x : ExpandError). files.tells ≡ true → files'.newest ≡ files.newest → (names : Names) → IsNaming (files.trees files.newest) names → IsDescribed (Err x) (site_at purpose (files.trees files.newest) names path)) is exact;
 }
 
-pub is_fault_line : (files files' : FilesSeen) (path : List ℕ) (placed : PlacedFault) → Describes files files' path (Err (placed.fault, placed.path)) →
-    IsFaultLine files files' path (ended (conf_fault_line placed.path placed.fault))
-is_fault_line files files' path placed described = OfFault placed.fault placed.path described refl
+pub is_fault_line : (purpose : Purpose) (files files' : FilesSeen) (path : List ℕ) (placed : PlacedFault) → Describes purpose files files' path (Err (placed.fault, placed.path)) →
+    IsFaultLine purpose files files' path (ended (conf_fault_line placed.path placed.fault))
+is_fault_line purpose files files' path placed described = OfFault placed.fault placed.path described refl
 
 -- a file that couldn't be read
-pub is_files_line : (files files' : FilesSeen) (path : List ℕ) (e : ExpandError) (placed : PlacedFault) → e ≡ error.Failed placed → FailsIf {A = Site} (Err e) files.faults files'.faults →
-    IsFaultLine files files' path (ended (conf_fault_line placed.path placed.fault))
-is_files_line files files' path e placed is cause =
+pub is_files_line : (purpose : Purpose) (files files' : FilesSeen) (path : List ℕ) (e : ExpandError) (placed : PlacedFault) → e ≡ error.Failed placed → FailsIf {A = Site} (Err e) files.faults files'.faults →
+    IsFaultLine purpose files files' path (ended (conf_fault_line placed.path placed.fault))
+is_files_line purpose files files' path e placed is cause =
     let c : FailsIf {A = Site} (Err (error.Failed placed)) files.faults files'.faults = subst (λ (x : ExpandError). FailsIf {A = Site} (Err x) files.faults files'.faults) is cause in
     OfFiles placed.fault placed.path c.0 c.1 refl

@@ -8,7 +8,12 @@ use Rattle.ready_loop.specs.declared.service.Ending.TheVariants as ending
 use Rattle.replay_text.specs.declared.faults.ScriptFault.{ScriptFault}
 use Rattle.conf_text.specs.declared.fault.ConfFault.{ConfFault}
 use Rattle.conf_text.specs.declared.fault.FaultKind.TheVariants.{ReadFault}
-use Rattle.site_model.specs.Levels.{ServerView, SiteView, seen}
+use Rattle.site_views.specs.Views.{Locations, ServerView, SiteView}
+use Rattle.site_views.specs.Views.Locations.{NoMore, Location}
+use Rattle.site_whole.specs.Whole.{whole}
+use Rattle.conf_inherit.specs.Pools.{IsFree}
+use Rattle.conf_inherit.specs.declared.site.Purpose.{Purpose}
+use Rattle.conf_inherit.specs.declared.site.Purpose.TheVariants as purposes
 use Rattle.conf_include.specs.Listings.{Names, IsNaming}
 use Rattle.report_text.specs.Lines.{ended}
 use Rattle.report_text.specs.Faults.{conf_fault_line}
@@ -98,29 +103,30 @@ ReplayEnds files files' out path status.SinkFault = CutShort
 ReplayEnds files files' out path status.OutOfMemory = Printed out []
 ReplayEnds files files' out path s = ⊥
 
--- The configuration at a path comes to this, as far as the files tell and their newest tree stays
--- while it is read.
-pub record Describes (files reading : FilesSeen) (path : List ℕ)
+-- The configuration at a path, read for this purpose, comes to this, as far as the files tell and
+-- their newest tree stays while it is read.
+pub record Describes (purpose : Purpose) (files reading : FilesSeen) (path : List ℕ)
     (outcome : Result SiteView (ConfFault × List ℕ)) : Type 0 where
   pub reads : Reading files reading
   pub is : files.tells ≡ true → reading.newest ≡ files.newest → (names : Names) →
       IsNaming (files.trees files.newest) names →
-      site_at (files.trees files.newest) names path ≡ outcome
+      site_at purpose (files.trees files.newest) names path ≡ outcome
 
 -- what is to be printed of a configuration that can't be served: its first fault, with the path of
 -- its file; or that a file couldn't be read, with the path of the file that names it
-pub data IsFaultLine (files files' : FilesSeen) (path text : List ℕ) : Type 0 where
-  OfFault : (fault : ConfFault) (at : List ℕ) → Describes files files' path (Err (fault, at)) →
-      text ≡ ended (conf_fault_line at fault) → IsFaultLine files files' path text
+pub data IsFaultLine (purpose : Purpose) (files files' : FilesSeen) (path text : List ℕ) : Type 0 where
+  OfFault : (fault : ConfFault) (at : List ℕ) → Describes purpose files files' path (Err (fault, at)) →
+      text ≡ ended (conf_fault_line at fault) → IsFaultLine purpose files files' path text
   OfFiles : (fault : ConfFault) (at : List ℕ) → fault.kind ≡ ReadFault →
       Rose files.faults files'.faults → text ≡ ended (conf_fault_line at fault) →
-      IsFaultLine files files' path text
+      IsFaultLine purpose files files' path text
 
 -- the configuration at a path has this first fault, which was printed with the path of its file
-pub record Faulty (files files' : FilesSeen) (out : Output) (path : List ℕ) : Type 0 where
+pub record Faulty (purpose : Purpose) (files files' : FilesSeen) (out : Output)
+    (path : List ℕ) : Type 0 where
   pub fault : ConfFault
   pub at : List ℕ
-  pub described : Describes files files' path (Err (fault, at))
+  pub described : Describes purpose files files' path (Err (fault, at))
   pub printed : Printed out (ended (conf_fault_line at fault))
 
 -- a file couldn't be read, which was printed, with the path of the file that names it
@@ -131,10 +137,16 @@ pub record Unread (files files' : FilesSeen) (out : Output) : Type 0 where
   pub kind : fault.kind ≡ ReadFault
   pub printed : Printed out (ended (conf_fault_line at fault))
 
--- how many locations the servers have
+-- how many locations paths find, with those in others
+unfoldable pub count_of : Locations → ℕ
+count_of NoMore = 0
+count_of (Location here inner later) = 1 + (count_of inner + count_of later)
+
+-- how many locations the servers have, with those of a name
 unfoldable pub locations_of : List ServerView → ℕ
 locations_of [] = 0
-locations_of (server ∷ servers) = length server.locations + locations_of servers
+locations_of (server ∷ servers) =
+    (count_of server.locations + length server.named) + locations_of servers
 
 -- the counts of a site, as far as 64 bits count them
 abbrev pub counts_of : SiteView → List ℕ
@@ -144,19 +156,20 @@ counts_of site = counts_text (length site.servers) (min (locations_of site.serve
 -- printed.
 pub record Counted (files files' : FilesSeen) (out : Output) (path : List ℕ) : Type 0 where
   pub site : Site
-  pub described : Describes files files' path (Ok (seen site))
-  pub printed : Printed out (counts_of (seen site))
+  pub described : Describes purposes.Reading files files' path (Ok (whole [] site))
+  pub printed : Printed out (counts_of (whole [] site))
 
 -- what is to be printed of a check
 pub data IsCheckLine (files files' : FilesSeen) (path text : List ℕ) : Type 0 where
-  OfSite : (site : Site) → Describes files files' path (Ok (seen site)) →
-      text ≡ counts_of (seen site) → IsCheckLine files files' path text
-  OfNoSite : IsFaultLine files files' path text → IsCheckLine files files' path text
+  OfSite : (site : Site) → Describes purposes.Reading files files' path (Ok (whole [] site)) →
+      text ≡ counts_of (whole [] site) → IsCheckLine files files' path text
+  OfNoSite : IsFaultLine purposes.Reading files files' path text →
+      IsCheckLine files files' path text
 
 -- When each status of a check comes.
 abbrev pub CheckEnds : (files files' : FilesSeen) → Output → (path : List ℕ) → Status → Type 0
 CheckEnds files files' out path status.Done = Counted files files' out path
-CheckEnds files files' out path status.ConfFault = Faulty files files' out path
+CheckEnds files files' out path status.ConfFault = Faulty purposes.Reading files files' out path
 CheckEnds files files' out path status.FilesFault = Unread files files' out
 CheckEnds files files' out path status.SinkFault = CutShort (IsCheckLine files files' path) out
 CheckEnds files files' out path status.OutOfMemory = Printed out []
@@ -168,7 +181,8 @@ pub record Served (o : Outside) (out : Output) (path : List ℕ) (turns : ℕ)
     (e : Ending) : Type 0 where
   pub site : Site
   pub reading : FilesSeen
-  pub described : Describes o.files reading path (Ok (seen site))
+  pub described : Describes purposes.Serving o.files reading path (Ok (whole [] site))
+  pub free : IsFree site
   pub serving : Serving site turns e (record o { files = reading })
   pub printed : Printed out []
 
@@ -179,12 +193,14 @@ abbrev pub ServeEnds : Outside → Output → (path : List ℕ) → (turns : ℕ
 ServeEnds o out path turns status.Done = (o.links'.over ≡ true) ×
     Served o out path turns ending.Ended
 ServeEnds o out path turns status.TurnsUsed = Served o out path turns ending.TurnsUsed
-ServeEnds o out path turns status.ConfFault = Faulty o.files o.files' out path
+ServeEnds o out path turns status.ConfFault =
+    Faulty purposes.Serving o.files o.files' out path
 ServeEnds o out path turns status.FilesFault = Unread o.files o.files' out
 ServeEnds o out path turns status.LinksFault =
     Rose o.links.faults o.links'.faults ×
     (Served o out path turns ending.ListenFault ⊎ Served o out path turns ending.NextFault)
-ServeEnds o out path turns status.SinkFault = CutShort (IsFaultLine o.files o.files' path) out
+ServeEnds o out path turns status.SinkFault =
+    CutShort (IsFaultLine purposes.Serving o.files o.files' path) out
 ServeEnds o out path turns status.OutOfMemory = Printed out []
 ServeEnds o out path turns s = ⊥
 

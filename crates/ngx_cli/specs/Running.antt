@@ -17,7 +17,9 @@ use Rattle.replay_run.specs.Plays.{Plays, sent_in}
 use Rattle.replay_run.specs.declared.lane.LinkEnds.{LinkEnds}
 use Rattle.conf_text.specs.declared.fault.ConfFault.{ConfFault}
 use Rattle.replay_confs.specs.Confs.{conf_tree}
-use Rattle.site_model.specs.Levels.{SiteView, seen}
+use Rattle.site_views.specs.Views.{SiteView}
+use Rattle.site_whole.specs.Whole.{whole}
+use Rattle.conf_inherit.specs.declared.site.Purpose.TheVariants as purposes
 use Rattle.site_model.specs.declared.site.Site.{Site}
 use Rattle.connection.specs.Answers.{answers, answer_logs, answers_close, service_of}
 use Rattle.connection_core.specs.Core.{site_terms}
@@ -26,6 +28,7 @@ use Rattle.report_text.specs.declared.report.ConnState.TheVariants.{Stopped, Idl
 use Rattle.report_text.specs.Report.{Report, run_text}
 use Rattle.report_text.specs.Lines.{ended}
 use Rattle.report_text.specs.Faults.{script_fault_line, conf_fault_line}
+use Rattle.conf_inherit.specs.Pools.{IsFree}
 use Rattle.ngx_cli.specs.Naming.{conf_names}
 use Rattle.ngx_cli.specs.Sites.{site_at}
 use Rattle.ngx_cli.specs.declared.script.Outcome.{Outcome}
@@ -36,10 +39,10 @@ abbrev pub main_path : List Conf → List ℕ
 main_path [] = []
 main_path (conf ∷ confs) = conf.path
 
--- The configurations of a script come to this: the site of the main one, with each include replaced
+-- The configurations of a script come to this: the site of the main one, which is to be served, with each include replaced
 -- by those that it names, or the first fault, with the path of its configuration.
 abbrev pub Describe : List Conf → Result SiteView (ConfFault × List ℕ) → Type 0
-Describe confs outcome = site_at (conf_tree confs) (conf_names confs) (main_path confs) ≡ outcome
+Describe confs outcome = site_at purposes.Serving (conf_tree confs) (conf_names confs) (main_path confs) ≡ outcome
 
 -- before a run nothing is held and nothing waits, at moment 0 and with the first tree
 pub record IsNew (s : Stage) : Type 0 where
@@ -137,7 +140,8 @@ pub record Ran (site : Site) (tree : List TreeLine) (events : List EventLine)
 -- a run on the site that a script's configurations describe
 pub record RanOn (script : Script) (text : List ℕ) : Type 0 where
   pub site : Site
-  pub described : Describe script.confs (Ok (seen site))
+  pub described : Describe script.confs (Ok (whole [] site))
+  pub free : IsFree site
   pub ran : Ran site script.tree script.events text
 
 -- What a script's bytes come to, and what is printed: the first fault of the script; the first

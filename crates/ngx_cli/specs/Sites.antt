@@ -13,7 +13,9 @@ use Rattle.conf_include.specs.declared.main_file.ExpandError.{ExpandError}
 use Rattle.conf_include.specs.declared.main_file.ExpandError.TheVariants as error
 use Rattle.conf_include.specs.Paths.{folder_of}
 use Rattle.conf_inherit.specs.Built.{built}
-use Rattle.site_model.specs.Levels.{SiteView, seen}
+use Rattle.conf_inherit.specs.declared.site.Purpose.{Purpose}
+use Rattle.site_views.specs.Views.{SiteView}
+use Rattle.site_whole.specs.Whole.{whole}
 use Rattle.site_model.specs.declared.site.Site.{Site}
 
 -- a fault with the path of its file, which is one of these by its number
@@ -22,17 +24,18 @@ abbrev pub placed_in : {A : Type 0} → List (List ℕ) → Result A ConfFault �
 placed_in paths (Ok value) = Ok value
 placed_in paths (Err fault) = Err (fault, slice_index_or paths fault.file [])
 
--- the site of a configuration's directives, whose relative paths start at this folder, or the first
--- fault
-abbrev pub site_in : (folder : List ℕ) →
+-- the site of a configuration's directives for this purpose, whose relative paths start at this folder,
+-- or the first fault
+abbrev pub site_in : Purpose → (folder : List ℕ) →
     Result (List Directive × List (List ℕ)) (ConfFault × List ℕ) →
     Result SiteView (ConfFault × List ℕ)
-site_in folder (Ok read) = placed_in read.1 (built folder read.0)
-site_in folder (Err fault) = Err fault
+site_in purpose folder (Ok read) = placed_in read.1 (built purpose folder read.0)
+site_in purpose folder (Err fault) = Err fault
 
--- the site of a main file and what it includes, or the first fault, with the path of its file
-unfoldable pub site_at : Tree → Names → List ℕ → Result SiteView (ConfFault × List ℕ)
-site_at tree names main = site_in (folder_of main) (expansion tree names main)
+-- the site of a main file and what it includes, for this purpose, or the first fault, with the path of
+-- its file
+unfoldable pub site_at : Purpose → Tree → Names → List ℕ → Result SiteView (ConfFault × List ℕ)
+site_at purpose tree names main = site_in purpose (folder_of main) (expansion tree names main)
 
 -- A configuration was read: the number of the newest tree was told when the reading began and when
 -- it was over.
@@ -46,7 +49,7 @@ pub record Reading (files files' : FilesSeen) : Type 0 where
 -- A site is the one that is described, and a fault is the first one, unless the files failed or
 -- memory ran out.
 abbrev pub Describes : Result Site ExpandError → Result SiteView (ConfFault × List ℕ) → Type 0
-Describes (Ok site) outcome = outcome ≡ Ok (seen site)
+Describes (Ok site) outcome = outcome ≡ Ok (whole [] site)
 Describes (Err (error.Fault placed)) outcome = outcome ≡ Err (placed.fault, placed.path)
 Describes (Err (error.Failed placed)) outcome = Unit {0}
 Describes (Err error.OutOfMemory) outcome = Unit {0}

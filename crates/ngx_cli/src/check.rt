@@ -1,41 +1,51 @@
 // The check of a configuration.
-ghost use Rattle.std.specs.Prelude.{◌≡◌, ◌++◌, ◌-◌, ◌^◌, min, OnOk};
-ghost use Rattle.site_model.specs.Levels.{seen};
-ghost use Rattle.ngx_cli.specs.Commands.{CheckEnds, PutsText, counts_of, locations_of};
+ghost use Rattle.std.specs.Prelude.{◌≡◌, [], ◌++◌, ◌+◌, ◌-◌, ◌^◌, length, min, OnOk};
+ghost use Rattle.site_whole.specs.Whole.{whole};
+ghost use Rattle.ngx_cli.specs.Commands.{CheckEnds, PutsText, counts_of, locations_of as locations_counted};
 
 use crate::command::{put_fault, put_text};
 use crate::site::site_at;
 use crate::status::Status;
 use byte_text::{ByteText, OutOfMemory};
 use conf_include::ExpandError;
+use conf_inherit::Purpose;
 use ngx_outside::{Files, Sink};
 use report_text::counts_text;
-use site_model::Site;
+use site_model::{Server, Site};
 use std::alloc::Global;
+
+// How many locations a server has, as far as 64 bits count them.
+fn locations_of(server: &Server) -> u64
+    ensures { result ≡ min (length server.now.locations.items + length server.now.named.items)
+        (2 ^ 64 - 1) }
+{
+    (server.locations.len() as u64).saturating_add(server.named.len() as u64)
+}
 
 // How many locations the servers of a site have, as far as 64 bits count them.
 fn locations_in(site: &Site) -> u64
-    ensures { result ≡ min (locations_of (seen site.now).servers) (2 ^ 64 - 1) }
+    ensures { result ≡ min (locations_counted (whole [] site.now).servers) (2 ^ 64 - 1) }
 {
     let mut count: u64 = 0;
     for server in site.servers.as_slice() {
-        count = count.saturating_add(server.locations.len() as u64);
+        count = count.saturating_add(locations_of(server));
     }
     count
 }
 
 // The line of a site's counts.
 fn counts_line(site: &Site, out: &mut ByteText) -> Result<(), OutOfMemory>
-    ensures { OnOk result (out.new ≡ out.old ++ counts_of (seen site.now)) }
+    ensures { OnOk result (out.new ≡ out.old ++ counts_of (whole [] site.now)) }
 {
-    counts_text(site.servers.len() as u64, locations_in(site), out)?;
+    let servers = site.servers.as_slice();
+    counts_text(servers.len() as u64, locations_in(site), out)?;
     Ok(())
 }
 
 // Prints how many servers and locations a site has.
 fn put_counts<O: Sink>(alloc: Global, site: &Site, out: &mut O) -> Result<(), Status>
     ensures { PutsText (record { before = O.seen out.old; after = O.seen out.new })
-        (counts_of (seen site.now)) result }
+        (counts_of (whole [] site.now)) result }
 {
     let mut text = ByteText::new(alloc);
     match counts_line(site, &mut text) {
@@ -54,7 +64,7 @@ pub(crate) fn run_check<F: Files, O: Sink>(
     ensures { CheckEnds (F.seen files.old) (F.seen files.new)
         (record { before = O.seen out.old; after = O.seen out.new }) path.now result }
 {
-    match site_at(alloc, files, path) {
+    match site_at(alloc, Purpose::Reading, files, path) {
         Ok(site) => match put_counts(alloc, &site, out) {
             Ok(()) => Status::Done,
             Err(status) => status,

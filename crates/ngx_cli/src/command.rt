@@ -15,6 +15,7 @@ use crate::text::read_text;
 use byte_text::{ByteText, OutOfMemory};
 use command_line::{Command, command_of};
 use conf_include::{ExpandError, PlacedFault};
+use conf_inherit::Purpose;
 use ngx_outside::{Clock, Failed, FileFault, Files, Links, Sink};
 use site_service::serve_site;
 use std::alloc::Global;
@@ -86,7 +87,7 @@ fn run_site<F: Files, L: Links, C: Clock, O: Sink>(
       clock' = C.seen clock.new;
     }) (record { before = O.seen out.old; after = O.seen out.new }) path.now turns result }
 {
-    match site_at(alloc, files, path) {
+    match site_at(alloc, Purpose::Serving, files, path) {
         Ok(site) => match serve_site(alloc, site, files, links, clock, turns) {
             Ok(ending) => served_status(ending),
             Err(OutOfMemory) => Status::OutOfMemory,
@@ -142,7 +143,7 @@ fn run<F: Files, L: Links, C: Clock, O: Sink>(
 /// - `--help` or `-h`, alone or in place of a command's path: what the program does, with its commands, is printed.
 /// - `--version` or `-V`: the program's name and version are printed.
 /// - `check CONF`: the configuration is read with what it includes, and `servers N locations M` is printed, M being the locations
-///   of all its servers; nothing is printed of variables, since no directive that is served sets one.
+///   of all its servers, in each other or of a name too; nothing is printed of variables yet.
 /// - `replay SCRIPT`: the script is run on a new core of the site that its configuration describes, and what each connection
 ///   came to is printed.
 /// - `serve CONF`, or `serve CONF --turns N`: the site that the configuration describes is served on its addresses, until no

@@ -1,18 +1,20 @@
 // Runs a script.
-ghost use Rattle.std.specs.Prelude.{◌≡◌, ◌++◌, ℕ, List, Ok, Err, IfOk, IfErr, OnOk, map, is_some, if◌then◌else◌};
+ghost use Rattle.std.specs.Prelude.{◌≡◌, [], ◌++◌, ℕ, List, Ok, Err, IfOk, IfErr, OnOk, map, is_some, if◌then◌else◌};
 ghost use Rattle.report_text.specs.declared.report.ConnState.TheVariants.{Stopped, Idle, Busy};
 ghost use Rattle.replay_run.specs.Scene.{stage, AreHeld};
 ghost use Rattle.connection_core.specs.Core.{view_at, now_at, journal_at, conns_held};
 ghost use Rattle.report_text.specs.Report.{run_text, report_of};
 ghost use Rattle.report_text.specs.Lines.{ended};
 ghost use Rattle.report_text.specs.Faults.{conf_fault_line};
-ghost use Rattle.site_model.specs.Levels.{seen};
+ghost use Rattle.site_whole.specs.Whole.{whole};
+ghost use Rattle.conf_inherit.specs.Pools.{IsFree};
 ghost use Rattle.ngx_cli.specs.Sites.{OnFault};
 ghost use Rattle.ngx_cli.specs.Running.{main_path as path_of_main, Describe, report_in, Ran, Replays};
 
 use crate::site::site_at;
 use byte_text::{ByteText, OutOfMemory};
 use conf_include::{ExpandError, PlacedFault};
+use conf_inherit::Purpose;
 use connection_core::{Hub, cores_are_sound};
 use ngx_outside::{
     StopCause, all_is_logged_when_idle, all_is_sent_when_idle, all_is_sent_when_shut,
@@ -48,12 +50,18 @@ fn main_path(confs: &[Conf]) -> &[u8]
 
 // The site that a script's configurations describe.
 fn site_of(alloc: Global, confs: &Confs) -> Result<Site, ExpandError>
-    ensures ok { IfOk result (λ site. Describe confs.now (Ok (seen site))) }
+    ensures ok { IfOk result (λ site. Describe confs.now (Ok (whole [] site))) }
+    ensures free { IfOk result (λ site. IsFree site) }
     ensures fault { IfErr result (λ e. OnFault e
         (λ fault at. Describe confs.now (Err (fault, at)))) }
 {
     let mut files = ConfFiles::new(alloc, confs.as_slice());
-    match site_at(alloc, &mut files, main_path(confs.as_slice())) {
+    match site_at(
+        alloc,
+        Purpose::Serving,
+        &mut files,
+        main_path(confs.as_slice()),
+    ) {
         Ok(site) => Ok(site),
         Err(error) => Err(error),
     }

@@ -1,13 +1,14 @@
 // The site of a configuration.
-ghost use Rattle.std.specs.Prelude.{◌≡◌, true, slice_index_or, []};
+ghost use Rattle.std.specs.Prelude.{◌≡◌, true, slice_index_or, [], IfOk};
 ghost use Rattle.ngx_outside.specs.Records.{Adds};
 ghost use Rattle.ready_loop.specs.Seen.{Grown};
+ghost use Rattle.conf_inherit.specs.Pools.{IsFree};
 ghost use Rattle.conf_include.specs.Listings.{Names, IsNaming};
 ghost use Rattle.ngx_cli.specs.Sites.{Describes, FailsIf, Reading, site_at as site_found};
 
 use byte_text::{ByteText, ByteTexts};
 use conf_include::{ExpandError, PlacedFault, expand, folder_of};
-use conf_inherit::build;
+use conf_inherit::{Purpose, build};
 use conf_text::ConfError;
 use ngx_outside::Files;
 use site_model::Site;
@@ -28,12 +29,18 @@ fn path_at(alloc: Global, paths: ByteTexts, number: u32) -> ByteText
 
 // The same, with the number of the newest tree asked for at the beginning alone.
 #[tactic(auto, unfolding(crate::specs::Sites::site_at))]
-fn site_read<F: Files>(alloc: Global, files: &mut F, path: &[u8]) -> Result<Site, ExpandError>
+fn site_read<F: Files>(
+    alloc: Global,
+    purpose: Purpose,
+    files: &mut F,
+    path: &[u8],
+) -> Result<Site, ExpandError>
     ensures exact { (F.seen files.old).tells ≡ true →
         (F.seen files.new).newest ≡ (F.seen files.old).newest → (names : Names) →
         IsNaming ((F.seen files.old).trees (F.seen files.old).newest) names →
-        Describes result (site_found
+        Describes result (site_found purpose
         ((F.seen files.old).trees (F.seen files.old).newest) names path.now) }
+    ensures free { IfOk result (λ site. IsFree site) }
     ensures cause { FailsIf result (F.seen files.old).faults (F.seen files.new).faults }
     ensures versions { Adds (F.seen files.old).newest (F.seen files.old).versions
         (F.seen files.new).versions }
@@ -44,7 +51,7 @@ fn site_read<F: Files>(alloc: Global, files: &mut F, path: &[u8]) -> Result<Site
         Ok(read) => read,
         Err(error) => return Err(error),
     };
-    match build(alloc, folder_of(path), read.directives.as_slice()) {
+    match build(alloc, purpose, folder_of(path), read.directives.as_slice()) {
         Ok(site) => Ok(site),
         Err(ConfError::Fault(fault)) => {
             let path = path_at(alloc, read.paths, fault.file);
@@ -54,23 +61,30 @@ fn site_read<F: Files>(alloc: Global, files: &mut F, path: &[u8]) -> Result<Site
     }
 }
 
-/// The site that a configuration describes, from its main file and the files that it includes, where the files' newest tree
+/// The site that a configuration describes for this purpose, from its main file and the files that it includes, where the files' newest tree
 /// stays the newest until it is read. The number of the newest tree is asked for at the beginning and at the end.
 ///
 /// # Errors
 ///
-/// `Fault` for the first fault of its files' texts, or of its directives. `Failed` only where the files failed in this call.
+/// `Fault` for the first fault of its files' texts, or of its directives; of a site that is to be served then for the first
+/// directive that has no effect yet. `Failed` only where the files failed in this call.
 /// `OutOfMemory`.
-pub fn site_at<F: Files>(alloc: Global, files: &mut F, path: &[u8]) -> Result<Site, ExpandError>
+pub fn site_at<F: Files>(
+    alloc: Global,
+    purpose: Purpose,
+    files: &mut F,
+    path: &[u8],
+) -> Result<Site, ExpandError>
     ensures exact { (F.seen files.old).tells ≡ true →
         (F.seen files.new).newest ≡ (F.seen files.old).newest → (names : Names) →
         IsNaming ((F.seen files.old).trees (F.seen files.old).newest) names →
-        Describes result (site_found
+        Describes result (site_found purpose
         ((F.seen files.old).trees (F.seen files.old).newest) names path.now) }
+    ensures free { IfOk result (λ site. IsFree site) }
     ensures cause { FailsIf result (F.seen files.old).faults (F.seen files.new).faults }
     ensures reading { Reading (F.seen files.old) (F.seen files.new) }
 {
-    let outcome = site_read(alloc, files, path);
+    let outcome = site_read(alloc, purpose, files, path);
     files.version();
     outcome
 }

@@ -27,7 +27,8 @@ use Rattle.request_meaning.specs.Cuts.{Target, cut, fit_value, fitting, some_val
 use Rattle.request_meaning.specs.Rewriting.{Passed, Ran, Step, Tested, says, is_true, equals, matching, passes, asked_at, test_at, tested, set_step, if_step, return_text, some_text, returned, matched, rewrite_to, rewrite_step, step}
 use Rattle.request_meaning.specs.Rewriting.Ran.{Ends}
 use Rattle.request_meaning.specs.Rewriting.Step.{Goes, Stops}
-use Rattle.rewrite_code.specs.Found.{patterns_seen, found, finding}
+use Rattle.pattern_search.specs.Found.{patterns_seen, found}
+use Rattle.rewrite_code.specs.Found.{finding}
 use Rattle.rewrite_code.specs.Texts.{fitted, fit_of, cut_text, target_of}
 use Rattle.rewrite_code.specs.Runs.{test_passes}
 use Rattle.rewrite_code.specs.Conditions.{Checked, Knows, Asks, looks_at, looks, left_text, variable_of, checked_text, checked, checked_act}

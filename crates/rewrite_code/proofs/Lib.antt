@@ -1,4 +1,3 @@
-mod Finds
 mod Values
 mod Acts
 mod Programs

@@ -24,7 +24,7 @@ use Rattle.rewrite_code.specs.declared.place.RunStep.TheVariants.{Ended, Test as
 use Rattle.rewrite_code.specs.declared.program.Next.TheVariants.{At, Answered}
 use Rattle.rewrite_code.specs.declared.step.Move.{Move}
 use Rattle.rewrite_code.specs.declared.step.Move.TheVariants as moves
-use Rattle.rewrite_code.specs.Found.{patterns_seen}
+use Rattle.pattern_search.specs.Found.{patterns_seen}
 use Rattle.rewrite_code.specs.Places.{progress_seen, ran_of}
 use Rattle.rewrite_code.specs.Runs.{told_step, resumed, program_of}
 use Rattle.rewrite_code.specs.Moves.{move_seen}

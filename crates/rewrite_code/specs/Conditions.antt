@@ -22,7 +22,7 @@ use Rattle.request_meaning.specs.Rewriting.{Tested, says, is_true, equals, match
 use Rattle.request_meaning.specs.Rewriting.Tested.{Says, Unfit}
 use Rattle.rewrite_code.specs.declared.condition.Condition.{Condition}
 use Rattle.rewrite_code.specs.declared.condition.Condition.TheVariants as conditions
-use Rattle.rewrite_code.specs.Found.{found_at}
+use Rattle.pattern_search.specs.Found.{found_at}
 use Rattle.rewrite_code.specs.Texts.{fit_of}
 use Rattle.rewrite_code.specs.Runs.{test_passes}
 

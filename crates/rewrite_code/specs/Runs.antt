@@ -20,7 +20,8 @@ use Rattle.rewrite_code.specs.declared.place.Progress.{Progress}
 use Rattle.rewrite_code.specs.declared.place.Ending.{Ending}
 use Rattle.rewrite_code.specs.declared.place.RunStep.{RunStep}
 use Rattle.rewrite_code.specs.declared.place.RunStep.TheVariants.{Ended, Test as AtTest}
-use Rattle.rewrite_code.specs.Found.{patterns_seen, finding}
+use Rattle.pattern_search.specs.Found.{patterns_seen}
+use Rattle.rewrite_code.specs.Found.{finding}
 use Rattle.rewrite_code.specs.Places.{progress_seen, ran_of}
 
 -- a program of a site's level, with the patterns of the set beside the site

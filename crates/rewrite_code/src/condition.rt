@@ -8,7 +8,7 @@ ghost use Rattle.site_views.specs.Pattern.{Pattern};
 ghost use Rattle.site_whole.specs.Whole.{test_seen};
 ghost use Rattle.request_meaning.specs.Rewriting as rewriting;
 ghost use Rattle.request_meaning.specs.Rewriting.{is_true, equals, matching};
-ghost use Rattle.rewrite_code.specs.Found.{found_at};
+ghost use Rattle.pattern_search.specs.Found.{found_at};
 ghost use Rattle.rewrite_code.specs.Runs.{test_passes};
 ghost use Rattle.rewrite_code.specs.Texts.{fit_of, fitted};
 ghost use Rattle.rewrite_code.specs.Conditions.Checked.{Knows};

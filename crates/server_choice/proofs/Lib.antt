@@ -1,2 +1,8 @@
-pub mod Put
-pub mod Stars
+mod Put
+mod Stars
+mod Addresses
+mod Firsts
+mod Best
+mod Chosen
+mod Adding
+mod Covered

@@ -5,7 +5,7 @@ use Rattle.std.proofs.lemmas.Bool.{cases_Bool}
 use Rattle.std.specs.Map.{lookup, KeepsOthers}
 use Rattle.std.specs.Cmp.Lexicographic.{nat_list_eq_equiv}
 use Rattle.std.proofs.lemmas.Slice.Eq.{bytes_eq-Decides}
-use Rattle.server_choice.specs.Names.{or_else}
+use Rattle.site_views.specs.Choice.{or_else}
 
 none_of : (o : Option ℕ) → is_some o ≡ false → o ≡ None
 none_of None e = refl

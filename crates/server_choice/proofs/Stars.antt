@@ -1,11 +1,11 @@
 -- Texts that a host ends or begins with.
-use Rattle.std.proofs.Common.{◌≡◌, ℕ, ◌+◌, ◌-◌, ◌<◌, ◌≤◌, true, List, [], ◌∷◌, length, take, drop, Option, Some, None, refl, sym, ap, ◌∙◌, subst, ⊎_elim, arith}
+use Rattle.std.proofs.Common.{◌≡◌, ℕ, ◌+◌, ◌-◌, ◌<◌, ◌≤◌, true, List, length, take, drop, Option, Some, None, sym, ap, ◌∙◌, subst, ⊎_elim, arith}
 use Rattle.std.proofs.lemmas.Bool.{cases_lt, and_parts, and_from}
 use Rattle.std.proofs.lemmas.Bool.Decides.{nat_tests}
 use Rattle.std.proofs.lemmas.Slice.Eq.{bytes_eq-Decides}
 use Rattle.std.proofs.Common.{length-drop}
 use lib.ListN.{length-take}
-use Rattle.server_choice.specs.Names.{is_ending, is_beginning, IsLongestOf, IsLongestNumber, begins_with_dot, ends_with_dot, AreAll}
+use Rattle.server_choice.specs.Names.{is_ending, is_beginning, IsLongestOf, IsLongestNumber}
 
 -- a text that the host ends with is what the host has from a place on
 pub ending-is : (host text : List ℕ) → is_ending host text ≡ true → (text ≡ drop (length host - length text) host) × (length text < length host)
@@ -40,11 +40,10 @@ module _ (host : List ℕ) (numbers : List ℕ → Option ℕ) where
       subst (λ t. numbers t ≡ None) (sym (is.0 ∙ ap (λ n. drop n host) place)) here)
       (cases_lt (length host) (length text + at))
 
-  pub none-before-end : (at : ℕ) → length host ≤ at → NoneBefore at → AreAll begins_with_dot numbers → IsLongestOf (is_ending host) numbers None
-  none-before-end at past none dotted [] h = dotted [] refl
-  none-before-end at past none dotted (x ∷ xs) h = none (x ∷ xs) h (omega arith)
+  pub none-before-end : (at : ℕ) → length host < at → NoneBefore at → IsLongestOf (is_ending host) numbers None
+  none-before-end at past none text h = none text h (omega (arith, past))
 
-  pub longest-ending : (at number : ℕ) → 1 ≤ at → at < length host → NoneBefore at → numbers (drop at host) ≡ Some number →
+  pub longest-ending : (at number : ℕ) → 1 ≤ at → at ≤ length host → NoneBefore at → numbers (drop at host) ≡ Some number →
       IsLongestNumber (is_ending host) numbers number
   longest-ending at number some inside none has =
       let size = length-drop at host in
@@ -71,9 +70,8 @@ module _ (host : List ℕ) (numbers : List ℕ → Option ℕ) where
       (λ (ge : at ≤ length text). none text h ge)
       (cases_lt (length text) at)
 
-  pub none-past-end : (at : ℕ) → at ≤ 1 → NonePast at → AreAll ends_with_dot numbers → IsLongestOf (is_beginning host) numbers None
-  none-past-end at low none dotted [] h = dotted [] refl
-  none-past-end at low none dotted (x ∷ xs) h = none (x ∷ xs) h (omega arith)
+  pub none-past-end : (at : ℕ) → at ≤ 0 → NonePast at → IsLongestOf (is_beginning host) numbers None
+  none-past-end at low none text h = none text h (omega (arith, low))
 
   pub longest-beginning : (at next number : ℕ) → at ≡ next + 1 → at ≤ length host → NonePast at → numbers (take next host) ≡ Some number →
       IsLongestNumber (is_beginning host) numbers number

@@ -1,14 +1,16 @@
 -- The server that answers a host at an address (https://nginx.org/en/docs/http/server_names.html).
-use Rattle.std.specs.Prelude.{◌≡◌, ℕ, List, Option, Some, None, option_map}
+use Rattle.std.specs.Prelude.{◌≡◌, ℕ, List, Option, Some, None, is_some, option_map}
 use Rattle.std.specs.List.{find}
-use Rattle.ngx_pattern.specs.Pattern.{Pattern, is_match, pattern_at}
-use Rattle.server_choice.specs.Names.{or_else, number_of, is_ending, is_beginning, IsLongestOf}
+use Rattle.ngx_pattern.specs.Pattern.{Pattern}
+use Rattle.pattern_search.specs.Found.{found_at}
+use Rattle.site_views.specs.Choice.{or_else}
+use Rattle.server_choice.specs.Names.{number_of, is_ending, is_beginning, IsLongestOf}
 use Rattle.server_choice.specs.declared.choice.Like.{Like}
 use Rattle.server_choice.specs.declared.choice.ServerNames.{ServerNames}
 
 -- the server of the first pattern that matches the host
 abbrev pub first_like : List Pattern → List Like → List ℕ → Option ℕ
-first_like patterns likes host = option_map (λ l. l.server) (find (λ l. is_match (pattern_at patterns l.pattern) host) likes)
+first_like patterns likes host = option_map (λ l. l.server) (find (λ l. is_some (found_at patterns l.pattern host)) likes)
 
 abbrev pub server_or : Option ℕ → ℕ → ℕ
 server_or None other = other

@@ -2,11 +2,8 @@
 use Rattle.std.specs.Prelude.{◌≡◌, ℕ, ◌<◌, nat_eq, nat_lt, Bool, true, false, ◌&&◌, List, [], ◌∷◌, length, Option, Some, None, bytes_eq, if◌then◌else◌}
 use Rattle.std.specs.List.{starts_with, ends_with}
 use Rattle.std.specs.HashMap.{get_by}
+use Rattle.site_views.specs.Choice.{or_else}
 use Rattle.server_choice.specs.declared.names.NameMap.{NameMap}
-
-abbrev pub or_else : {A : Type 0} → Option A → Option A → Option A
-or_else None other = other
-or_else (Some a) other = Some a
 
 -- the number of a text
 abbrev pub number_of : NameMap → List ℕ → Option ℕ

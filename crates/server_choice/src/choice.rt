@@ -1,17 +1,19 @@
 // Which of the servers at an address answers a host.
 ghost use Rattle.std.specs.Prelude.{◌≡◌, ℕ, true, List, [], ◌∷◌, ◌++◌, None, Some, OnOk, OnErr};
-ghost use Rattle.server_choice.specs.Names.{or_else, number_of, begins_with_dot, ends_with_dot, AreAll, GetsNumber, HasSameNumbers};
+ghost use Rattle.site_views.specs.Choice.{or_else};
+ghost use Rattle.server_choice.specs.Names.{number_of, begins_with_dot, ends_with_dot, AreAll, GetsNumber, HasSameNumbers};
 
 use crate::NameMap;
 use crate::longest::{longest_beginning, longest_ending};
 use byte_text::OutOfMemory;
-use ngx_pattern::{PatternId, PatternSet, Spans};
+use ngx_pattern::{PatternSet, Spans};
+use pattern_search::find_spans;
 use std::alloc::Global;
 
-/// A name `~pattern`, and its server.
+/// A name `~pattern`, by the number of its pattern, and its server.
 #[derive(Clone, Copy, Debug)]
 pub struct Like {
-    pub pattern: PatternId,
+    pub pattern: u32,
     pub server: u32,
 }
 
@@ -29,8 +31,11 @@ pub struct ServerNames {
     /// The one marked `default_server`.
     pub default: Option<u32>,
     pub first: u32,
-    pub ghost endings_dotted: { AreAll begins_with_dot (number_of endings) },
-    pub ghost beginnings_dotted: { AreAll ends_with_dot (number_of beginnings) },
+    /// Whether each `.x` begins with its dot, and each `x.` ends with one, as those do that are read from a text.
+    pub endings_dotted: bool,
+    pub beginnings_dotted: bool,
+    pub ghost endings_are: { endings_dotted ≡ true → AreAll begins_with_dot (number_of endings) },
+    pub ghost beginnings_are: { beginnings_dotted ≡ true → AreAll ends_with_dot (number_of beginnings) },
 }
 
 impl ServerNames {
@@ -52,6 +57,8 @@ impl ServerNames {
             likes: Vec::new(alloc),
             default: None,
             first,
+            endings_dotted: true,
+            beginnings_dotted: true,
         }
     }
 
@@ -66,27 +73,27 @@ impl ServerNames {
 
     /// Names a server `*.x`, by `.x`.
     pub fn add_ending(&mut self, text: &[u8], server: u32) -> Result<(), OutOfMemory>
-        requires { begins_with_dot text.now ≡ true }
         ensures ok { OnOk result (GetsNumber self.old.endings self.new.endings text.now server) }
         ensures err { OnErr result (HasSameNumbers self.old.endings self.new.endings) }
         ensures others { HasSameButEndings self.old self.new }
     {
+        self.endings_dotted = self.endings_dotted && text.starts_with(b".");
         self.endings.add(text, server)
     }
 
     /// Names a server `x.*`, by `x.`.
     pub fn add_beginning(&mut self, text: &[u8], server: u32) -> Result<(), OutOfMemory>
-        requires { ends_with_dot text.now ≡ true }
         ensures ok { OnOk result
             (GetsNumber self.old.beginnings self.new.beginnings text.now server) }
         ensures err { OnErr result (HasSameNumbers self.old.beginnings self.new.beginnings) }
         ensures others { HasSameButBeginnings self.old self.new }
     {
+        self.beginnings_dotted = self.beginnings_dotted && text.ends_with(b".");
         self.beginnings.add(text, server)
     }
 
     /// Names a server by a pattern, after those that are there.
-    pub fn add_like(&mut self, pattern: PatternId, server: u32) -> Result<(), OutOfMemory>
+    pub fn add_like(&mut self, pattern: u32, server: u32) -> Result<(), OutOfMemory>
         ensures ok { OnOk result (self.new.likes.items
             ≡ self.old.likes.items ++ record { pattern = pattern; server = server } ∷ []) }
         ensures err { OnErr result (self.new.likes.items ≡ self.old.likes.items) }
@@ -114,7 +121,7 @@ impl ServerNames {
         if let Some(server) = self.exact.get(host) {
             return server;
         }
-        if let Some(server) = longest_ending(&self.endings, host) {
+        if let Some(server) = longest_ending(&self.endings, self.endings_dotted, host) {
             return server;
         }
         self.choose_later(host, patterns, spans)
@@ -125,7 +132,7 @@ impl ServerNames {
         ensures chosen { IsByBeginning self.now patterns.old host.now result }
         ensures kept { patterns.new ≡ patterns.old }
     {
-        if let Some(server) = longest_beginning(&self.beginnings, host) {
+        if let Some(server) = longest_beginning(&self.beginnings, self.beginnings_dotted, host) {
             return server;
         }
         match self.first_like(host, patterns, spans) {
@@ -140,7 +147,7 @@ impl ServerNames {
         ensures kept { patterns.new ≡ patterns.old }
     {
         for like in &self.likes {
-            if patterns.matches(like.pattern, host, spans) {
+            if find_spans(patterns, like.pattern, host, spans) {
                 return Some(like.server);
             }
         }

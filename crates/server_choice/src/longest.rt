@@ -1,28 +1,30 @@
-// The longest name with a star that fits a host. Only what a dot sets off is looked up, so no list of names is gone through.
-ghost use Rattle.std.specs.Prelude.{◌≡◌, ℕ, ◌<◌, ◌≤◌, List, length, take, drop};
+// The longest name with a star that fits a host. Only what a dot sets off is looked up where all names have that dot, so no
+// list of names is gone through.
+ghost use Rattle.std.specs.Prelude.{◌≡◌, ℕ, ◌<◌, ◌≤◌, true, List, length, take, drop};
 ghost use Rattle.server_choice.specs.Names.{number_of, is_ending, is_beginning, IsLongestOf, begins_with_dot, ends_with_dot, AreAll};
 
 use crate::NameMap;
 
 // The number of the host from a place on, as a name `*.x`.
-fn ending_at(endings: &NameMap, host: &[u8], at: usize) -> Option<u32>
-    requires inside { at < length host.now }
-    requires dotted { AreAll begins_with_dot (number_of endings.now) }
+fn ending_at(endings: &NameMap, dotted: bool, host: &[u8], at: usize) -> Option<u32>
+    requires inside { at ≤ length host.now }
+    requires dotted { dotted ≡ true → AreAll begins_with_dot (number_of endings.now) }
     ensures { result ≡ number_of endings.now (drop at host.now) }
 {
-    if host[at] != b'.' {
+    let text = &host[at..];
+    if dotted && !text.starts_with(b".") {
         return None;
     }
-    endings.get(&host[at..])
+    endings.get(text)
 }
 
-/// The number of the longest name `*.x`, known by `.x`, that fits a host.
-pub fn longest_ending(endings: &NameMap, host: &[u8]) -> Option<u32>
-    requires dotted { AreAll begins_with_dot (number_of endings.now) }
+/// The number of the longest name `*.x`, known by `.x`, that fits a host. A star is at least one byte.
+pub fn longest_ending(endings: &NameMap, dotted: bool, host: &[u8]) -> Option<u32>
+    requires dotted { dotted ≡ true → AreAll begins_with_dot (number_of endings.now) }
     ensures { IsLongestOf (is_ending host.now) (number_of endings.now) result }
 {
-    for at in 1..host.len() {
-        if let Some(number) = ending_at(endings, host, at) {
+    for at in 1..=host.len() {
+        if let Some(number) = ending_at(endings, dotted, host, at) {
             return Some(number);
         }
     }
@@ -30,27 +32,27 @@ pub fn longest_ending(endings: &NameMap, host: &[u8]) -> Option<u32>
 }
 
 // The number of the host up to a place, as a name `x.*`.
-fn beginning_at(beginnings: &NameMap, host: &[u8], at: usize) -> Option<u32>
-    requires some { 0 < at }
+fn beginning_at(beginnings: &NameMap, dotted: bool, host: &[u8], at: usize) -> Option<u32>
     requires inside { at ≤ length host.now }
-    requires dotted { AreAll ends_with_dot (number_of beginnings.now) }
+    requires dotted { dotted ≡ true → AreAll ends_with_dot (number_of beginnings.now) }
     ensures { result ≡ number_of beginnings.now (take at host.now) }
 {
-    if host[at - 1] != b'.' {
+    let text = &host[..at];
+    if dotted && !text.ends_with(b".") {
         return None;
     }
-    beginnings.get(&host[..at])
+    beginnings.get(text)
 }
 
-/// The number of the longest name `x.*`, known by `x.`, that fits a host.
-pub fn longest_beginning(beginnings: &NameMap, host: &[u8]) -> Option<u32>
-    requires dotted { AreAll ends_with_dot (number_of beginnings.now) }
+/// The number of the longest name `x.*`, known by `x.`, that fits a host. A star is at least one byte.
+pub fn longest_beginning(beginnings: &NameMap, dotted: bool, host: &[u8]) -> Option<u32>
+    requires dotted { dotted ≡ true → AreAll ends_with_dot (number_of beginnings.now) }
     ensures { IsLongestOf (is_beginning host.now) (number_of beginnings.now) result }
 {
     let mut at = host.len();
-    while at > 1 {
+    while at > 0 {
         at -= 1;
-        if let Some(number) = beginning_at(beginnings, host, at) {
+        if let Some(number) = beginning_at(beginnings, dotted, host, at) {
             return Some(number);
         }
     }

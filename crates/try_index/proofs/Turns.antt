@@ -1,10 +1,11 @@
 -- The turn of a name in the acts of the meaning.
-use Rattle.std.proofs.Common.{◌≡◌, ℕ, ◌+◌, ◌-◌, ◌<◌, ◌≤◌, nat_eq, arith, suc, Bool, true, false, cond, List, [], ◌∷◌, ◌++◌, length, get_or, drop, drop-cons, add-one, map, Option, None, Some, inl, inr, ◌⊎◌, unwrap_or, MatchOption, refl, sym, ◌∙◌, ap, subst}
+use Rattle.std.proofs.Common.{◌≡◌, ℕ, ◌+◌, ◌-◌, ◌<◌, ◌≤◌, nat_eq, arith, zero, suc, slice_get, option_map, Bool, true, false, cond, List, [], ◌∷◌, ◌++◌, length, get_or, drop, drop-cons, add-one, map, Option, None, Some, inl, inr, unwrap_or, MatchOption, refl, sym, ◌∙◌, ap, subst}
 use Rattle.std.proofs.Math.ListN.{drop_of_length-le}
 use Rattle.std.proofs.lemmas.List.{drop-map}
+use Rattle.std.proofs.lemmas.Option.{slice_get-get_or}
 use Rattle.std.proofs.lemmas.Bool.{cond-true, cond-false}
 use Rattle.acts.specs.Vars.{Vars}
-use Rattle.acts.specs.Act.{Act, Done, Stat, ◌>>=◌, settled, settled_then}
+use Rattle.acts.specs.Act.{Done, Stat, ◌>>=◌, settled, settled_then}
 use Rattle.acts.proofs.ActLaws.{settles_in_turn}
 use Rattle.file_tree.specs.Tree.{Item, AFile, AFolder, ALocked, Nothing, node_of}
 use Rattle.file_tree.specs.declared.job.Node.{Node}
@@ -24,7 +25,7 @@ use Rattle.request_meaning.specs.Serving.{Serving, Standing}
 use Rattle.request_meaning.specs.Cuts.{Target, fit_value, target, or_none}
 use Rattle.request_meaning.specs.Errors.{Decided, decided}
 use Rattle.request_meaning.specs.Errors.Outcome.{Fails, GoesTo, GoesToNamed}
-use Rattle.request_meaning.specs.Contents.{item, item_at, with_item, with_text, fails, tried, try_name, try_at, last_try, is_found, ends_in_slash, indexed, index_name, index_at, no_index, goes_to, content, with_path, last_code}
+use Rattle.request_meaning.specs.Contents.{item, item_at, with_item, with_text, tried, try_name, try_at, last_try, is_found, ends_in_slash, indexed, index_name, index_at, no_index, goes_to, content, with_path, last_code}
 use Rattle.target_text.specs.Settled.{fit, target_text, FitValueSettles, TargetSettles, ItemSettles}
 use Rattle.try_index.specs.declared.probe.Turn.{Turn}
 use Rattle.try_index.specs.declared.tries.TryState.{TryState}
@@ -230,6 +231,17 @@ next_at xs j x h e = drop-cons xs j x h ∙ ap (λ y. y ∷ drop (suc j) xs) (sy
 next_seen : (xs : List CodeName) (j : ℕ) (x : CodeName) → j < length xs → x ≡ get_or xs j x → drop j (map index_seen xs) ≡ index_seen x ∷ drop (j + 1) (map index_seen xs)
 next_seen xs j x h e =
     drop-map index_seen j xs ∙ ap (map index_seen) (next_at xs j x h e) ∙ ap (λ l. index_seen x ∷ l) (sym (drop-map index_seen (j + 1) xs))
+
+pub got_at : {X : Type 0} (xs : List X) (j : ℕ) (x : X) → j < length xs → x ≡ get_or xs j x → slice_get xs j ≡ Some x
+got_at xs j x h e = slice_get-get_or xs j x h ∙ ap (λ y. Some y) (sym e)
+
+got_map : (xs : List CodeName) (j : ℕ) → slice_get (map index_seen xs) j ≡ option_map index_seen (slice_get xs j)
+got_map [] j = refl
+got_map (x ∷ xs) zero = refl
+got_map (x ∷ xs) (suc j) = got_map xs j
+
+pub got_seen : (xs : List CodeName) (j : ℕ) (x : CodeName) → j < length xs → x ≡ get_or xs j x → slice_get (map index_seen xs) j ≡ Some (index_seen x)
+got_seen xs j x h e = got_map xs j ∙ ap (option_map index_seen) (got_at xs j x h e)
 
 module _ (main : Main) (vars : Vars) (s : Standing) where
   pub tried_done : (names : List Text) (last : LastTry) (at : ℕ) → length names ≤ at → settled (tried main s (drop at names) last) vars ≡ settled (last_try main s last) vars

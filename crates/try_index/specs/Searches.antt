@@ -1,6 +1,6 @@
 -- What a suspended search of names still does, in the acts of the meaning
 -- (https://nginx.org/en/docs/http/ngx_http_core_module.html#try_files, ngx_http_index_module.html).
-use Rattle.std.specs.Prelude.{◌≡◌, ℕ, Bool, true, false, List, ◌++◌, drop, Option, None, Some, if◌then◌else◌, ◌⊎◌}
+use Rattle.std.specs.Prelude.{◌≡◌, ℕ, Bool, ◌+◌, ◌≤◌, true, false, List, [], ◌++◌, length, slice_get, drop, None, Some, if◌then◌else◌, ◌⊎◌}
 use Rattle.acts.specs.Vars.{Vars}
 use Rattle.acts.specs.Act.{Done, Stat}
 use Rattle.file_tree.specs.Tree.{Item}
@@ -12,11 +12,13 @@ use Rattle.ngx_variables.specs.declared.request.Request.{Request}
 use Rattle.ngx_variables.specs.Texts.{value_text, is_too_long}
 use Rattle.file_path.specs.Located.{located_at}
 use Rattle.file_path.specs.Located.Located.{TooLong, NotThere, At}
-use Rattle.site_views.specs.Values.{Text, IndexName, Tries}
+use Rattle.site_views.specs.Values.{Text, IndexName, LastTry, Tries}
+use Rattle.site_views.specs.Values.LastTry.{ToPath, ToLocation, ToCode}
 use Rattle.request_meaning.specs.Serving.{Serving, Standing}
 use Rattle.request_meaning.specs.Errors.{Decided, decided}
 use Rattle.request_meaning.specs.Errors.Outcome.{GoesTo, GoesToNamed}
 use Rattle.request_meaning.specs.Contents.{content, tried, try_at, with_path, last_code, indexed, index_at, no_index, goes_to, ends_in_slash}
+use Rattle.target_text.specs.Settled.{fit, target_text}
 use Rattle.try_index.specs.declared.probe.Turn.{Turn}
 use Rattle.try_index.specs.declared.tries.TryState.{TryState}
 use Rattle.try_index.specs.declared.tries.TryStep.{TryStep}
@@ -102,3 +104,28 @@ abbrev pub index_left : Main → Standing → List IndexName → IndexState → 
 index_left main s names state (turns.Probe path) = Stat path (λ item. index_told main s names state item)
 index_left main s names state (turns.Redirect path) = goes_to s path
 index_left main s names state turns.NoneFound = no_index main s
+
+-- ---- when a text is too long
+
+-- the last word names a path, which with its arguments is too long
+abbrev pub IsLastUnfit : Main → Request → Vars → LastTry → Type 0
+IsLastUnfit main request vars (ToPath text) = target_text main request vars text ≡ None
+IsLastUnfit main request vars (ToLocation name) = ⊥
+IsLastUnfit main request vars (ToCode code) = ⊥
+
+-- of the names that were taken up the last one is unfit, or all are taken up, and the last word is
+abbrev pub IsTryUnfit : Main → Request → Vars → Place → Tries → (passed : ℕ) → Type 0
+IsTryUnfit main request vars place t passed =
+    ((at : ℕ) × (name : Text) × (passed ≡ at + 1) × (slice_get t.names at ≡ Some name) × IsUnfit main request vars place [] name)
+    ⊎ ((length t.names ≤ passed) × IsLastUnfit main request vars t.last)
+
+-- a name of `index` is unfit
+abbrev pub IsNameUnfit : Main → Request → Vars → Place → IndexName → Type 0
+IsNameUnfit main request vars place name =
+    ((name.is_path ≡ true) × (fit (value_text main request vars name.text) ≡ None))
+    ⊎ ((name.is_path ≡ false) × IsUnfit main request vars place request.path name.text)
+
+-- of the names that were taken up the last one is so
+abbrev pub IsIndexUnfit : Main → Request → Vars → Place → List IndexName → (passed : ℕ) → Type 0
+IsIndexUnfit main request vars place names passed =
+    (at : ℕ) × (name : IndexName) × (passed ≡ at + 1) × (slice_get names at ≡ Some name) × IsNameUnfit main request vars place name

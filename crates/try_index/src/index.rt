@@ -12,7 +12,7 @@ ghost use Rattle.request_meaning.specs.Errors.{decided};
 ghost use Rattle.request_meaning.specs.Errors.Outcome.{Fails};
 ghost use Rattle.request_meaning.specs.Contents.{indexed};
 ghost use Rattle.target_text.specs.Settled.{fit};
-ghost use Rattle.try_index.specs.Searches.{IsAt, indexed_from, index_told, index_left};
+ghost use Rattle.try_index.specs.Searches.{IsAt, indexed_from, index_told, index_left, IsIndexUnfit};
 
 use crate::probe::{is_file, turn_of};
 use byte_text::{ByteText, OutOfMemory};
@@ -109,6 +109,8 @@ impl IndexState {
             → IsAt request.now place.now s → node_of item ≡ unwrap_or answer Missing
             → settled (index_told main.now s (map index_seen names.now) self.old item) vars.now
             ≡ (Done (decided s (Fails 500)), vars.now) }
+        ensures unfit { result ≡ Err EvalFault.TooLong → IsIndexUnfit main.now request.now
+            vars.now place.now (map index_seen names.now) self.new.passed }
     {
         match self.asked.take() {
             Some(path) => {
@@ -142,6 +144,8 @@ impl IndexState {
             → IsAt request.now place.now s
             → settled (indexed_from main.now s (map index_seen names.now) self.old.passed) vars.now
             ≡ (Done (decided s (Fails 500)), vars.now) }
+        ensures unfit { result ≡ Err EvalFault.TooLong → IsIndexUnfit main.now request.now
+            vars.now place.now (map index_seen names.now) self.new.passed }
     {
         fit_value_settles();
         item_settles();

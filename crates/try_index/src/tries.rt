@@ -11,7 +11,7 @@ ghost use Rattle.request_meaning.specs.Errors.{decided};
 ghost use Rattle.request_meaning.specs.Errors.Outcome.{Fails};
 ghost use Rattle.request_meaning.specs.Contents.{ends_in_slash as slash_last, last_try, tried};
 ghost use Rattle.try_index.specs.declared.tries.TryState.{TryState as TryView};
-ghost use Rattle.try_index.specs.Searches.{IsAt, is_found as found_by, tried_from, try_told, try_left};
+ghost use Rattle.try_index.specs.Searches.{IsAt, is_found as found_by, tried_from, try_told, try_left, IsLastUnfit, IsTryUnfit};
 
 use crate::probe::{is_file, is_folder, turn_of};
 use byte_text::ByteText;
@@ -78,6 +78,8 @@ fn last_step(
     ensures too_long { result ≡ Err EvalFault.TooLong → (s : Standing) → s.request ≡ request.now
         → settled (last_try main.now s (last_seen last.now)) vars.now
         ≡ (Done (decided s (Fails 500)), vars.now) }
+    ensures unfit { result ≡ Err EvalFault.TooLong
+        → IsLastUnfit main.now request.now vars.now (last_seen last.now) }
 {
     target_settles();
     match last {
@@ -130,6 +132,8 @@ impl TryState {
             → IsAt request.now place.now s → node_of item ≡ unwrap_or answer Missing
             → settled (try_told main.now s (tries_seen tries.now) self.old item) vars.now
             ≡ (Done (decided s (Fails 500)), vars.now) }
+        ensures unfit { result ≡ Err EvalFault.TooLong → IsTryUnfit main.now request.now vars.now
+            place.now (tries_seen tries.now) self.new.passed }
     {
         match self.asked.take() {
             Some(name) => {
@@ -163,6 +167,8 @@ impl TryState {
             → IsAt request.now place.now s
             → settled (tried_from main.now s (tries_seen tries.now) self.old.passed) vars.now
             ≡ (Done (decided s (Fails 500)), vars.now) }
+        ensures unfit { result ≡ Err EvalFault.TooLong → IsTryUnfit main.now request.now vars.now
+            place.now (tries_seen tries.now) self.new.passed }
     {
         fit_value_settles();
         item_settles();

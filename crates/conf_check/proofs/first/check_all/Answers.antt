@@ -1,4 +1,4 @@
-use Rattle.conf_check.proofs.AcceptedLaws.{no_fault-gives}
+use Rattle.conf_check.proofs.FaultlessLaws.{no_fault-gives}
 use Rattle.conf_check.proofs.first.check_all.Goals as goal
 
 pub returns : goal.returns

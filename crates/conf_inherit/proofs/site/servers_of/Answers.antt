@@ -1,19 +1,28 @@
-use Rattle.std.proofs.Common.{rules}
+use Rattle.std.proofs.Common.{map, ap, ◌∙◌, rules}
 use Rattle.conf_block.specs.Forest.{forest_of}
 use Rattle.conf_block.specs.Blocks.{block_with}
-use Rattle.conf_inherit.proofs.SiteLaws.{so-far-begin, so-far-more, so-far-end}
+use Rattle.conf_inherit.specs.Pools.{values_by}
+use Rattle.conf_inherit.specs.Built.{server_with, server_in}
+use Rattle.conf_inherit.proofs.SiteLaws.{keeps-same, keeps-then, so-far-begin, so-far-more, so-far-end}
 use Rattle.conf_inherit.proofs.site.servers_of.Goals as goal
 
 pub loop-branch-init : goal.loop-branch-init
-loop-branch-init c = so-far-begin _ _ _ _ _ _ (search rules)
+loop-branch-init c = so-far-begin _ _ _ _ _ (search rules)
+
+pub inner-requires : goal.inner-requires
+inner-requires c = c.loop-branch.invariant.types_kept _ _ c.requires
 
 pub server_of-requires : goal.server_of-requires
-server_of-requires c = c.loop-branch.invariant.types_kept _ _ c.requires
+server_of-requires c = c.in_ok-values.ensures.there
 
 pub loop-branch-preserved : goal.loop-branch-preserved
 loop-branch-preserved c =
-    so-far-more c.loop-branch.invariant _ _ _ c.in_ok-server_of.field-0 (block_with c.in-Some.branch.directive.now (forest_of c.in-Some.branch.block.now)) _
-    c.in_ok-server_of.ensures.levels c.in_ok-server_of.ensures.types (search rules) c.in-Some.ensures.blocks (c.in_ok-server_of.ensures.seen c.in-Some.branch.directive.now)
+    so-far-more c.loop-branch.invariant _ _ _ c.in_ok-server_of.field-0
+    (server_in (values_by c.args.outer) (block_with c.in-Some.branch.directive.now (forest_of c.in-Some.branch.block.now))) _
+    (keeps-then _ _ _ (keeps-same _ _ c.in_ok-values.ensures.levels) c.in_ok-server_of.ensures.levels)
+    (keeps-then _ _ _ c.in_ok-values.ensures.types c.in_ok-server_of.ensures.types) (search rules)
+    (ap (map (server_in (values_by c.args.outer))) c.in-Some.ensures.blocks)
+    (λ site h. c.in_ok-server_of.ensures.seen site h ∙ ap (λ v. server_with v (forest_of c.in-Some.branch.block.now)) c.in_ok-values.ensures.values)
 
 pub returns : goal.returns
-returns c = λ site h. so-far-end c.loop-branch.invariant c.in_default.ensures.blocks site h
+returns c = λ site h. so-far-end c.loop-branch.invariant (ap (map (server_in (values_by c.args.outer))) c.in_default.ensures.blocks) site h

@@ -1,4 +1,5 @@
-use Rattle.std.proofs.Common.{refl, subst, vec_len}
+use Rattle.std.proofs.Common.{refl, sym, subst, vec_len}
+use Rattle.connection.specs.Times.{PacedFor}
 use Rattle.ngx_outside.specs.Views.{Start}
 use Rattle.connection.specs.Steps.{RanOne}
 use Rattle.connection.specs.Answers.{service_of}
@@ -27,3 +28,11 @@ returns-in_ok-enter-in-Bad-clause-ran c = λ trees.
     let start : Start = record { moment = c.args.meeting.moment; tree = c.args.meeting.tree } in
     ran_bad (service_of c.args.site.now c.args.meeting.local c.args.meeting.peer) trees start (vec_len c.args.journal.now) c.in-Bad.code c.in_ok-length-in-Bad.length c.in-Bad.no_body c.args.next.now c.args.held.now c.args.out.now c.put_page.new.out
     c.in-Bad.is (c.in_ok-length-in-Bad.ensures.put start refl) c.in_ok-length-in-Bad.ensures.size
+
+pub returns-in_ok-enter-in-Head-clause-paced : goal.returns-in_ok-enter-in-Head-clause-paced
+returns-in_ok-enter-in-Head-clause-paced c =
+    subst (λ n. PacedFor c.args.site.now c.args.meeting.local n c.put_answer.new.space.pace) (sym c.in-Head.is) c.in_ok-answered-in-Head.ensures.paced
+
+pub returns-in_ok-enter-in-Bad-clause-paced : goal.returns-in_ok-enter-in-Bad-clause-paced
+returns-in_ok-enter-in-Bad-clause-paced c =
+    subst (λ n. PacedFor c.args.site.now c.args.meeting.local n c.pace_at-space.result) (sym c.in-Bad.is) c.pace_at-space.ensures

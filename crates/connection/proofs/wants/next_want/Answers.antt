@@ -1,10 +1,12 @@
 use Rattle.std.proofs.Common.{◌∙◌, ap}
+use Rattle.ngx_outside.specs.Wants.{wants_at}
 use Rattle.connection.specs.Wants.{room_if}
 use Rattle.connection.specs.Answers.{service_of}
 use Rattle.connection.proofs.Wanted.{next_is}
 use Rattle.connection.proofs.wants.next_want.Goals as goal
 
 pub returns : goal.returns
+unfolding wants_at
 returns c = λ site.
     let k = c.args.conn.now in
     c.first_want.ensures

@@ -1,4 +1,4 @@
-use Rattle.std.proofs.Common.{◌≡◌, ◌++◌, Err, ap, ◌∙◌, refl, sym, rules}
+use Rattle.std.proofs.Common.{◌≡◌, ◌++◌, Err, ap, ◌∙◌, rules}
 use Rattle.ngx_variables.specs.declared.fault.EvalFault.TheVariants.{TooLong}
 use Rattle.ngx_variables.specs.Texts.{value_text}
 use Rattle.site_whole.specs.Whole.{shown_seen}

@@ -1,5 +1,4 @@
-use Rattle.std.proofs.Common.{ap, ◌∙◌, refl}
-use Rattle.request_meaning.specs.Cuts.{or_none}
+use Rattle.std.proofs.Common.{ap, ◌∙◌}
 use Rattle.target_text.specs.Settled.{target_seen}
 use Rattle.error_pages.specs.declared.page.PageStep.TheVariants.{Inside}
 use Rattle.error_pages.proofs.Nexts as nexts

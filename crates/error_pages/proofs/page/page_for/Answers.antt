@@ -1,7 +1,7 @@
-use Rattle.std.proofs.Common.{◌≡◌, true, false, not, is_some, Err, map, ap, sym, ◌∙◌, rules}
+use Rattle.std.proofs.Common.{◌≡◌, true, false, not, is_some, Err, map, ap, sym, subst, ◌∙◌, rules}
 use Rattle.ngx_variables.specs.declared.fault.EvalFault.TheVariants.{TooLong}
 use Rattle.site_whole.specs.Whole.{page_seen}
-use Rattle.error_pages.specs.Pages.{applies}
+use Rattle.error_pages.specs.Pages.{applies, IsTooLongBy}
 use Rattle.error_pages.proofs.Nexts as nexts
 use Rattle.error_pages.proofs.Rules as rule
 use Rattle.error_pages.proofs.page.page_for.Goals as goal
@@ -48,3 +48,8 @@ pub returns-in_err-step-in-Some-clause-some : goal.returns-in_err-step-in-Some-c
 returns-in_err-step-in-Some-clause-some c = λ e.
     let free : applies c.args.changes c.args.used c.args.recursive ≡ true = search rules in
     rule.there_is (map page_seen c.args.rules.now) c.args.code c.args.changes c.args.used c.args.recursive (page_seen c.in-Some.rule.now) free (sym c.in-Some.ensures)
+
+pub returns-in_err-step-in-Some-clause-unfit : goal.returns-in_err-step-in-Some-clause-unfit
+returns-in_err-step-in-Some-clause-unfit c = λ e.
+    let refused : c.page_by.result ≡ Err TooLong = search rules in
+    subst (λ r. IsTooLongBy c.args.main.now c.args.request.now c.args.vars.now r) c.in-Some.ensures (c.page_by.ensures.unfit refused)

@@ -1,7 +1,8 @@
-use Rattle.std.proofs.Common.{◌≡◌, Ok, Err, ap, sym, subst}
+use Rattle.std.proofs.Common.{◌≡◌, [], Ok, Err, ap, sym, subst}
 use Rattle.std.proofs.lemmas.List.{append-nil}
 use Rattle.site_service.specs.Serving.{Outside}
-use Rattle.site_model.specs.Levels.{seen}
+use Rattle.site_whole.specs.Whole.{whole}
+use Rattle.conf_inherit.specs.declared.site.Purpose.TheVariants as purposes
 use Rattle.ngx_cli.specs.Commands.{Output, Describes, ServeEnds}
 use Rattle.report_text.specs.Lines.{ended}
 use Rattle.report_text.specs.Faults.{conf_fault_line}
@@ -28,9 +29,9 @@ returns-in-Ok-serve_site g c =
       clock' = t.seen c.serve_site.new.clock;
     } in
     let out : Output = record { before = u.seen c.args.out.now; after = u.seen c.args.out.now } in
-    let described : Describes o.files (f.seen c.site_at.new.files) path (Ok (seen site)) = record { reads = a.reading; is = a.exact } in
+    let described : Describes purposes.Serving o.files (f.seen c.site_at.new.files) path (Ok (whole [] site)) = record { reads = a.reading; is = a.exact } in
     subst (ServeEnds o out path c.args.turns) (sym c.served_status.ensures)
-    (served o out path c.args.turns e site (f.seen c.site_at.new.files) described s.serving (λ tells. sym (append-nil (u.seen c.args.out.now).written))
+    (served o out path c.args.turns e site (f.seen c.site_at.new.files) described a.free s.serving (λ tells. sym (append-nil (u.seen c.args.out.now).written))
     (λ is. s.ended (ap Ok is)) (λ is. s.listen_fault (ap Ok is)) (λ is. s.next_fault (ap Ok is)))
 
 pub returns-in-Err-Fault : goal.returns-in-Err-Fault
@@ -46,8 +47,8 @@ returns-in-Err-Fault g c =
     let out : Output = record { before = g.O.Sink.seen c.args.out.now; after = g.O.Sink.seen c.put_fault.new.out } in
     let path = c.args.path.now in
     let placed = c.in-Err-Fault.placed in
-    let described : Describes o.files o.files' path (Err (placed.fault, placed.path)) = fault_described o.files o.files' path c.in-Err-Fault.field-0 placed c.in-Err-Fault.field-0-is c.in-Err-Fault.ensures.reading c.in-Err-Fault.ensures.exact in
-    unput_serving o out path c.args.turns (ended (conf_fault_line placed.path placed.fault)) c.in-Err-put_fault.status (is_fault_line o.files o.files' path placed described) c.in-Err-put_fault.ensures
+    let described : Describes purposes.Serving o.files o.files' path (Err (placed.fault, placed.path)) = fault_described purposes.Serving o.files o.files' path c.in-Err-Fault.field-0 placed c.in-Err-Fault.field-0-is c.in-Err-Fault.ensures.reading c.in-Err-Fault.ensures.exact in
+    unput_serving o out path c.args.turns (ended (conf_fault_line placed.path placed.fault)) c.in-Err-put_fault.status (is_fault_line purposes.Serving o.files o.files' path placed described) c.in-Err-put_fault.ensures
 
 pub returns-in-Err-Failed : goal.returns-in-Err-Failed
 returns-in-Err-Failed g c =
@@ -62,4 +63,4 @@ returns-in-Err-Failed g c =
     let out : Output = record { before = g.O.Sink.seen c.args.out.now; after = g.O.Sink.seen c.put_fault-in-Err-Failed.new.out } in
     let path = c.args.path.now in
     let placed = c.in-Err-Failed.placed in
-    unput_serving o out path c.args.turns (ended (conf_fault_line placed.path placed.fault)) c.in-Err-put_fault-2.status (is_files_line o.files o.files' path c.in-Err-Failed.field-0 placed c.in-Err-Failed.field-0-is c.in-Err-Failed.ensures.cause) c.in-Err-put_fault-2.ensures
+    unput_serving o out path c.args.turns (ended (conf_fault_line placed.path placed.fault)) c.in-Err-put_fault-2.status (is_files_line purposes.Serving o.files o.files' path c.in-Err-Failed.field-0 placed c.in-Err-Failed.field-0-is c.in-Err-Failed.ensures.cause) c.in-Err-put_fault-2.ensures

@@ -5,7 +5,8 @@ use Rattle.conf_include.specs.Listings.{Names, IsNaming}
 use Rattle.conf_include.specs.declared.main_file.ExpandError.{ExpandError}
 use Rattle.conf_include.specs.declared.main_file.ExpandError.TheVariants as error
 use Rattle.replay_confs.specs.Confs.{conf_tree}
-use Rattle.site_model.specs.Levels.{SiteView}
+use Rattle.site_views.specs.Views.{SiteView}
+use Rattle.conf_inherit.specs.declared.site.Purpose.TheVariants as purposes
 use Rattle.site_model.specs.declared.site.Site.{Site}
 use Rattle.ngx_cli.specs.Naming.{conf_names}
 use Rattle.ngx_cli.specs.Running.{main_path}
@@ -15,11 +16,11 @@ use Rattle.ngx_cli.proofs.script.site_of.Goals as goal
 
 -- what was answered is said of the configurations, their names and the main one's path
 found : (confs confs' : List Conf) (path path' : List ℕ) (result : Result Site ExpandError) → confs' ≡ confs → path' ≡ path →
-    ((names : Names) → IsNaming (conf_tree confs') names → Describes result (site_at (conf_tree confs') names path')) →
-    Describes result (site_at (conf_tree confs) (conf_names confs) path)
+    ((names : Names) → IsNaming (conf_tree confs') names → Describes result (site_at purposes.Serving (conf_tree confs') names path')) →
+    Describes result (site_at purposes.Serving (conf_tree confs) (conf_names confs) path)
 found confs confs' path path' result c p h =
-    subst (λ (q : List ℕ). Describes result (site_at (conf_tree confs) (conf_names confs) q)) p
-    (subst (λ (cs : List Conf). (names : Names) → IsNaming (conf_tree cs) names → Describes result (site_at (conf_tree cs) names path')) c h (conf_names confs) (folders_have_their_names confs).0)
+    subst (λ (q : List ℕ). Describes result (site_at purposes.Serving (conf_tree confs) (conf_names confs) q)) p
+    (subst (λ (cs : List Conf). (names : Names) → IsNaming (conf_tree cs) names → Describes result (site_at purposes.Serving (conf_tree cs) names path')) c h (conf_names confs) (folders_have_their_names confs).0)
 
 fault_of : (e : ExpandError) (outcome : Result SiteView (ConfFault × List ℕ)) → Describes (Err e) outcome → OnFault e (λ fault at. outcome ≡ Err (fault, at))
 fault_of (error.Fault placed) outcome d = d
@@ -33,6 +34,6 @@ returns-in-Ok-clause-ok c =
 
 pub returns-in-Err-clause-fault : goal.returns-in-Err-clause-fault
 returns-in-Err-clause-fault c =
-    fault_of c.in-Err.error (site_at (conf_tree c.args.confs.now) (conf_names c.args.confs.now) (main_path c.args.confs.now))
+    fault_of c.in-Err.error (site_at purposes.Serving (conf_tree c.args.confs.now) (conf_names c.args.confs.now) (main_path c.args.confs.now))
     (found c.args.confs.now c.new-files.result.confs.now (main_path c.args.confs.now) c.main_path.result.now (Err c.in-Err.error)
     (c.new-files.ensures.confs ∙ c.as_slice.ensures) (c.main_path.ensures ∙ ap main_path c.as_slice-2.ensures) (c.in-Err.ensures.exact refl refl))

@@ -1,6 +1,7 @@
 use Rattle.std.proofs.Common.{◌≡◌, ◌∙◌, ap}
 use Rattle.site_whole.specs.Whole.{step_seen}
-use Rattle.rewrite_code.specs.Found.{finding, patterns_seen}
+use Rattle.pattern_search.specs.Found.{patterns_seen}
+use Rattle.rewrite_code.specs.Found.{finding}
 use Rattle.rewrite_code.specs.Runs.{program_of}
 use Rattle.rewrite_code.specs.Moves.{done_seen}
 use Rattle.rewrite_code.specs.Steps.{ahead}

@@ -1,7 +1,8 @@
 use Rattle.std.proofs.Common.{◌≡◌, ◌+◌, ◌<◌, ◌≤◌, false, List, length, drop, get_or, subst, ◌∙◌, ap, arith}
 use Rattle.site_model.specs.declared.program.RewriteStep.{RewriteStep}
 use Rattle.request_meaning.specs.Rewriting.{rewritten}
-use Rattle.rewrite_code.specs.Found.{finding, patterns_seen}
+use Rattle.pattern_search.specs.Found.{patterns_seen}
+use Rattle.rewrite_code.specs.Found.{finding}
 use Rattle.rewrite_code.specs.Places.{progress_seen}
 use Rattle.rewrite_code.specs.Runs.{program_of, still, ComesTo}
 use Rattle.rewrite_code.specs.Moves.{move_seen}

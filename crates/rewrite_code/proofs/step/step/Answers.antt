@@ -1,7 +1,8 @@
 use Rattle.std.proofs.Common.{◌≡◌, ◌∙◌, ap}
 use Rattle.acts.specs.Act.{Done}
 use Rattle.site_whole.specs.Whole.{pattern_at, flag_seen}
-use Rattle.rewrite_code.specs.Found.{finding, patterns_seen}
+use Rattle.pattern_search.specs.Found.{patterns_seen}
+use Rattle.rewrite_code.specs.Found.{finding}
 use Rattle.rewrite_code.specs.Places.{progress_seen}
 use Rattle.rewrite_code.specs.Moves.{values_at}
 use Rattle.rewrite_code.proofs.Acts.{set_settles, if_settles, rewrite_settles, return_settles, stop_settles}

@@ -1,4 +1,4 @@
-use Rattle.std.proofs.Common.{◌≡◌, Err, ap, sym, ◌∙◌, rules}
+use Rattle.std.proofs.Common.{◌≡◌, Err, ap, sym, subst, ◌∙◌, rules}
 use Rattle.acts.specs.Act.{Done, settled}
 use Rattle.ngx_variables.specs.declared.fault.EvalFault.TheVariants.{TooLong}
 use Rattle.site_whole.specs.Whole.{last_seen}
@@ -6,6 +6,7 @@ use Rattle.request_meaning.specs.Errors.{decided}
 use Rattle.request_meaning.specs.Errors.Outcome.{GoesTo, GoesToNamed}
 use Rattle.request_meaning.specs.Contents.{last_try}
 use Rattle.target_text.specs.Settled.{target_seen}
+use Rattle.try_index.specs.Searches.{IsLastUnfit}
 use Rattle.try_index.proofs.Turns as turns
 use Rattle.try_index.proofs.tries.last_step.Goals as goal
 
@@ -31,3 +32,8 @@ pub returns-in-Code-clause-step : goal.returns-in-Code-clause-step
 returns-in-Code-clause-step c = λ s t state h.
     ap (λ l. settled (last_try c.args.main.now s (last_seen l)) c.args.vars.now) c.in-Code.is
     ∙ ap (λ m. settled m c.args.vars.now) (turns.goes_by_code c.args.main.now c.args.vars.now s _)
+
+pub returns-in_err-target-in-Path-clause-unfit : goal.returns-in_err-target-in-Path-clause-unfit
+returns-in_err-target-in-Path-clause-unfit c = λ e.
+    let refused : c.target_of.result ≡ Err TooLong = search rules in
+    subst (λ l. IsLastUnfit c.args.main.now c.args.request.now c.args.vars.now (last_seen l)) (sym c.in-Path.is) (c.target_of.ensures.too_long refused)

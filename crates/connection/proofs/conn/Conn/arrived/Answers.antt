@@ -6,10 +6,11 @@ use Rattle.ngx_outside.specs.Views.Ground.{Always}
 use Rattle.connection.specs.Conn.{view_at}
 use Rattle.connection.specs.Answers.{service_of}
 use Rattle.connection.proofs.Moves.{room_some, arrived_went, arrived_left, some_taken, refused, refused_left}
+use Rattle.connection.proofs.Timed.{went_until, refused_until}
 use Rattle.connection.proofs.conn.Conn.arrived.Goals as goal
 
-pub returns-in-Ok : goal.returns-in-Ok
-returns-in-Ok c = λ site now conn.
+pub returns-in-Ok-clause-steps : goal.returns-in-Ok-clause-steps
+returns-in-Ok-clause-steps c = λ site now conn.
     let s = c.args.self.now in
     let service = service_of site s.local s.peer in
     let d = c.drop_rest-dropped.result in
@@ -29,8 +30,8 @@ returns-in-Ok c = λ site now conn.
     record {
       own = λ course. (
         record { most = c.in-Some.room; has_room = has; takes = c.min-taken.ensures; some = some_taken (length c.args.bytes.now) c.in-Some.room c.min-taken.result c.min-taken.ensures some r.3 },
-        subst (λ b. Went Always (view_at service s.cause s.flow s.out s.journal.items s.closing s.ended s.body s.held s.next) (view_at service s.cause s.flow s.out s.journal.items d.broken s.ended d.body n.held n.next) b [] []) c.first_bytes-bytes.ensures
-            (arrived_went service s.cause s.flow s.out s.journal.items s.closing d.broken s.ended s.body d.body s.held n.held kept s.next n.next first r.0 r.1 s.drained c.drop_rest-dropped.ensures.none drops held (s.logged r.0)),
+        went_until _ _ Always _ _ _ [] [] (subst (λ b. Went Always (view_at service s.cause s.flow s.out s.journal.items s.closing s.ended s.body s.held s.next) (view_at service s.cause s.flow s.out s.journal.items d.broken s.ended d.body n.held n.next) b [] []) c.first_bytes-bytes.ensures
+            (arrived_went service s.cause s.flow s.out s.journal.items s.closing d.broken s.ended s.body d.body s.held n.held kept s.next n.next first r.0 r.1 s.drained c.drop_rest-dropped.ensures.none drops held (s.logged r.0))),
       );
       left = arrived_left s.cause s.flow s.out s.closing d.broken s.held n.held kept c.args.bytes.now c.min-taken.result r.1 held few;
       ended = refl;
@@ -38,15 +39,15 @@ returns-in-Ok c = λ site now conn.
       asked = inl (omega arith);
     }
 
-pub returns-in-Err : goal.returns-in-Err
-returns-in-Err c = λ site now conn.
+pub returns-in-Err-clause-steps : goal.returns-in-Err-clause-steps
+returns-in-Err-clause-steps c = λ site now conn.
     let s = c.args.self.now in
     let service = service_of site s.local s.peer in
     let n = c.take_in.new in
     let has = sym c.room.ensures ∙ c.in-Some.is in
     let r = room_some (is_some s.cause) s.closing s.ended s.held c.in-Some.room has in
     record {
-      own = λ course. refused now service s.cause s.flow s.out c.clear.new.self s.journal.items s.journal.items s.closing s.closing s.ended s.ended s.body None s.held c.clear-in-Err.new.self s.next n.next r.0 c.clear.ensures refl;
+      own = λ course. refused_until _ _ now _ _ (refused now service s.cause s.flow s.out c.clear.new.self s.journal.items s.journal.items s.closing s.closing s.ended s.ended s.body None s.held c.clear-in-Err.new.self s.next n.next r.0 c.clear.ensures refl);
       left = refused_left s.cause s.flow s.out c.clear.new.self s.closing s.closing s.held c.clear-in-Err.new.self r.0;
       ended = refl;
       taken = tt;

@@ -1,11 +1,12 @@
 use Rattle.std.proofs.Common.{◌≡◌, ℕ, length, sym, ap, ◌∙◌, subst, arith}
-use Rattle.ngx_outside.specs.Views.{Start, Steps, OpensIf, CountsHeld, CountsRefused, TakesNone, now_after, ended_after, nobody}
+use Rattle.ngx_outside.specs.Views.{Start, Steps, Ticked, LeftBy, kept_moment, OpensIf, CountsHeld, CountsRefused, TakesNone, now_after, ended_after, nobody}
 use Rattle.ngx_outside.specs.declared.event.StepAnswer.TheVariants.{Done}
 use Rattle.ngx_outside.specs.Seen.{opens_at}
-use Rattle.connection_core.specs.Core.{view_at, fresh_at, now_at, seen_at}
-use Rattle.connection_core.specs.Table.{view_in}
+use Rattle.connection_core.specs.Core.{view_at, fresh_at, now_at, left_at, price_at, seen_at}
+use Rattle.connection_core.specs.Table.{view_in, left_in, AllTicked}
+use Rattle.connection_core.proofs.Ticks.{ticked_in, ticked_ended, ticked_left, ticked_known}
 use Rattle.connection_core.proofs.Ends.{known_later, opens_as}
-use Rattle.connection_core.proofs.Steps.{kept_is, waits_in, gone_counts, ended_opened, ended_gone}
+use Rattle.connection_core.proofs.Steps.{kept_is, gone_counts, ended_opened, ended_gone}
 use Rattle.connection_core.proofs.hub.HubEventCore.step.Goals as goal
 
 pub returns-in-Opened-clause-steps : goal.returns-in-Opened-clause-steps
@@ -56,12 +57,47 @@ returns-in-Gone-clause-taken c = subst (λ e. TakesNone e c.close.result) (sym c
 pub returns-in-Tick-clause-steps : goal.returns-in-Tick-clause-steps
 returns-in-Tick-clause-steps c =
     let h = c.args.self.now in
-    subst (λ e. Steps (fresh_at h) (now_at h) e (Done 0) (view_at h) (view_at h)) (sym c.in-Tick.is) (λ q. waits_in h.table.site h.table.ids.items h.table.conns.items _ q)
+    let t = h.table in
+    let n = c.tick.new.self in
+    subst (λ e. Steps (fresh_at h) (now_at h) e (Done 0) (view_at h) (view_in n.site n.ids.items n.conns.items)) (sym c.in-Tick.is) (λ q.
+    subst (λ s. Ticked (kept_moment c.in-Tick.now) (view_at h q) (view_in s n.ids.items n.conns.items q)) (sym c.tick.ensures.site)
+    (subst (λ l. Ticked (kept_moment c.in-Tick.now) (view_at h q) (view_in t.site l n.conns.items q)) (sym c.tick.ensures.ids)
+    (ticked_in t.site t.ids.items t.conns.items n.conns.items (kept_moment c.in-Tick.now) (subst (λ m. AllTicked m t.conns.items n.conns.items) (c.min-moment.ensures ∙ kept_is c.in-Tick.now) c.tick.ensures.ticked) q)))
+
+pub returns-in-Tick-clause-ended : goal.returns-in-Tick-clause-ended
+returns-in-Tick-clause-ended c =
+    let h = c.args.self.now in
+    let t = h.table in
+    let n = c.tick.new.self in
+    subst (λ e. (q : ℕ) → (view_in n.site n.ids.items n.conns.items q).ended ≡ ended_after e (Done 0) q (view_at h q).ended) (sym c.in-Tick.is) (λ q.
+    subst (λ s. (view_in s n.ids.items n.conns.items q).ended ≡ (view_at h q).ended) (sym c.tick.ensures.site)
+    (subst (λ l. (view_in t.site l n.conns.items q).ended ≡ (view_at h q).ended) (sym c.tick.ensures.ids)
+    (ticked_ended t.site t.ids.items t.conns.items n.conns.items c.min-moment.result c.tick.ensures.ticked q)))
+
+pub returns-in-Tick-clause-left : goal.returns-in-Tick-clause-left
+returns-in-Tick-clause-left c =
+    let h = c.args.self.now in
+    let n = c.tick.new.self in
+    subst (λ e. LeftBy (price_at h) e (Done 0) (left_at h) (left_in n.conns.items)) (sym c.in-Tick.is) (ticked_left c.min-moment.result h.table.conns.items n.conns.items c.tick.ensures.ticked)
+
+pub returns-in-Tick-clause-held : goal.returns-in-Tick-clause-held
+returns-in-Tick-clause-held c =
+    let h = c.args.self.now in
+    let n = c.tick.new.self in
+    subst (λ e. CountsHeld e (Done 0) (length h.table.ids.items) (length n.ids.items)) (sym c.in-Tick.is) (ap length c.tick.ensures.ids)
+
+pub tick-requires : goal.tick-requires
+tick-requires c = let e = c.min-moment.ensures in omega (arith, e)
+
+pub invariant_of-self-in-Tick : goal.invariant_of-self-in-Tick
+invariant_of-self-in-Tick c =
+    let h = c.args.self.now in
+    record { known = ticked_known h.tree c.min-moment.result h.table.conns.items c.tick.new.self.conns.items c.tick.ensures.ticked h.known }
 
 pub returns-in-Tick-clause-now : goal.returns-in-Tick-clause-now
 returns-in-Tick-clause-now c =
     let h = c.args.self.now in
-    ap (λ (m : ℕ). let s : Start = record { moment = m; tree = h.tree } in s) (c.min-self.ensures ∙ kept_is c.in-Tick.now) ∙ ap (λ e. now_after (now_at h) e (Done 0)) (sym c.in-Tick.is)
+    ap (λ (m : ℕ). let s : Start = record { moment = m; tree = h.tree } in s) (c.min-moment.ensures ∙ kept_is c.in-Tick.now) ∙ ap (λ e. now_after (now_at h) e (Done 0)) (sym c.in-Tick.is)
 
 pub returns-in-Gone-clause-steps : goal.returns-in-Gone-clause-steps
 returns-in-Gone-clause-steps c =

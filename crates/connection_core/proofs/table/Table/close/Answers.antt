@@ -1,8 +1,9 @@
-use Rattle.std.proofs.Common.{◌≡◌, ◌≤◌, ◌*◌, ◌+◌, length, take, drop, subst, sym, ap, ◌∙◌, arith}
+use Rattle.std.proofs.Common.{◌≡◌, length, sym, ap, ◌∙◌, arith}
 use Rattle.ngx_outside.specs.Views.{ConnView}
 use Rattle.connection.specs.Conn.{view_of}
 use Rattle.connection_core.proofs.Held.{seat_at, seen, unseen, here_is, stands_in, belongs_in}
 use Rattle.connection_core.proofs.Ends.{cut_rising, cut_steps, cut_known, keeps_open}
+use Rattle.connection_core.proofs.Ticks.{cut_later}
 use Rattle.connection_core.proofs.table.Table.close.Goals as goal
 
 pub returns-then-not-is_shut-clause-steps : goal.returns-then-not-is_shut-clause-steps
@@ -42,7 +43,10 @@ pub invariant_of-self : goal.invariant_of-self
 invariant_of-self c =
     let t = c.args.self.now in
     let stands = stands_in c.args.conn c.in-Ok.at c.as_slice.result.now t.ids.items c.as_slice.ensures.value c.in-Ok.ensures in
+    let even : length t.conns.items ≡ length t.ids.items = omega (arith, t.paired, t.ids.ok.0, t.conns.ok.0) in
+    let s = seat_at c.args.conn c.in-Ok.at t.ids.items t.conns.items stands even in
     record {
+      later = cut_later t.soon c.args.conn c.in-Ok.at t.ids.items t.conns.items c.remove-in-Ok.new.self.items s c.remove-in-Ok.ensures.items t.later;
       rising = cut_rising c.args.conn c.in-Ok.at t.ids.items c.remove.new.self.items stands c.remove.ensures.items t.rising;
       paired = omega (arith, t.paired, c.remove.ensures.len, c.remove-in-Ok.ensures.len);
     }

@@ -1,12 +1,15 @@
-use Rattle.std.proofs.Common.{◌≡◌, length, arith}
+use Rattle.std.proofs.Common.{◌≡◌, ◌≤◌, length, subst, arith}
 use Rattle.ngx_outside.specs.Views.{Start, nobody}
-use Rattle.connection_core.proofs.Held.{seat_at, one_steps, one_ended, left_after, none_steps, stands_in, belongs_in}
-use Rattle.connection_core.specs.Table.{view_in}
+use Rattle.connection.specs.Conn.{due_at}
+use Rattle.connection.specs.Times.{soonest}
+use Rattle.connection_core.specs.Table.{Placed}
+use Rattle.connection_core.proofs.Ticks.{set_later}
+use Rattle.connection_core.proofs.Held.{here_is, seat_at, one_steps, one_ended, left_after, none_steps, stands_in, belongs_in}
 use Rattle.connection_core.proofs.Ends.{own_known}
 use Rattle.connection_core.proofs.table.Table.own.Goals as goal
 
-pub happen_at-requires : goal.happen_at-requires
-happen_at-requires c =
+pub happen_at-answer-requires : goal.happen_at-answer-requires
+happen_at-answer-requires c =
     let t = c.args.self.now in
     let even : length t.conns.items ≡ length t.ids.items = omega (arith, t.paired, t.ids.ok.0, t.conns.ok.0) in
     record { placed = (seat_at c.args.conn c.in-Ok.at t.ids.items t.conns.items (stands_in c.args.conn c.in-Ok.at c.as_slice.result.now t.ids.items c.as_slice.ensures.value c.in-Ok.ensures) even).placed }
@@ -17,7 +20,7 @@ returns-in-Ok-clause-steps c =
     let even : length t.conns.items ≡ length t.ids.items = omega (arith, t.paired, t.ids.ok.0, t.conns.ok.0) in
     let s = seat_at c.args.conn c.in-Ok.at t.ids.items t.conns.items (stands_in c.args.conn c.in-Ok.at c.as_slice.result.now t.ids.items c.as_slice.ensures.value c.in-Ok.ensures) even in
     let now : Start = record { moment = c.args.moment; tree = c.args.tree } in
-    one_steps t.site c.args.conn c.in-Ok.at t.ids.items t.conns.items c.happen_at.new.conns.items now c.args.event c.happen_at.result s (c.happen_at.ensures.replaced c.requires.own s.placed) nobody.course
+    one_steps t.site c.args.conn c.in-Ok.at t.ids.items t.conns.items c.happen_at-answer.new.conns.items now c.args.event c.happen_at-answer.result s (c.happen_at-answer.ensures.replaced c.requires.own s.placed) nobody.course
 
 pub returns-in-Ok-clause-left : goal.returns-in-Ok-clause-left
 returns-in-Ok-clause-left c =
@@ -25,7 +28,7 @@ returns-in-Ok-clause-left c =
     let even : length t.conns.items ≡ length t.ids.items = omega (arith, t.paired, t.ids.ok.0, t.conns.ok.0) in
     let s = seat_at c.args.conn c.in-Ok.at t.ids.items t.conns.items (stands_in c.args.conn c.in-Ok.at c.as_slice.result.now t.ids.items c.as_slice.ensures.value c.in-Ok.ensures) even in
     let now : Start = record { moment = c.args.moment; tree = c.args.tree } in
-    left_after t.site c.args.conn c.in-Ok.at t.ids.items t.conns.items c.happen_at.new.conns.items now c.args.event c.happen_at.result s c.requires.own (c.happen_at.ensures.replaced c.requires.own s.placed)
+    left_after t.site c.args.conn c.in-Ok.at t.ids.items t.conns.items c.happen_at-answer.new.conns.items now c.args.event c.happen_at-answer.result s c.requires.own (c.happen_at-answer.ensures.replaced c.requires.own s.placed)
 
 pub returns-in-Ok-clause-ended : goal.returns-in-Ok-clause-ended
 returns-in-Ok-clause-ended c =
@@ -33,14 +36,14 @@ returns-in-Ok-clause-ended c =
     let even : length t.conns.items ≡ length t.ids.items = omega (arith, t.paired, t.ids.ok.0, t.conns.ok.0) in
     let s = seat_at c.args.conn c.in-Ok.at t.ids.items t.conns.items (stands_in c.args.conn c.in-Ok.at c.as_slice.result.now t.ids.items c.as_slice.ensures.value c.in-Ok.ensures) even in
     let now : Start = record { moment = c.args.moment; tree = c.args.tree } in
-    one_ended t.site c.args.conn c.in-Ok.at t.ids.items t.conns.items c.happen_at.new.conns.items now c.args.event c.happen_at.result s (c.happen_at.ensures.replaced c.requires.own s.placed)
+    one_ended t.site c.args.conn c.in-Ok.at t.ids.items t.conns.items c.happen_at-answer.new.conns.items now c.args.event c.happen_at-answer.result s (c.happen_at-answer.ensures.replaced c.requires.own s.placed)
 
 pub returns-in-Ok-clause-taken : goal.returns-in-Ok-clause-taken
 returns-in-Ok-clause-taken c =
     let t = c.args.self.now in
     let even : length t.conns.items ≡ length t.ids.items = omega (arith, t.paired, t.ids.ok.0, t.conns.ok.0) in
     let s = seat_at c.args.conn c.in-Ok.at t.ids.items t.conns.items (stands_in c.args.conn c.in-Ok.at c.as_slice.result.now t.ids.items c.as_slice.ensures.value c.in-Ok.ensures) even in
-    (c.happen_at.ensures.replaced c.requires.own s.placed).does.taken
+    (c.happen_at-answer.ensures.replaced c.requires.own s.placed).does.taken
 
 pub returns-in-Err-clause-steps : goal.returns-in-Err-clause-steps
 returns-in-Err-clause-steps c =
@@ -54,4 +57,18 @@ returns-in-Ok-clause-known c = λ known.
     let even : length t.conns.items ≡ length t.ids.items = omega (arith, t.paired, t.ids.ok.0, t.conns.ok.0) in
     let s = seat_at c.args.conn c.in-Ok.at t.ids.items t.conns.items (stands_in c.args.conn c.in-Ok.at c.as_slice.result.now t.ids.items c.as_slice.ensures.value c.in-Ok.ensures) even in
     let now : Start = record { moment = c.args.moment; tree = c.args.tree } in
-    own_known t.site c.args.conn c.in-Ok.at t.conns.items c.happen_at.new.conns.items now c.args.event c.happen_at.result s.placed (c.happen_at.ensures.replaced c.requires.own s.placed) known
+    own_known t.site c.args.conn c.in-Ok.at t.conns.items c.happen_at-answer.new.conns.items now c.args.event c.happen_at-answer.result s.placed (c.happen_at-answer.ensures.replaced c.requires.own s.placed) known
+
+pub invariant_of-self : goal.invariant_of-self
+invariant_of-self c =
+    let t = c.args.self.now in
+    let even : length t.conns.items ≡ length t.ids.items = omega (arith, t.paired, t.ids.ok.0, t.conns.ok.0) in
+    let s = seat_at c.args.conn c.in-Ok.at t.ids.items t.conns.items (stands_in c.args.conn c.in-Ok.at c.as_slice.result.now t.ids.items c.as_slice.ensures.value c.in-Ok.ensures) even in
+    let r = c.happen_at-answer.ensures.replaced c.requires.own s.placed in
+    let p : Placed c.in-Ok.at c.happen_at-answer.new.conns.items = record { front = s.placed.front; here = r.there; back = s.placed.back; whole = r.whole; size = s.placed.size } in
+    let here = here_is c.in-Ok.at c.happen_at-answer.new.conns.items p c.index.result.now c.index.ensures in
+    record {
+      rising = t.rising;
+      paired = omega (arith, t.paired, c.happen_at-answer.ensures.len);
+      later = set_later t.soon c.earlier-self.result s.placed.front s.placed.back s.placed.here r.there t.conns.items c.happen_at-answer.new.conns.items s.placed.whole r.whole c.earlier-self.ensures.0 (subst (λ x. c.earlier-self.result ≤ soonest (due_at x)) here c.earlier-self.ensures.1) t.later;
+    }

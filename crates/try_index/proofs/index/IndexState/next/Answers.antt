@@ -1,4 +1,4 @@
-use Rattle.std.proofs.Common.{◌≡◌, true, false, Some, None, Err, map, unwrap_or, ap, sym, ◌∙◌, rules}
+use Rattle.std.proofs.Common.{◌≡◌, true, false, Err, map, sym, ◌∙◌, rules}
 use Rattle.ngx_variables.specs.declared.fault.EvalFault.TheVariants.{TooLong}
 use Rattle.site_whole.specs.Whole.{index_seen}
 use Rattle.try_index.specs.Searches.{is_file}
@@ -33,3 +33,13 @@ returns-in_err-step-in-None-clause-too_long c = λ e s item at node.
     let refused : c.search-in-None.result ≡ Err TooLong = search rules in
     turns.index_first c.args.main.now c.args.vars.now s (map index_seen c.args.names.now) c.args.self.now item (sym c.in-None.ensures.value)
     ∙ c.search-in-None.ensures.too_long refused s at
+
+pub returns-in_err-step-in-Some-clause-unfit : goal.returns-in_err-step-in-Some-clause-unfit
+returns-in_err-step-in-Some-clause-unfit c = λ e.
+    let refused : c.search.result ≡ Err TooLong = search rules in
+    c.search.ensures.unfit refused
+
+pub returns-in_err-step-in-None-clause-unfit : goal.returns-in_err-step-in-None-clause-unfit
+returns-in_err-step-in-None-clause-unfit c = λ e.
+    let refused : c.search-in-None.result ≡ Err TooLong = search rules in
+    c.search-in-None.ensures.unfit refused

@@ -1,6 +1,7 @@
-use Rattle.std.proofs.Common.{◌≡◌, ◌<◌, ◌≤◌, Err, true, false, length, get_or, ap, sym, subst, ◌∙◌, arith, rules}
+use Rattle.std.proofs.Common.{◌≡◌, ◌≤◌, Err, true, false, length, subst, ◌∙◌, refl, inl, inr, arith, rules}
 use Rattle.ngx_variables.specs.declared.fault.EvalFault.TheVariants.{TooLong}
 use Rattle.try_index.specs.Searches.{IsNotThere, IsThere, IsUnfit}
+use Rattle.site_whole.specs.Whole.{index_seen}
 use Rattle.try_index.proofs.Turns as turns
 use Rattle.try_index.proofs.index.IndexState.search.Goals as goal
 
@@ -44,3 +45,27 @@ returns-in_err-path-clause-too_long c = λ e s at.
     let refused : c.evaluated.result ≡ Err TooLong = search rules in
     c.loop-self.invariant s at
     ∙ turns.index_unfit c.fit_value_settles.ensures c.item_settles.ensures c.args.main.now c.args.vars.now c.args.request.now c.args.place.now s at c.args.names.now c.loop-self.self.passed name (omega (arith, c.loop-self-test.true)) c.index-names-at.is (c.evaluated.ensures.too_long refused)
+
+pub returns-in_err-found-clause-unfit : goal.returns-in_err-found-clause-unfit
+returns-in_err-found-clause-unfit c = λ e.
+    let name = c.index-names-at.result in
+    let other : name.is_path ≡ false = search rules in
+    let refused : c.turn_of.result ≡ Err TooLong = search rules in (
+      c.loop-self.self.passed,
+      index_seen name,
+      refl,
+      turns.got_seen c.args.names.now c.loop-self.self.passed name (omega (arith, c.loop-self-test.true)) c.index-names-at.is,
+      inr (other, subst (λ front. IsUnfit c.args.main.now c.args.request.now c.args.vars.now c.args.place.now front name.text) c.as_slice-front.ensures (c.turn_of.ensures.too_long refused)),
+    )
+
+pub returns-in_err-path-clause-unfit : goal.returns-in_err-path-clause-unfit
+returns-in_err-path-clause-unfit c = λ e.
+    let name = c.index-names-at.result in
+    let path : name.is_path ≡ true = search rules in
+    let refused : c.evaluated.result ≡ Err TooLong = search rules in (
+      c.loop-self.self.passed,
+      index_seen name,
+      refl,
+      turns.got_seen c.args.names.now c.loop-self.self.passed name (omega (arith, c.loop-self-test.true)) c.index-names-at.is,
+      inl (path, c.evaluated.ensures.too_long refused),
+    )

@@ -1,5 +1,4 @@
-use Rattle.std.proofs.Common.{◌≡◌, ◌<◌, ◌≤◌, Err, [], length, get_or, ap, sym, ◌∙◌, arith, rules}
-use Rattle.acts.specs.Act.{settled, Stat}
+use Rattle.std.proofs.Common.{◌≡◌, ◌<◌, ◌≤◌, Err, [], length, get_or, ap, ◌∙◌, refl, inl, inr, arith, rules}
 use Rattle.ngx_variables.specs.declared.fault.EvalFault.TheVariants.{TooLong}
 use Rattle.site_whole.specs.Whole.{last_seen, tries_seen}
 use Rattle.try_index.specs.Searches.{IsNotThere, IsThere}
@@ -53,3 +52,20 @@ returns-in_err-step-clause-too_long c = λ e s at.
     c.loop-self.invariant s at
     ∙ (turns.tried_done c.args.main.now c.args.vars.now s names (last_seen c.args.tries.now.last) c.loop-self.self.passed over
     ∙ c.last_step.ensures.too_long refused s at.of_request)
+
+pub returns-in_err-found-clause-unfit : goal.returns-in_err-found-clause-unfit
+returns-in_err-found-clause-unfit c = λ e.
+    let names = c.args.tries.now.names.items in
+    let place = c.loop-self.self.passed in
+    let name = c.index-names-at.result in
+    let inside : place < length names = omega (arith, c.loop-self-test.true, ap length c.as_slice-names.ensures.value) in
+    let here : name ≡ get_or names place name = c.index-names-at.is ∙ ap (λ l. get_or l place name) c.as_slice-names.ensures.value in
+    let refused : c.turn_of.result ≡ Err TooLong = search rules in
+    inl (place, name, refl, turns.got_at names place name inside here, c.turn_of.ensures.too_long refused)
+
+pub returns-in_err-step-clause-unfit : goal.returns-in_err-step-clause-unfit
+returns-in_err-step-clause-unfit c = λ e.
+    let names = c.args.tries.now.names.items in
+    let over : length names ≤ c.loop-self.self.passed = omega (arith, c.loop-self-test.false, ap length c.as_slice-names.ensures.value) in
+    let refused : c.last_step.result ≡ Err TooLong = search rules in
+    inr (over, c.last_step.ensures.unfit refused)

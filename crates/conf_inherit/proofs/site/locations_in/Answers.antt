@@ -1,0 +1,11 @@
+use Rattle.conf_inherit.proofs.SiteLaws.{added-all}
+use Rattle.conf_inherit.proofs.site.locations_in.Goals as goal
+
+pub returns-clause-seen : goal.returns-clause-seen
+returns-clause-seen c = λ site h. added-all c.in_ok-add_locations.ensures c.new-locations.ensures.items site h
+
+pub returns-clause-levels : goal.returns-clause-levels
+returns-clause-levels c = c.in_ok-add_locations.ensures.levels_kept
+
+pub returns-clause-types : goal.returns-clause-types
+returns-clause-types c = c.in_ok-add_locations.ensures.types_kept

@@ -1,0 +1,8 @@
+mod Lists
+mod Notes
+mod Keys
+mod Alike
+mod Programs
+mod Numbering
+mod Telling
+mod Deciding

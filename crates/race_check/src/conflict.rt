@@ -1,0 +1,187 @@
+// The variables that the race check names.
+ghost use Rattle.std.specs.Prelude.{◌≡◌, ◌||◌, ◌&&◌, ℕ, ◌++◌, List, map, filter, bytes_eq, OnOk, IfOk};
+ghost use Rattle.std.specs.List.{list_any};
+ghost use Rattle.request_meaning.specs.Documents.{is_visible};
+ghost use Rattle.site_views.specs.Pattern.{Pattern};
+ghost use Rattle.site_whole.specs.Whole.{server_whole, whole};
+ghost use Rattle.race_check.specs.Names.{has as has_name};
+ghost use Rattle.race_check.specs.Numbers.{level_numbers, value_numbers};
+ghost use Rattle.race_check.specs.Told.{has_or_all, has_one_value, is_marked, marked, AllSet, AreMarks, HasNamed, AreConflicts};
+
+use crate::levels::{has_documents, has_open, level_numbers, value_numbers};
+use crate::marks::{add_exposed, first_sets, read_by_values, set_by_auth, set_texts};
+use crate::names::NameSet;
+use crate::texts::SetTexts;
+use byte_text::{ByteText, ByteTexts, OutOfMemory};
+use site_model::{Server, Site};
+use std::alloc::Global;
+
+/// A variable that can show in which order the subrequests of a page ran: the place of its server among the site's, from 1
+/// on; its name without the `$`; and whether documents read it.
+#[derive(Drop)]
+pub struct Conflict {
+    pub server: usize,
+    pub name: ByteText,
+    pub documents: bool,
+}
+
+/// What decides of each variable whether it is named: the texts that it is given, whether a subrequest for access sets it,
+/// whether the server's program begins with its `set`, whether it is read where others could have set it, whether there are
+/// documents, and which variables they see, all without a list.
+#[derive(Drop)]
+pub struct Marks {
+    pub texts: SetTexts,
+    pub auth: NameSet,
+    pub first: NameSet,
+    pub exposed: NameSet,
+    pub documents: bool,
+    pub visible: Option<NameSet>,
+}
+
+fn names_in(alloc: Global, texts: &[ByteText]) -> Result<NameSet, OutOfMemory>
+    ensures { IfOk result (λ names. (name : List ℕ)
+        → has_name names name ≡ list_any (bytes_eq name) texts.now) }
+{
+    let mut names = NameSet::new(alloc);
+    for text in texts {
+        names.add(text.as_slice())?;
+    }
+    Ok(names)
+}
+
+fn visible_names(alloc: Global, visible: &Option<ByteTexts>) -> Result<Option<NameSet>, OutOfMemory>
+    ensures { IfOk result (λ names. (name : List ℕ)
+        → has_or_all names name ≡ is_visible visible.now name) }
+{
+    match visible {
+        Some(texts) => {
+            let names = names_in(alloc, texts.as_slice())?;
+            Ok(Some(names))
+        }
+        None => Ok(None),
+    }
+}
+
+/// What decides in a server with these levels.
+fn marks_of(
+    alloc: Global,
+    site: &Site,
+    server: &Server,
+    levels: &[u32],
+    values: &[u32],
+) -> Result<Marks, OutOfMemory>
+    requires levels { levels.now ≡ level_numbers server.now }
+    requires values { values.now ≡ value_numbers site.now levels.now }
+    ensures { IfOk result (λ marks. (patterns : List Pattern)
+        → AreMarks (server_whole patterns site.now server.now) marks) }
+{
+    let mut exposed = read_by_values(alloc, site, values)?;
+    add_exposed(&mut exposed, alloc, site, levels)?;
+    let texts = set_texts(alloc, site, levels)?;
+    let auth = set_by_auth(alloc, site, values)?;
+    let first = first_sets(alloc, site.level(server.level))?;
+    let documents = has_documents(site, values);
+    let visible = visible_names(alloc, &server.visible)?;
+    Ok(Marks {
+        texts,
+        auth,
+        first,
+        exposed,
+        documents,
+        visible,
+    })
+}
+
+impl Marks {
+    /// Whether documents may read a variable.
+    fn is_shown(&self, name: &[u8]) -> bool
+        ensures { result
+            ≡ (self.now.documents && has_or_all self.now.visible name.now) }
+    {
+        if !self.documents {
+            return false;
+        }
+        match &self.visible {
+            Some(names) => names.has(name),
+            None => true,
+        }
+    }
+
+    /// Whether a variable has one value for each main request, which its server's program sets first of all.
+    fn is_fixed(&self, name: &[u8]) -> bool
+        ensures { result ≡ has_one_value self.now name.now }
+    {
+        !self.auth.has(name) && self.texts.is_one(name) && self.first.has(name)
+    }
+
+    /// Whether a variable that is set in an open server is named.
+    fn is_named(&self, name: &[u8]) -> bool
+        ensures { result ≡ is_marked self.now name.now }
+    {
+        !self.is_fixed(name) && (self.is_shown(name) || self.exposed.has(name))
+    }
+
+    /// Adds the variables that are named in a server, with its number.
+    fn push_named(
+        &self,
+        conflicts: &mut Vec<Conflict>,
+        alloc: Global,
+        number: usize,
+    ) -> Result<(), OutOfMemory>
+        ensures { OnOk result ((names : List (List ℕ)) × AllSet self.now.texts names
+            × (conflicts.new.items ≡ conflicts.old.items
+            ++ map (marked number self.now) (filter (is_marked self.now) names))) }
+    {
+        let names = self.texts.names()?;
+        for name in &names {
+            if self.is_named(name.as_slice()) {
+                conflicts.push(Conflict {
+                    server: number,
+                    name: ByteText::from_slice(alloc, name.as_slice())?,
+                    documents: self.is_shown(name.as_slice()),
+                })?;
+            }
+        }
+        Ok(())
+    }
+}
+
+/// Adds the variables of a server that are named.
+fn push_conflicts(
+    conflicts: &mut Vec<Conflict>,
+    alloc: Global,
+    site: &Site,
+    server: &Server,
+    number: usize,
+) -> Result<(), OutOfMemory>
+    ensures { OnOk result ((patterns : List Pattern)
+        → HasNamed number (server_whole patterns site.now server.now)
+        conflicts.old.items conflicts.new.items) }
+{
+    let levels = level_numbers(alloc, server)?;
+    let values = value_numbers(alloc, site, levels.as_slice())?;
+    if !has_open(site, values.as_slice()) {
+        return Ok(());
+    }
+    let marks = marks_of(alloc, site, server, levels.as_slice(), values.as_slice())?;
+    marks.push_named(conflicts, alloc, number)?;
+    Ok(())
+}
+
+/// The variables that can show in which order the subrequests of a page ran, server by server, and in a server each once, in
+/// the order of their bytes. A variable is one where a level of the server has server side includes or additions, a `set`
+/// sets it, it hasn't one text of literals and variables of the main request which a `set` at the beginning of the server's
+/// program gives it, and documents may read it, or a directive reads it that isn't in a program after an unconditional
+/// `set` of it with no test of a file between. Where there is none, nobody can tell the order.
+pub fn conflicts(alloc: Global, site: &Site) -> Result<Vec<Conflict>, OutOfMemory>
+    ensures { IfOk result (λ conflicts. (patterns : List Pattern)
+        → AreConflicts 1 (whole patterns site.now).servers conflicts.items) }
+{
+    let mut conflicts = Vec::new(alloc);
+    let mut number = 0;
+    for server in &site.servers {
+        number += 1;
+        push_conflicts(&mut conflicts, alloc, site, server, number)?;
+    }
+    Ok(conflicts)
+}

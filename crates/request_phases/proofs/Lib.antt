@@ -1,0 +1,6 @@
+mod Acts
+mod Contents
+mod Nexts
+mod Programs
+mod Ahead
+mod Slashes

@@ -1,0 +1,6 @@
+pub mod Located
+pub mod Nexts
+pub mod Programs
+pub mod Rounds
+pub mod Turns
+pub mod Verdicts

@@ -1,0 +1,17 @@
+//! The phases of a request over the whole site
+//! (<https://nginx.org/en/docs/dev/development_guide.html#http_phases>): from its head, or a change, to what is answered,
+//! suspended at each question to the files and at each subrequest that decides on access.
+#![tactic(auto)]
+
+mod access;
+mod content;
+mod decide;
+mod ground;
+mod lists;
+mod locate;
+mod rounds;
+mod state;
+
+pub use ground::Ground;
+pub use rounds::{begin, resume};
+pub use state::{Handled, Outcome, Phases, Step, Wait};

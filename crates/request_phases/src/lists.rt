@@ -1,0 +1,50 @@
+// The lists that levels name by number.
+ghost use Rattle.std.specs.Prelude.{◌≡◌, map};
+ghost use Rattle.site_whole.specs.Whole.{index_at, pages_at, rules_at, index_seen, page_seen, default_index};
+
+use access_rules::Rule;
+use site_model::{IndexName, PageRule, Site};
+
+/// The rules of `error_page` with a number.
+pub(crate) fn pages_at(site: &Site, number: Option<u32>) -> &[PageRule]
+    ensures { map page_seen result.now ≡ pages_at site.now number }
+{
+    match number {
+        None => &[],
+        Some(number) => match site.pages.get(number as usize) {
+            Some(pages) => pages.rules.as_slice(),
+            None => &[],
+        },
+    }
+}
+
+/// The address rules with a number.
+pub(crate) fn rules_at(site: &Site, number: Option<u32>) -> &[Rule]
+    ensures { result.now ≡ rules_at site.now number }
+{
+    match number {
+        None => &[],
+        Some(number) => match site.rules.get(number as usize) {
+            Some(rules) => rules.rules.as_slice(),
+            None => &[],
+        },
+    }
+}
+
+/// The names of `index` with a number, and without one those that hold where none are stated.
+pub(crate) fn index_at<'a>(
+    site: &'a Site,
+    unstated: &'a [IndexName],
+    number: Option<u32>,
+) -> &'a [IndexName]
+    requires { map index_seen unstated.now ≡ default_index }
+    ensures { map index_seen result.now ≡ index_at site.now number }
+{
+    match number {
+        None => unstated,
+        Some(number) => match site.indexes.get(number as usize) {
+            Some(names) => names.names.as_slice(),
+            None => &[],
+        },
+    }
+}

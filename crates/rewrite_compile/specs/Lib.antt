@@ -1,0 +1,4 @@
+pub mod Words
+pub mod Conditions
+pub mod Readings
+pub mod Numbered
