@@ -22,9 +22,11 @@ count() { # how many blocks
         awk -v times="$1" '{ text = text $0 "\n" } END { for (i = 0; i < times; i++) printf "%s", text }' "$work/block"
         printf '.\ntree\n.\nevents\ndrain\n'
     } >"$work/$1.replay"
-    valgrind --tool=callgrind --callgrind-out-file="$work/out.$1" "$top/ngx" replay "$work/$1.replay" 2>&1 >/dev/null |
+    valgrind --tool=callgrind --callgrind-out-file="$work/out.$1" "$top/crates/ngx/out/ngx" replay "$work/$1.replay" 2>&1 >/dev/null |
         sed -n 's/.*Collected : \([0-9]*\).*/\1/p'
 }
+# builds the program where it isn't built
+"$top/ngx" replay /dev/null >/dev/null 2>&1 || true
 none=$(count 0)
 for bytes in 65536 1048576; do
     blocks=$((bytes / size))
