@@ -132,9 +132,9 @@ fn what_has_no_effect_yet_is_told_so(rt: HostRuntime) -> Result<(), Fail> {
             ),
             (b"http { server { server_name a; } }", 1, b"server_name"),
             (
-                b"http { keepalive_timeout 5;\nsend_timeout 5; server { } }",
+                b"http { keepalive_timeout 5;\nclient_max_body_size 5; server { } }",
                 2,
-                b"send_timeout",
+                b"client_max_body_size",
             ),
         ],
     )
