@@ -7,7 +7,9 @@ program=${NGX:-$top/ngx}
 work=$(mktemp -d)
 port=18090
 url=http://127.0.0.1:$port/
-printf 'http { server { listen 127.0.0.1:%s; location / { return 200 hi; } } }\n' $port >"$work/conf"
+chmod 755 "$work"
+truncate -s 200M "$work/large"
+printf 'http { server { listen 127.0.0.1:%s; root %s; location / { return 200 hi; } location /large { } } }\n' $port "$work" >"$work/conf"
 "$program" serve "$work/conf" &
 server=$!
 trap 'kill $server 2>/dev/null; rm -rf "$work"' EXIT
@@ -25,7 +27,7 @@ printf 'GET / HTTP/1.1\r\nHost: a\r\n\r\nGET / HTTP/1.1\r\nHost: a\r\n\r\nGET / 
 expect "three pipelined requests" 3 "$(timeout 3 cat <&3 | grep -o 'HTTP/1.1 200' | wc -l)"
 exec 3>&-
 python3 - $port <<'PY' || failed=1
-import socket, sys, time
+import socket, subprocess, sys, time
 port = int(sys.argv[1])
 ask = b'GET / HTTP/1.1\r\nHost: a\r\n\r\n'
 bad = 0
@@ -70,6 +72,25 @@ ends('a peer that ends its input with its request is answered, and its link clos
 ends('so is one that ends it later', 1, ask, b'')
 ends('and one that sent 400 requests at once', 400, ask * 400)
 ends('and one whose requests are cut at 8192 bytes', 400, (ask * 400)[:8192], (ask * 400)[8192:])
+def waits(others):
+    """How many milliseconds an answer takes, in the middle and at the 99th of 100, beside links that take a file of 200 MB again and again."""
+    url = 'http://127.0.0.1:%d/large' % port
+    peers = [subprocess.Popen(['curl', '-s', '--max-time', '60'] + ['-o', '/dev/null', url] * 40) for i in range(others)]
+    time.sleep(1)
+    took = []
+    s = link()
+    while len(took) < 500:
+        began = time.monotonic()
+        s.sendall(ask); answer(s)
+        took.append(1000 * (time.monotonic() - began))
+        time.sleep(0.004)
+    s.close()
+    for peer in peers: peer.kill(); peer.wait()
+    time.sleep(0.5)
+    took.sort()
+    return took[len(took) // 2], took[len(took) * 99 // 100]
+alone, beside = waits(0), waits(8)
+told('beside eight links that take all they can an answer takes %.1f ms in the middle, %.1f at the 99th of 100 (alone %.1f and %.1f)' % (beside + alone), beside[0] < 5)
 time.sleep(0.5)
 links = [link() for i in range(600)]
 time.sleep(1)

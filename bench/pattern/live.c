@@ -1,7 +1,9 @@
-// Preloaded: at each write to standard output, tells on standard error how many bytes are allocated, and in how many blocks.
+// Preloaded: at each write to standard output, and at each SIGUSR1, tells on standard error how many bytes are allocated, and in how
+// many blocks.
 #define _GNU_SOURCE
 #include <dlfcn.h>
 #include <malloc.h>
+#include <signal.h>
 #include <stdio.h>
 #include <unistd.h>
 
@@ -31,12 +33,20 @@ void free(void *old) {
     next(old);
 }
 
+static void tell(void) {
+    static ssize_t (*next)(int, const void *, size_t);
+    if (!next) next = dlsym(RTLD_NEXT, "write");
+    char line[80];
+    next(2, line, snprintf(line, sizeof line, "live %ld blocks %ld\n", live, blocks));
+}
+
 ssize_t write(int to, const void *bytes, size_t size) {
     static ssize_t (*next)(int, const void *, size_t);
     if (!next) next = dlsym(RTLD_NEXT, "write");
-    if (to == 1) {
-        char line[80];
-        next(2, line, snprintf(line, sizeof line, "live %ld blocks %ld\n", live, blocks));
-    }
+    if (to == 1) tell();
     return next(to, bytes, size);
 }
+
+static void told(int signal) { tell(); }
+
+__attribute__((constructor)) static void listen_to_signals(void) { signal(SIGUSR1, told); }

@@ -14,7 +14,7 @@ use Rattle.conf_block.specs.declared.role.Content.{Content}
 use Rattle.ngx_variables.specs.Names.{is_builtin}
 use Rattle.conf_values.specs.Settings.{are_values}
 use Rattle.conf_values.specs.Listing.{are_listed}
-use Rattle.conf_check.specs.Names.{variable_in}
+use Rattle.conf_values.specs.Variables.{variable_in}
 use Rattle.conf_values.specs.Listening.{listened_by, has_known_parameters, is_marked}
 use Rattle.conf_values.specs.Texts.{is_text, is_folder_text}
 use Rattle.conf_values.specs.Returning.{is_return}

@@ -1,23 +1,12 @@
 -- The variables that a configuration sets (nginx's `set` and `auth_request_set`).
-use Rattle.std.specs.Prelude.{ℕ, List, [], ◌∷◌, Bool, false, ◌&&◌, ◌||◌, ◌==◌, Option, None, Some, bytes_eq, if◌then◌else◌}
-use Rattle.std.specs.List.{list_all}
-use Rattle.ngx_variables.specs.Grammar.{is_name_byte, lowercase}
+use Rattle.std.specs.Prelude.{ℕ, List, [], ◌∷◌, Bool, false, ◌||◌, Option, None, Some, bytes_eq, if◌then◌else◌}
+use Rattle.conf_values.specs.Variables.{variable_in}
 use Rattle.conf_text.specs.declared.directive.Directive.{Directive}
 use Rattle.conf_table.specs.declared.role.Role.{Role}
 use Rattle.conf_table.specs.declared.role.Role.TheVariants as roles
 use Rattle.conf_block.specs.declared.role.Content.{Content}
 use Rattle.conf_block.specs.Forest.{Forest, End, Branch}
 use Rattle.conf_block.specs.Roles.{role_of, content_inside, are_directives}
-
--- bytes of a name, at least one
-abbrev pub is_name : List ℕ → Bool
-is_name [] = false
-is_name (b ∷ bs) = list_all is_name_byte (b ∷ bs)
-
--- the variable of a word `$NAME`, in lower case
-unfoldable pub variable_in : List ℕ → Option (List ℕ)
-variable_in [] = None
-variable_in (b ∷ bs) = if (b == 36) && is_name bs then Some (lowercase bs) else None
 
 abbrev pub first_variable : List (List ℕ) → Option (List ℕ)
 first_variable [] = None

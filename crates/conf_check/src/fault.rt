@@ -19,14 +19,13 @@ ghost use Rattle.conf_check.specs.Before.{Remembers};
 
 use crate::before::Before;
 use crate::ends::Ends;
-use crate::names::variable_in;
 use byte_text::{ByteText, OutOfMemory};
 use conf_block::{Content, has_modifier, is_misplaced, key_of, place_of, role_of};
 use conf_table::{DirectiveRule, Role, entry};
 use conf_text::{ConfError, ConfFault, Directive, FaultKind};
 use conf_values::{
     TextSet, are_listed, are_values, has_known_parameters, is_folder_text, is_marked, is_return,
-    is_text, listened_by,
+    is_text, listened_by, variable_in,
 };
 use http_types::Addr;
 use ngx_variables::is_builtin;

@@ -1,65 +1,15 @@
 // The variables that a configuration sets.
 ghost use Rattle.std.specs.Prelude.{◌≡◌, ℕ, List, ◌||◌, OnOk, IfOk};
-ghost use Rattle.std.specs.List.{list_all};
-ghost use Rattle.ngx_variables.specs.Grammar.{is_name_byte as name_byte, lowercase as lowercase_of};
 ghost use Rattle.conf_values.specs.TextSet.{holds};
 ghost use Rattle.conf_block.specs.Forest.{forest_of};
-ghost use Rattle.conf_check.specs.Names.{is_name, variable_in, first_variable, set_with, set_by, is_it, is_set_in};
+ghost use Rattle.conf_check.specs.Names.{first_variable, set_with, set_by, is_it, is_set_in};
 
 use byte_text::{ByteText, OutOfMemory};
 use conf_block::{Content, are_directives, content_inside, first_branch, role_of};
 use conf_table::Role;
 use conf_text::Directive;
-use conf_values::TextSet;
+use conf_values::{TextSet, variable_in};
 use std::alloc::Global;
-
-fn is_name_byte(byte: u8) -> bool
-    ensures { result ≡ name_byte byte }
-{
-    byte.is_ascii_alphanumeric() || byte == b'_'
-}
-
-fn are_name_bytes(bytes: &[u8]) -> bool
-    ensures { result ≡ list_all name_byte bytes.now }
-{
-    for byte in bytes {
-        if !is_name_byte(*byte) {
-            return false;
-        }
-    }
-    true
-}
-
-fn is_name(bytes: &[u8]) -> bool
-    ensures { result ≡ is_name bytes.now }
-{
-    !bytes.is_empty() && are_name_bytes(bytes)
-}
-
-fn lowercase(alloc: Global, name: &[u8]) -> Result<ByteText, OutOfMemory>
-    ensures { IfOk result (λ text. text ≡ lowercase_of name.now) }
-{
-    let mut bytes = name.to_vec(alloc)?;
-    bytes.as_mut_slice().make_ascii_lowercase();
-    Ok(ByteText::from_vec(bytes))
-}
-
-/// The variable of a word `$NAME`, in lower case.
-#[tactic(auto, unfolding(crate::specs::Names::variable_in))]
-pub fn variable_in(alloc: Global, word: &[u8]) -> Result<Option<ByteText>, OutOfMemory>
-    ensures { IfOk result (λ name. name ≡ variable_in word.now) }
-{
-    match word {
-        [] => Ok(None),
-        [first, name @ ..] => {
-            if *first == b'$' && is_name(name) {
-                Ok(Some(lowercase(alloc, name)?))
-            } else {
-                Ok(None)
-            }
-        }
-    }
-}
 
 fn first_variable(alloc: Global, words: &[ByteText]) -> Result<Option<ByteText>, OutOfMemory>
     ensures { IfOk result (λ name. name ≡ first_variable words.now) }

@@ -17,7 +17,8 @@ use Rattle.conf_block.specs.Blocks.{blocks_of, http_in}
 use Rattle.conf_check.specs.Gives.{◌>>◌, sound, Fails}
 use Rattle.conf_check.specs.Faultless.{faultless}
 use Rattle.conf_inherit.specs.declared.site.Purpose.{Purpose}
-use Rattle.conf_inherit.specs.Values.{Values, stated, over, defaults, level_of}
+use Rattle.conf_lists.specs.Hosts.{names_in, or_empty, first_shown, marked_in}
+use Rattle.conf_inherit.specs.Values.{Values, word_in, stated, over, defaults, level_of}
 use Rattle.conf_inherit.specs.Pools.{list_seen}
 use Rattle.conf_inherit.specs.Built.{locations_in, named_in, server_with, server_in, site_of, suits, built}
 
@@ -50,14 +51,14 @@ built-ok purpose folder ds http site a s i e =
     built-step purpose folder ds ∙ after (faultless ds) (suits purpose ds >> meant) a ∙ after (suits purpose ds) meant s
     ∙ ap (λ f. Ok (site_of folder f)) (sym i) ∙ ap Ok (sym e)
 
--- a server whose names and defaults are none
-pub server-shown : (site : Site) (s : Server) (body : Forest) (v : Values) → s.listens ≡ or_default (listens_of (roots body)) → s.defaults ≡ [] → s.names.items ≡ [] → s.first_name ≡ []
+pub server-shown : (site : Site) (s : Server) (body : Forest) (v : Values) → s.listens ≡ or_default (listens_of (roots body)) → s.defaults ≡ marked_in (roots body)
+    → map (name_seen []) s.names.items ≡ or_empty (names_in (blocks_of (codes "server_name") body)) → s.first_name ≡ first_shown (word_in (codes "server_name") body)
     → level_whole [] site s.level ≡ level_of v body → list_seen site s.locations.items ≡ locations_in v body → map (named_whole [] site) s.named.items ≡ named_in v body
     → s.merge ≡ v.settings.merge → s.visible ≡ None → server_whole [] site s ≡ server_with v body
 unfolding server_whole
 server-shown site s body v a d n f l ls ns m x = λ i. record {
   listens = map (listen_seen (d i)) (a i);
-  names = map (name_seen []) (n i);
+  names = n i;
   first_name = f i;
   level = l i;
   locations = ls i;

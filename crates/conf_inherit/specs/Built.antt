@@ -13,7 +13,8 @@ use Rattle.conf_block.specs.Listening.{listens_of, or_default}
 use Rattle.conf_block.specs.Locations.{text_in, alias_prefix, is_found}
 use Rattle.conf_check.specs.Gives.{◌>>◌, sound}
 use Rattle.conf_check.specs.Faultless.{faultless, all_served}
-use Rattle.conf_inherit.specs.Values.{Values, defaults, stated, over, level_of}
+use Rattle.conf_lists.specs.Hosts.{names_in, or_empty, first_shown, marked_in}
+use Rattle.conf_inherit.specs.Values.{Values, defaults, word_in, stated, over, level_of}
 use Rattle.conf_inherit.specs.declared.site.Purpose.{Purpose}
 use Rattle.conf_inherit.specs.declared.site.Purpose.TheVariants.{Reading, Serving}
 
@@ -48,12 +49,12 @@ unfoldable pub named_in : (outer : Values) → Forest → List NamedView
 named_in outer End = []
 named_in outer (Branch d block beside) = if is_found true d then named_with (inner_values outer d block) d block ∷ named_in outer beside else named_in outer beside
 
--- A server within these values. Names and default servers are not read yet.
+-- A server within these values, with its names, and with the addresses whose default server it is.
 abbrev pub server_with : Values → (block : Forest) → ServerView
 server_with v block = record {
-  listens = map (listen_seen []) (or_default (listens_of (roots block)));
-  names = [];
-  first_name = [];
+  listens = map (listen_seen (marked_in (roots block))) (or_default (listens_of (roots block)));
+  names = or_empty (names_in (blocks_of (codes "server_name") block));
+  first_name = first_shown (word_in (codes "server_name") block);
   level = level_of v block;
   locations = locations_in v block;
   named = named_in v block;

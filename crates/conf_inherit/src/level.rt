@@ -14,7 +14,7 @@ use site_model::{Level, Program, Return};
 use std::alloc::Global;
 
 /// The first word of the first directive of this name.
-fn word_in<'a>(level: &'a [Directive], name: &[u8]) -> Option<&'a [u8]>
+pub fn word_in<'a>(level: &'a [Directive], name: &[u8]) -> Option<&'a [u8]>
     ensures { option_map (λ w. w.now) result ≡ word_in name.now (forest_of level.now) }
 {
     match next_named(level, name) {

@@ -12,13 +12,14 @@ ghost use Rattle.conf_inherit.specs.Pools.{Keeps, Holds, IsFree, Added, list_see
 ghost use Rattle.conf_inherit.specs.Built.{kind_of, inner_values, location_with, locations_in as locations_meant, named_with, named_in as named_meant, server_with, server_in, site_of, suits, built};
 
 use crate::entries::types_of;
-use crate::level::{Inherited, defaults, level_of};
+use crate::level::{Inherited, defaults, level_of, word_in};
 use crate::pool::Pool;
 use byte_text::{ByteText, OutOfMemory};
 use conf_block::{Branch, alias_prefix, http_in, listens_of, next_location, next_named, text_in};
 use conf_check::{check, check_effects};
+use conf_lists::{defaults_of, first_shown, names_of};
 use conf_text::{ConfError, Directive};
-use site_model::{Listens, Location, LocationKind, NamedLocation, Server, Site};
+use site_model::{Location, LocationKind, NamedLocation, Server, Site};
 use std::alloc::Global;
 
 /// What a site is built for.
@@ -209,13 +210,16 @@ fn server_of<'a>(
     let level = add_level(alloc, pool, values, block)?;
     let locations = locations_in(alloc, pool, values, block)?;
     let named = named_in(alloc, pool, values, block)?;
+    let defaults = defaults_of(alloc, block)?;
+    let names = names_of(alloc, block)?;
+    let first_name = ByteText::from_slice(alloc, first_shown(word_in(block, b"server_name")))?;
     Ok(Server {
         listens,
         level,
         locations,
-        defaults: Listens::new(alloc),
-        names: Vec::new(alloc),
-        first_name: ByteText::new(alloc),
+        defaults,
+        names,
+        first_name,
         named,
         merge: values.settings.merge,
         visible: None,
@@ -282,7 +286,8 @@ fn suit(alloc: Global, purpose: Purpose, directives: &[Directive]) -> Result<(),
 /// that at which relative paths start.
 ///
 /// The values of a level are those that its block states, over those of the blocks around it, over the defaults. Locations
-/// have their kinds and those in them; patterns, names of servers, lists of values and rewrite programs are not read yet.
+/// have their kinds and those in them; servers their names; patterns, lists of values and rewrite
+/// programs are not read yet.
 ///
 /// # Errors
 ///

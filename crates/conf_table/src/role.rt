@@ -39,6 +39,12 @@ pub enum Listing {
     TryFiles,
     ErrorPage,
     Rewrite,
+    ServerName,
+    Allow,
+    Deny,
+    SsiVisible,
+    SsiTypes,
+    AdditionTypes,
 }
 
 /// What a directive is by its name.

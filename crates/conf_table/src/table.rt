@@ -205,7 +205,7 @@ static TABLE: [Row; 80] = [
         1,
         None,
         Addition,
-        Role::Other
+        Role::Listing(Listing::AdditionTypes)
     ),
     once!(b"alias", LOCATION, 1, Some(1), Core, Role::Alias),
     many!(
@@ -214,7 +214,7 @@ static TABLE: [Row; 80] = [
         1,
         Some(1),
         Access,
-        Role::Other
+        Role::Listing(Listing::Allow)
     ),
     once!(
         b"auth_request",
@@ -274,7 +274,7 @@ static TABLE: [Row; 80] = [
         1,
         Some(1),
         Access,
-        Role::Other
+        Role::Listing(Listing::Deny)
     ),
     ignored!(b"error_log"),
     many!(
@@ -401,7 +401,14 @@ static TABLE: [Row; 80] = [
     ),
     ignored!(b"sendfile"),
     blocks!(b"server", HTTP, 0, Some(0), Core, Role::Server),
-    many!(b"server_name", SERVER, 1, None, Matching, Role::Other),
+    many!(
+        b"server_name",
+        SERVER,
+        1,
+        None,
+        Matching,
+        Role::Listing(Listing::ServerName)
+    ),
     once!(
         b"server_name_in_redirect",
         HTTP_SERVER_LOCATION,
@@ -443,7 +450,7 @@ static TABLE: [Row; 80] = [
         1,
         None,
         Includes,
-        Role::Other
+        Role::Listing(Listing::SsiTypes)
     ),
     once!(
         b"ssi_value_length",
@@ -453,7 +460,14 @@ static TABLE: [Row; 80] = [
         Includes,
         Role::Setting(Setting::SsiValueLength)
     ),
-    once!(b"ssi_visible", HTTP_SERVER, 1, None, Includes, Role::Other),
+    once!(
+        b"ssi_visible",
+        HTTP_SERVER,
+        1,
+        None,
+        Includes,
+        Role::Listing(Listing::SsiVisible)
+    ),
     ignored!(b"ssl_prefer_server_ciphers"),
     ignored!(b"ssl_protocols"),
     once!(

@@ -303,6 +303,10 @@ fn values_are_looked_at(rt: HostRuntime) -> Result<(), Fail> {
             (b"http { satisfy none; }", 1, b"satisfy"),
             (b"http { ssi_value_length 0; }", 1, b"ssi_value_length"),
             (b"http { send_timeout 1w; }", 1, b"send_timeout"),
+            (b"http { server { server_name a *b; } }", 1, b"server_name"),
+            (b"http { allow 10.0.0.0/33; }", 1, b"allow"),
+            (b"http { deny host; }", 1, b"deny"),
+            (b"http { ssi_visible $host $nope; }", 1, b"ssi_visible"),
         ],
     )
 }

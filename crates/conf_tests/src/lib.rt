@@ -6,6 +6,8 @@ mod blocks;
 #[cfg(test)]
 mod check;
 #[cfg(test)]
+mod hosts;
+#[cfg(test)]
 mod patterns;
 #[cfg(test)]
 mod site;

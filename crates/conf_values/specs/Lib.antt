@@ -1,7 +1,11 @@
+pub mod Words
 pub mod Numbers
 pub mod Listening
+pub mod Sources
+pub mod Hosts
 pub mod TextSet
 pub mod Texts
+pub mod Variables
 pub mod Returning
 pub mod Settings
 pub mod Listing

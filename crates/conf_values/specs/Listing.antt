@@ -1,13 +1,13 @@
--- The words of directives that are lists of values (nginx's modules core, index and rewrite).
-use Rattle.std.specs.Prelude.{ℕ, zero, suc, List, [], ◌∷◌, length, drop, ◌==◌, Bool, true, false, not, ◌&&◌, ◌||◌, nat_le, Option, None, Some, codes, bytes_eq, if◌then◌else◌}
+-- The words of directives that are lists of values (nginx's modules core, index, rewrite, access, ssi and addition).
+use Rattle.std.specs.Prelude.{ℕ, zero, suc, List, [], ◌∷◌, length, drop, ◌==◌, Bool, true, false, not, ◌&&◌, ◌||◌, nat_le, Option, None, Some, is_some, codes, bytes_eq, if◌then◌else◌}
 use Rattle.conf_table.specs.declared.role.Listing.{Listing}
 use Rattle.conf_table.specs.declared.role.Listing.TheVariants as listings
+use Rattle.conf_values.specs.Words.{begins_with}
+use Rattle.conf_values.specs.Hosts.{is_server_name}
+use Rattle.conf_values.specs.Sources.{source_of}
+use Rattle.conf_values.specs.Variables.{variable_in, is_known_name}
 use Rattle.conf_values.specs.Returning.{code_of}
 use Rattle.conf_values.specs.Texts.{is_text}
-
-abbrev pub begins_with : ℕ → List ℕ → Bool
-begins_with c [] = false
-begins_with c (b ∷ bs) = b == c
 
 abbrev pub has_code : (ℕ → Bool) → Option ℕ → Bool
 has_code test None = false
@@ -67,6 +67,12 @@ is_listed known listings.Index at left word = is_index_name known left word
 is_listed known listings.TryFiles at left word = is_try known left word
 is_listed known listings.ErrorPage at left word = is_page_word known (at == 0) left word
 is_listed known listings.Rewrite at left word = is_rewrite_word known at word
+is_listed known listings.ServerName at left word = is_server_name word
+is_listed known listings.Allow at left word = is_some (source_of word)
+is_listed known listings.Deny at left word = is_some (source_of word)
+is_listed known listings.SsiVisible at left word = is_known_name known (variable_in word)
+is_listed known listings.SsiTypes at left word = true
+is_listed known listings.AdditionTypes at left word = true
 
 -- all words from a place on
 unfoldable pub are_listed_from : (known : List ℕ → Bool) → Listing → (at : ℕ) → List (List ℕ) → Bool

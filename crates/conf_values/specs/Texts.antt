@@ -3,7 +3,7 @@ use Rattle.std.specs.Prelude.{ℕ, List, [], Bool, true, false, not, ◌&&◌, R
 use Rattle.std.specs.List.{list_all, list_any}
 use Rattle.std.specs.Result.{result_unwrap_or}
 use Rattle.ngx_variables.specs.declared.value.Piece.{Piece}
-use Rattle.ngx_variables.specs.declared.value.Piece.TheVariants.{Literal, Group, Builtin, Argument, Field, Cookie, Set}
+use Rattle.ngx_variables.specs.declared.value.Piece.TheVariants.{Builtin, Set}
 use Rattle.ngx_variables.specs.declared.fault.ValueFault.{ValueFault}
 use Rattle.ngx_variables.specs.declared.variable.Variable.{Variable}
 use Rattle.ngx_variables.specs.declared.variable.Variable.TheVariants.{DocumentRoot, RequestFilename}

@@ -22,7 +22,7 @@ fn length_before(bytes: &[u8], byte: u8) -> usize
 }
 
 /// The text before the first byte of this value, or all of it.
-fn before_byte(text: &[u8], byte: u8) -> &[u8]
+pub fn before_byte(text: &[u8], byte: u8) -> &[u8]
     ensures { result.now ≡ before_byte byte text.now }
 {
     let at = length_before(text, byte);
@@ -38,7 +38,7 @@ fn bytes_from(bytes: &[u8], at: usize) -> &[u8]
 }
 
 /// The text behind the first byte of this value, if there is one.
-fn behind_byte(text: &[u8], byte: u8) -> Option<&[u8]>
+pub fn behind_byte(text: &[u8], byte: u8) -> Option<&[u8]>
     ensures { option_map (λ t. t.now) result ≡ behind_byte byte text.now }
 {
     let at = length_before(text, byte);
@@ -48,7 +48,7 @@ fn behind_byte(text: &[u8], byte: u8) -> Option<&[u8]>
     Some(bytes_from(text, at + 1))
 }
 
-fn ipv4_of(text: &[u8]) -> Option<IpAddr>
+pub fn ipv4_of(text: &[u8]) -> Option<IpAddr>
     ensures { result ≡ ipv4_of text.now }
 {
     match Ipv4Addr::parse_ascii(text) {
@@ -57,7 +57,7 @@ fn ipv4_of(text: &[u8]) -> Option<IpAddr>
     }
 }
 
-fn ipv6_of(text: &[u8]) -> Option<IpAddr>
+pub fn ipv6_of(text: &[u8]) -> Option<IpAddr>
     ensures { result ≡ ipv6_of text.now }
 {
     match Ipv6Addr::parse_ascii(text) {

@@ -1,34 +1,19 @@
 // The words of directives that are lists of values.
-ghost use Rattle.std.specs.Prelude.{◌≡◌, ◌==◌, ◌≤◌, length, drop, IfOk};
+ghost use Rattle.std.specs.Prelude.{◌≡◌, ◌==◌, ◌≤◌, length, drop, is_some, IfOk};
 ghost use Rattle.conf_values.specs.TextSet.{holds};
 ghost use Rattle.conf_values.specs.Returning.{code_of as code_meant};
-ghost use Rattle.conf_values.specs.Listing.{begins_with, has_code, is_index_name, is_try_code, is_last_try, is_try, is_page_code, is_shown_code, is_shown, is_target, is_page_word, is_flag, is_rewrite_word, is_listed, are_listed};
+ghost use Rattle.conf_values.specs.Listing.{has_code, is_index_name, is_try_code, is_last_try, is_try, is_page_code, is_shown_code, is_shown, is_target, is_page_word, is_flag, is_rewrite_word, is_listed, are_listed};
 
+use crate::host::is_server_name;
 use crate::returned::code_of;
+use crate::source::source_of;
 use crate::text::is_text;
 use crate::text_set::TextSet;
+use crate::variable::is_variable;
+use crate::word::{begins_with, rest_of};
 use byte_text::{ByteText, OutOfMemory};
 use conf_table::Listing;
 use std::alloc::Global;
-
-fn begins_with(word: &[u8], byte: u8) -> bool
-    ensures { result ≡ begins_with byte word.now }
-{
-    match word {
-        [] => false,
-        [first, ..] => *first == byte,
-    }
-}
-
-/// The word without its first byte.
-fn rest_of(word: &[u8]) -> &[u8]
-    ensures { result.now ≡ drop 1 word.now }
-{
-    match word {
-        [] => word,
-        [_, rest @ ..] => rest,
-    }
-}
 
 /// A name of `index`: the last alone, with none after it, may be a path of the site.
 fn is_index_name(
@@ -190,6 +175,10 @@ fn is_listed(
         Listing::TryFiles => is_try(alloc, known, left, word),
         Listing::ErrorPage => is_page_word(alloc, known, at == 0, left, word),
         Listing::Rewrite => is_rewrite_word(alloc, known, at, word),
+        Listing::ServerName => Ok(is_server_name(word)),
+        Listing::Allow | Listing::Deny => Ok(source_of(word).is_some()),
+        Listing::SsiVisible => is_variable(alloc, known, word),
+        Listing::SsiTypes | Listing::AdditionTypes => Ok(true),
     }
 }
 

@@ -1,5 +1,5 @@
 // One connection among those that are held.
-ghost use Rattle.std.specs.Prelude.{◌≡◌, ◌+◌, ◌-◌, ◌^◌, ◌≤◌, ◌<◌, true, length, vec_len, vec_capacity, insert, MatchResult, get_or};
+ghost use Rattle.std.specs.Prelude.{◌≡◌, ◌+◌, ◌-◌, ◌^◌, ◌≤◌, ◌<◌, true, length, vec_len, vec_capacity, insert, remove, MatchResult, get_or};
 ghost use Rattle.std.specs.List.Sorted.{IsStrictlyIncreasing};
 ghost use Rattle.connection.specs.Conn.{StepsConn, TimesConn, due_at};
 ghost use Rattle.connection.specs.Times.{soonest};
@@ -49,6 +49,18 @@ pub(crate) fn put_at<T: Drop>(items: &mut Vec<T>, at: usize, item: T)
     match items.insert(at, item) {
         Ok(()) => {}
         Err(_) => unreachable!(),
+    }
+}
+
+/// Takes the item at a place out. Where few are left in much room, room is given back.
+pub(crate) fn take_out<T: Drop>(items: &mut Vec<T>, at: usize)
+    requires { at < vec_len items.old }
+    ensures items { items.new.items ≡ remove items.old.items at }
+    ensures len { vec_len items.new + 1 ≡ vec_len items.old }
+{
+    let _item = items.remove(at);
+    if items.len() < items.capacity() / 4 {
+        items.shrink_to(2 * items.len());
     }
 }
 

@@ -4,7 +4,7 @@ ghost use Rattle.std.specs.List.Sorted.{IsStrictlyIncreasing};
 ghost use Rattle.std.proofs.Props.{props};
 ghost use Rattle.connection_core.specs.Table.{AllLater};
 
-use crate::place::{earlier, happen_at, place, place_near, put_at, tick_all};
+use crate::place::{earlier, happen_at, place, place_near, put_at, take_out, tick_all};
 use byte_text::OutOfMemory;
 use connection::{Conn, Workspace};
 use http_types::Addr;
@@ -214,8 +214,8 @@ impl Table {
                 if !self.conns[at].is_shut() {
                     return StepAnswer::Skipped;
                 }
-                self.ids.remove(at);
-                self.conns.remove(at);
+                take_out(&mut self.ids, at);
+                take_out(&mut self.conns, at);
                 StepAnswer::Done { taken: 0 }
             }
             Err(_) => StepAnswer::Skipped,

@@ -11,7 +11,7 @@ use http_header::HeaderMap;
 use http_moment::{DEFAULT_FORMAT, shown};
 use http_types::{Addr, Method, Version};
 use ngx_variables::{Groups, Main, Request, Role, method_name};
-use req_head::Head;
+use req_head::{Head, HeadFields};
 use site_model::Level;
 use std::alloc::Global;
 use uri_text::{UriFault, normal};
@@ -101,11 +101,11 @@ fn copy_method(method: &Method) -> Result<Method, OutOfMemory>
     Ok(copy)
 }
 
-fn copy_fields(fields: &HeaderMap) -> Result<HeaderMap, OutOfMemory>
-    ensures { IfOk result (λ copy. copy ≡ fields.now) }
+fn map_of(alloc: Global, fields: &HeadFields) -> Result<HeaderMap, OutOfMemory>
+    ensures { IfOk result (λ map. map ≡ fields.now) }
 {
-    let copy = fields.clone()?;
-    Ok(copy)
+    let map = fields.to_map(alloc)?;
+    Ok(map)
 }
 
 /// What the variables of a main request stand for.
@@ -122,7 +122,7 @@ pub(crate) fn main_for(
     let target = ByteText::from_slice(alloc, head.target.as_slice())?;
     let host = ByteText::from_slice(alloc, head.host.as_slice())?;
     let date = date_text(alloc, meeting.moment)?;
-    let fields = copy_fields(&head.fields)?;
+    let fields = map_of(alloc, &head.fields)?;
     let folder = ByteText::from_slice(alloc, folder)?;
     Ok(Main {
         received,

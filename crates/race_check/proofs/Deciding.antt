@@ -21,12 +21,12 @@ use Rattle.race_meaning.specs.Reads.{in_values, is_private_in}
 use Rattle.race_meaning.specs.Named.{has_parts, is_open, set_text, set_texts, is_one_text, is_set, auth_sets_it, begins_with_set, is_fixed, is_private, is_shown, is_named}
 use Rattle.race_check.specs.declared.names.NameSet.{NameSet}
 use Rattle.race_check.specs.declared.texts.SetTexts.{SetTexts}
-use Rattle.race_check.specs.declared.conflict.Conflict.{Conflict}
+use Rattle.race_check.specs.declared.conflict.Named.{Named}
 use Rattle.race_check.specs.declared.conflict.Marks.{Marks}
 use Rattle.race_check.specs.Names.{has}
 use Rattle.race_check.specs.Numbers.{level_numbers, value_numbers}
 use Rattle.race_check.specs.Texts.{known, told, is_one}
-use Rattle.race_check.specs.Told.{has_or_all, AreMarks, is_marked, AllSet, marked, conflict, HasNamed, AreConflicts}
+use Rattle.race_check.specs.Told.{has_or_all, AreMarks, is_marked, AllSet, marked, named_at, HasNamed}
 use Rattle.race_check.proofs.Lists.{any_map, all_map, flat_of_map}
 use Rattle.race_check.proofs.Numbering.{levels_seen, values_seen_all}
 use Rattle.race_check.proofs.Telling.{is_one_told, is_some_told}
@@ -188,7 +188,7 @@ module _ (server : ServerView) (marks : Marks) (are : AreMarks server marks) (fr
   kept_names : (name : List ℕ) (xs : List (List ℕ)) → list_any (bytes_eq name) (filter (is_marked marks) xs) ≡ (is_marked marks name && list_any (bytes_eq name) xs)
   kept_names name xs = any-filter_same (bytes_eq name) (is_marked marks) (is_marked marks name) (λ k e. ap (is_marked marks) (sym ((bytes_eq-Decides name k).0 e))) xs
 
-  pub has_named : (number : ℕ) (names : List (List ℕ)) (old new : List Conflict) → AllSet marks.texts names →
+  pub has_named : (number : ℕ) (names : List (List ℕ)) (old new : List Named) → AllSet marks.texts names →
       new ≡ old ++ map (marked number marks) (filter (is_marked marks) names) → HasNamed number server old new
   has_named number names old new all e = (
     filter (is_marked marks) names,
@@ -196,10 +196,10 @@ module _ (server : ServerView) (marks : Marks) (are : AreMarks server marks) (fr
       exact = λ name. kept_names name names ∙ ap (λ b. is_marked marks name && b) (all.all name) ∙ marked_is name;
       rising = IsStrictlySortedBy-filter (slice_cmp nat_cmp) (is_marked marks) names all.rising;
     },
-    e ∙ ap (λ l. old ++ l) (map_alike (marked number marks) (conflict number server) (λ name. ap (λ d. record { server = number; name = name; documents = d }) (shown_is name)) (filter (is_marked marks) names)),
+    e ∙ ap (λ l. old ++ l) (map_alike (marked number marks) (named_at number server) (λ name. ap (λ d. record { server = number; name = name; documents = d }) (shown_is name)) (filter (is_marked marks) names)),
   )
 
-pub none_named : (server : ServerView) (number : ℕ) (old : List Conflict) → is_open server ≡ false → HasNamed number server old old
+pub none_named : (server : ServerView) (number : ℕ) (old : List Named) → is_open server ≡ false → HasNamed number server old old
 unfolding is_named IsStrictlySortedBy
 none_named server number old shut = (
   [],
@@ -207,27 +207,6 @@ none_named server number old shut = (
   sym (append_nothing old),
 )
   where
-    append_nothing : (xs : List Conflict) → xs ++ [] ≡ xs
+    append_nothing : (xs : List Named) → xs ++ [] ≡ xs
     append_nothing [] = refl
     append_nothing (x ∷ xs) = ap (λ l. x ∷ l) (append_nothing xs)
-
--- ---- server by server
-
-append_nothing : {X : Type 0} (xs : List X) → xs ++ [] ≡ xs
-append_nothing [] = refl
-append_nothing (x ∷ xs) = ap (λ l. x ∷ l) (append_nothing xs)
-
-module _ (all : List ServerView) where
-  pub conflicts_more : (number : ℕ) (server : ServerView) (rest whole : List ServerView) (old new : List Conflict) → whole ≡ server ∷ rest → HasNamed number server old new →
-      ((later : List Conflict) → AreConflicts number whole later → AreConflicts 1 all (old ++ later)) →
-      (later : List Conflict) → AreConflicts (number + 1) rest later → AreConflicts 1 all (new ++ later)
-  unfolding AreConflicts
-  conflicts_more number server rest whole old new at named before later h =
-      let those = map (conflict number server) named.0 in
-      let these : AreConflicts number whole (those ++ later) = subst (λ l. AreConflicts number l (those ++ later)) (sym at) (named.0, later, named.1, h, refl) in
-      subst (AreConflicts 1 all) (sym (ap (λ l. l ++ later) named.2 ∙ append_assoc old those later)) (before (those ++ later) these)
-
-  pub conflicts_over : (number : ℕ) (rest : List ServerView) (out : List Conflict) → rest ≡ [] →
-      ((later : List Conflict) → AreConflicts number rest later → AreConflicts 1 all (out ++ later)) → AreConflicts 1 all out
-  unfolding AreConflicts
-  conflicts_over number rest out over before = subst (AreConflicts 1 all) (append_nothing out) (before [] (subst (λ l. AreConflicts number l []) (sym over) refl))

@@ -6,3 +6,5 @@ mod Programs
 mod Numbering
 mod Telling
 mod Deciding
+mod Lines
+mod Placing

@@ -2,3 +2,4 @@ pub mod Names
 pub mod Numbers
 pub mod Texts
 pub mod Told
+pub mod Places

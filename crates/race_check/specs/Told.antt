@@ -12,7 +12,7 @@ use Rattle.race_meaning.specs.Named.{is_named, is_shown, is_one_text, set_texts,
 use Rattle.race_check.specs.Names.{has}
 use Rattle.race_check.specs.Texts.{known, is_one}
 use Rattle.race_check.specs.declared.names.NameSet.{NameSet}
-use Rattle.race_check.specs.declared.conflict.Conflict.{Conflict}
+use Rattle.race_check.specs.declared.conflict.Named.{Named}
 use Rattle.race_check.specs.declared.conflict.Marks.{Marks}
 use Rattle.race_check.specs.declared.texts.SetTexts.{SetTexts}
 
@@ -42,7 +42,7 @@ pub record AllSet (texts : SetTexts) (names : List (List ℕ)) : Type 0 where
   pub all : (name : List ℕ) → list_any (bytes_eq name) names ≡ is_some (known texts name)
   pub rising : IsStrictlySortedBy (slice_cmp nat_cmp) names
 
-abbrev pub marked : (number : ℕ) → Marks → List ℕ → Conflict
+abbrev pub marked : (number : ℕ) → Marks → List ℕ → Named
 marked number marks name = record { server = number; name = name; documents = marks.documents && has_or_all marks.visible name }
 
 -- exactly the variables that are named in a server, each once, in the order of their bytes
@@ -50,16 +50,9 @@ pub record AreNamed (server : ServerView) (names : List (List ℕ)) : Type 0 whe
   pub exact : (name : List ℕ) → list_any (bytes_eq name) names ≡ is_named server name
   pub rising : IsStrictlySortedBy (slice_cmp nat_cmp) names
 
-abbrev pub conflict : (number : ℕ) → ServerView → List ℕ → Conflict
-conflict number server name = record { server = number; name = name; documents = is_shown server name }
+abbrev pub named_at : (number : ℕ) → ServerView → List ℕ → Named
+named_at number server name = record { server = number; name = name; documents = is_shown server name }
 
 -- those of one server were added
-abbrev pub HasNamed : (number : ℕ) → ServerView → (old new : List Conflict) → Type 0
-HasNamed number server old new = (names : List (List ℕ)) × AreNamed server names × (new ≡ old ++ map (conflict number server) names)
-
--- of each server in turn, which count from `number` on, its named variables
-unfoldable pub AreConflicts : (number : ℕ) → List ServerView → List Conflict → Type 0
-AreConflicts number [] conflicts = conflicts ≡ []
-AreConflicts number (server ∷ servers) conflicts =
-    (names : List (List ℕ)) × (later : List Conflict) × AreNamed server names × (AreConflicts (number + 1) servers later)
-    × (conflicts ≡ map (conflict number server) names ++ later)
+abbrev pub HasNamed : (number : ℕ) → ServerView → (old new : List Named) → Type 0
+HasNamed number server old new = (names : List (List ℕ)) × AreNamed server names × (new ≡ old ++ map (named_at number server) names)

@@ -1,12 +1,12 @@
 // The variables that the race check names.
-ghost use Rattle.std.specs.Prelude.{◌≡◌, ◌||◌, ◌&&◌, ℕ, ◌++◌, List, map, filter, bytes_eq, OnOk, IfOk};
+ghost use Rattle.std.specs.Prelude.{◌≡◌, ◌||◌, ◌&&◌, ℕ, ◌++◌, List, [], map, filter, bytes_eq, OnOk, IfOk};
 ghost use Rattle.std.specs.List.{list_any};
 ghost use Rattle.request_meaning.specs.Documents.{is_visible};
 ghost use Rattle.site_views.specs.Pattern.{Pattern};
-ghost use Rattle.site_whole.specs.Whole.{server_whole, whole};
+ghost use Rattle.site_whole.specs.Whole.{server_whole};
 ghost use Rattle.race_check.specs.Names.{has as has_name};
 ghost use Rattle.race_check.specs.Numbers.{level_numbers, value_numbers};
-ghost use Rattle.race_check.specs.Told.{has_or_all, has_one_value, is_marked, marked, AllSet, AreMarks, HasNamed, AreConflicts};
+ghost use Rattle.race_check.specs.Told.{has_or_all, has_one_value, is_marked, marked, AllSet, AreMarks, HasNamed};
 
 use crate::levels::{has_documents, has_open, level_numbers, value_numbers};
 use crate::marks::{add_exposed, first_sets, read_by_values, set_by_auth, set_texts};
@@ -16,10 +16,10 @@ use byte_text::{ByteText, ByteTexts, OutOfMemory};
 use site_model::{Server, Site};
 use std::alloc::Global;
 
-/// A variable that can show in which order the subrequests of a page ran: the place of its server among the site's, from 1
-/// on; its name without the `$`; and whether documents read it.
+/// A variable that is named: the place of its server among the site's, from 1 on; its name without the `$`; and whether
+/// documents read it.
 #[derive(Drop)]
-pub struct Conflict {
+pub struct Named {
     pub server: usize,
     pub name: ByteText,
     pub documents: bool,
@@ -124,18 +124,18 @@ impl Marks {
     /// Adds the variables that are named in a server, with its number.
     fn push_named(
         &self,
-        conflicts: &mut Vec<Conflict>,
+        named: &mut Vec<Named>,
         alloc: Global,
         number: usize,
     ) -> Result<(), OutOfMemory>
         ensures { OnOk result ((names : List (List ℕ)) × AllSet self.now.texts names
-            × (conflicts.new.items ≡ conflicts.old.items
+            × (named.new.items ≡ named.old.items
             ++ map (marked number self.now) (filter (is_marked self.now) names))) }
     {
         let names = self.texts.names()?;
         for name in &names {
             if self.is_named(name.as_slice()) {
-                conflicts.push(Conflict {
+                named.push(Named {
                     server: number,
                     name: ByteText::from_slice(alloc, name.as_slice())?,
                     documents: self.is_shown(name.as_slice()),
@@ -147,8 +147,8 @@ impl Marks {
 }
 
 /// Adds the variables of a server that are named.
-fn push_conflicts(
-    conflicts: &mut Vec<Conflict>,
+fn push_server(
+    named: &mut Vec<Named>,
     alloc: Global,
     site: &Site,
     server: &Server,
@@ -156,7 +156,7 @@ fn push_conflicts(
 ) -> Result<(), OutOfMemory>
     ensures { OnOk result ((patterns : List Pattern)
         → HasNamed number (server_whole patterns site.now server.now)
-        conflicts.old.items conflicts.new.items) }
+        named.old.items named.new.items) }
 {
     let levels = level_numbers(alloc, server)?;
     let values = value_numbers(alloc, site, levels.as_slice())?;
@@ -164,24 +164,21 @@ fn push_conflicts(
         return Ok(());
     }
     let marks = marks_of(alloc, site, server, levels.as_slice(), values.as_slice())?;
-    marks.push_named(conflicts, alloc, number)?;
+    marks.push_named(named, alloc, number)?;
     Ok(())
 }
 
-/// The variables that can show in which order the subrequests of a page ran, server by server, and in a server each once, in
-/// the order of their bytes. A variable is one where a level of the server has server side includes or additions, a `set`
-/// sets it, it hasn't one text of literals and variables of the main request which a `set` at the beginning of the server's
-/// program gives it, and documents may read it, or a directive reads it that isn't in a program after an unconditional
-/// `set` of it with no test of a file between. Where there is none, nobody can tell the order.
-pub fn conflicts(alloc: Global, site: &Site) -> Result<Vec<Conflict>, OutOfMemory>
-    ensures { IfOk result (λ conflicts. (patterns : List Pattern)
-        → AreConflicts 1 (whole patterns site.now).servers conflicts.items) }
+/// The variables of a server that are named, each once, in the order of their bytes.
+pub fn named_in(
+    alloc: Global,
+    site: &Site,
+    server: &Server,
+    number: usize,
+) -> Result<Vec<Named>, OutOfMemory>
+    ensures { IfOk result (λ named. (patterns : List Pattern)
+        → HasNamed number (server_whole patterns site.now server.now) [] named.items) }
 {
-    let mut conflicts = Vec::new(alloc);
-    let mut number = 0;
-    for server in &site.servers {
-        number += 1;
-        push_conflicts(&mut conflicts, alloc, site, server, number)?;
-    }
-    Ok(conflicts)
+    let mut named = Vec::new(alloc);
+    push_server(&mut named, alloc, site, server, number)?;
+    Ok(named)
 }

@@ -14,7 +14,7 @@ use byte_text::OutOfMemory;
 use ngx_variables::{Place, Value};
 use site_model::{AuthSet, IndexName, LastTry, Level, PageRule, PageTarget, Site, Tries};
 
-fn place_text(place: &Place) -> &Value
+pub fn place_text(place: &Place) -> &Value
     ensures { result.now ≡ text_of place.now }
 {
     match place {
@@ -134,7 +134,7 @@ fn note_pages(
 }
 
 /// The rules of a number, none without one.
-fn rules_of<'a>(site: &'a Site, number: Option<u32>) -> &'a [PageRule]
+pub fn rules_of<'a>(site: &'a Site, number: Option<u32>) -> &'a [PageRule]
     ensures { map page_seen result.now ≡ pages_at site.now number }
 {
     match number {
@@ -160,7 +160,7 @@ fn note_auth_texts(
     Ok(())
 }
 
-fn auth_sets_of<'a>(site: &'a Site, number: Option<u32>) -> &'a [AuthSet]
+pub fn auth_sets_of<'a>(site: &'a Site, number: Option<u32>) -> &'a [AuthSet]
     ensures { map auth_set_seen result.now ≡ auth_sets_at site.now number }
 {
     match number {

@@ -1,7 +1,7 @@
 -- What single functions rest on.
-use Rattle.std.proofs.Common.{◌≡◌, ℕ, zero, suc, ◌+◌, ◌-◌, ◌*◌, ◌^◌, ◌<◌, ◌≤◌, ◌⊎◌, inl, inr, min, Bool, true, false, not, ◌&&◌, ◌||◌, cond, eqb, leb, List, [], ◌∷◌, ◌++◌, length, take, drop, get_or, Option, Some, None, refl, sym, ap, ◌∙◌, subst, arith, append-nil, length-drop, lit<}
+use Rattle.std.proofs.Common.{◌≡◌, ℕ, zero, suc, ◌+◌, ◌-◌, ◌*◌, ◌^◌, ◌<◌, ◌≤◌, ◌⊎◌, inl, inr, min, Bool, true, false, not, ◌&&◌, ◌||◌, cond, eqb, leb, List, [], ◌∷◌, ◌++◌, length, take, drop, get_or, ltb, Option, Some, None, refl, sym, ap, ◌∙◌, subst, arith, append-nil, length-drop, lit<}
 use Rattle.std.specs.List.{list_all, list_any}
-use Rattle.std.proofs.lemmas.List.{take_all, take_more, drop_more, take-append-drop, get_or-drop}
+use Rattle.std.proofs.lemmas.List.{take_all, take_more, drop_all, drop_more, take-append-drop, get_or-drop}
 use Rattle.memchr.specs.Find.{Nowhere, NoneAfter, Passes, is_byte}
 use Rattle.std.proofs.lemmas.Bool.{and_parts, and_from, cases_lt, not-true, true≢false, leb-true, lt-ltb}
 use Rattle.std.proofs.Math.Nat.{pow-suc, pow-le-pow_right}
@@ -23,18 +23,18 @@ use Rattle.req_head.specs.Reading.{cut_at}
 use Rattle.req_head.specs.Step.{looked, head_step}
 use Rattle.req_head.specs.declared.head.HeadStep.TheVariants.{More, Bad}
 use Rattle.httparse.specs.Grammar.{RequestHead, ReadsRequest}
-use Rattle.httparse.specs.Spans.{IsRequestAt, RequestOverflows}
-use Rattle.httparse.specs.declared.spans.HeaderSpan.{HeaderSpan}
-use Rattle.httparse.specs.declared.spans.RequestSpans.{RequestSpans}
-use Rattle.req_head.specs.Lines.{lines}
-use Rattle.req_head.specs.Reading.{Whole, read_request}
+use Rattle.httparse.specs.Spans.{RequestExceeds, RequestOverflows}
+use Rattle.req_head.specs.Lines.{lines, after_empty}
+use Rattle.req_head.specs.Reading.{Reading, Whole, Wrong, Short, read_request}
 use Rattle.req_head.specs.FirstLine.{asks_head}
 use Rattle.req_head.specs.Heads.{fault_in, fault_with}
 use Rattle.req_head.specs.Step.{tested, step_of}
 use Rattle.req_head.specs.declared.head.HeadStep.{HeadStep}
 use Rattle.req_head.proofs.StepLemmas.{waits-still}
 use Rattle.req_head.proofs.PartLemmas.{one_cut, cut-found}
-use Rattle.req_head.proofs.LineLemmas.{is_no_lf, whole_lines-through, whole_lines-none}
+use Rattle.req_head.proofs.LineLemmas.{is_no_lf, lines-nil, lines-whole_lines, whole_lines-through, whole_lines-none}
+use Rattle.req_head.proofs.LongLemmas.{exceeds_many, length-lines-cons}
+use Rattle.req_head.proofs.MeaningLemmas.{Means, meaning}
 
 -- ---- the bytes that are looked at
 
@@ -274,11 +274,31 @@ number_more xs i number digit h all n d =
 
 -- ---- a long head
 
-pub long_refused : (seen text : List ℕ) (slots : List HeaderSpan) (s : RequestSpans) (h : RequestHead) (step : HeadStep) → RequestOverflows 64 text → IsRequestAt text slots s h
-    → read_request (lines text) ≡ Whole h → step ≡ Bad 400 (asks_head seen) → step ≡ step_of seen (read_request (lines text))
-long_refused seen text slots s h step over at read e =
-    let many : 64 < length h.fields = over [] h (drop s.len text) (subst (λ z. ReadsRequest z h (drop s.len text)) (sym (append-nil text)) at.reads) in
-    e ∙ sym (ap (step_of seen) read ∙ ap (λ t. cond t (Bad 400 (asks_head seen)) (tested (asks_head seen) h (fault_in h))) (lt-ltb 64 (length h.fields) many))
+pub overflow_refused : (seen text : List ℕ) (r : Reading RequestHead) (step : HeadStep) → text ≡ whole_lines seen → read_request (lines text) ≡ r → RequestOverflows 64 text → RequestExceeds 64 text
+    → step ≡ Bad 400 (asks_head seen) → step ≡ step_of seen r
+overflow_refused seen text (Whole h) step et er over many e =
+    let is : Means text (Whole h) = subst (Means text) er (meaning text) in
+    let more : 64 < length h.fields = over [] h is.0 (subst (λ z. ReadsRequest z h is.0) (sym (append-nil text)) is.1) in
+    e ∙ sym (ap (λ t. cond t (Bad 400 (asks_head seen)) (tested (asks_head seen) h (fault_in h))) (lt-ltb 64 (length h.fields) more))
+overflow_refused seen text Wrong step et er over many e = e
+overflow_refused seen text Short step et er over many e =
+    let in_time = ltb (length seen) 8192 in
+    let left : 65 < length (after_empty (lines seen)) = subst (λ z. 65 < length (after_empty z)) (ap lines et ∙ lines-whole_lines seen) (exceeds_many text many) in
+    e ∙ sym (ap (λ t. cond (in_time && not t) More (Bad 400 (asks_head seen))) (lt-ltb 65 (length (after_empty (lines seen))) left) ∙ ap (λ t. cond t More (Bad 400 (asks_head seen))) (no_more in_time))
+  where
+    no_more : (t : Bool) → (t && false) ≡ false
+    no_more true = refl
+    no_more false = refl
+
+-- ---- how many lines are counted
+
+pub one_counted : (bytes : List ℕ) (i count count' all : ℕ) → i < length bytes → count + length (lines (drop i bytes)) ≡ all → count' ≡ count + cond (eqb (get_or bytes i 0) 10) 1 0
+    → count' + length (lines (drop (i + 1) bytes)) ≡ all
+one_counted bytes i count count' all h e en =
+    omega (arith, e, en, ap (λ z. length (lines z)) (drop_more bytes i 0 h), length-lines-cons (get_or bytes i 0) (drop (i + 1) bytes))
+
+pub all_counted : (bytes : List ℕ) (i count all : ℕ) → length bytes ≤ i → count + length (lines (drop i bytes)) ≡ all → count ≡ all
+all_counted bytes i count all h e = omega (arith, e, ap (λ z. length (lines z)) (drop_all i bytes h), ap length lines-nil)
 
 -- ---- a head whose tests pass
 

@@ -1,6 +1,7 @@
 pub mod LineLemmas
 pub mod PartLemmas
 pub mod HeadLemmas
+pub mod LongLemmas
 pub mod MeaningLemmas
 pub mod ScanLemmas
 pub mod StepLemmas

@@ -24,7 +24,7 @@ use Rattle.http_types.specs.declared.words.Method.{Method}
 use Rattle.http_types.specs.declared.words.Version.{Version}
 use Rattle.http_types.specs.declared.words.BodyKind.{BodyKind}
 use Rattle.http_types.specs.declared.words.BodyKind.TheVariants.{Chunked}
-use Rattle.req_head.specs.Lines.{print_line, lines, whole_lines}
+use Rattle.req_head.specs.Lines.{print_line, lines, whole_lines, after_empty}
 use Rattle.req_head.specs.Reading.{Reading, Whole, Short, read_request}
 use Rattle.req_head.specs.FirstLine.{asks_head}
 use Rattle.req_head.specs.Fields.{with_fields, fields_of}
@@ -109,7 +109,7 @@ unfolding read_request lines
 empty-short = refl
 
 pub empty-more : (bytes : List ℕ) → length bytes ≡ 0 → More ≡ head_step bytes
-unfolding whole_lines lines looked
+unfolding whole_lines lines looked after_empty
 empty-more [] e = decided_by [] (looked []) (whole_lines (looked [])) Short More refl refl empty-short refl
 empty-more (b ∷ bytes) e = absurd (omega arith)
 

@@ -65,37 +65,6 @@ wrong_at text Short w never m = absurd (never m.1.0 m.1.1 [] (subst (λ z. Reads
 pub wrong_from : (text : List ℕ) → whole_lines text ≡ text → NeverHasRequest text → read_request (lines text) ≡ Wrong
 wrong_from text w never = wrong_at text (read_request (lines text)) w never (meaning text)
 
--- ---- a head of many fields is long
-
-end_is_long : (e : LineEnd) → 1 ≤ length (print_end e)
-end_is_long crlf = omega arith
-end_is_long lf = omega arith
-
-field_is_long : (f : Field) → IsField f → 3 ≤ length (print_field f)
-field_is_long f is =
-    omega (arith, is.name.0, end_is_long f.end, length-append (f.name ++ 58 ∷ f.raw) (print_end f.end), length-append f.name (58 ∷ f.raw))
-
-fields_are_long : (fs : List Field) → AllByRecursion IsField fs → 3 * length fs ≤ length (flat_map print_field fs)
-fields_are_long [] all = omega arith
-fields_are_long (f ∷ fs) all = omega (arith, field_is_long f all.0, fields_are_long fs all.1, length-append (print_field f) (flat_map print_field fs))
-
-section_is_long : (p : List ℕ) (fs : List Field) (last : LineEnd) → AllByRecursion IsField fs → 3 * length fs ≤ length (p ++ print_section fs last)
-section_is_long p fs last all = omega (arith, fields_are_long fs all, length-append p (print_section fs last), length-append (flat_map print_field fs) (print_end last))
-
-head_is_long : (h : RequestHead) → IsRequestHead h → 3 * length h.fields ≤ length (print_request h)
-unfolding print_request
-head_is_long h is = section_is_long (print_blank h.blank ++ h.method ++ 32 ∷ h.target ++ 32 ∷ print_version h.minor ++ print_end h.line_end) h.fields h.last (recursion_from_All IsField h.fields is.fields)
-
-pub room_is_small : (text : List ℕ) (room : ℕ) → length text ≤ 8192 → RequestExceeds room text → room < 2731
-room_is_small text room short over =
-    let front = over.0 in
-    let h = over.3 in
-    let reads = over.4 in
-    let long = head_is_long h reads.0 in
-    let e : length (front ++ 10 ∷ []) ≡ length (print_request h ++ []) = ap length reads.1 in
-    let many = over.5 in
-    omega (arith, long, e, many, length-append front (10 ∷ []), length-append (print_request h) [], ap length over.2, length-append front over.1)
-
 -- ---- how many fields the spans show
 
 pub count_is : (text : List ℕ) (slots : List HeaderSpan) (s : RequestSpans) (h : RequestHead) → IsRequestWithin text slots s → IsRequestAt text slots s h → length h.fields ≡ s.headers

@@ -5,16 +5,17 @@ use Rattle.std.specs.List.{list_all, list_any}
 use Rattle.std.proofs.lemmas.List.{take_all, take-append-le, length-take-le, length-take}
 use Rattle.std.proofs.lemmas.Bool.{and_parts, and_from, cases_lt, ltb-true, ltb-false, lt-ltb, eqb-true, false≢true, true≢false}
 use Rattle.httparse.specs.Grammar.{LineEnd, crlf, lf, print_end, RequestHead, print_request, ReadsRequest}
-use Rattle.req_head.specs.Lines.{Line, is_empty, with_first_byte, lines}
+use Rattle.req_head.specs.Lines.{Line, is_empty, with_first_byte, lines, after_empty}
 use Rattle.req_head.specs.Reading.{Reading, Whole, Wrong, Short, with_blank, if_line, request_line, read_request, read_section}
 use Rattle.req_head.specs.FirstLine.{begins_with, asks_head}
 use Rattle.req_head.specs.Heads.{fault_in}
-use Rattle.req_head.specs.Step.{looked, tested, step_of, head_step}
+use Rattle.req_head.specs.Step.{looked, tested, have_too_many, step_of, head_step}
 use Rattle.req_head.specs.Laws.{HeadStays, RefusalStays, SizeFits, FullDecides, IsWhole, Says, GrammarDecides}
 use Rattle.req_head.specs.declared.head.HeadStep.{HeadStep}
 use Rattle.req_head.specs.declared.head.HeadStep.TheVariants.{More, Head, Bad}
 use Rattle.req_head.proofs.LineLemmas.{lines-nil, lines-cons, lines-append, lines-none, lines-append_none, is_no_lf}
 use Rattle.req_head.proofs.HeadLemmas.{read_request-nil, read_request-cons, Stays, request-stays}
+use Rattle.req_head.proofs.LongLemmas.{more_left, some_left, RequestGrows, request_grows, overflows}
 use Rattle.req_head.proofs.MeaningLemmas.{Means, meaning}
 
 -- ---- the bytes that are looked at
@@ -191,25 +192,52 @@ by_ask ask (Whole h) = cond (ltb 64 (length h.fields)) (Bad 400 ask) (tested ask
 by_ask ask Wrong = Bad 400 ask
 by_ask ask Short = More
 
-waits_at : (t : Bool) (bytes : List ℕ) (s : HeadStep) → ltb (length bytes) 8192 ≡ t → length bytes < 8192 → StepStays (cond t More (Bad 400 (asks_head bytes))) s
-waits_at true bytes s e short = tt
-waits_at false bytes s e short = absurd (omega (arith, ltb-false (length bytes) 8192 e))
+no_more : (t : Bool) → (t && false) ≡ false
+no_more true = refl
+no_more false = refl
+
+-- where a head has too many fields already it has so later, and then no more bytes are awaited
+long_stays : (s : Reading RequestHead) (bytes more : List ℕ) → 65 < length (after_empty (lines bytes)) → RequestGrows (length (after_empty (lines bytes))) Short s
+    → length (after_empty (lines bytes)) ≤ length (after_empty (lines (bytes ++ more))) → step_of (bytes ++ more) s ≡ Bad 400 (asks_head (bytes ++ more))
+long_stays (Whole h) bytes more many grows left =
+    let ask = asks_head (bytes ++ more) in
+    ap (λ t. cond t (Bad 400 ask) (tested ask h (fault_in h))) (lt-ltb 64 (length h.fields) (omega (arith, many, grows)))
+long_stays Wrong bytes more many grows left = refl
+long_stays Short bytes more many grows left =
+    let ask = asks_head (bytes ++ more) in
+    let in_time = ltb (length (bytes ++ more)) 8192 in
+    ap (λ t. cond (in_time && not t) More (Bad 400 ask)) (lt-ltb 65 (length (after_empty (lines (bytes ++ more)))) (omega (arith, many, left)))
+    ∙ ap (λ t. cond t More (Bad 400 ask)) (no_more in_time)
+
+waits_at : (t u : Bool) (bytes more : List ℕ) (s : Reading RequestHead) → ltb (length bytes) 8192 ≡ t → have_too_many (lines bytes) ≡ u → length bytes < 8192
+    → RequestGrows (length (after_empty (lines bytes))) Short s → length (after_empty (lines bytes)) ≤ length (after_empty (lines (bytes ++ more)))
+    → StepStays (cond (t && not u) More (Bad 400 (asks_head bytes))) (step_of (bytes ++ more) s)
+waits_at true true bytes more s e many short grows left =
+    let many : 65 < length (after_empty (lines bytes)) = ltb-true 65 (length (after_empty (lines bytes))) many in
+    long_stays s bytes more many grows left ∙ ap (Bad 400) (asks_head-stays bytes more (some_left (lines bytes) (omega (arith, many))))
+waits_at true false bytes more s e many short grows left = tt
+waits_at false u bytes more s e many short grows left = absurd (omega (arith, ltb-false (length bytes) 8192 e, short))
 
 step-stays : (bytes more : List ℕ) (r s : Reading RequestHead) → length bytes < 8192 → read_request (lines bytes) ≡ r → Stays r s
+    → RequestGrows (length (after_empty (lines bytes))) r s → length (after_empty (lines bytes)) ≤ length (after_empty (lines (bytes ++ more)))
     → StepStays (step_of bytes r) (step_of (bytes ++ more) s)
-step-stays bytes more (Whole h) s short e stays =
+step-stays bytes more (Whole h) s short e stays grows left =
     let ask = asks_head-stays bytes more (some_if_decided (has_some (lines bytes)) (lines bytes) (Whole h) refl e (λ q. cc)) in
     same_step (step_of bytes (Whole h)) (step_of (bytes ++ more) s) (ap (step_of (bytes ++ more)) stays ∙ ap (λ a. by_ask a (Whole h)) ask)
-step-stays bytes more Wrong s short e stays =
+step-stays bytes more Wrong s short e stays grows left =
     let ask = asks_head-stays bytes more (some_if_decided (has_some (lines bytes)) (lines bytes) Wrong refl e (λ q. cc)) in
     ap (step_of (bytes ++ more)) stays ∙ ap (λ a. by_ask a Wrong) ask
-step-stays bytes more Short s short e stays = waits_at (ltb (length bytes) 8192) bytes (step_of (bytes ++ more) s) refl short
+step-stays bytes more Short s short e stays grows left = waits_at (ltb (length bytes) 8192) (have_too_many (lines bytes)) bytes more s refl refl short grows left
 
 stays_short : (bytes rest : List ℕ) → length bytes < 8192 → StepStays (step_of bytes (read_request (lines bytes))) (step_of (bytes ++ rest) (read_request (lines (bytes ++ rest))))
 stays_short bytes rest short =
     let f = lines-append bytes rest in
     let s : Stays (read_request (lines bytes)) (read_request (lines (bytes ++ rest))) = subst (λ z. Stays (read_request (lines bytes)) (read_request z)) (sym f.1) (request-stays (lines bytes) f.0) in
-    step-stays bytes rest (read_request (lines bytes)) (read_request (lines (bytes ++ rest))) short refl s
+    let n = length (after_empty (lines bytes)) in
+    let grows : RequestGrows n (read_request (lines bytes)) (read_request (lines (bytes ++ rest))) =
+    subst (λ z. RequestGrows n (read_request (lines bytes)) (read_request z)) (sym f.1) (request_grows (lines bytes) f.0) in
+    let left : n ≤ length (after_empty (lines (bytes ++ rest))) = subst (λ z. n ≤ length (after_empty z)) (sym f.1) (more_left (lines bytes) f.0) in
+    step-stays bytes rest (read_request (lines bytes)) (read_request (lines (bytes ++ rest))) short refl s grows left
 
 decided : (bytes more : List ℕ) → (length bytes < 8192) ⊎ (8192 ≤ length bytes) → StepStays (head_step bytes) (head_step (bytes ++ more))
 decided bytes more (inl short) =
@@ -240,18 +268,21 @@ says_whole : (t : Bool) (bytes : List ℕ) (h : RequestHead) (rest : List ℕ) �
 says_whole true bytes h rest e reads = (inl (h, rest, reads, ltb-true 64 (length h.fields) e, refl), refl)
 says_whole false bytes h rest e reads = says_tested (fault_in h) bytes h rest refl reads (ltb-false 64 (length h.fields) e)
 
-says_short : (t : Bool) (bytes : List ℕ) → ltb (length bytes) 8192 ≡ t → Means bytes Short → Says bytes (cond t More (Bad 400 (asks_head bytes)))
-says_short true bytes e m = (m.0, (λ never. never m.1.0 m.1.1 [] m.1.2), ltb-true (length bytes) 8192 e)
-says_short false bytes e m = (inr (inr (inr (m.0, ltb-false (length bytes) 8192 e, refl))), refl)
+says_short : (t u : Bool) (bytes : List ℕ) → ltb (length bytes) 8192 ≡ t → have_too_many (lines bytes) ≡ u → read_request (lines bytes) ≡ Short → Means bytes Short
+    → Says bytes (cond (t && not u) More (Bad 400 (asks_head bytes)))
+says_short true true bytes e many r m = (inr (inr (inr (inr (m.0, overflows bytes r (ltb-true 65 (length (after_empty (lines bytes))) many), refl)))), refl)
+says_short true false bytes e few r m =
+    (m.0, (λ over. omega (arith, over m.1.0 m.1.1 [] m.1.2, m.1.3, ltb-false 65 (length (after_empty (lines bytes))) few)), ltb-true (length bytes) 8192 e)
+says_short false u bytes e many r m = (inr (inr (inr (inl (m.0, ltb-false (length bytes) 8192 e, refl)))), refl)
 
-says_at : (r : Reading RequestHead) (bytes : List ℕ) → Means bytes r → Says bytes (step_of bytes r)
-says_at (Whole h) bytes m = says_whole (ltb 64 (length h.fields)) bytes h m.0 refl m.1
-says_at Wrong bytes m = (inr (inr (inl (m.0, m.1, refl))), refl)
-says_at Short bytes m = says_short (ltb (length bytes) 8192) bytes refl m
+says_at : (r : Reading RequestHead) (bytes : List ℕ) → read_request (lines bytes) ≡ r → Means bytes r → Says bytes (step_of bytes r)
+says_at (Whole h) bytes e m = says_whole (ltb 64 (length h.fields)) bytes h m.0 refl m.1
+says_at Wrong bytes e m = (inr (inr (inl (m.0, m.1, refl))), refl)
+says_at Short bytes e m = says_short (ltb (length bytes) 8192) (have_too_many (lines bytes)) bytes refl refl e m
 
 pub grammar-decides : GrammarDecides
 grammar-decides bytes =
-    subst (Says (looked bytes)) (sym (head_step-is bytes)) (says_at (read_request (lines (looked bytes))) (looked bytes) (meaning (looked bytes)))
+    subst (Says (looked bytes)) (sym (head_step-is bytes)) (says_at (read_request (lines (looked bytes))) (looked bytes) refl (meaning (looked bytes)))
 
 -- ---- sizes
 
@@ -292,10 +323,17 @@ short_if_more (Whole h) bytes e = absurd (not_whole (ltb 64 (length h.fields)) (
 short_if_more Wrong bytes e = absurd (let no : ⊥ = cc in no)
 short_if_more Short bytes e = refl
 
+few_at : (t : Bool) (ask : Bool) → cond t More (Bad 400 ask) ≡ More → t ≡ true
+few_at true ask e = refl
+few_at false ask e = absurd (let no : ⊥ = cc in no)
+
 pub waits-still : (xs ys : List ℕ) → list_all is_no_lf ys ≡ true → length (xs ++ ys) < 8192 → head_step xs ≡ More → head_step (xs ++ ys) ≡ More
 waits-still xs ys none short e =
     let before : length xs < 8192 = omega (arith, length-append xs ys) in
     let a : step_of xs (read_request (lines xs)) ≡ More = sym (ap (λ z. step_of z (read_request (lines z))) (looked-all xs before)) ∙ sym (head_step-is xs) ∙ e in
-    let r : read_request (lines (xs ++ ys)) ≡ Short = ap read_request (lines-append_none xs ys none) ∙ short_if_more (read_request (lines xs)) xs a in
+    let was : read_request (lines xs) ≡ Short = short_if_more (read_request (lines xs)) xs a in
+    let r : read_request (lines (xs ++ ys)) ≡ Short = ap read_request (lines-append_none xs ys none) ∙ was in
+    let few = and_parts (ltb (length xs) 8192) (not (have_too_many (lines xs))) (few_at (ltb (length xs) 8192 && not (have_too_many (lines xs))) (asks_head xs) (ap (step_of xs) (sym was) ∙ a)) in
+    let few_too : not (have_too_many (lines (xs ++ ys))) ≡ true = ap (λ z. not (have_too_many z)) (lines-append_none xs ys none) ∙ few.1 in
     head_step-is (xs ++ ys) ∙ ap (λ z. step_of z (read_request (lines z))) (looked-all (xs ++ ys) short) ∙ ap (step_of (xs ++ ys)) r
-    ∙ ap (λ t. cond t More (Bad 400 (asks_head (xs ++ ys)))) (lt-ltb (length (xs ++ ys)) 8192 short)
+    ∙ ap (λ t. cond t More (Bad 400 (asks_head (xs ++ ys)))) (and_from (ltb (length (xs ++ ys)) 8192) (not (have_too_many (lines (xs ++ ys)))) (lt-ltb (length (xs ++ ys)) 8192 short) few_too)

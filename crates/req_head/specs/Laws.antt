@@ -1,6 +1,7 @@
 -- Laws of what the bytes at the front of a connection's input decide.
 use Rattle.std.specs.Prelude.{◌≡◌, ◌≢◌, ℕ, Bool, ◌<◌, ◌≤◌, ◌⊎◌, List, ◌++◌, length, Some, None}
 use Rattle.httparse.specs.Grammar.{RequestHead, print_request, ReadsRequest, HasNoRequest, NeverHasRequest}
+use Rattle.httparse.specs.Spans.{RequestOverflows}
 use Rattle.req_head.specs.Lines.{whole_lines}
 use Rattle.req_head.specs.FirstLine.{asks_head}
 use Rattle.req_head.specs.Heads.{head_of, fault_in}
@@ -36,19 +37,22 @@ pub record IsWhole (bytes : List ℕ) (head : HeadParts) (size : ℕ) : Type 0 w
   pub size_is : size ≡ length (print_request h)
 
 -- a whole head of more than 64 fields; a whole head that fails a test; no head can begin with the bytes up to the last LF;
--- or 8192 bytes have no whole head
+-- 8192 bytes have no whole head; or there is none, and each that can begin with the bytes up to the last LF has more than 64
+-- fields
 abbrev pub IsRefused : List ℕ → ℕ → Type 0
 IsRefused bytes code =
     ((h : RequestHead) × (rest : List ℕ) × ReadsRequest bytes h rest × (64 < length h.fields) × (code ≡ 400))
     ⊎ ((h : RequestHead) × (rest : List ℕ) × ReadsRequest bytes h rest × (length h.fields ≤ 64) × (fault_in h ≡ Some code))
     ⊎ (HasNoRequest bytes × NeverHasRequest (whole_lines bytes) × (code ≡ 400))
     ⊎ (HasNoRequest bytes × (8192 ≤ length bytes) × (code ≡ 400))
+    ⊎ (HasNoRequest bytes × RequestOverflows 64 (whole_lines bytes) × (code ≡ 400))
 
--- what a step says of the bytes that are looked at, by the grammar of request heads
+-- what a step says of the bytes that are looked at, by the grammar of request heads. More are awaited where a head of at most 64
+-- fields can begin with them
 abbrev pub Says : List ℕ → HeadStep → Type 0
 Says bytes (Head head size) = IsWhole bytes head size
 Says bytes (Bad code no_body) = IsRefused bytes code × (no_body ≡ asks_head bytes)
-Says bytes More = HasNoRequest bytes × (¬ (NeverHasRequest (whole_lines bytes))) × (length bytes < 8192)
+Says bytes More = HasNoRequest bytes × (¬ (RequestOverflows 64 (whole_lines bytes))) × (length bytes < 8192)
 
 -- what bytes decide is what the grammar says
 abbrev pub GrammarDecides : Type 0

@@ -1,7 +1,7 @@
 -- What looking for a head in whole lines answers.
-use Rattle.std.specs.Prelude.{◌≡◌, ℕ, ◌<◌, List}
+use Rattle.std.specs.Prelude.{◌≡◌, ℕ, List}
 use Rattle.httparse.specs.Grammar.{RequestHead}
-use Rattle.httparse.specs.Spans.{IsRequestAt, IsRequestWithin, RequestOverflows}
+use Rattle.httparse.specs.Spans.{IsRequestAt, IsRequestWithin, RequestExceeds, RequestOverflows}
 use Rattle.httparse.specs.declared.spans.HeaderSpan.{HeaderSpan}
 use Rattle.req_head.specs.Lines.{lines}
 use Rattle.req_head.specs.Reading as reading
@@ -13,4 +13,4 @@ IsScan text room slots Short = reading.read_request (lines text) ≡ reading.Sho
 IsScan text room slots Wrong = reading.read_request (lines text) ≡ reading.Wrong
 IsScan text room slots (Whole s) =
     IsRequestWithin text slots s × ((h : RequestHead) × IsRequestAt text slots s h × (reading.read_request (lines text) ≡ reading.Whole h))
-IsScan text room slots NoRoom = RequestOverflows room text × (room < 2731)
+IsScan text room slots NoRoom = RequestOverflows room text × RequestExceeds room text

@@ -1,4 +1,4 @@
-// The fields of a head, as a map.
+// The fields of a head, as they were sent and as a map.
 
 ghost use Rattle.std.specs.Prelude.{◌≡◌, ℕ, ◌+◌, ◌<◌, ◌≤◌, List, [], length, map, IfOk, OnOk, All};
 ghost use Rattle.httparse.specs.Spans.{IsHeaderWithin, IsWithin, header_bytes, span_bytes};
@@ -12,7 +12,8 @@ use byte_text::OutOfMemory;
 use bytes::Bytes;
 use http_header::{HeaderMap, HeaderMapError, HeaderName, HeaderNameError, HeaderValue};
 use httparse::spans::{HeaderSpan, Span};
-use std::alloc::Global;
+use std::alloc::{AllocError, Global};
+use std::marker::Model;
 
 fn name_of(alloc: Global, bytes: &[u8]) -> Result<HeaderName, OutOfMemory>
     requires { IsFieldName bytes.now }
@@ -92,17 +93,65 @@ fn fields_in(alloc: Global, text: &Bytes, spans: &[HeaderSpan]) -> Result<Header
     Ok(fields)
 }
 
-/// The fields that the spans show. Their values share one copy of the text.
-pub(crate) fn field_map(
-    alloc: Global,
-    text: &[u8],
-    spans: &[HeaderSpan],
-) -> Result<HeaderMap, OutOfMemory>
-    requires few { length spans.now ≤ 64 }
-    requires within { All (IsHeaderWithin (length text.now)) spans.now }
-    requires taken { All (λ s. IsTaken (header_bytes text.now s)) spans.now }
-    ensures { IfOk result (λ m. m ≡ with_fields [] (map (header_bytes text.now) spans.now)) }
+/// The fields of a head, as they were sent: its bytes, and where each field is among them. A contract sees them as the map of
+/// these fields, which is made only for who asks for it.
+#[derive(Drop)]
+pub struct HeadFields {
+    text: Vec<u8>,
+    spans: Vec<HeaderSpan>,
+}
+
+impl Model for HeadFields {
+    ghost use Rattle.std.specs.Prelude.{ℕ, List, [], map};
+    ghost use Rattle.std.specs.Coded.{coded_list, coded×, coded_ℕ};
+    ghost use Rattle.httparse.specs.Spans.{header_bytes};
+    ghost use Rattle.http_header.specs.FieldValue.{FieldValue, field_value_code};
+    ghost use Rattle.http_header.specs.HeaderMap.{Entries};
+    ghost use Rattle.req_head.specs.Fields.{with_fields, AreShown};
+
+    ghost Value = { Entries FieldValue };
+
+    ghost coded = { coded_list (coded× (coded_list coded_ℕ) (coded_list field_value_code)) };
+
+    ghost view = { λ f. with_fields [] (map (header_bytes f.text.items) f.spans.items) };
+
+    ghost invariant = { λ f. AreShown f.text.items f.spans.items };
+}
+
+fn copy_spans(alloc: Global, spans: &[HeaderSpan]) -> Result<Vec<HeaderSpan>, AllocError>
+    ensures { IfOk result (λ copy. copy.items ≡ spans.now) }
 {
-    let shared = Bytes::copy_from_slice(alloc, text)?;
-    fields_in(alloc, &shared, spans)
+    Vec::from_slice(alloc, spans)
+}
+
+impl HeadFields {
+    ghost use Rattle.std.specs.Prelude.{◌≡◌, ◌≤◌, [], length, map, IfOk, All};
+    ghost use Rattle.httparse.specs.Spans.{IsHeaderWithin, header_bytes};
+    ghost use Rattle.req_head.specs.Fields.{with_fields, IsTaken};
+
+    /// The fields that the spans show.
+    pub(crate) fn new(alloc: Global, text: &[u8], spans: &[HeaderSpan]) -> Result<Self, OutOfMemory>
+        requires few { length spans.now ≤ 64 }
+        requires within { All (IsHeaderWithin (length text.now)) spans.now }
+        requires taken { All (λ s. IsTaken (header_bytes text.now s)) spans.now }
+        ensures { IfOk result (λ m. m ≡ with_fields [] (map (header_bytes text.now) spans.now)) }
+    {
+        let text = Vec::from_slice(alloc, text)?;
+        let spans = copy_spans(alloc, spans)?;
+        Ok(HeadFields { text, spans })
+    }
+
+    /// The map of the fields: each name in lower case, with its values in their order, without the white space around them.
+    /// The values share one copy of the head.
+    ///
+    /// # Errors
+    ///
+    /// Want of memory alone.
+    pub fn to_map(&self, alloc: Global) -> Result<HeaderMap, OutOfMemory>
+        ensures { IfOk result (λ m. m ≡ self.now) }
+    {
+        let shared = Bytes::copy_from_slice(alloc, self.text.as_slice())?;
+        let fields = fields_in(alloc, &shared, self.spans.as_slice())?;
+        Ok(fields)
+    }
 }

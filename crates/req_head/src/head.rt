@@ -1,18 +1,17 @@
 // Reading a whole head.
 ghost use Rattle.std.specs.Prelude.{◌≡◌, ℕ, ◌≤◌, List, length, IfOk, None};
 ghost use Rattle.httparse.specs.Grammar.{RequestHead};
-ghost use Rattle.httparse.specs.Spans.{IsRequestAt, IsRequestOf, IsRequestWithin, RequestOverflows};
+ghost use Rattle.httparse.specs.Spans.{IsRequestAt, IsRequestOf, IsRequestWithin};
 ghost use Rattle.req_head.specs.Lines.{lines, whole_lines};
 ghost use Rattle.req_head.specs.Reading.{Whole, Wrong, Short, read_request};
 
-use crate::fields::field_map;
+use crate::fields::HeadFields;
 use crate::find::{Scan, find_head};
 use crate::host::host_of;
 use crate::known::{Known, known_of};
-use crate::lines::{LIMIT, asks_head, seen_of, whole_lines_of};
+use crate::lines::{LIMIT, asks_head, have_too_many, seen_of, whole_lines_of};
 use crate::rules::{body_of, find_fault, keeps, method_of, version_of};
 use byte_text::{ByteText, OutOfMemory};
-use http_header::HeaderMap;
 use http_types::{BodyKind, Method, Version};
 use httparse::spans::{EMPTY_HEADER_SPAN, HeaderSpan, RequestSpans};
 use std::alloc::Global;
@@ -28,7 +27,7 @@ pub struct Head {
     /// is there.
     pub host: ByteText,
     /// Each field, its value without the white space around it.
-    pub fields: HeaderMap,
+    pub fields: HeadFields,
     pub body: BodyKind,
     /// Whether the head alone lets the connection persist.
     pub keep: bool,
@@ -63,7 +62,7 @@ fn make_head(
     target: &[u8],
     minor: u8,
     known: Known<'_>,
-    fields: HeaderMap,
+    fields: HeadFields,
 ) -> Result<Head, OutOfMemory>
     requires known { IsKnown fields known }
     requires passes { fault_with minor target.now fields ≡ None }
@@ -95,7 +94,7 @@ fn refuse(seen: &[u8]) -> HeadStep
 fn wait(seen: &[u8]) -> HeadStep
     ensures { result ≡ step_of seen.now Short }
 {
-    if seen.len() < LIMIT {
+    if seen.len() < LIMIT && !have_too_many(seen) {
         HeadStep::More
     } else {
         refuse(seen)
@@ -126,32 +125,13 @@ fn test_head(
         }),
         None => {
             let method = spans.method.of(text);
-            let map = field_map(alloc, &text[..spans.len], shown)?;
-            let head = make_head(alloc, method, target, spans.version, known, map)?;
+            let fields = HeadFields::new(alloc, &text[..spans.len], shown)?;
+            let head = make_head(alloc, method, target, spans.version, known, fields)?;
             Ok(HeadStep::Head {
                 head,
                 size: spans.len,
             })
         }
-    }
-}
-
-/// What lines decide that have more than 64 fields, whole or not.
-#[cold]
-fn read_long(alloc: Global, seen: &[u8], text: &[u8]) -> Result<HeadStep, OutOfMemory>
-    requires short { length text.now ≤ 8192 }
-    requires lines { whole_lines text.now ≡ text.now }
-    requires long { RequestOverflows 64 text.now }
-    ensures { IfOk result (λ step. step ≡ step_of seen.now (read_request (lines text.now))) }
-{
-    let mut room = vec![in alloc; EMPTY_HEADER_SPAN; 2731]?;
-    let slots: &mut [HeaderSpan] = &mut room;
-    match find_head(text, slots) {
-        Scan::Short => Ok(wait(seen)),
-        Scan::Wrong => Ok(refuse(seen)),
-        Scan::Whole(_) => Ok(refuse(seen)),
-        // There is room for more fields than the bytes can hold.
-        Scan::NoRoom => unreachable!(),
     }
 }
 
@@ -166,7 +146,8 @@ fn read_lines(alloc: Global, bytes: &[u8]) -> Result<HeadStep, OutOfMemory>
         Scan::Short => Ok(wait(seen)),
         Scan::Wrong => Ok(refuse(seen)),
         Scan::Whole(spans) => test_head(alloc, seen, text, &slots, &spans),
-        Scan::NoRoom => read_long(alloc, seen, text),
+        // One field more than a head may have is whole, whether the head is or not.
+        Scan::NoRoom => Ok(refuse(seen)),
     }
 }
 

@@ -11,6 +11,7 @@ mod lines;
 mod options;
 mod rules;
 
+pub use fields::HeadFields;
 pub use head::{Head, HeadStep, read_head};
 pub use laws::{full_decides, grammar_decides, head_stays, refusal_stays, size_fits};
 pub use lines::may_decide;

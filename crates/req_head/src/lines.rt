@@ -1,9 +1,9 @@
 // The lines that a connection holds.
-ghost use Rattle.std.specs.Prelude.{◌≡◌, ℕ, ◌≤◌, ◌<◌, ◌==◌, ◌||◌, nat_le, length, take, drop, false, MatchOption, codes};
+ghost use Rattle.std.specs.Prelude.{◌≡◌, ℕ, ◌≤◌, ◌<◌, ◌==◌, ◌||◌, nat_le, length, take, drop, false, MatchOption, codes, if◌then◌else◌};
 ghost use Rattle.std.specs.List.{list_any};
-ghost use Rattle.req_head.specs.Lines.{whole_lines};
+ghost use Rattle.req_head.specs.Lines.{lines, whole_lines, after_empty};
 ghost use Rattle.req_head.specs.FirstLine.{asks_head, begins_with};
-ghost use Rattle.req_head.specs.Step.{looked, head_step};
+ghost use Rattle.req_head.specs.Step.{looked, have_too_many, head_step};
 ghost use Rattle.req_head.specs.declared.head.HeadStep.TheVariants.{More};
 
 use memchr::memrchr;
@@ -47,11 +47,13 @@ pub(crate) fn whole_lines_of(seen: &[u8]) -> &[u8]
 }
 
 /// The bytes behind an empty line at the front.
-#[tactic(auto, unfolding(crate::specs::FirstLine::asks_head))]
+#[tactic(auto, unfolding(crate::specs::FirstLine::asks_head, crate::specs::Lines::lines, crate::specs::Lines::after_empty))]
 fn after_blank(bytes: &[u8]) -> Option<&[u8]>
     ensures same { MatchOption result (Unit {0}) (λ rest. asks_head bytes.now ≡ asks_head rest.now) }
     ensures shorter { MatchOption result (Unit {0}) (λ rest. length rest.now < length bytes.now) }
     ensures none { MatchOption result (asks_head bytes.now ≡ begins_with (codes "HEAD ") bytes.now) (λ rest. Unit {0}) }
+    ensures lines { MatchOption result (after_empty (lines bytes.now) ≡ lines bytes.now)
+        (λ rest. after_empty (lines bytes.now) ≡ after_empty (lines rest.now)) }
 {
     match bytes {
         [b'\n', rest @ ..] => Some(rest),
@@ -60,15 +62,50 @@ fn after_blank(bytes: &[u8]) -> Option<&[u8]>
     }
 }
 
-/// Whether the first line behind empty ones begins with the method HEAD.
-pub(crate) fn asks_head(bytes: &[u8]) -> bool
-    ensures { result ≡ asks_head bytes.now }
+/// The bytes behind all empty lines at the front.
+fn after_blanks(bytes: &[u8]) -> &[u8]
+    ensures ask { asks_head bytes.now ≡ begins_with (codes "HEAD ") result.now }
+    ensures lines { after_empty (lines bytes.now) ≡ lines result.now }
 {
     let mut rest = bytes;
     while let Some(next) = after_blank(rest) {
         rest = next;
     }
-    rest.starts_with(b"HEAD ")
+    rest
+}
+
+/// Whether the first line behind empty ones begins with the method HEAD.
+pub(crate) fn asks_head(bytes: &[u8]) -> bool
+    ensures { result ≡ asks_head bytes.now }
+{
+    after_blanks(bytes).starts_with(b"HEAD ")
+}
+
+/// One for a byte that ends a line, nothing for another.
+fn ends_line(byte: u8) -> usize
+    ensures value { result ≡ (if byte == 10 then 1 else 0) }
+    ensures few { result ≤ 1 }
+{
+    if byte == b'\n' { 1 } else { 0 }
+}
+
+/// How many lines have ended.
+fn count_lines(bytes: &[u8]) -> usize
+    ensures { result ≡ length (lines bytes.now) }
+{
+    let mut count = 0;
+    for byte in bytes {
+        let one = ends_line(*byte);
+        count += one;
+    }
+    count
+}
+
+/// Whether behind empty lines there is a line with more than 64 others: where they begin a head, so many fields.
+pub(crate) fn have_too_many(seen: &[u8]) -> bool
+    ensures { result ≡ have_too_many (lines seen.now) }
+{
+    count_lines(after_blanks(seen)) > 65
 }
 
 /// Whether bytes that came after the first `known` ones can make a difference.

@@ -1,10 +1,12 @@
-//! The directives of rewrite programs as their words say them: `set`, `if`, `rewrite`, `return` and `break`
-//! (<https://nginx.org/en/docs/http/ngx_http_rewrite_module.html>), with what is wrong with them.
+//! Rewrite programs by the directives of a level: `set`, `if`, `rewrite`, `return` and `break`
+//! (<https://nginx.org/en/docs/http/ngx_http_rewrite_module.html>), or the first that is wrong with them.
 #![tactic(auto)]
 
 mod condition;
 mod directive;
+mod part;
 mod pattern;
+mod program;
 mod raw;
 mod words;
 
@@ -12,4 +14,5 @@ pub use directive::{
     break_reading, if_reading, reading_by, return_reading, rewrite_reading, set_reading,
 };
 pub use pattern::step_in;
+pub use program::{CompileError, Compiled, compile};
 pub use raw::{RawCondition, RawPattern, RawStep, RawTest, Reading};

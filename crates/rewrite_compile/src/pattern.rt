@@ -22,6 +22,7 @@ fn add<M: PatternMaker>(
     ensures bad { IsErrOf result PatternFault.Bad → is_bad (pattern_in pattern.now) ≡ true }
     ensures too_big { IsErrOf result PatternFault.TooBig
         → Rose (M.refusals maker.old) (M.refusals maker.new) }
+    ensures spared { OnOk result (M.refusals maker.new ≡ M.refusals maker.old) }
 {
     let number = match u32::try_from(patterns.len()) {
         Ok(number) => number,
@@ -44,6 +45,8 @@ fn test_in<M: PatternMaker>(
         → list_any is_bad (patterns_in_test test) ≡ true }
     ensures too_big { IsErrOf result PatternFault.TooBig
         → Rose (M.refusals maker.old) (M.refusals maker.new) }
+    ensures patterned { OnErr result (length (patterns_in_test test) ≡ 1) }
+    ensures spared { OnOk result (M.refusals maker.new ≡ M.refusals maker.old) }
 {
     match test {
         RawTest::IsSet(variable) => Ok(Test::IsSet(variable)),
@@ -75,6 +78,8 @@ pub fn step_in<M: PatternMaker>(
     ensures bad { IsErrOf result PatternFault.Bad → list_any is_bad (patterns_in raw) ≡ true }
     ensures too_big { IsErrOf result PatternFault.TooBig
         → Rose (M.refusals maker.old) (M.refusals maker.new) }
+    ensures patterned { OnErr result (length (patterns_in raw) ≡ 1) }
+    ensures spared { OnOk result (M.refusals maker.new ≡ M.refusals maker.old) }
 {
     match raw {
         RawStep::Set { name, text } => Ok(RewriteStep::Set { name, text }),

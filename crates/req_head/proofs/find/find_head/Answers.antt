@@ -2,7 +2,7 @@ use Rattle.std.proofs.Common.{length, ap, ◌∙◌, Err}
 use Rattle.httparse.specs.Spans.{IsRequestOf, IsRequestWithin, RequestExceeds, RequestOverflows}
 use Rattle.httparse.specs.Grammar.{HasNoRequest, NeverHasRequest, MayBecomeRequest}
 use Rattle.req_head.proofs.HeadLemmas.{request-found}
-use Rattle.req_head.proofs.ScanLemmas.{short_from, wrong_from, room_is_small, complete_at, partial_at, invalid_at}
+use Rattle.req_head.proofs.ScanLemmas.{short_from, wrong_from, complete_at, partial_at, invalid_at}
 use Rattle.std.proofs.Common.{drop}
 use Rattle.req_head.proofs.find.find_head.Goals as goal
 
@@ -29,7 +29,7 @@ returns-in-TooManyHeaders c =
     let is = c.in-Err.is ∙ ap (λ z. Err z) c.in-TooManyHeaders.is in
     let over : RequestExceeds room text = c.parse_request.ensures.too_many is in
     let all : RequestOverflows room text = c.in-Err.ensures.no_room in
-    (all, room_is_small text room c.requires.short over)
+    (all, over)
 
 pub returns-in_default : goal.returns-in_default
 returns-in_default c =

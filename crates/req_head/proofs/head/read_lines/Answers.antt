@@ -2,6 +2,7 @@ use Rattle.std.proofs.Common.{◌≡◌, refl}
 use Rattle.req_head.specs.Lines.{lines}
 use Rattle.req_head.specs.Reading.{Whole, Wrong, Short, read_request}
 use Rattle.req_head.specs.Step.{head_step}
+use Rattle.req_head.proofs.CodeLemmas.{overflow_refused}
 use Rattle.req_head.proofs.MadeLemmas.{lines_short, lines_whole, decided_by, ok_map}
 use Rattle.req_head.proofs.head.read_lines.Goals as goal
 
@@ -13,12 +14,6 @@ find_head-requires-clause-lines c = lines_whole c.seen_of-seen.result.now c.whol
 
 pub test_head-requires-clause-short : goal.test_head-requires-clause-short
 test_head-requires-clause-short c = lines_short c.seen_of-seen.result.now c.whole_lines_of-text.result.now c.seen_of-seen.ensures.short c.whole_lines_of-text.ensures
-
-pub read_long-requires-clause-short : goal.read_long-requires-clause-short
-read_long-requires-clause-short c = lines_short c.seen_of-seen.result.now c.whole_lines_of-text.result.now c.seen_of-seen.ensures.short c.whole_lines_of-text.ensures
-
-pub read_long-requires-clause-lines : goal.read_long-requires-clause-lines
-read_long-requires-clause-lines c = lines_whole c.seen_of-seen.result.now c.whole_lines_of-text.result.now c.whole_lines_of-text.ensures
 
 pub returns-in-Short : goal.returns-in-Short
 returns-in-Short c =
@@ -41,6 +36,6 @@ pub returns-in-NoRoom : goal.returns-in-NoRoom
 returns-in-NoRoom c =
     let seen = c.seen_of-seen.result.now in
     let text = c.whole_lines_of-text.result.now in
-    ok_map c.read_long.result _ (λ step. step ≡ head_step c.args.bytes.now)
-    (λ step e. decided_by c.args.bytes.now seen text (read_request (lines text)) step c.seen_of-seen.ensures.value c.whole_lines_of-text.ensures refl e)
-    c.read_long.ensures
+    let r = read_request (lines text) in
+    let is = overflow_refused seen text r c.refuse-in-NoRoom.result c.whole_lines_of-text.ensures refl c.in-NoRoom.ensures.0 c.in-NoRoom.ensures.1 c.refuse-in-NoRoom.ensures in
+    decided_by c.args.bytes.now seen text r c.refuse-in-NoRoom.result c.seen_of-seen.ensures.value c.whole_lines_of-text.ensures refl is

@@ -6,8 +6,8 @@ use Rattle.req_head.proofs.Taken.{taken}
 use Rattle.req_head.proofs.MadeLemmas.{refused_is, passed_is, spans_within, fields_within, map_known}
 use Rattle.req_head.proofs.head.test_head.Goals as goal
 
-pub field_map-requires-clause-taken : goal.field_map-requires-clause-taken
-field_map-requires-clause-taken c =
+pub new-requires-clause-taken : goal.new-requires-clause-taken
+new-requires-clause-taken c =
     let text = c.args.text.now in
     let len = c.args.spans.now.len in
     let shown = take c.args.spans.now.headers c.args.slots.now in
@@ -18,15 +18,15 @@ field_map-requires-clause-taken c =
 
 pub make_head-requires-clause-known : goal.make_head-requires-clause-known
 make_head-requires-clause-known c =
-    map_known c.args.text.now c.args.spans.now.len (take c.args.spans.now.headers c.args.slots.now) c.in_ok-map-in-None.map c.known_of-known.result c.requires.within.section.headers_fit
-    c.in_ok-map-in-None.ensures c.known_of-known.ensures
+    map_known c.args.text.now c.args.spans.now.len (take c.args.spans.now.headers c.args.slots.now) c.in_ok-fields-in-None.fields c.known_of-known.result c.requires.within.section.headers_fit
+    c.in_ok-fields-in-None.ensures c.known_of-known.ensures
 
 pub make_head-requires-clause-passes : goal.make_head-requires-clause-passes
 make_head-requires-clause-passes c =
     let known =
-    map_known c.args.text.now c.args.spans.now.len (take c.args.spans.now.headers c.args.slots.now) c.in_ok-map-in-None.map c.known_of-known.result c.requires.within.section.headers_fit
-    c.in_ok-map-in-None.ensures c.known_of-known.ensures in
-    sym (c.find_fault.ensures c.in_ok-map-in-None.map known) ∙ c.in-None.is
+    map_known c.args.text.now c.args.spans.now.len (take c.args.spans.now.headers c.args.slots.now) c.in_ok-fields-in-None.fields c.known_of-known.result c.requires.within.section.headers_fit
+    c.in_ok-fields-in-None.ensures c.known_of-known.ensures in
+    sym (c.find_fault.ensures c.in_ok-fields-in-None.fields known) ∙ c.in-None.is
 
 pub returns-in-Some : goal.returns-in-Some
 returns-in-Some c =
@@ -37,9 +37,9 @@ returns-in-Some c =
 pub returns-in_ok-head-in-None : goal.returns-in_ok-head-in-None
 returns-in_ok-head-in-None c =
     let shown = take c.args.spans.now.headers c.args.slots.now in
-    let fields = c.in_ok-map-in-None.map in
+    let fields = c.in_ok-fields-in-None.fields in
     let all = c.requires.within.section.headers_fit in
-    let known = map_known c.args.text.now c.args.spans.now.len shown fields c.known_of-known.result all c.in_ok-map-in-None.ensures c.known_of-known.ensures in
+    let known = map_known c.args.text.now c.args.spans.now.len shown fields c.known_of-known.result all c.in_ok-fields-in-None.ensures c.known_of-known.ensures in
     passed_is c.args.seen.now c.args.text.now c.args.slots.now c.args.spans.now c.of-method.result.now c.of-target.result.now fields c.find_fault.result c.in_ok-head-in-None.head
-    c.requires.within c.requires.few c.of-method.ensures c.of-target.ensures (fields_within c.args.text.now c.args.spans.now.len shown fields all c.in_ok-map-in-None.ensures)
+    c.requires.within c.requires.few c.of-method.ensures c.of-target.ensures (fields_within c.args.text.now c.args.spans.now.len shown fields all c.in_ok-fields-in-None.ensures)
     (c.find_fault.ensures fields known) c.in-None.is c.in_ok-head-in-None.ensures

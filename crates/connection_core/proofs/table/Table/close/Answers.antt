@@ -22,7 +22,7 @@ returns-else-not-is_shut-clause-steps c = λ now.
     let stands = stands_in c.args.conn c.in-Ok.at c.as_slice.result.now t.ids.items c.as_slice.ensures.value c.in-Ok.ensures in
     let s = seat_at c.args.conn c.in-Ok.at t.ids.items t.conns.items stands even in
     let here = here_is c.in-Ok.at t.conns.items s.placed c.index.result.now c.index.ensures in
-    cut_steps t.site c.args.conn c.in-Ok.at t.ids.items c.remove.new.self.items t.conns.items c.remove-in-Ok.new.self.items s c.remove.ensures.items c.remove-in-Ok.ensures.items
+    cut_steps t.site c.args.conn c.in-Ok.at t.ids.items c.take_out.new.items.items t.conns.items c.take_out-in-Ok.new.items.items s c.take_out.ensures.items c.take_out-in-Ok.ensures.items
     (ap (λ x. (view_of t.site x).shut) (sym here) ∙ sym c.is_shut.ensures ∙ c.if-not-is_shut.false) now 0
 
 pub returns-in-Err-clause-steps : goal.returns-in-Err-clause-steps
@@ -37,7 +37,7 @@ returns-else-not-is_shut-clause-known c = λ tree known.
     let even : length t.conns.items ≡ length t.ids.items = omega (arith, t.paired, t.ids.ok.0, t.conns.ok.0) in
     let stands = stands_in c.args.conn c.in-Ok.at c.as_slice.result.now t.ids.items c.as_slice.ensures.value c.in-Ok.ensures in
     let s = seat_at c.args.conn c.in-Ok.at t.ids.items t.conns.items stands even in
-    cut_known tree t.site c.args.conn c.in-Ok.at t.ids.items t.conns.items c.remove-in-Ok.new.self.items s c.remove-in-Ok.ensures.items known
+    cut_known tree t.site c.args.conn c.in-Ok.at t.ids.items t.conns.items c.take_out-in-Ok.new.items.items s c.take_out-in-Ok.ensures.items known
 
 pub invariant_of-self : goal.invariant_of-self
 invariant_of-self c =
@@ -46,7 +46,7 @@ invariant_of-self c =
     let even : length t.conns.items ≡ length t.ids.items = omega (arith, t.paired, t.ids.ok.0, t.conns.ok.0) in
     let s = seat_at c.args.conn c.in-Ok.at t.ids.items t.conns.items stands even in
     record {
-      later = cut_later t.soon c.args.conn c.in-Ok.at t.ids.items t.conns.items c.remove-in-Ok.new.self.items s c.remove-in-Ok.ensures.items t.later;
-      rising = cut_rising c.args.conn c.in-Ok.at t.ids.items c.remove.new.self.items stands c.remove.ensures.items t.rising;
-      paired = omega (arith, t.paired, c.remove.ensures.len, c.remove-in-Ok.ensures.len);
+      later = cut_later t.soon c.args.conn c.in-Ok.at t.ids.items t.conns.items c.take_out-in-Ok.new.items.items s c.take_out-in-Ok.ensures.items t.later;
+      rising = cut_rising c.args.conn c.in-Ok.at t.ids.items c.take_out.new.items.items stands c.take_out.ensures.items t.rising;
+      paired = omega (arith, t.paired, c.take_out.ensures.len, c.take_out-in-Ok.ensures.len);
     }

@@ -1,0 +1,354 @@
+// The lines where a variable is set and read.
+ghost use Rattle.std.specs.Prelude.{◌≡◌, ◌++◌, ℕ, Bool, List, map, flat_map, OnOk, IfOk, Some};
+ghost use Rattle.ngx_variables.specs.Paths.{text_of};
+ghost use Rattle.site_views.specs.Pattern.{Pattern};
+ghost use Rattle.site_views.specs.Values.{IndexName as NameView, PageRule as RuleView, Text};
+ghost use Rattle.site_views.specs.Rewrites.{Directive, Program as Directives};
+ghost use Rattle.site_model.specs.declared.site.Site.{Site as SiteRow};
+ghost use Rattle.site_whole.specs.Whole.{index_seen, page_seen, auth_set_seen, step_seen, index_at, returned_first, program_seen, values_seen};
+ghost use Rattle.race_meaning.specs.Reads.{in_text as text_has, in_target as target_has, in_directive};
+ghost use Rattle.race_meaning.specs.Conflicts.{sets_it as set_by};
+ghost use Rattle.race_check.specs.Places.{line_list, lines_of, keep_if, value_reads, program_lines, reads_of_values, reads_of_program, sets_of_program, all_reads, all_sets};
+
+use crate::looks::{in_some, in_step, in_target, in_text, in_tries, sets_it};
+use crate::values::{auth_sets_of, place_text, rules_of};
+use byte_text::OutOfMemory;
+use site_model::{AuthSet, IndexName, Level, PageRule, Return, RewriteStep, Site};
+use source_lines::{LevelLines, Line};
+use std::alloc::Global;
+
+/// Adds a line, if there is one and this is so.
+fn push_if(out: &mut Vec<Line>, is_so: bool, line: Option<Line>) -> Result<(), OutOfMemory>
+    ensures { OnOk result (out.new.items ≡ out.old.items ++ keep_if is_so (line_list line)) }
+{
+    if !is_so {
+        return Ok(());
+    }
+    match line {
+        Some(line) => {
+            out.push(line)?;
+            Ok(())
+        }
+        None => Ok(()),
+    }
+}
+
+fn push_names(
+    out: &mut Vec<Line>,
+    name: &[u8],
+    names: &[IndexName],
+    lines: &[Line],
+) -> Result<(), OutOfMemory>
+    ensures { OnOk result (out.new.items ≡ out.old.items
+        ++ lines_of (λ (i : NameView). text_has name.now i.text) (map index_seen names.now) lines.now) }
+{
+    let mut left = lines;
+    for index in names {
+        let Some((line, rest)) = left.split_first() else {
+            return Ok(());
+        };
+        push_if(out, in_text(name, &index.text), Some(*line))?;
+        left = rest;
+    }
+    Ok(())
+}
+
+/// Where none is stated, `index.html` reads nothing.
+fn push_index(
+    out: &mut Vec<Line>,
+    name: &[u8],
+    site: &Site,
+    number: Option<u32>,
+    lines: &[Line],
+) -> Result<(), OutOfMemory>
+    ensures { OnOk result (out.new.items ≡ out.old.items
+        ++ lines_of (λ (i : NameView). text_has name.now i.text) (index_at site.now number) lines.now) }
+{
+    match number {
+        Some(number) => match site.indexes.get(number as usize) {
+            Some(index) => {
+                push_names(out, name, index.names.as_slice(), lines)?;
+                Ok(())
+            }
+            None => Ok(()),
+        },
+        None => Ok(()),
+    }
+}
+
+fn push_pages(
+    out: &mut Vec<Line>,
+    name: &[u8],
+    rules: &[PageRule],
+    lines: &[Line],
+) -> Result<(), OutOfMemory>
+    ensures { OnOk result (out.new.items ≡ out.old.items
+        ++ lines_of (λ (r : RuleView). target_has name.now r.target) (map page_seen rules.now) lines.now) }
+{
+    let mut left = lines;
+    for rule in rules {
+        let Some((line, rest)) = left.split_first() else {
+            return Ok(());
+        };
+        push_if(out, in_target(name, &rule.target), Some(*line))?;
+        left = rest;
+    }
+    Ok(())
+}
+
+fn push_auth_sets(
+    out: &mut Vec<Line>,
+    name: &[u8],
+    sets: &[AuthSet],
+    lines: &[Line],
+) -> Result<(), OutOfMemory>
+    ensures { OnOk result (out.new.items ≡ out.old.items
+        ++ lines_of (λ (s : List ℕ × Text). text_has name.now s.1) (map auth_set_seen sets.now) lines.now) }
+{
+    let mut left = lines;
+    for set in sets {
+        let Some((line, rest)) = left.split_first() else {
+            return Ok(());
+        };
+        push_if(out, in_text(name, &set.text), Some(*line))?;
+        left = rest;
+    }
+    Ok(())
+}
+
+/// Adds the lines of values of a level that read a variable.
+#[tactic(auto, unfolding(site_whole::specs::Whole::values_seen))]
+fn push_values(
+    out: &mut Vec<Line>,
+    name: &[u8],
+    site: &Site,
+    level: &Level,
+    lines: &LevelLines,
+) -> Result<(), OutOfMemory>
+    ensures { OnOk result (out.new.items ≡ out.old.items
+        ++ value_reads name.now (values_seen site.now level.now) (Some lines.now)) }
+{
+    push_if(out, in_text(name, place_text(&level.place)), lines.place)?;
+    push_index(out, name, site, level.index, lines.index.as_slice())?;
+    push_if(out, in_tries(name, &level.tries), lines.tries)?;
+    push_pages(
+        out,
+        name,
+        rules_of(site, level.pages),
+        lines.pages.as_slice(),
+    )?;
+    let sets = auth_sets_of(site, level.auth_sets);
+    push_auth_sets(out, name, sets, lines.auth_sets.as_slice())?;
+    Ok(())
+}
+
+fn push_reading_steps(
+    out: &mut Vec<Line>,
+    name: &[u8],
+    steps: &[RewriteStep],
+    lines: &[Line],
+) -> Result<(), OutOfMemory>
+    ensures { OnOk result ((patterns : List Pattern) (site : SiteRow)
+        → out.new.items ≡ out.old.items
+        ++ lines_of (in_directive name.now) (map (step_seen patterns site) steps.now) lines.now) }
+{
+    let mut left = lines;
+    for step in steps {
+        let Some((line, rest)) = left.split_first() else {
+            return Ok(());
+        };
+        push_if(out, in_step(name, step), Some(*line))?;
+        left = rest;
+    }
+    Ok(())
+}
+
+fn push_setting_steps(
+    out: &mut Vec<Line>,
+    name: &[u8],
+    steps: &[RewriteStep],
+    lines: &[Line],
+) -> Result<(), OutOfMemory>
+    ensures { OnOk result ((patterns : List Pattern) (site : SiteRow)
+        → out.new.items ≡ out.old.items
+        ++ lines_of (set_by name.now) (map (step_seen patterns site) steps.now) lines.now) }
+{
+    let mut left = lines;
+    for step in steps {
+        let Some((line, rest)) = left.split_first() else {
+            return Ok(());
+        };
+        push_if(out, sets_it(name, step), Some(*line))?;
+        left = rest;
+    }
+    Ok(())
+}
+
+/// The lines of a program without that of the level's `return`, which comes first.
+fn after_returned<'a>(returned: &Option<Return>, lines: &'a [Line]) -> &'a [Line]
+    ensures { (test : Directive → Bool) (program : Directives)
+        → lines_of test (returned_first returned.now ++ program) lines.now
+        ≡ lines_of test (returned_first returned.now) lines.now ++ lines_of test program result.now }
+{
+    match returned {
+        Some(_) => match lines {
+            [] => &[],
+            [_, rest @ ..] => rest,
+        },
+        None => lines,
+    }
+}
+
+/// Adds the line of a level's `return` that reads a variable.
+#[tactic(auto, unfolding(race_meaning::specs::Reads::in_directive))]
+fn push_returned(
+    out: &mut Vec<Line>,
+    name: &[u8],
+    returned: &Option<Return>,
+    lines: &[Line],
+) -> Result<(), OutOfMemory>
+    ensures { OnOk result (out.new.items ≡ out.old.items
+        ++ lines_of (in_directive name.now) (returned_first returned.now) lines.now) }
+{
+    match returned {
+        Some(returned) => match lines {
+            [] => Ok(()),
+            [line, ..] => {
+                push_if(out, in_some(name, &returned.text), Some(*line))?;
+                Ok(())
+            }
+        },
+        None => Ok(()),
+    }
+}
+
+/// Adds the lines of a level's program that read a variable.
+fn push_program_reads(
+    out: &mut Vec<Line>,
+    name: &[u8],
+    level: &Level,
+    lines: &LevelLines,
+) -> Result<(), OutOfMemory>
+    ensures { OnOk result ((patterns : List Pattern) (site : SiteRow)
+        → out.new.items ≡ out.old.items
+        ++ program_lines (in_directive name.now) (program_seen patterns site level.now) (Some lines.now)) }
+{
+    let lines = lines.program.as_slice();
+    push_returned(out, name, &level.returned, lines)?;
+    let rest = after_returned(&level.returned, lines);
+    push_reading_steps(out, name, level.program.as_slice(), rest)?;
+    Ok(())
+}
+
+/// Adds the lines of a level's program that set a variable.
+fn push_program_sets(
+    out: &mut Vec<Line>,
+    name: &[u8],
+    level: &Level,
+    lines: &LevelLines,
+) -> Result<(), OutOfMemory>
+    ensures { OnOk result ((patterns : List Pattern) (site : SiteRow)
+        → out.new.items ≡ out.old.items
+        ++ program_lines (set_by name.now) (program_seen patterns site level.now) (Some lines.now)) }
+{
+    let rest = after_returned(&level.returned, lines.program.as_slice());
+    push_setting_steps(out, name, level.program.as_slice(), rest)?;
+    Ok(())
+}
+
+fn push_values_at(
+    out: &mut Vec<Line>,
+    site: &Site,
+    table: &[LevelLines],
+    name: &[u8],
+    number: u32,
+) -> Result<(), OutOfMemory>
+    ensures { OnOk result ((patterns : List Pattern) → out.new.items ≡ out.old.items
+        ++ reads_of_values patterns site.now table.now name.now number) }
+{
+    match table.get(number as usize) {
+        Some(lines) => {
+            push_values(out, name, site, site.level(number), lines)?;
+            Ok(())
+        }
+        None => Ok(()),
+    }
+}
+
+fn push_reads_at(
+    out: &mut Vec<Line>,
+    site: &Site,
+    table: &[LevelLines],
+    name: &[u8],
+    number: u32,
+) -> Result<(), OutOfMemory>
+    ensures { OnOk result ((patterns : List Pattern) → out.new.items ≡ out.old.items
+        ++ reads_of_program patterns site.now table.now name.now number) }
+{
+    match table.get(number as usize) {
+        Some(lines) => {
+            push_program_reads(out, name, site.level(number), lines)?;
+            Ok(())
+        }
+        None => Ok(()),
+    }
+}
+
+fn push_sets_at(
+    out: &mut Vec<Line>,
+    site: &Site,
+    table: &[LevelLines],
+    name: &[u8],
+    number: u32,
+) -> Result<(), OutOfMemory>
+    ensures { OnOk result ((patterns : List Pattern) → out.new.items ≡ out.old.items
+        ++ sets_of_program patterns site.now table.now name.now number) }
+{
+    match table.get(number as usize) {
+        Some(lines) => {
+            push_program_sets(out, name, site.level(number), lines)?;
+            Ok(())
+        }
+        None => Ok(()),
+    }
+}
+
+/// The lines where values of these levels and programs of those read a variable.
+pub fn reads_of(
+    alloc: Global,
+    site: &Site,
+    table: &[LevelLines],
+    values: &[u32],
+    levels: &[u32],
+    name: &[u8],
+) -> Result<Vec<Line>, OutOfMemory>
+    ensures { IfOk result (λ lines. (patterns : List Pattern)
+        → lines.items ≡ all_reads patterns site.now table.now name.now values.now levels.now) }
+{
+    let mut lines = Vec::new(alloc);
+    for number in values {
+        push_values_at(&mut lines, site, table, name, *number)?;
+    }
+    for level in levels {
+        push_reads_at(&mut lines, site, table, name, *level)?;
+    }
+    Ok(lines)
+}
+
+/// The lines where programs of these levels set a variable.
+pub fn sets_of(
+    alloc: Global,
+    site: &Site,
+    table: &[LevelLines],
+    levels: &[u32],
+    name: &[u8],
+) -> Result<Vec<Line>, OutOfMemory>
+    ensures { IfOk result (λ lines. (patterns : List Pattern)
+        → lines.items ≡ all_sets patterns site.now table.now name.now levels.now) }
+{
+    let mut lines = Vec::new(alloc);
+    for level in levels {
+        push_sets_at(&mut lines, site, table, name, *level)?;
+    }
+    Ok(lines)
+}

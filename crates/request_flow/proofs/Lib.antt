@@ -1,0 +1,4 @@
+mod Padding
+mod Turns
+mod Pieces
+mod Puts

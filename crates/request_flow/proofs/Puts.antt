@@ -1,0 +1,321 @@
+-- A response is put.
+use Rattle.std.proofs.Common.{◌≡◌, ◌≤◌, ℕ, ◌+◌, ◌-◌, Bool, true, false, not, ◌&&◌, ◌||◌, cond, eqb, List, [], ◌∷◌, ◌++◌, length, drop, Option, None, Some, option_map, refl, sym, ap, ◌∙◌, subst, append_assoc, arith}
+use Rattle.std.specs.Prelude.{nat_lt, is_some, is_none, codes}
+use Rattle.std.proofs.lemmas.List.{append-nil}
+use Rattle.acts.specs.Vars.{Vars}
+use Rattle.file_tree.specs.Tree.{Item, Trees, text_of}
+use Rattle.filter_api.specs.declared.facts.Facts.{Facts}
+use Rattle.addition_filter.specs.Machine.{is_added}
+use Rattle.ssi_filter.specs.Machine.{is_split}
+use Rattle.ngx_pattern.specs.Pattern.{Pattern as SetPattern}
+use Rattle.resp_head.specs.declared.head.ReplyHead.{ReplyHead}
+use Rattle.resp_head.specs.Head.{head_of}
+use Rattle.error_page.specs.Page.{page_of}
+use Rattle.ngx_outside.specs.Views.{Start}
+use Rattle.answers_meaning.specs.Answers.{refusal, refusal_head}
+use Rattle.site_model.specs.Levels.{raw_level}
+use Rattle.site_model.specs.declared.site.Level.{Level}
+use Rattle.site_model.specs.declared.site.Site.{Site}
+use Rattle.site_views.specs.Values.{Values}
+use Rattle.site_whole.specs.Whole.{values_seen}
+use Rattle.request_meaning.specs.Serving.{World, Answer, Asked, Standing, Prepared, Body as MeantBody}
+use Rattle.request_meaning.specs.Serving.Body.{NoBody, Plain, Filtered}
+use Rattle.request_meaning.specs.Answering.{sent, page, page_to, moved, closed, answer_with, prepared, page_answer, closed_answer}
+use Rattle.request_meaning.specs.Responses.{response, reply_head, content_sent, keeps, stays_by, framing, is_chunked, may_stay, framed_body}
+use Rattle.family_meaning.specs.Flight.{stays_after}
+use Rattle.request_meaning.specs.Answering.{facts_of}
+use Rattle.request_meaning.specs.Laws.{shipped}
+use Rattle.rewrite_code.specs.Places.{standing_seen}
+use Rattle.request_phases.specs.Rounds.{prepared_as, asked_in, world_in}
+use Rattle.request_phases.specs.declared.ground.Ground.{Ground}
+use Rattle.request_phases.specs.declared.state.Phases.{Phases}
+use Rattle.request_phases.specs.declared.state.Outcome.{Outcome}
+use Rattle.request_phases.specs.declared.state.Outcome.TheVariants as outcomes
+use Rattle.request_reply.specs.Replies.{IsReply, IsUnfiltered, body_seen, FitsFile}
+use Rattle.request_reply.specs.declared.reply.Body.{Body}
+use Rattle.request_reply.specs.declared.reply.Body.TheVariants as bodies
+use Rattle.request_reply.specs.declared.reply.Reply.{Reply}
+use Rattle.request_flow.specs.declared.blocks.Sending.{Sending}
+use Rattle.request_flow.specs.declared.flow.Terms.{Terms}
+use Rattle.request_flow.specs.declared.steps.FileAt.{FileAt}
+use Rattle.request_flow.specs.declared.steps.Known.{Known}
+use Rattle.request_flow.specs.declared.steps.Known.TheVariants.{Nothing, Told}
+use Rattle.request_flow.specs.Openings.{terms_seen}
+use Rattle.request_flow.specs.Padded.{padded}
+use Rattle.request_flow.proofs.Padding.{padded_length}
+use Rattle.request_flow.specs.Rests.{Rest, no_rest, closes_after, Follows}
+use Rattle.request_flow.specs.Flows.{file_rest}
+use Rattle.request_flow.specs.Sents.{head_seen, sent_now, content_now, put_now, stays_seen, is_unfiltered, is_file, sends_file, file_known, known_bytes, known_len, with_length, plain_bytes, prepared_rest}
+
+-- ---- what an outcome prepares
+
+-- how long the file was said to be before makes no difference
+pub same_outcome : (w : World) (a : Asked) (s : Standing) (bytes : List ℕ) (len : ℕ) (o : Outcome) →
+    prepared_as w a s bytes (with_length len o) ≡ prepared_as w a s bytes o
+same_outcome w a s bytes len (outcomes.Text code text) = refl
+same_outcome w a s bytes len (outcomes.File told date) = refl
+same_outcome w a s bytes len (outcomes.Page code) = refl
+same_outcome w a s bytes len (outcomes.Redirect code to) = refl
+same_outcome w a s bytes len outcomes.Close = refl
+
+pub fits_told : (bytes : List ℕ) (len : ℕ) (o : Outcome) → length bytes ≡ len → FitsFile (with_length len o) bytes
+fits_told bytes len (outcomes.Text code text) e = tt
+fits_told bytes len (outcomes.File told date) e = e
+fits_told bytes len (outcomes.Page code) e = tt
+fits_told bytes len (outcomes.Redirect code to) e = tt
+fits_told bytes len outcomes.Close e = tt
+
+-- the values are those of the level where the request is
+pub values_are : (w : World) (a : Asked) (s : Standing) (bytes : List ℕ) (o : Outcome) → (prepared_as w a s bytes o).answer.values ≡ s.values
+unfolding sent answer_with page page_to page_answer moved closed_answer
+values_are w a s bytes (outcomes.Text code text) = refl
+values_are w a s bytes (outcomes.File told date) = refl
+values_are w a s bytes (outcomes.Page code) = refl
+values_are w a s bytes (outcomes.Redirect code to) = refl
+values_are w a s bytes outcomes.Close = refl
+
+-- a connection that is closed at once is sent no body
+pub gone_bare : (w : World) (a : Asked) (s : Standing) (bytes : List ℕ) (o : Outcome) → (prepared_as w a s bytes o).answer.gone ≡ true →
+    (prepared_as w a s bytes o).body ≡ NoBody
+unfolding sent answer_with page page_to page_answer moved closed_answer
+gone_bare w a s bytes (outcomes.Text code text) e = cc
+gone_bare w a s bytes (outcomes.File told date) e = cc
+gone_bare w a s bytes (outcomes.Page code) e = cc
+gone_bare w a s bytes (outcomes.Redirect code to) e = cc
+gone_bare w a s bytes outcomes.Close e = refl
+
+-- ---- its head
+
+and_true : (b : Bool) → (b && true) ≡ b
+and_true true = refl
+and_true false = refl
+
+by_length : (t : Terms) (a : Answer) → a.known ≡ true → may_stay (framing a.known (terms_seen t).version) ≡ true
+by_length t a e = ap (λ k. may_stay (framing k t.version)) e
+
+module _ (t : Terms) (reply : Reply) (bytes : List ℕ) (p : Prepared) (is : IsReply reply bytes p) where
+  head_is : (keep : Bool) → head_seen reply t keep ≡ reply_head p.answer t.moment t.version t.no_body keep
+  unfolding reply_head
+  head_is keep =
+      rw (sym is.status) (rw (sym is.kind) (rw (sym is.len) (rw (sym is.modified) (rw (sym is.location) (rw is.known refl)))))
+
+  -- what is put with the head, where the rest of the body is this
+  content_is : (later : List ℕ) → cond t.no_body [] (plain_bytes p.body) ≡ content_now reply t ++ later →
+      content_sent p.answer t.version t.no_body (plain_bytes p.body) ≡ content_now reply t ++ later
+  content_is later e = ap (λ k. cond t.no_body [] (framed_body (framing k t.version) (plain_bytes p.body))) is.known ∙ e
+
+  abbrev whole : (gone keep : Bool) → List ℕ
+  whole gone keep = cond gone [] (head_of (reply_head p.answer t.moment t.version t.no_body keep) ++ content_sent p.answer t.version t.no_body (plain_bytes p.body))
+
+  put_by : (gone keep : Bool) (later : List ℕ) → cond t.no_body [] (plain_bytes p.body) ≡ content_now reply t ++ later → (gone ≡ true → later ≡ []) →
+      cond gone [] (head_of (head_seen reply t keep) ++ content_now reply t) ++ later ≡ whole gone keep
+  put_by true keep later e none = none refl
+  put_by false keep later e none =
+      append_assoc (head_of (head_seen reply t keep)) (content_now reply t) later
+      ∙ (ap (λ h. head_of h ++ (content_now reply t ++ later)) (head_is keep)
+      ∙ ap (λ c. head_of (reply_head p.answer t.moment t.version t.no_body keep) ++ c) (sym (content_is later e)))
+
+  response_is : (keep : Bool) (later : List ℕ) → cond t.no_body [] (plain_bytes p.body) ≡ content_now reply t ++ later → (p.answer.gone ≡ true → later ≡ []) →
+      put_now reply t keep ++ later ≡ response (record { answer = p.answer; body = plain_bytes p.body }) t.moment t.version t.no_body keep
+  unfolding put_now response
+  response_is keep later e none =
+      ap (λ b. cond b [] (head_of (head_seen reply t keep) ++ content_now reply t) ++ later) is.gone ∙ put_by p.answer.gone keep later e none
+
+  -- whether the connection stays open
+  stays_is : (site : Site) (l raw : Level) → l ≡ raw → p.answer.values ≡ values_seen site raw → stays_seen t l reply ≡ stays_after (terms_seen t) p.answer
+  unfolding keeps values_seen
+  stays_is site l raw el ev =
+      rw el (rw is.closes (rw is.gone (
+      sym (and_true (t.head_keeps && (nat_lt (t.before + 1) raw.requests && not (eqb raw.idle 0)) && not (p.answer.closes || p.answer.gone)))
+      ∙ ap (λ b. (t.head_keeps && (nat_lt (t.before + 1) raw.requests && not (eqb raw.idle 0)) && not (p.answer.closes || p.answer.gone)) && b) (sym (by_length t p.answer is.known))
+      ∙ ap (λ (v : Values). (t.head_keeps && stays_by t.before v && not (p.answer.closes || p.answer.gone)) && may_stay (framing p.answer.known t.version)) (sym ev))))
+
+-- ---- a file is sent, or none is
+
+content_by : (no_body gone : Bool) (body : Body) (known : Known) (trees : Trees) (meant : MeantBody) → body_seen (known_bytes known trees) body ≡ meant → (gone ≡ true → meant ≡ NoBody) →
+    file_known (is_file body && not no_body && not gone) known ≡ None → cond no_body [] (plain_bytes meant) ≡ cond no_body [] (sent_now body)
+content_by true gone body known trees meant e g f = refl
+content_by false gone bodies.Nothing known trees meant e g f = ap plain_bytes (sym e)
+content_by false gone (bodies.Page code) known trees meant e g f = ap plain_bytes (sym e)
+content_by false gone (bodies.Text text) known trees meant e g f = ap plain_bytes (sym e)
+content_by false gone bodies.File (Nothing of) trees meant e g f = ap plain_bytes (sym e)
+content_by false true bodies.File (Told file) trees meant e g f = ap plain_bytes (g refl)
+content_by false false bodies.File (Told file) trees meant e g f = cc
+
+pub no_file : (t : Terms) (reply : Reply) (p : Prepared) (known : Known) (trees : Trees) → IsReply reply (known_bytes known trees) p → (p.answer.gone ≡ true → p.body ≡ NoBody) →
+    file_known (sends_file t reply) known ≡ None → cond t.no_body [] (plain_bytes p.body) ≡ content_now reply t
+no_file t reply p known trees is bare e = content_by t.no_body reply.gone reply.body known trees p.body is.body (λ g. bare (sym is.gone ∙ g)) e
+
+pub record FileSent (no_body gone : Bool) (body : Body) (known : Known) (file : FileAt) : Type 0 where
+  pub sent : no_body ≡ false
+  pub there : gone ≡ false
+  pub is : body ≡ bodies.File
+  pub told : known ≡ Told file
+
+sent_by : (no_body gone : Bool) (body : Body) (known : Known) (file : FileAt) → file_known (is_file body && not no_body && not gone) known ≡ Some file → FileSent no_body gone body known file
+sent_by no_body gone body (Nothing of) file e = cc
+sent_by true gone bodies.File (Told f) file e = cc
+sent_by false true bodies.File (Told f) file e = cc
+sent_by false false bodies.File (Told f) file e = record { sent = refl; there = refl; is = refl; told = ap Told (let s : f ≡ file = cc in s) }
+sent_by no_body gone bodies.Nothing (Told f) file e = cc
+sent_by no_body gone (bodies.Page code) (Told f) file e = cc
+sent_by no_body gone (bodies.Text text) (Told f) file e = cc
+
+pub file_sent : (t : Terms) (reply : Reply) (known : Known) (file : FileAt) → file_known (sends_file t reply) known ≡ Some file → FileSent t.no_body reply.gone reply.body known file
+file_sent t reply known file e = sent_by t.no_body reply.gone reply.body known file e
+
+-- ---- no filter acts
+
+and_false : (b : Bool) → (b && false) ≡ false
+and_false true = refl
+and_false false = refl
+
+split_off : (facts : Facts) → facts.ssi ≡ false → is_split facts ≡ false
+split_off facts e = ap (λ b. b && facts.ssi_type) e
+
+added_off : (facts : Facts) → facts.before ≡ false → facts.after ≡ false → is_added facts ≡ false
+added_off facts b a =
+    ap (λ x. facts.main && (eqb facts.status 200 && (facts.addition_type && (x || facts.after)))) b
+    ∙ (ap (λ x. facts.main && (eqb facts.status 200 && (facts.addition_type && x))) a
+    ∙ (ap (λ x. facts.main && (eqb facts.status 200 && x)) (and_false facts.addition_type)
+    ∙ (ap (λ x. facts.main && x) (and_false (eqb facts.status 200)) ∙ and_false facts.main)))
+
+none_is : {A : Type 0} (o : Option A) → is_none o ≡ true → is_some o ≡ false
+none_is None e = refl
+none_is (Some a) e = cc
+
+off_by : (ssi : Bool) (before after : Option (List ℕ)) → (not ssi && is_none before && is_none after) ≡ true → (ssi ≡ false) × ((is_some before ≡ false) × (is_some after ≡ false))
+off_by true before after e = cc
+off_by false None None e = (refl, (refl, refl))
+off_by false None (Some a) e = cc
+off_by false (Some b) after e = cc
+
+pub unfiltered : (patterns : List SetPattern) (g : Ground) (p : Phases) (l : Level) → is_unfiltered l ≡ true → l ≡ raw_level g.site.now p.at.level →
+    IsUnfiltered (world_in patterns g shipped) (standing_seen g.site.now p.at)
+unfolding values_seen facts_of
+unfiltered patterns g p l off e = λ status kind.
+    let facts = facts_of (standing_seen g.site.now p.at) status kind in
+    let h = off_by l.ssi l.before l.after off in
+    let s : facts.ssi ≡ false = ap (λ (l : Level). l.ssi) (sym e) ∙ h.0 in
+    let b : facts.before ≡ false = ap (λ (l : Level). is_some l.before) (sym e) ∙ h.1.0 in
+    let a : facts.after ≡ false = ap (λ (l : Level). is_some l.after) (sym e) ∙ h.1.1 in
+    ap (λ x. x || (is_added facts || false)) (split_off facts s) ∙ ap (λ x. x || false) (added_off facts b a)
+
+-- ---- what is still to come then
+
+-- whether the connection closes after a reply
+kept_or : (closing keep stays : Bool) → keep ≡ stays → (closing || not keep) ≡ cond stays closing true
+kept_or true true stays e = ap (λ b. cond b true true) e
+kept_or false true stays e = ap (λ b. cond b false true) e
+kept_or true false stays e = ap (λ b. cond b true true) e
+kept_or false false stays e = ap (λ b. cond b false true) e
+
+module _ (site : Site) (number : ℕ) (t : Terms) (l : Level) (reply : Reply) (bytes : List ℕ) (p : Prepared) (vars : Vars) (is : IsReply reply bytes p)
+    (el : l ≡ raw_level site number) (ev : p.answer.values ≡ values_seen site (raw_level site number)) (out out' : List ℕ) (closing closing' keep : Bool) (size : ℕ)
+    (kept : keep ≡ stays_seen t l reply) (closed : closing' ≡ (closing || not keep)) (puts : out' ≡ out ++ put_now reply t keep) (sized : size ≡ length (content_now reply t)) where
+  before : Rest
+  before = prepared_rest (terms_seen t) p vars
+
+  stays : keep ≡ stays_after (terms_seen t) p.answer
+  stays = kept ∙ stays_is t reply bytes p is site l (raw_level site number) el ev
+
+  -- all of the response is put
+  pub over_follows : cond t.no_body [] (plain_bytes p.body) ≡ content_now reply t →
+      Follows site (prepared_rest (terms_seen t) p vars) no_rest out out' closing closing' (Some (reply.status, size)) (Some number)
+  over_follows content = record {
+    bytes =
+        append-nil out' ∙ (puts
+        ∙ (ap (λ b. out ++ b) (sym (append-nil (put_now reply t keep)) ∙ response_is t reply bytes p is keep [] (content ∙ sym (append-nil (content_now reply t))) (λ g. refl))
+        ∙ ap (λ k. out ++ response (record { answer = p.answer; body = plain_bytes p.body }) t.moment t.version t.no_body k) stays));
+    closes = closed ∙ kept_or closing keep (stays_after (terms_seen t) p.answer) stays;
+    logged = rw is.status (rw sized (rw (sym content) (logs t.no_body)));
+    level = ap (λ v. Some v) (sym ev);
+    subs = refl;
+  }
+    where
+      logs : (b : Bool) → Path (List (ℕ × ℕ)) ((p.answer.status, length (cond b [] (plain_bytes p.body))) ∷ []) ((p.answer.status, cond b 0 (length (plain_bytes p.body))) ∷ [])
+      logs true = refl
+      logs false = refl
+
+  none_gone : (len : ℕ) (text : List ℕ) → drop (len - len) text ≡ text
+  none_gone len text = ap (λ n. drop n text) (let z : len - len ≡ 0 = omega arith in z)
+
+  -- its head is put, and a file is read from then on
+  pub file_follows : (len : ℕ) (item : Item) → t.no_body ≡ false → p.answer.gone ≡ false → content_now reply t ≡ [] →
+      plain_bytes p.body ≡ padded len (text_of item) → length (plain_bytes p.body) ≡ len →
+      Follows site (prepared_rest (terms_seen t) p vars) (file_rest (record { status = reply.status; len = len }) len item) out out' closing closing' None (Some number)
+  file_follows len item body there bare text long =
+      let later : padded len (drop (len - len) (text_of item)) ≡ plain_bytes p.body = ap (padded len) (none_gone len (text_of item)) ∙ sym text in
+      record {
+        bytes =
+            ap (λ b. out' ++ b) later
+            ∙ (ap (λ o. o ++ plain_bytes p.body) puts
+            ∙ (append_assoc out (put_now reply t keep) (plain_bytes p.body)
+            ∙ (ap (λ b. out ++ b) (response_is t reply bytes p is keep (plain_bytes p.body)
+            (ap (λ b. cond b [] (plain_bytes p.body)) body ∙ sym (ap (λ c. c ++ plain_bytes p.body) bare))
+            (λ g. absurd (true_false (sym g ∙ there))))
+            ∙ ap (λ k. out ++ response (record { answer = p.answer; body = plain_bytes p.body }) t.moment t.version t.no_body k) stays)));
+        closes = closed ∙ kept_or closing keep (stays_after (terms_seen t) p.answer) stays;
+        logged = rw is.status (rw (sym long) (ap (λ b. (p.answer.status, cond b 0 (length (plain_bytes p.body))) ∷ []) (sym body)));
+        level = ap (λ v. Some v) (sym ev);
+        subs = refl;
+      }
+    where
+      true_false : true ≡ false → ⊥
+      true_false e = cc
+
+-- the same, said of what is equal
+pub moved_follows : (site : Site) (q q' r r' : Rest) (out out' : List ℕ) (closing c c' : Bool) (log log' : Option (ℕ × ℕ)) (number number' : Option ℕ) → q' ≡ q → r' ≡ r → c' ≡ c → log' ≡ log → number' ≡ number →
+    Follows site q r out out' closing c log number → Follows site q' r' out out' closing c' log' number'
+moved_follows site q q' r r' out out' closing c c' log log' number number' eq er ec el en f = rw eq (rw er (rw ec (rw el (rw en f))))
+
+-- ---- a reply is what was prepared
+
+known_length : (known : Known) (trees : Trees) → length (known_bytes known trees) ≡ known_len known
+known_length (Nothing of) trees = refl
+known_length (Told f) trees = padded_length f.len _
+
+pub replied : (patterns : List SetPattern) (g : Ground) (p : Phases) (l : Level) (known : Known) (trees : Trees) (len : ℕ) (o told : Outcome) (reply : Reply) →
+    l ≡ raw_level g.site.now p.at.level → is_unfiltered l ≡ true → len ≡ known_len known → told ≡ with_length len o →
+    ((w : World) (bytes : List ℕ) → IsUnfiltered w (standing_seen g.site.now p.at) → FitsFile told bytes → IsReply reply bytes (prepared_as w (asked_in p) (standing_seen g.site.now p.at) bytes told)) →
+    IsReply reply (known_bytes known trees) (prepared_as (world_in patterns g shipped) (asked_in p) (standing_seen g.site.now p.at) (known_bytes known trees) o)
+replied patterns g p l known trees len o told reply el off en et h =
+    let b = known_bytes known trees in
+    let w = world_in patterns g shipped in
+    let fits : FitsFile told b = subst (λ x. FitsFile x b) (sym et) (fits_told b len o (known_length known trees ∙ sym en)) in
+    subst (IsReply reply b) (ap (prepared_as w (asked_in p) (standing_seen g.site.now p.at) b) et ∙ same_outcome w (asked_in p) (standing_seen g.site.now p.at) b len o)
+    (h w b (unfiltered patterns g p l off el) fits)
+
+-- ---- how many bytes are put
+
+pub put_first : (old new : List ℕ) → old ≡ [] → length new ≤ length old + 65536 → length new ≤ 65536
+put_first old new e h = subst (λ (o : List ℕ). length new ≤ length o + 65536) e h
+
+-- ---- what is refused
+
+refused_head : (code moment : ℕ) (start : Start) (kind : List ℕ) (len : ℕ) → start.moment ≡ moment → kind ≡ codes "text/html" → len ≡ length (page_of code) →
+    Path ReplyHead (record { status = code; moment = moment; kind = Some kind; length = Some len; modified = None; location = None; chunked = false; keep = false }) (refusal_head code start)
+unfolding refusal_head
+refused_head code moment start kind len m k l = rw (sym m) (rw k (rw l refl))
+
+pub refused : (code moment : ℕ) (start : Start) (no_body : Bool) (kind page text body : List ℕ) (len : ℕ) → start.moment ≡ moment → kind ≡ codes "text/html" → page ≡ page_of code → len ≡ length page →
+    text ≡ head_of (record { status = code; moment = moment; kind = Some kind; length = Some len; modified = None; location = None; chunked = false; keep = false }) →
+    body ≡ cond no_body [] page → text ++ body ≡ (refusal code start no_body).bytes
+unfolding refusal
+refused code moment start no_body kind page text body len m k p l t b =
+    ap (λ x. x ++ body) (t ∙ ap head_of (refused_head code moment start kind len m k (l ∙ ap length p)))
+    ∙ ap (λ x. head_of (refusal_head code start) ++ x) (b ∙ ap (λ x. cond no_body [] x) p)
+
+pub put_is : (t : Terms) (reply : Reply) (keep : Bool) (kind : Option (List ℕ)) (text body : List ℕ) → reply.gone ≡ false → kind ≡ option_map (λ k. k.now) reply.kind →
+    text ≡ head_of (record {
+      status = reply.status;
+      moment = t.moment;
+      kind = kind;
+      length = reply.length;
+      modified = reply.modified;
+      location = reply.location;
+      chunked = false;
+      keep = keep;
+    }) → body ≡ content_now reply t → text ++ body ≡ put_now reply t keep
+unfolding put_now
+put_is t reply keep kind text body g k e b = rw g (rw e (rw k (rw b refl)))

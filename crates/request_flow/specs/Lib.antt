@@ -1,0 +1,5 @@
+pub mod Openings
+pub mod Padded
+pub mod Rests
+pub mod Flows
+pub mod Sents

@@ -1,0 +1,53 @@
+-- What a main request starts with, as the recursive meaning has it.
+use Rattle.std.specs.Prelude.{ℕ, List, Option, None, Some}
+use Rattle.http_types.specs.declared.words.Addr.{Addr}
+use Rattle.http_moment.specs.Shown.{shown_text}
+use Rattle.ngx_outside.specs.Views.{Start}
+use Rattle.ngx_pattern.specs.Pattern.{Pattern as SetPattern}
+use Rattle.ngx_variables.specs.declared.request.Main.{Main}
+use Rattle.pattern_search.specs.Found.{patterns_seen, found}
+use Rattle.site_model.specs.declared.site.Site.{Site}
+use Rattle.site_whole.specs.Whole.{whole}
+use Rattle.request_meaning.specs.Documents.{default_format}
+use Rattle.request_meaning.specs.Laws.{shipped}
+use Rattle.request_meaning.specs.Serving.{is_head}
+use Rattle.family_meaning.specs.Flight.{Terms}
+use Rattle.answers_meaning.specs.Asking.{Service, received}
+use Rattle.request_phases.specs.declared.ground.Ground.{Ground}
+use Rattle.request_flow.specs.declared.asked.Opening.{Opening}
+use Rattle.request_flow.specs.declared.flow.Terms.{Terms as CodeTerms}
+
+-- what a connection with these ends is served: the site, its patterns, and the filters that a server has
+abbrev pub service_of : List SetPattern → Site → (local peer : Addr) → Service
+service_of patterns site local peer =
+    record { site = whole (patterns_seen patterns) site; finds = found; members = shipped; local = local; peer = peer }
+
+abbrev pub start_at : Opening → Start
+start_at o = record { moment = o.moment; tree = o.tree }
+
+-- what the variables of a main request mean
+unfoldable pub main_at : Ground → Opening → Main
+main_at g o =
+    record {
+      received = received o.head.now;
+      method = o.head.now.method;
+      version = o.head.now.version;
+      target = o.head.now.target;
+      host = o.head.now.host;
+      server_name = g.server.now.first_name;
+      local = o.local;
+      peer = o.peer;
+      moment = o.moment;
+      tree = o.tree;
+      date = shown_text o.moment default_format;
+      fields = o.head.now.fields;
+      folder = g.site.now.folder;
+    }
+
+-- what a response is asked with
+abbrev pub terms_seen : CodeTerms → Terms
+terms_seen t = record { moment = t.moment; version = t.version; no_body = t.no_body; before = t.before; head_keeps = t.head_keeps }
+
+abbrev pub terms_at : Opening → Terms
+terms_at o =
+    record { moment = o.moment; version = o.head.now.version; no_body = is_head o.head.now.method; before = o.before; head_keeps = o.head.now.keep }

@@ -1,0 +1,126 @@
+-- What is sent for a reply.
+use Rattle.std.specs.Prelude.{ℕ, ◌+◌, ◌-◌, ◌==◌, ◌&&◌, ◌||◌, nat_lt, Bool, true, false, not, List, [], ◌++◌, length, Option, None, Some, is_none, option_map, if◌then◌else◌}
+use Rattle.acts.specs.Vars.{Vars}
+use Rattle.error_page.specs.Page.{page_of}
+use Rattle.file_tree.specs.Tree.{Tree, Trees, text_of, tree_of}
+use Rattle.ngx_pattern.specs.Pattern.{Pattern as SetPattern}
+use Rattle.resp_head.specs.declared.head.ReplyHead.{ReplyHead}
+use Rattle.resp_head.specs.Head.{head_of}
+use Rattle.site_model.specs.declared.site.Level.{Level}
+use Rattle.site_model.specs.declared.site.Site.{Site}
+use Rattle.request_meaning.specs.Serving.{World, Answer, Prepared, Body as MeantBody}
+use Rattle.request_meaning.specs.Serving.Body.{NoBody, Plain, Filtered}
+use Rattle.request_meaning.specs.Replies.{Came}
+use Rattle.family_meaning.specs.Flight.{Terms}
+use Rattle.request_phases.specs.Rounds.{phases_left}
+use Rattle.request_phases.specs.declared.state.Outcome.{Outcome}
+use Rattle.request_phases.specs.declared.state.Outcome.TheVariants as outcomes
+use Rattle.request_phases.specs.declared.state.Step.{Step}
+use Rattle.request_reply.specs.declared.reply.Body.{Body}
+use Rattle.request_reply.specs.declared.reply.Body.TheVariants as bodies
+use Rattle.request_reply.specs.declared.reply.Reply.{Reply}
+use Rattle.request_flow.specs.declared.flow.InPhases.{InPhases}
+use Rattle.request_flow.specs.declared.flow.Terms.{Terms as CodeTerms}
+use Rattle.request_flow.specs.declared.steps.FileAt.{FileAt}
+use Rattle.request_flow.specs.declared.steps.Known.{Known}
+use Rattle.request_flow.specs.declared.steps.Known.TheVariants.{Nothing, Told}
+use Rattle.request_flow.specs.Flows.{item_asked}
+use Rattle.request_flow.specs.Openings.{terms_seen}
+use Rattle.request_flow.specs.Padded.{padded}
+use Rattle.request_flow.specs.Rests.{Rest, came_rest, act_rest}
+
+-- ---- the head and what is put with it
+
+-- the head of the response; the length of a reply is known, so that its end is told by it
+abbrev pub head_seen : Reply → CodeTerms → (keep : Bool) → ReplyHead
+head_seen r t keep =
+    record {
+      status = r.status;
+      moment = t.moment;
+      kind = option_map (λ k. k.now) r.kind;
+      length = r.length;
+      modified = r.modified;
+      location = r.location;
+      chunked = false;
+      keep = keep;
+    }
+
+-- what of the body is put with the head: all, but for a file
+abbrev pub sent_now : Body → List ℕ
+sent_now bodies.Nothing = []
+sent_now (bodies.Page code) = page_of code
+sent_now (bodies.Text text) = text
+sent_now bodies.File = []
+
+-- the body of a reply, but for a file; none to a HEAD
+abbrev pub content_now : Reply → CodeTerms → List ℕ
+content_now r t = if t.no_body then [] else sent_now r.body
+
+unfoldable pub put_now : Reply → CodeTerms → (keep : Bool) → List ℕ
+put_now r t keep = if r.gone then [] else head_of (head_seen r t keep) ++ content_now r t
+
+-- Whether the connection stays open after a reply: where the request's head allows it, the level does, and no error closes it.
+abbrev pub stays_seen : CodeTerms → Level → Reply → Bool
+stays_seen t level r =
+    t.head_keeps && (nat_lt (t.before + 1) level.requests && not (level.idle == 0)) && not (r.closes || r.gone)
+
+-- no filter of the level acts on a body
+abbrev pub is_unfiltered : Level → Bool
+is_unfiltered level = not level.ssi && is_none level.before && is_none level.after
+
+-- ---- what is known of the files
+
+-- the bytes of the file that was told last
+abbrev pub known_bytes : Known → Trees → List ℕ
+known_bytes (Nothing of) trees = []
+known_bytes (Told f) trees = padded f.len (text_of (item_asked trees f.ask))
+
+abbrev pub known_tree : Known → ℕ
+known_tree (Nothing of) = of
+known_tree (Told f) = tree_of f.ask
+
+abbrev pub known_len : Known → ℕ
+known_len (Nothing of) = 0
+known_len (Told f) = f.len
+
+-- a body is sent, which is a file
+abbrev pub is_file : Body → Bool
+is_file bodies.Nothing = false
+is_file (bodies.Page code) = false
+is_file (bodies.Text text) = false
+is_file bodies.File = true
+
+abbrev pub sends_file : CodeTerms → Reply → Bool
+sends_file t r = is_file r.body && not t.no_body && not r.gone
+
+-- the file that is sent, if one is
+abbrev pub file_known : (sends : Bool) → Known → Option FileAt
+file_known sends (Nothing of) = None
+file_known sends (Told f) = if sends then Some f else None
+
+-- an answer with the file that was told, of this length
+abbrev pub with_length : ℕ → Outcome → Outcome
+with_length len (outcomes.Text code text) = outcomes.Text code text
+with_length len (outcomes.File told date) = outcomes.File len date
+with_length len (outcomes.Page code) = outcomes.Page code
+with_length len (outcomes.Redirect code to) = outcomes.Redirect code to
+with_length len outcomes.Close = outcomes.Close
+
+-- ---- what is still to come
+
+abbrev pub plain_bytes : MeantBody → List ℕ
+plain_bytes NoBody = []
+plain_bytes (Plain bytes) = bytes
+plain_bytes (Filtered facts bytes) = []
+
+abbrev pub came_as : Prepared → Vars → Came Answer
+came_as p vars = record { result = p.answer; body = plain_bytes p.body; vars = vars }
+
+-- where all of this is to be sent, on whose body no filter acts
+abbrev pub prepared_rest : Terms → Prepared → Vars → Rest
+prepared_rest t p vars = came_rest t (came_as p vars) 0
+
+-- where a request in its phases made this step, and these are the bytes of the file
+abbrev pub step_rest : World → List SetPattern → Site → Tree → InPhases → Step → List ℕ → Rest
+step_rest w patterns site tree request step bytes =
+    act_rest w tree (terms_seen request.terms) (phases_left w patterns site bytes request.phases step) request.vars

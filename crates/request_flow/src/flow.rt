@@ -1,0 +1,250 @@
+// A request in flight.
+ghost use Rattle.std.specs.Prelude.{◌≡◌, ◌≤◌};
+ghost use Rattle.request_flow.specs.Flows.{waits as waits_for, may_run as can_run, shown_by, stage_written, flow_written, shown_of, stage_server, stage_length};
+
+use crate::blocks::Sending;
+use file_tree::{Ask, Node};
+use http_types::Version;
+use ngx_variables::VarTable;
+use request_phases::{Phases, Wait};
+
+/// No more bytes than these are shown as pending.
+const SHOWN: usize = 65536;
+
+/// No more bytes than these are placed for a peer: what is shown as pending, and a buffer of the request's.
+const PLACED: usize = 98304;
+
+/// What a response is made with, beside what is answered: the moment at which the request started, in seconds since 1970, its
+/// version, whether no body is sent (HEAD), how many requests came before on the connection, and whether its head lets the
+/// connection stay open (RFC 9112, 9.3).
+#[derive(Clone, Copy, Debug, PartialEq, Eq)]
+pub struct Terms {
+    pub moment: u64,
+    pub version: Version,
+    pub no_body: bool,
+    pub before: u64,
+    pub head_keeps: bool,
+}
+
+/// A request within its phases.
+#[derive(Drop)]
+pub struct InPhases {
+    pub phases: Phases,
+    /// The variables that its rewrite programs set.
+    pub vars: VarTable,
+    pub terms: Terms,
+    /// The number of the server that answers, and the length in bytes that the head states of the request's own body: what
+    /// the request is served over is found by them again.
+    pub server: u32,
+    pub length: u64,
+    /// No more questions to the files than these may follow: far more than a configuration can make a request ask.
+    pub questions: u32,
+}
+
+/// How far a request is.
+#[derive(Drop)]
+pub enum Stage {
+    /// The files are asked what is at a path.
+    Asked {
+        request: InPhases,
+        wait: Wait,
+    },
+    /// They told it.
+    Told {
+        request: InPhases,
+        wait: Wait,
+        node: Node,
+    },
+    /// A block of its file is asked; this many bytes are to come, with it.
+    Reading {
+        sending: Sending,
+        left: u64,
+    },
+    /// A block came, after which this many bytes are to come. Of the bytes for the peer this many are placed.
+    Came {
+        sending: Sending,
+        left: u64,
+        placed: usize,
+    },
+}
+
+/// A request in flight: its job, and how far it is.
+#[derive(Drop)]
+pub struct Flow {
+    pub ask: Ask,
+    pub stage: Stage,
+}
+
+/// What became of a request that went on: how it goes on, if it isn't over; whether the connection closes after it; its
+/// status and the length of its body in bytes once it is over; and the number of the level that answers where its head was put
+/// now.
+#[derive(Drop)]
+pub struct Onward {
+    pub flow: Option<Flow>,
+    pub closing: bool,
+    pub log: Option<(u16, u64)>,
+    pub level: Option<u32>,
+}
+
+/// Whether its job waits for an answer.
+pub fn waits(stage: &Stage) -> bool
+    ensures { result ≡ waits_for stage.now }
+{
+    match stage {
+        Stage::Asked {
+            request: _,
+            wait: _,
+        } => true,
+        Stage::Told {
+            request: _,
+            wait: _,
+            node: _,
+        } => false,
+        Stage::Reading {
+            sending: _,
+            left: _,
+        } => true,
+        Stage::Came {
+            sending: _,
+            left: _,
+            placed: _,
+        } => false,
+    }
+}
+
+/// Whether it can run on.
+#[tactic(auto, unfolding(crate::specs::Flows::placed_most))]
+pub fn may_run(stage: &Stage) -> bool
+    ensures { result ≡ can_run stage.now }
+{
+    match stage {
+        Stage::Asked {
+            request: _,
+            wait: _,
+        } => false,
+        Stage::Told {
+            request: _,
+            wait: _,
+            node: _,
+        } => true,
+        Stage::Reading {
+            sending: _,
+            left: _,
+        } => false,
+        Stage::Came {
+            sending: _,
+            left: _,
+            placed,
+        } => *placed < PLACED,
+    }
+}
+
+/// The number of the server that answers a request within its phases; 0 after them, where it doesn't matter.
+pub fn server_of(stage: &Stage) -> u32
+    ensures { result ≡ stage_server stage.now }
+{
+    match stage {
+        Stage::Asked { request, wait: _ } => request.server,
+        Stage::Told {
+            request,
+            wait: _,
+            node: _,
+        } => request.server,
+        Stage::Reading {
+            sending: _,
+            left: _,
+        } => 0,
+        Stage::Came {
+            sending: _,
+            left: _,
+            placed: _,
+        } => 0,
+    }
+}
+
+/// The length in bytes that the head of a request within its phases states of its own body; 0 after them, where it doesn't
+/// matter.
+pub fn length_of(stage: &Stage) -> u64
+    ensures { result ≡ stage_length stage.now }
+{
+    match stage {
+        Stage::Asked { request, wait: _ } => request.length,
+        Stage::Told {
+            request,
+            wait: _,
+            node: _,
+        } => request.length,
+        Stage::Reading {
+            sending: _,
+            left: _,
+        } => 0,
+        Stage::Came {
+            sending: _,
+            left: _,
+            placed: _,
+        } => 0,
+    }
+}
+
+/// How many of the bytes that are kept for the peer are shown as pending.
+#[tactic(auto, unfolding(crate::specs::Flows::shown_most))]
+pub fn shown(flow: &Option<Flow>) -> usize
+    ensures { result ≡ shown_of flow.now }
+{
+    match flow {
+        Some(flow) => match &flow.stage {
+            Stage::Came {
+                sending: _,
+                left: _,
+                placed,
+            } => (*placed).min(SHOWN),
+            Stage::Asked {
+                request: _,
+                wait: _,
+            } => SHOWN,
+            Stage::Told {
+                request: _,
+                wait: _,
+                node: _,
+            } => SHOWN,
+            Stage::Reading {
+                sending: _,
+                left: _,
+            } => SHOWN,
+        },
+        None => SHOWN,
+    }
+}
+
+/// Where this many of the placed bytes were written.
+fn stage_after(stage: Stage, count: usize) -> Stage
+    requires { count ≤ shown_by stage }
+    ensures { result ≡ stage_written stage count }
+{
+    match stage {
+        Stage::Came {
+            sending,
+            left,
+            placed,
+        } => Stage::Came {
+            sending,
+            left,
+            placed: placed - count,
+        },
+        other => other,
+    }
+}
+
+/// The first of the bytes for the peer were written, of those that are placed.
+pub fn written(flow: Option<Flow>, count: usize) -> Option<Flow>
+    requires { count ≤ shown_of flow }
+    ensures { result ≡ flow_written flow count }
+{
+    match flow {
+        Some(flow) => Some(Flow {
+            ask: flow.ask,
+            stage: stage_after(flow.stage, count),
+        }),
+        None => None,
+    }
+}

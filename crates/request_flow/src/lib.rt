@@ -1,0 +1,19 @@
+//! A main request from its head to the last byte of its response: its phases, its reply, and the blocks of its file, one job
+//! after another.
+#![tactic(auto)]
+
+mod asked;
+mod blocks;
+mod flow;
+mod reply;
+mod run;
+mod steps;
+
+pub use asked::Opening;
+pub use blocks::Sending;
+pub use flow::{
+    Flow, InPhases, Onward, Stage, Terms, length_of, may_run, server_of, shown, waits, written,
+};
+pub use reply::{Workspace, put_refusal};
+pub use run::{answered, run_on};
+pub use steps::start;

@@ -1,0 +1,186 @@
+// The response to what a request is replied: its head, and its body where that isn't a file.
+ghost use Rattle.std.specs.Prelude.{◌≡◌, ◌≤◌, ◌+◌, ◌==◌, ◌++◌, ◌&&◌, [], nat_lt, not, length, IfOk, OnOk, option_map, if◌then◌else◌};
+ghost use Rattle.ngx_outside.specs.Views.{Start};
+ghost use Rattle.answers_meaning.specs.Answers.{refusal};
+ghost use Rattle.request_flow.specs.Sents.{head_seen, sent_now, content_now, put_now, stays_seen};
+
+use crate::flow::Terms;
+use byte_text::{ByteQueue, ByteText, OutOfMemory};
+use error_page::page_text;
+use ngx_pattern::PatternSet;
+use request_reply::{Body, Reply};
+use resp_head::{HeadWriter, ReplyHead};
+use site_model::Level;
+use std::alloc::Global;
+
+/// What requests work with, one after another: memory, the writer of their responses' heads, and what searches for patterns.
+#[derive(Drop)]
+pub struct Workspace {
+    pub alloc: Global,
+    pub heads: HeadWriter,
+    /// The patterns of the site that is served.
+    pub patterns: PatternSet,
+}
+
+impl Workspace {
+    /// One in which nothing was written. It takes no memory yet.
+    pub fn new(alloc: Global, patterns: PatternSet) -> Workspace
+        ensures { result.patterns ≡ patterns }
+    {
+        Workspace {
+            alloc,
+            heads: HeadWriter::new(alloc),
+            patterns,
+        }
+    }
+}
+
+/// No more bytes than these are put at once.
+const OUTGOING: usize = 65536;
+
+/// Whether the values of a level let the connection stay open after a request that this many others came before
+/// (<https://nginx.org/en/docs/http/ngx_http_core_module.html#keepalive_requests>, `#keepalive_timeout`).
+fn allows(level: &Level, before: u64) -> bool
+    ensures { result ≡ (nat_lt (before + 1) level.now.requests && not (level.now.idle == 0)) }
+{
+    before < u64::from(level.requests).saturating_sub(1) && level.idle != 0
+}
+
+/// Whether the connection stays open after a reply that this level answers.
+pub(crate) fn stays(terms: Terms, level: &Level, reply: &Reply<'_>) -> bool
+    ensures { result ≡ stays_seen terms level.now reply.now }
+{
+    terms.head_keeps && allows(level, terms.before) && !(reply.closes || reply.gone)
+}
+
+fn copy_kind(alloc: Global, kind: Option<&[u8]>) -> Result<Option<ByteText>, OutOfMemory>
+    ensures { IfOk result (λ copy. copy ≡ option_map (λ k. k.now) kind.entry) }
+{
+    match kind {
+        Some(kind) => Ok(Some(ByteText::from_slice(alloc, kind)?)),
+        None => Ok(None),
+    }
+}
+
+/// What of a body is put with the head; a page is written into `page`.
+fn content<'a>(
+    body: &'a Body,
+    no_body: bool,
+    page: &'a mut ByteText,
+) -> Result<&'a [u8], OutOfMemory>
+    requires { page.old ≡ [] }
+    ensures { IfOk result (λ bytes. bytes.now ≡ (if no_body then [] else sent_now body.now)) }
+{
+    if no_body {
+        return Ok(b"");
+    }
+    match body {
+        Body::Nothing => Ok(b""),
+        Body::Page(code) => {
+            page_text(*code, page)?;
+            Ok(page.as_slice())
+        }
+        Body::Text(text) => Ok(text.as_slice()),
+        Body::File => Ok(b""),
+    }
+}
+
+fn content_unless(no_body: bool, page: &[u8]) -> &[u8]
+    ensures { result.now ≡ (if no_body then [] else page.now) }
+{
+    if no_body {
+        return b"";
+    }
+    page
+}
+
+/// Puts a head and a body after what is kept for the peer, as far as there is room for both.
+fn put_parts(out: &mut ByteQueue, head: &[u8], body: &[u8]) -> Result<(), OutOfMemory>
+    ensures put { OnOk result (out.new ≡ out.old ++ (head.now ++ body.now)) }
+    ensures fits { OnOk result (length out.new ≤ length out.old + 65536) }
+{
+    if head.len() > OUTGOING || body.len() > OUTGOING - head.len() {
+        return Err(OutOfMemory);
+    }
+    out.append(head)?;
+    out.append(body)?;
+    Ok(())
+}
+
+/// Puts the head of a response, and its body where that isn't a file, after what is kept for the peer: how many bytes of the
+/// body these are. A connection that is closed at once is sent nothing. Where it doesn't fit, there is no memory for it.
+#[tactic(auto, unfolding(crate::specs::Sents::put_now))]
+pub(crate) fn put_reply(
+    space: &mut Workspace,
+    out: &mut ByteQueue,
+    reply: Reply<'_>,
+    terms: Terms,
+    keep: bool,
+) -> Result<u64, OutOfMemory>
+    ensures put { OnOk result (out.new ≡ out.old ++ put_now reply.entry terms keep) }
+    ensures fits { OnOk result (length out.new ≤ length out.old + 65536) }
+    ensures size { IfOk result (λ size. size ≡ length (content_now reply.entry terms)) }
+    ensures kept { space.new.patterns ≡ space.old.patterns }
+{
+    let Reply {
+        status,
+        kind,
+        length,
+        modified,
+        location,
+        gone,
+        body,
+        ..
+    } = reply;
+    let mut page = ByteText::new(space.alloc);
+    let bytes = content(&body, terms.no_body, &mut page)?;
+    let size = bytes.len() as u64;
+    if gone {
+        return Ok(size);
+    }
+    let head = ReplyHead {
+        status,
+        moment: terms.moment,
+        kind: copy_kind(space.alloc, kind)?,
+        length,
+        modified,
+        location,
+        chunked: false,
+        keep,
+    };
+    put_parts(out, space.heads.text(&head)?, bytes)?;
+    Ok(size)
+}
+
+/// Puts the response to what is no request, or is refused: the built-in page of a code, after which the connection closes. How
+/// many bytes of the page these are.
+#[tactic(auto, unfolding(answers_meaning::specs::Answers::refusal, answers_meaning::specs::Answers::refusal_head))]
+pub fn put_refusal(
+    space: &mut Workspace,
+    out: &mut ByteQueue,
+    code: u16,
+    moment: u64,
+    no_body: bool,
+) -> Result<u64, OutOfMemory>
+    ensures put { (start : Start) → start.moment ≡ moment
+        → OnOk result (out.new ≡ out.old ++ (refusal code start no_body).bytes) }
+    ensures fits { OnOk result (length out.new ≤ length out.old + 65536) }
+    ensures log { (start : Start) → IfOk result (λ size. (code, size) ≡ (refusal code start no_body).log) }
+    ensures kept { space.new.patterns ≡ space.old.patterns }
+{
+    let mut page = ByteText::new(space.alloc);
+    page_text(code, &mut page)?;
+    let head = ReplyHead {
+        status: code,
+        moment,
+        kind: Some(ByteText::from_slice(space.alloc, b"text/html")?),
+        length: Some(page.len() as u64),
+        modified: None,
+        location: None,
+        chunked: false,
+        keep: false,
+    };
+    let body = content_unless(no_body, page.as_slice());
+    put_parts(out, space.heads.text(&head)?, body)?;
+    Ok(body.len() as u64)
+}

@@ -1,0 +1,275 @@
+// A request runs on, and its jobs are answered.
+ghost use Rattle.std.specs.Prelude.{◌≡◌, ◌≤◌, ◌<◌, ◌+◌, ◌*◌, not, [], List, ℕ, Bool, true, length, is_some, IfOk, Some, None};
+ghost use Rattle.file_tree.specs.Tree.{Trees, IsFrom, tree_of, is_fitting as fits_job};
+ghost use Rattle.ngx_pattern.specs.Pattern.{Pattern as SetPattern};
+ghost use Rattle.site_model.specs.declared.site.Site.{Site as SiteRow};
+ghost use Rattle.request_meaning.specs.Laws.{shipped};
+ghost use Rattle.request_meaning.specs.Serving.{World};
+ghost use Rattle.request_phases.specs.Rounds.{IsGround, world_in};
+ghost use Rattle.request_flow.specs.Flows.{waits as waits_for, may_run as can_run, stage_fits, flow_rest, flow_fits, flow_left, stage_left, flow_most, tree_asked, heard_flow, file_length, stage_server, stage_length, IsServedBy};
+ghost use Rattle.request_flow.specs.Rests.{Follows};
+ghost use Rattle.request_flow.specs.declared.flow.Stage.TheVariants.{Told as AtTold, Came as AtCame};
+
+use crate::blocks::{Sending, next_block};
+use crate::flow::{Flow, InPhases, Onward, Stage};
+use crate::reply::Workspace;
+use crate::steps::{FileAt, Known, go_on};
+use byte_text::{ByteQueue, OutOfMemory};
+use file_tree::{Ask, JobAnswer, Node};
+use request_phases::{Ground, Wait, resume};
+
+/// No more bytes than these are placed for a peer.
+const PLACED: usize = 98304;
+
+/// The length of what is at a path, where that is a file.
+fn length_of(node: Node) -> u64
+    ensures { result ≡ file_length node }
+{
+    match node {
+        Node::File { len, date: _ } => len,
+        Node::Folder => 0,
+        Node::Locked => 0,
+        Node::Missing => 0,
+    }
+}
+
+/// A request that was told what is at the path for which it asked.
+#[derive(Drop)]
+struct Heard {
+    ask: Ask,
+    request: InPhases,
+    wait: Wait,
+    node: Node,
+}
+
+/// Goes on with its phases.
+fn run_told(
+    space: &mut Workspace,
+    ground: &Ground<'_>,
+    heard: Heard,
+    out: &mut ByteQueue,
+    closing: bool,
+) -> Result<Onward, OutOfMemory>
+    requires ground { IsGround ground.now }
+    requires unsent { out.old ≡ [] }
+    ensures goes { (trees : Trees) →
+        let w = world_in space.old.patterns ground.now shipped in
+        let site = ground.now.site.now in
+        IfOk result (λ o. Follows site
+        (flow_rest w space.old.patterns site (Some (heard_flow heard)) trees)
+        (flow_rest w space.old.patterns site o.flow trees) out.old out.new closing o.closing o.log o.level) }
+    ensures over { IfOk result (λ o. is_some o.log ≡ not (is_some o.flow)) }
+    ensures fits { IfOk result (λ o. flow_fits o.flow (length out.new) ≡ true) }
+    ensures lowers { IfOk result (λ o. length out.new + flow_left o.flow (length out.new)
+        < flow_most + 2 * heard.request.questions + 1) }
+    ensures by { IfOk result (λ o. IsServedBy heard.request.server heard.request.length o.flow) }
+    ensures asked { IfOk result (λ o. tree_asked o.flow ≤ tree_of heard.ask) }
+    ensures closes { IfOk result (λ o. closing ≡ true → o.closing ≡ true) }
+    ensures kept { space.new.patterns ≡ space.old.patterns }
+{
+    let Heard {
+        ask,
+        request,
+        wait,
+        node,
+    } = heard;
+    let InPhases {
+        mut phases,
+        mut vars,
+        terms,
+        server,
+        length,
+        questions,
+    } = request;
+    let alloc = space.alloc;
+    let step = resume(
+        alloc,
+        ground,
+        wait,
+        node,
+        &mut space.patterns,
+        &mut phases,
+        &mut vars,
+    )?;
+    let request = InPhases {
+        phases,
+        vars,
+        terms,
+        server,
+        length,
+        questions,
+    };
+    let known = Known::Told(FileAt {
+        ask,
+        len: length_of(node),
+    });
+    Ok(go_on(space, ground, request, step, known, out, closing)?)
+}
+
+/// A block of its file came: as many of its bytes are placed as there is room for. Once all are, the next block is asked, or
+/// the file is sent.
+#[tactic(auto, unfolding(crate::specs::Flows::placed_most))]
+fn run_came(
+    ask: Ask,
+    sending: Sending,
+    left: u64,
+    placed: usize,
+    size: usize,
+    closing: bool,
+) -> Onward
+    requires fits { stage_fits ask (AtCame sending left placed) size ≡ true }
+    requires runs { can_run (AtCame sending left placed) ≡ true }
+    ensures goes { (w : World) (patterns : List SetPattern) (site : SiteRow) (trees : Trees)
+        (out : List ℕ) → Follows site
+        (flow_rest w patterns site
+        (Some (record { ask = ask; stage = AtCame sending left placed })) trees)
+        (flow_rest w patterns site result.flow trees) out out closing result.closing
+        result.log result.level }
+    ensures over { is_some result.log ≡ not (is_some result.flow) }
+    ensures fits { flow_fits result.flow size ≡ true }
+    ensures lowers { flow_left result.flow size < stage_left (AtCame sending left placed) size }
+    ensures by { (server length : ℕ) → IsServedBy server length result.flow }
+    ensures asked { tree_asked result.flow ≤ tree_of ask }
+    ensures closes { closing ≡ true → result.closing ≡ true }
+{
+    let placed = placed + (size - placed).min(PLACED - placed);
+    if placed < size {
+        return Onward {
+            flow: Some(Flow {
+                ask,
+                stage: Stage::Came {
+                    sending,
+                    left,
+                    placed,
+                },
+            }),
+            closing,
+            log: None,
+            level: None,
+        };
+    }
+    if left == 0 {
+        return Onward {
+            flow: None,
+            closing,
+            log: Some((sending.status, sending.len)),
+            level: None,
+        };
+    }
+    Onward {
+        flow: Some(Flow {
+            ask: next_block(ask, sending.len, left),
+            stage: Stage::Reading { sending, left },
+        }),
+        closing,
+        log: None,
+        level: None,
+    }
+}
+
+/// Runs a request on, to its next job or its end.
+///
+/// # Errors
+/// `OutOfMemory`; the request is then not to be answered.
+pub fn run_on(
+    space: &mut Workspace,
+    ground: &Ground<'_>,
+    flow: Flow,
+    out: &mut ByteQueue,
+    closing: bool,
+) -> Result<Onward, OutOfMemory>
+    requires ground { IsGround ground.now }
+    requires fits { flow_fits (Some flow) (length out.old) ≡ true }
+    requires runs { can_run flow.stage ≡ true }
+    ensures goes { (trees : Trees) →
+        let w = world_in space.old.patterns ground.now shipped in
+        let site = ground.now.site.now in
+        IfOk result (λ o. Follows site (flow_rest w space.old.patterns site (Some flow) trees)
+        (flow_rest w space.old.patterns site o.flow trees) out.old out.new closing o.closing o.log o.level) }
+    ensures over { IfOk result (λ o. is_some o.log ≡ not (is_some o.flow)) }
+    ensures fits { IfOk result (λ o. flow_fits o.flow (length out.new) ≡ true) }
+    ensures lowers { IfOk result (λ o. length out.new + flow_left o.flow (length out.new)
+        < length out.old + flow_left (Some flow) (length out.old)) }
+    ensures by { IfOk result (λ o. IsServedBy (stage_server flow.stage)
+        (stage_length flow.stage) o.flow) }
+    ensures asked { IfOk result (λ o. tree_asked o.flow ≤ tree_of flow.ask) }
+    ensures closes { IfOk result (λ o. closing ≡ true → o.closing ≡ true) }
+    ensures kept { space.new.patterns ≡ space.old.patterns }
+{
+    let Flow { ask, stage } = flow;
+    match stage {
+        Stage::Told {
+            request,
+            wait,
+            node,
+        } => {
+            let heard = Heard {
+                ask,
+                request,
+                wait,
+                node,
+            };
+            Ok(run_told(space, ground, heard, out, closing)?)
+        }
+        Stage::Came {
+            sending,
+            left,
+            placed,
+        } => Ok(run_came(ask, sending, left, placed, out.len(), closing)),
+        Stage::Asked {
+            request: _,
+            wait: _,
+        } => unreachable!(),
+        Stage::Reading {
+            sending: _,
+            left: _,
+        } => unreachable!(),
+    }
+}
+
+/// Its job is answered: what is at its path is told, or a block of its file is put after the bytes for the peer, not yet
+/// placed.
+///
+/// # Errors
+/// `OutOfMemory` where a block doesn't fit.
+#[tactic(auto, unfolding(crate::specs::Flows::placed_most, crate::specs::Flows::block_most, crate::specs::Flows::kept_most))]
+pub fn answered(flow: Flow, out: &mut ByteQueue, answer: JobAnswer<'_>) -> Result<Flow, OutOfMemory>
+    requires fits { flow_fits (Some flow) (length out.old) ≡ true }
+    requires waits { waits_for flow.stage ≡ true }
+    requires fitting { fits_job flow.ask answer ≡ true }
+    ensures goes { (w : World) (patterns : List SetPattern) (site : SiteRow) (trees : Trees)
+        (closing : Bool) → IsFrom trees flow.ask answer.entry →
+        IfOk result (λ f. Follows site (flow_rest w patterns site (Some flow) trees)
+        (flow_rest w patterns site (Some f) trees) out.old out.new closing closing None None) }
+    ensures fits { IfOk result (λ f. flow_fits (Some f) (length out.new) ≡ true) }
+    ensures lowers { IfOk result (λ f. length out.new + flow_left (Some f)
+        (length out.new) < length out.old + flow_left (Some flow) (length out.old)) }
+    ensures by { IfOk result (λ f. IsServedBy (stage_server flow.stage)
+        (stage_length flow.stage) (Some f)) }
+    ensures asked { IfOk result (λ f. tree_of f.ask ≡ tree_of flow.ask) }
+{
+    let Flow { ask, stage } = flow;
+    match (stage, answer) {
+        (Stage::Asked { request, wait }, JobAnswer::Stat(node)) => Ok(Flow {
+            ask,
+            stage: Stage::Told {
+                request,
+                wait,
+                node,
+            },
+        }),
+        (Stage::Reading { sending, left }, JobAnswer::Read(bytes)) => {
+            let placed = out.len();
+            out.append(bytes)?;
+            Ok(Flow {
+                ask,
+                stage: Stage::Came {
+                    sending,
+                    left: left - bytes.len() as u64,
+                    placed,
+                },
+            })
+        }
+        _ => unreachable!(),
+    }
+}

@@ -1,0 +1,355 @@
+// A request starts, and goes on from step to step of its phases.
+ghost use Rattle.std.specs.Prelude.{◌≡◌, ◌≤◌, ◌<◌, ◌+◌, ◌*◌, ◌||◌, not, [], List, ℕ, true, false, length, is_some, IfOk, None, Some};
+ghost use Rattle.file_tree.specs.Tree.{Trees, tree_of};
+ghost use Rattle.ngx_pattern.specs.Pattern.{Pattern as SetPattern};
+ghost use Rattle.pattern_search.specs.Found.{patterns_seen};
+ghost use Rattle.site_whole.specs.Whole.{server_whole};
+ghost use Rattle.answers_meaning.specs.Asking.{request_of};
+ghost use Rattle.request_meaning.specs.Laws.{shipped};
+ghost use Rattle.request_meaning.specs.Serving.{is_head as is_head_method};
+ghost use Rattle.request_phases.specs.Rounds.{IsGround, world_in};
+ghost use Rattle.request_phases.specs.declared.state.Step.TheVariants.{Answers as ToAnswer};
+ghost use Rattle.request_flow.specs.Openings.{main_at, terms_at, terms_seen};
+ghost use Rattle.site_model.specs.declared.site.Site.{Site as SiteRow};
+ghost use Rattle.request_meaning.specs.Serving.{World};
+ghost use Rattle.request_flow.specs.Flows.{flow_rest, file_rest, item_asked, flow_fits, flow_left, flow_most, asking_most, tree_asked, IsServedBy};
+ghost use Rattle.request_flow.specs.Rests.{Follows, opened_rest};
+ghost use Rattle.request_flow.specs.Sents.{known_bytes, known_tree, known_len, with_length as told_length, step_rest, is_unfiltered as acts_on_none, sends_file, file_known};
+
+use crate::asked::{Opening, main_of, request_for};
+use crate::blocks::{Sending, next_block};
+use crate::flow::{Flow, InPhases, Onward, Stage, Terms};
+use crate::reply::{Workspace, put_reply, stays};
+use byte_text::{ByteQueue, OutOfMemory};
+use file_tree::Ask;
+use http_types::Method;
+use ngx_variables::{Role, VarTable};
+use request_phases::{Ground, Outcome, Phases, Step, begin};
+use request_reply::{Body, Reply, reply_of};
+use rewrite_code::Progress;
+use site_model::Level;
+
+/// What a job told of its path, and how many bytes of it are a file's.
+#[derive(Drop)]
+pub(crate) struct FileAt {
+    pub(crate) ask: Ask,
+    pub(crate) len: u64,
+}
+
+/// What is known of the files: nothing yet of the tree with this number, or what a job told.
+#[derive(Drop)]
+pub(crate) enum Known {
+    Nothing { of: u64 },
+    Told(FileAt),
+}
+
+/// The number of the tree.
+fn tree_in(known: &Known) -> u64
+    ensures { result ≡ known_tree known.now }
+{
+    match known {
+        Known::Nothing { of } => *of,
+        Known::Told(file) => match &file.ask {
+            Ask::Stat { path: _, of } => *of,
+            Ask::Read {
+                path: _,
+                start: _,
+                count: _,
+                of,
+            } => *of,
+        },
+    }
+}
+
+fn length_in(known: &Known) -> u64
+    ensures { result ≡ known_len known.now }
+{
+    match known {
+        Known::Nothing { of: _ } => 0,
+        Known::Told(file) => file.len,
+    }
+}
+
+/// An answer with a file has the length that was told of it.
+fn with_length(len: u64, outcome: Outcome) -> Outcome
+    ensures { result ≡ told_length len outcome }
+{
+    match outcome {
+        Outcome::File { len: _, date } => Outcome::File { len, date },
+        other => other,
+    }
+}
+
+/// Whether no filter of a level acts on a body (`ssi`, `add_before_body`, `add_after_body`).
+fn is_unfiltered(level: &Level) -> bool
+    ensures { result ≡ acts_on_none level.now }
+{
+    !level.ssi && level.before.is_none() && level.after.is_none()
+}
+
+/// Whether the body is sent that a reply has, and is a file.
+fn sends_file(terms: Terms, reply: &Reply<'_>) -> bool
+    ensures { result ≡ sends_file terms reply.now }
+{
+    match reply.body {
+        Body::File => !terms.no_body && !reply.gone,
+        Body::Nothing => false,
+        Body::Page(_) => false,
+        Body::Text(_) => false,
+    }
+}
+
+/// The file that is sent, if one is.
+fn file_if(sends: bool, known: Known) -> Option<FileAt>
+    ensures { result ≡ file_known sends known }
+{
+    match known {
+        Known::Told(file) => {
+            if sends {
+                return Some(file);
+            }
+            None
+        }
+        Known::Nothing { of: _ } => None,
+    }
+}
+
+fn closes(closing: bool, keep: bool) -> bool
+    ensures { result ≡ (closing || not keep) }
+{
+    closing || !keep
+}
+
+/// A request whose whole response was put.
+#[tactic(auto, unfolding(crate::specs::Flows::flow_most, crate::specs::Flows::placed_most))]
+fn over(number: u32, status: u16, size: u64, closing: bool) -> Onward
+    ensures is { result ≡ record {
+      flow = None;
+      closing = closing;
+      log = Some (status, size);
+      level = Some number;
+    } }
+    ensures fits { (count : ℕ) → count ≤ 65536 → flow_fits result.flow count ≡ true }
+    ensures lowers { (count : ℕ) → count ≤ 65536 → count + flow_left result.flow count < flow_most }
+{
+    Onward {
+        flow: None,
+        closing,
+        log: Some((status, size)),
+        level: Some(number),
+    }
+}
+
+/// A request whose head was put, and whose file is read from now on.
+#[tactic(auto, unfolding(crate::specs::Flows::flow_most, crate::specs::Flows::placed_most))]
+fn reading(number: u32, status: u16, file: FileAt, closing: bool) -> Onward
+    ensures rest { (w : World) (patterns : List SetPattern) (site : SiteRow) (trees : Trees) →
+        flow_rest w patterns site result.flow trees
+        ≡ file_rest (record { status = status; len = file.len }) file.len
+        (item_asked trees file.ask) }
+    ensures flow { is_some result.flow ≡ true }
+    ensures others { (result.closing ≡ closing) × (result.log ≡ None) × (result.level ≡ Some number) }
+    ensures fits { (count : ℕ) → count ≤ 65536 → flow_fits result.flow count ≡ true }
+    ensures lowers { (count : ℕ) → count ≤ 65536 → count + flow_left result.flow count < flow_most }
+    ensures by { (server length : ℕ) → IsServedBy server length result.flow }
+    ensures asked { tree_asked result.flow ≡ tree_of file.ask }
+{
+    let FileAt { ask, len } = file;
+    Onward {
+        flow: Some(Flow {
+            ask: next_block(ask, len, len),
+            stage: Stage::Reading {
+                sending: Sending { status, len },
+                left: len,
+            },
+        }),
+        closing,
+        log: None,
+        level: Some(number),
+    }
+}
+
+/// Puts the head of the response to what phases decided, and its body where that isn't a file. Bodies on which a filter acts
+/// aren't served yet: there is no memory for them.
+fn answer(
+    space: &mut Workspace,
+    ground: &Ground<'_>,
+    request: InPhases,
+    outcome: Outcome,
+    known: Known,
+    out: &mut ByteQueue,
+    closing: bool,
+) -> Result<Onward, OutOfMemory>
+    requires { out.old ≡ [] }
+    ensures goes { (patterns : List SetPattern) (trees : Trees) →
+        let w = world_in patterns ground.now shipped in
+        let site = ground.now.site.now in
+        IfOk result (λ o. Follows site
+        (step_rest w patterns site (trees (known_tree known)) request (ToAnswer outcome)
+        (known_bytes known trees))
+        (flow_rest w patterns site o.flow trees) out.old out.new closing o.closing o.log o.level) }
+    ensures over { IfOk result (λ o. is_some o.log ≡ not (is_some o.flow)) }
+    ensures fits { IfOk result (λ o. flow_fits o.flow (length out.new) ≡ true) }
+    ensures lowers { IfOk result (λ o. length out.new + flow_left o.flow (length out.new) < flow_most) }
+    ensures by { (server length : ℕ) → IfOk result (λ o. IsServedBy server length o.flow) }
+    ensures asked { IfOk result (λ o. tree_asked o.flow ≤ known_tree known) }
+    ensures closes { IfOk result (λ o. closing ≡ true → o.closing ≡ true) }
+    ensures kept { space.new.patterns ≡ space.old.patterns }
+{
+    let number = request.phases.at.level;
+    let level = ground.site.level(number);
+    if !is_unfiltered(level) {
+        return Err(OutOfMemory);
+    }
+    let terms = request.terms;
+    let outcome = with_length(length_in(&known), outcome);
+    let reply = reply_of(space.alloc, ground.site, &request.phases, outcome)?;
+    let keep = stays(terms, level, &reply);
+    let status = reply.status;
+    let file = file_if(sends_file(terms, &reply), known);
+    let size = put_reply(space, out, reply, terms, keep)?;
+    let closing = closes(closing, keep);
+    match file {
+        None => Ok(over(number, status, size, closing)),
+        Some(file) => Ok(reading(number, status, file, closing)),
+    }
+}
+
+/// Goes on with a request by a step of its phases: a question is asked, or the response is put. Subrequests aren't served yet:
+/// there is no memory for them.
+pub(crate) fn go_on(
+    space: &mut Workspace,
+    ground: &Ground<'_>,
+    request: InPhases,
+    step: Step,
+    known: Known,
+    out: &mut ByteQueue,
+    closing: bool,
+) -> Result<Onward, OutOfMemory>
+    requires { out.old ≡ [] }
+    ensures goes { (patterns : List SetPattern) (trees : Trees) →
+        let w = world_in patterns ground.now shipped in
+        let site = ground.now.site.now in
+        IfOk result (λ o. Follows site
+        (step_rest w patterns site (trees (known_tree known)) request step (known_bytes known trees))
+        (flow_rest w patterns site o.flow trees) out.old out.new closing o.closing o.log o.level) }
+    ensures over { IfOk result (λ o. is_some o.log ≡ not (is_some o.flow)) }
+    ensures fits { IfOk result (λ o. flow_fits o.flow (length out.new) ≡ true) }
+    ensures lowers { IfOk result (λ o. length out.new + flow_left o.flow (length out.new)
+        < flow_most + 2 * request.questions + 1) }
+    ensures by { IfOk result (λ o. IsServedBy request.server request.length o.flow) }
+    ensures asked { IfOk result (λ o. tree_asked o.flow ≤ known_tree known) }
+    ensures closes { IfOk result (λ o. closing ≡ true → o.closing ≡ true) }
+    ensures kept { space.new.patterns ≡ space.old.patterns }
+{
+    match step {
+        Step::Asks { wait, path } => {
+            if request.questions == 0 {
+                return Err(OutOfMemory);
+            }
+            let ask = Ask::Stat {
+                path,
+                of: tree_in(&known),
+            };
+            let request = InPhases {
+                questions: request.questions - 1,
+                ..request
+            };
+            Ok(Onward {
+                flow: Some(Flow {
+                    ask,
+                    stage: Stage::Asked { request, wait },
+                }),
+                closing,
+                log: None,
+                level: None,
+            })
+        }
+        Step::Calls(_) => Err(OutOfMemory),
+        Step::Answers(outcome) => Ok(answer(space, ground, request, outcome, known, out, closing)?),
+    }
+}
+
+fn is_head(method: &Method) -> bool
+    ensures { result ≡ is_head_method method.now }
+{
+    match method {
+        Method::Head => true,
+        Method::Get => false,
+        Method::Post => false,
+        Method::Other(_) => false,
+    }
+}
+
+fn terms_of(opening: Opening<'_>) -> Terms
+    ensures { terms_seen result ≡ terms_at opening.entry }
+{
+    Terms {
+        moment: opening.moment,
+        version: opening.head.version,
+        no_body: is_head(&opening.head.method),
+        before: opening.before,
+        head_keeps: opening.head.keep,
+    }
+}
+
+/// Starts a main request: up to its first question to the files, or the whole response where it asks none. `server` is the
+/// number of the ground's server, which is kept for the caller.
+///
+/// # Errors
+/// `OutOfMemory`; the request is then not to be answered.
+pub fn start(
+    space: &mut Workspace,
+    ground: &Ground<'_>,
+    server: u32,
+    opening: Opening<'_>,
+    out: &mut ByteQueue,
+) -> Result<Onward, OutOfMemory>
+    requires ground { IsGround ground.now }
+    requires unsent { out.old ≡ [] }
+    ensures goes { (trees : Trees) →
+        let w = world_in space.old.patterns ground.now shipped in
+        let site = ground.now.site.now in
+        IfOk result (λ o. Follows site
+        (opened_rest w (trees opening.entry.tree) (terms_at opening.entry)
+        (main_at ground.now opening.entry) (request_of
+        (server_whole (patterns_seen space.old.patterns) site ground.now.server.now)
+        opening.entry.head.now))
+        (flow_rest w space.old.patterns site o.flow trees) out.old out.new false o.closing o.log o.level) }
+    ensures over { IfOk result (λ o. is_some o.log ≡ not (is_some o.flow)) }
+    ensures fits { IfOk result (λ o. flow_fits o.flow (length out.new) ≡ true) }
+    ensures lowers { IfOk result (λ o. length out.new + flow_left o.flow (length out.new)
+        < asking_most) }
+    ensures by { IfOk result (λ o. IsServedBy server ground.now.length o.flow) }
+    ensures asked { IfOk result (λ o. tree_asked o.flow ≤ opening.entry.tree) }
+    ensures kept { space.new.patterns ≡ space.old.patterns }
+{
+    let alloc = space.alloc;
+    let main = main_of(alloc, ground, opening)?;
+    let request = request_for(alloc, ground.server, opening.head)?;
+    let mut phases = Phases {
+        main,
+        at: Progress {
+            request,
+            level: ground.server.level,
+            inside: false,
+            seeks: false,
+        },
+        changes: 10,
+        error: None,
+        closes: false,
+        role: Role::Main,
+    };
+    let mut vars = VarTable::new(alloc);
+    let step = begin(alloc, ground, &mut space.patterns, &mut phases, &mut vars)?;
+    let request = InPhases {
+        phases,
+        vars,
+        terms: terms_of(opening),
+        server,
+        length: ground.length,
+        questions: u32::MAX,
+    };
+    let known = Known::Nothing { of: opening.tree };
+    Ok(go_on(space, ground, request, step, known, out, false)?)
+}
