@@ -18,7 +18,7 @@ fn move_down(bytes: &mut Vec<u8>, start: usize)
 }
 
 /// A queue that runs empty keeps no more room than this.
-const KEPT: usize = 8192;
+const KEPT: usize = 512;
 
 /// A queue of bytes that grows. Contracts see it as the list of the bytes that wait, the next to leave first.
 ///

@@ -13,8 +13,7 @@ use Rattle.conf_block.specs.Blocks.{http_in}
 use Rattle.conf_check.specs.Gives.{◌>>◌, sound, Fails, Gives}
 use Rattle.conf_check.specs.Names.{is_set_in}
 use Rattle.conf_check.specs.Checked.{checked}
-use Rattle.conf_check.specs.Served.{served}
-use Rattle.conf_check.specs.Faultless.{some_server, no_fault, all_served, only, faultless}
+use Rattle.conf_check.specs.Faultless.{some_server, no_fault, only, faultless}
 use Rattle.conf_check.proofs.CheckLaws.{then-ok, fails-then, fails-same, same_ends}
 
 -- what a part gives alone
@@ -29,13 +28,6 @@ unfolding no_fault
 no_fault-gives known marked view r top k m h =
     only-gives view r (checked (is_set_in (Directives places.Top) top) (λ addr. false) (Directives places.Top) [] top)
     (subst (Gives view r) (λ i. checked (k i) (same_ends marked (λ addr. false) m i) (Directives places.Top) [] top) h)
-
-pub all_served-gives : (taken : Addr → Bool) (view : Unit {0} → (Addr → Bool)) (r : Result (Unit {0}) ConfError) (top : Forest)
-    → ((q : Addr) → taken q ≡ false) → Gives view r (served taken (Directives places.Top) top) → Gives (λ x. x) r (all_served top)
-unfolding all_served
-all_served-gives taken view r top m h =
-    only-gives view r (served (λ addr. false) (Directives places.Top) top)
-    (subst (Gives view r) (λ i. served (same_ends taken (λ addr. false) m i) (Directives places.Top) top) h)
 
 -- the parts, one after another
 

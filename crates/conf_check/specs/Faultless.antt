@@ -28,9 +28,9 @@ only (Err fault) = Err fault
 unfoldable pub no_fault : Forest → Result (Unit {0}) ConfFault
 no_fault top = only (checked (is_set_in (Directives places.Top) top) (λ addr. false) (Directives places.Top) [] top)
 
--- the first directive that isn't served, where no server listens before
-unfoldable pub all_served : Forest → Result (Unit {0}) ConfFault
-all_served top = only (served (λ addr. false) (Directives places.Top) top)
+-- the first directive that isn't served
+abbrev pub all_served : Forest → Result (Unit {0}) ConfFault
+all_served top = served (Directives places.Top) top
 
 -- A configuration is right; or the first fault of its directives; or that there is no server.
 unfoldable pub faultless : List Directive → Result (Unit {0}) ConfFault

@@ -64,9 +64,9 @@ fn check_all(alloc: Global, directives: &[Directive]) -> Result<(), ConfError>
 
 /// Looks for the first directive that has no effect yet, in the order of the text.
 ///
-/// Today servers have an effect, each on addresses that no server before listens on, with locations of plain prefixes, what
-/// `return` answers in either that doesn't redirect, where files are, of which types they are and how long a connection is
-/// kept; and what needs none, as it is accepted without effect.
+/// Today servers have an effect, by their addresses and names, with locations that are found by a text, what `return` answers
+/// in either that doesn't redirect, where files are, of which types they are and how long a connection is kept; and what needs
+/// none, as it is accepted without effect.
 ///
 /// # Errors
 ///
@@ -74,13 +74,7 @@ fn check_all(alloc: Global, directives: &[Directive]) -> Result<(), ConfError>
 pub fn check_effects(alloc: Global, directives: &[Directive]) -> Result<(), ConfError>
     ensures { Gives (λ x. x) result (all_served (forest_of directives.now)) }
 {
-    let mut taken = Ends::new(alloc);
-    check_served(
-        alloc,
-        &mut taken,
-        Content::Directives(Place::Top),
-        directives,
-    )
+    check_served(alloc, Content::Directives(Place::Top), directives)
 }
 
 /// Looks for the first fault of a configuration, whose files are put in their places (nginx's documentation, "Core

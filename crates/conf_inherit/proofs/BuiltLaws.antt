@@ -1,16 +1,15 @@
 -- A site is read, or the first fault.
-use Rattle.std.proofs.Common.{◌≡◌, ℕ, List, [], map, None, Some, Result, Ok, Err, refl, sym, ap, ◌∙◌}
+use Rattle.std.proofs.Common.{◌≡◌, ℕ, List, [], map, Some, Result, Ok, Err, refl, sym, ap, ◌∙◌}
 use Rattle.std.specs.Prelude.{codes}
 use Rattle.conf_text.specs.declared.directive.Directive.{Directive}
 use Rattle.conf_text.specs.declared.fault.ConfFault.{ConfFault}
 use Rattle.conf_text.specs.declared.fault.ConfError.{ConfError}
 use Rattle.conf_text.specs.declared.fault.ConfError.TheVariants as error
 use Rattle.conf_text.specs.Reading.{OnFault}
-use Rattle.http_types.specs.declared.words.Addr.{Addr}
 use Rattle.site_model.specs.declared.site.Server.{Server}
 use Rattle.site_model.specs.declared.site.Site.{Site}
 use Rattle.site_views.specs.Views.{SiteView}
-use Rattle.site_whole.specs.Whole.{level_whole, locations_whole, nested, named_whole, name_seen, listen_seen, server_whole, whole}
+use Rattle.site_whole.specs.Whole.{level_whole, named_whole, name_seen, listen_seen, server_whole, whole}
 use Rattle.conf_block.specs.Forest.{Forest, forest_of, roots}
 use Rattle.conf_block.specs.Listening.{listens_of, or_default}
 use Rattle.conf_block.specs.Blocks.{blocks_of, http_in}
@@ -54,7 +53,7 @@ built-ok purpose folder ds http site a s i e =
 pub server-shown : (site : Site) (s : Server) (body : Forest) (v : Values) → s.listens ≡ or_default (listens_of (roots body)) → s.defaults ≡ marked_in (roots body)
     → map (name_seen []) s.names.items ≡ or_empty (names_in (blocks_of (codes "server_name") body)) → s.first_name ≡ first_shown (word_in (codes "server_name") body)
     → level_whole [] site s.level ≡ level_of v body → list_seen site s.locations.items ≡ locations_in v body → map (named_whole [] site) s.named.items ≡ named_in v body
-    → s.merge ≡ v.settings.merge → s.visible ≡ None → server_whole [] site s ≡ server_with v body
+    → s.merge ≡ v.settings.merge → s.visible ≡ v.visible → server_whole [] site s ≡ server_with v body
 unfolding server_whole
 server-shown site s body v a d n f l ls ns m x = λ i. record {
   listens = map (listen_seen (d i)) (a i);

@@ -1,9 +1,11 @@
 -- What a site under construction shows.
-use Rattle.std.proofs.Common.{◌≡◌, ℕ, zero, suc, ◌+◌, ◌&&◌, length, Bool, List, [], ◌∷◌, ◌++◌, map, true, false, cond, Option, Some, None, is_some, unwrap_or, refl, sym, ap, subst, ◌∙◌, append_assoc, append-nil}
+use Rattle.std.proofs.Common.{◌≡◌, ℕ, zero, suc, ◌+◌, ◌&&◌, length, Bool, List, [], ◌∷◌, ◌++◌, map, true, false, cond, Option, Some, None, is_some, option_map, unwrap_or, refl, sym, ap, subst, ◌∙◌, append_assoc, append-nil}
+use Rattle.std.specs.Prelude.{is_none}
 use Rattle.std.specs.List.{slice_get}
 use Rattle.std.proofs.lemmas.Bool.{and_parts}
 use Rattle.std.proofs.lemmas.List.{map_push}
 use Rattle.file_type.specs.Types.{TypeList}
+use Rattle.site_model.specs.declared.values.Tries.{Tries as CodeTries}
 use Rattle.site_model.specs.declared.site.Return.{Return}
 use Rattle.site_model.specs.declared.site.Level.{Level}
 use Rattle.site_model.specs.declared.site.Location.{Location as CodeLocation}
@@ -12,15 +14,19 @@ use Rattle.site_model.specs.declared.site.Site.{Site}
 use Rattle.site_model.specs.Levels.{types_at, raw_level}
 use Rattle.site_views.specs.Views.{LevelView, LocationView, Locations, NamedView}
 use Rattle.site_views.specs.Views.Locations.{NoMore, Location}
-use Rattle.site_whole.specs.Whole.{values_seen, program_seen, level_whole, location_whole, named_whole, matching_by, returned_first}
+use Rattle.site_whole.specs.Whole.{values_seen, step_seen, program_seen, level_whole, location_whole, named_whole, matching_by, returned_first, tries_seen, media_seen, default_index, no_media}
 use Rattle.std.specs.Prelude.{codes}
 use Rattle.std.specs.Option.{option_and_then}
 use Rattle.conf_text.specs.declared.directive.Directive.{Directive}
 use Rattle.conf_block.specs.Forest.{Forest, End, Branch}
 use Rattle.conf_block.specs.Locations.{text_in, is_found}
 use Rattle.conf_block.specs.Blocks.{block_of, blocks_of, from_first}
-use Rattle.conf_inherit.specs.Values.{Values, all_values, all_entries, entries_in, first_word, word_in, stated, over, level_with, level_of, internal_in, returned_in}
-use Rattle.conf_inherit.specs.Pools.{Keeps, Holds, is_nil, are_free, IsFree, AreDeep, Added, level_by, follow, list_seen}
+use Rattle.conf_inherit.specs.Values.{Values, all_values, all_entries, entries_in, first_word, word_in, stated, over, level_with, level_of, internal_in, tries_in, returned_in}
+use Rattle.conf_inherit.specs.declared.level.Inherited.{Inherited}
+use Rattle.conf_inherit.specs.declared.level.Listed.{Listed}
+use Rattle.conf_inherit.specs.declared.level.Shared.{Shared}
+use Rattle.conf_inherit.specs.declared.shelf.Shelf.{Shelf}
+use Rattle.conf_inherit.specs.Pools.{Keeps, KeepsAll, Holds, are_unreturned, IsUnreturned, Stands, Fits, FitsLists, AreDeep, Added, lists_by, values_by, shelf_of, index_names, page_rules, rules_in, sets_in, steps_of, level_by, follow, list_seen}
 use Rattle.conf_inherit.specs.Built.{kind_of, inner_values, location_with, locations_in, named_with, named_in}
 use Rattle.conf_inherit.proofs.NestLaws.{seen-none, seen-one, follow-none, follow-first, deep-append, deep-one}
 
@@ -31,6 +37,51 @@ keeps-same old new e n x h = ap (λ xs. slice_get xs n) e ∙ h
 
 pub keeps-then : {A : Type 0} (a b c : List A) → Keeps a b → Keeps b c → Keeps a c
 keeps-then a b c f g n x h = g n x (f n x h)
+
+pub all-here : (shelf : Shelf) → KeepsAll shelf shelf
+all-here shelf = record { types = λ n x h. h; indexes = λ n x h. h; pages = λ n x h. h; rules = λ n x h. h; auth_sets = λ n x h. h; media = λ n x h. h }
+
+pub all-same : (old new : Shelf) → new ≡ old → KeepsAll old new
+all-same old new e = subst (λ s. KeepsAll old s) (sym e) (all-here old)
+
+pub all-then : (a b c : Shelf) → KeepsAll a b → KeepsAll b c → KeepsAll a c
+all-then a b c f g = record {
+  types = keeps-then a.types.items b.types.items c.types.items f.types g.types;
+  indexes = keeps-then a.indexes.items b.indexes.items c.indexes.items f.indexes g.indexes;
+  pages = keeps-then a.pages.items b.pages.items c.pages.items f.pages g.pages;
+  rules = keeps-then a.rules.items b.rules.items c.rules.items f.rules g.rules;
+  auth_sets = keeps-then a.auth_sets.items b.auth_sets.items c.auth_sets.items f.auth_sets g.auth_sets;
+  media = keeps-then a.media.items b.media.items c.media.items f.media g.media;
+}
+
+-- a number stands for its list also in a list that has more
+pub stands-later : {A B : Type 0} (default none : B) (view : A → B) (items items' : List A) (s : Option Listed) (meaning : B)
+    → Keeps items items' → Stands default none view items s meaning → Stands default none view items' s meaning
+stands-later default none view items items' s meaning k h later l = h later (keeps-then items items' later k l)
+
+pub lists-later : (a b : Shelf) (s : Shared) → KeepsAll a b → FitsLists a s → FitsLists b s
+lists-later a b s k f = record {
+  index = stands-later default_index [] index_names a.indexes.items b.indexes.items s.index (lists_by s).index k.indexes f.index;
+  pages = stands-later [] [] page_rules a.pages.items b.pages.items s.pages (lists_by s).pages k.pages f.pages;
+  rules = stands-later [] [] rules_in a.rules.items b.rules.items s.rules (lists_by s).rules k.rules f.rules;
+  auth_sets = stands-later [] [] sets_in a.auth_sets.items b.auth_sets.items s.auth_sets (lists_by s).auth_sets k.auth_sets f.auth_sets;
+  ssi_types = stands-later no_media no_media media_seen a.media.items b.media.items s.ssi_types (lists_by s).ssi_types k.media f.ssi_types;
+  addition_types = stands-later no_media no_media media_seen a.media.items b.media.items s.addition_types (lists_by s).addition_types k.media f.addition_types;
+}
+
+pub fits-later : (a b : Shelf) (v : Inherited) → KeepsAll a b → Fits a v → Fits b v
+fits-later a b v k f = record { types = k.types v.types (values_by v).types f.types; lists = lists-later a b v.lists k f.lists }
+
+pub fits-same : (a b : Shelf) (v : Inherited) → b ≡ a → Fits a v → Fits b v
+fits-same a b v e f = subst (λ s. Fits s v) (sym e) f
+
+-- a level that shares the media types around it
+pub fits-around : (a b : Shelf) (outer v : Inherited) → b.types ≡ a.types → v.types ≡ outer.types → (values_by v).types ≡ (values_by outer).types
+    → Fits a outer → FitsLists b v.lists → Fits b v
+fits-around a b outer v same number types f lists = record {
+  types = ap (λ items. slice_get items v.types) (ap (λ ts. ts.items) same) ∙ ap (slice_get a.types.items) number ∙ f.types ∙ ap Some (sym types);
+  lists = lists;
+}
 
 none_is_some : {A : Type 0} {x : A} → None ≡ Some x → ⊥
 none_is_some h = cc
@@ -63,68 +114,89 @@ types-there site n types h = ap (λ o. unwrap_or o site.plain) h
 abbrev seen_level : Site → Level → LevelView
 seen_level site l = record { values = values_seen site l; program = program_seen [] site l }
 
-seen-by : (site : Site) (v : Values) (number : ℕ) (internal : Bool) (returned : Option Return) → types_at site number ≡ v.types
-    → seen_level site (level_by v number internal returned) ≡ level_with v internal returned
-unfolding values_seen
-seen-by site v number internal returned t = λ i. record { values = all_values (record v { types = t i }) internal; program = append-nil (returned_first returned) i }
+-- the program of what a level returns is seen as what it returns
+returned-seen : (site : Site) (returned : Option Return) → map (step_seen [] site) (steps_of returned) ≡ returned_first returned
+returned-seen site None = refl
+returned-seen site (Some r) = refl
+
+-- the numbers of a level's lists stand for these lists on the site
+module _ (site : Site) (shelf : Shelf) (v : Inherited) (fits : FitsLists shelf v.lists) (on : KeepsAll shelf (shelf_of site)) where
+  seen-by : (number : ℕ) (internal : Bool) (tries : Option CodeTries) (returned : Option Return) → types_at site number ≡ (values_by v).types
+      → seen_level site (level_by (values_by v) number v.lists internal tries returned) ≡ level_with (values_by v) internal (option_map tries_seen tries) returned
+  unfolding values_seen
+  seen-by number internal tries returned t = λ i. record {
+    values = all_values (record (values_by v) {
+      types = t i;
+      lists = record {
+        index = fits.index site.indexes.items on.indexes i;
+        pages = fits.pages site.pages.items on.pages i;
+        rules = fits.rules site.rules.items on.rules i;
+        auth_sets = fits.auth_sets site.auth_sets.items on.auth_sets i;
+        ssi_types = fits.ssi_types site.media.items on.media i;
+        addition_types = fits.addition_types site.media.items on.media i;
+      };
+    }) internal (option_map tries_seen tries);
+    program = returned-seen site returned i;
+  }
 
 level-step : (site : Site) (n : ℕ) → level_whole [] site n ≡ seen_level site (raw_level site n)
 unfolding level_whole
 level-step site n = refl
 
-pub level-shown : (site : Site) (levels : List Level) (types : List TypeList) (v : Values) (n number : ℕ) (body : Forest) (level : Level)
-    → Holds levels types site → slice_get levels n ≡ Some level → level ≡ level_by v number (internal_in body) (returned_in body) → slice_get types number ≡ Some v.types
-    → level_whole [] site n ≡ level_of v body
-level-shown site levels types v n number body level h l e t =
+pub level-shown : (site : Site) (levels : List Level) (shelf : Shelf) (v : Inherited) (n : ℕ) (body : Forest) (level : Level)
+    → Holds levels shelf site → slice_get levels n ≡ Some level → level ≡ level_by (values_by v) v.types v.lists (internal_in body) level.tries (returned_in body)
+    → option_map tries_seen level.tries ≡ tries_in body → Fits shelf v → level_whole [] site n ≡ level_of (values_by v) body
+level-shown site levels shelf v n body level h l e r f =
     level-step site n ∙ ap (seen_level site) (raw-there site n level (h.0 n level l) ∙ e)
-    ∙ seen-by site v number (internal_in body) (returned_in body) (types-there site number v.types (h.1 number v.types t))
+    ∙ seen-by site shelf v f.lists h.1 v.types (internal_in body) level.tries (returned_in body) (types-there site v.types (values_by v).types (h.1.types v.types (values_by v).types f.types))
+    ∙ ap (λ t. level_with (values_by v) (internal_in body) t (returned_in body)) r
 
--- levels without a rewrite program
+-- levels whose programs hold what they return
 
-free-last : (ls : List Level) (level : Level) → are_free ls ≡ true → level.program ≡ [] → are_free (ls ++ level ∷ []) ≡ true
-unfolding are_free
-free-last [] level h p = ap (λ steps. is_nil steps && true) p
-free-last (l ∷ ls) level h p =
-    let parts = and_parts (is_nil l.program) (are_free ls) h in
-    ap (λ t. t && are_free (ls ++ level ∷ [])) parts.0 ∙ free-last ls level parts.1 p
+none-last : (ls : List Level) (level : Level) → are_unreturned ls ≡ true → level.returned ≡ None → are_unreturned (ls ++ level ∷ []) ≡ true
+unfolding are_unreturned
+none-last [] level h p = ap (λ returned. is_none returned && true) p
+none-last (l ∷ ls) level h p =
+    let parts = and_parts (is_none l.returned) (are_unreturned ls) h in
+    ap (λ t. t && are_unreturned (ls ++ level ∷ [])) parts.0 ∙ none-last ls level parts.1 p
 
 -- pushed or not
-pub free-either : (old new : List Level) (level : Level) (pushed : Bool) → new ≡ cond pushed (old ++ level ∷ []) old → are_free old ≡ true → level.program ≡ [] → are_free new ≡ true
-free-either old new level true e h p = ap are_free e ∙ free-last old level h p
-free-either old new level false e h p = ap are_free e ∙ h
+pub unreturned-either : (old new : List Level) (level : Level) (pushed : Bool) → new ≡ cond pushed (old ++ level ∷ []) old → are_unreturned old ≡ true → level.returned ≡ None → are_unreturned new ≡ true
+unreturned-either old new level true e h p = ap are_unreturned e ∙ none-last old level h p
+unreturned-either old new level false e h p = ap are_unreturned e ∙ h
 
-pub free-none : (levels : List Level) → levels ≡ [] → are_free levels ≡ true
-unfolding are_free
-free-none levels e = ap are_free e
+pub unreturned-none : (levels : List Level) → levels ≡ [] → are_unreturned levels ≡ true
+unfolding are_unreturned
+unreturned-none levels e = ap are_unreturned e
 
-nil-is : {A : Type 0} (xs : List A) → is_nil xs ≡ true → xs ≡ []
-nil-is [] e = refl
-nil-is (x ∷ xs) e = cc
+none-is : {A : Type 0} (o : Option A) → is_none o ≡ true → o ≡ None
+none-is None e = refl
+none-is (Some a) e = cc
 
-free-or : (ls : List Level) (n : ℕ) (other : Level) → are_free ls ≡ true → other.program ≡ [] → (unwrap_or (slice_get ls n) other).program ≡ []
-unfolding are_free
-free-or [] n other h p = p
-free-or (l ∷ ls) zero other h p = nil-is l.program (and_parts (is_nil l.program) (are_free ls) h).0
-free-or (l ∷ ls) (suc n) other h p = free-or ls n other (and_parts (is_nil l.program) (are_free ls) h).1 p
+none-or : (ls : List Level) (n : ℕ) (other : Level) → are_unreturned ls ≡ true → other.returned ≡ None → (unwrap_or (slice_get ls n) other).returned ≡ None
+unfolding are_unreturned
+none-or [] n other h p = p
+none-or (l ∷ ls) zero other h p = none-is l.returned (and_parts (is_none l.returned) (are_unreturned ls) h).0
+none-or (l ∷ ls) (suc n) other h p = none-or ls n other (and_parts (is_none l.returned) (are_unreturned ls) h).1 p
 
-pub free-site : (site : Site) → are_free site.levels.items ≡ true → site.outside.program ≡ [] → IsFree site
+pub unreturned-site : (site : Site) → are_unreturned site.levels.items ≡ true → site.outside.returned ≡ None → IsUnreturned site
 unfolding raw_level
-free-site site h p = λ n. free-or site.levels.items n site.outside h p
+unreturned-site site h p = λ n. none-or site.levels.items n site.outside h p
 
 -- items that are shown so far, and those that are to come
 
-pub record SoFar {A C : Type 0} (seen : Site → A → C) (first_levels levels : List Level) (first_types types : List TypeList) (items : List A) (left all : List C) : Type 0 where
+pub record SoFar {A C : Type 0} (seen : Site → A → C) (first_levels levels : List Level) (first_shelf shelf : Shelf) (items : List A) (left all : List C) : Type 0 where
   pub levels_kept : Keeps first_levels levels
-  pub types_kept : Keeps first_types types
-  pub same : (site : Site) → Holds levels types site → map (seen site) items ++ left ≡ all
+  pub shelf_kept : KeepsAll first_shelf shelf
+  pub same : (site : Site) → Holds levels shelf site → map (seen site) items ++ left ≡ all
 
-pub holds-before : (levels levels' : List Level) (types types' : List TypeList) (site : Site) → Keeps levels levels' → Keeps types types' → Holds levels' types' site → Holds levels types site
-holds-before levels levels' types types' site l t h = (keeps-then levels levels' site.levels.items l h.0, keeps-then types types' site.types.items t h.1)
+pub holds-before : (levels levels' : List Level) (shelf shelf' : Shelf) (site : Site) → Keeps levels levels' → KeepsAll shelf shelf' → Holds levels' shelf' site → Holds levels shelf site
+holds-before levels levels' shelf shelf' site l t h = (keeps-then levels levels' site.levels.items l h.0, all-then shelf shelf' (shelf_of site) t h.1)
 
-pub so-far-begin : {A C : Type 0} (seen : Site → A → C) (levels : List Level) (types : List TypeList) (items : List A) (all : List C) → items ≡ []
-    → SoFar seen levels levels types types items all all
-so-far-begin seen levels types items all e =
-    record { levels_kept = λ n x h. h; types_kept = λ n x h. h; same = λ site h. ap (λ items. map (seen site) items ++ all) e }
+pub so-far-begin : {A C : Type 0} (seen : Site → A → C) (levels : List Level) (shelf : Shelf) (items : List A) (all : List C) → items ≡ []
+    → SoFar seen levels levels shelf shelf items all all
+so-far-begin seen levels shelf items all e =
+    record { levels_kept = λ n x h. h; shelf_kept = all-here shelf; same = λ site h. ap (λ items. map (seen site) items ++ all) e }
 
 one-more : {A C : Type 0} (seen : A → C) (items items' : List A) (x : A) (c : C) (left more : List C) → items' ≡ items ++ x ∷ [] → left ≡ c ∷ more → seen x ≡ c
     → map seen items' ++ more ≡ map seen items ++ left
@@ -133,21 +205,21 @@ one-more seen items items' x c left more i l s =
     ∙ append_assoc (map seen items) (seen x ∷ []) more
     ∙ ap (λ y. map seen items ++ y ∷ more) s ∙ ap (λ cs. map seen items ++ cs) (sym l)
 
-pub so-far-more : {A C : Type 0} {seen : Site → A → C} {first_levels levels : List Level} {first_types types : List TypeList} {items : List A} {left all : List C}
-    → SoFar seen first_levels levels first_types types items left all
-    → (levels' : List Level) (types' : List TypeList) (items' : List A) (x : A) (c : C) (more : List C)
-    → Keeps levels levels' → Keeps types types' → items' ≡ items ++ x ∷ [] → left ≡ c ∷ more → ((site : Site) → Holds levels' types' site → seen site x ≡ c)
-    → SoFar seen first_levels levels' first_types types' items' more all
-so-far-more {A} {C} {seen} {first_levels} {levels} {first_types} {types} {items} {left} {all} s levels' types' items' x c more l t i e shown = record {
+pub so-far-more : {A C : Type 0} {seen : Site → A → C} {first_levels levels : List Level} {first_shelf shelf : Shelf} {items : List A} {left all : List C}
+    → SoFar seen first_levels levels first_shelf shelf items left all
+    → (levels' : List Level) (shelf' : Shelf) (items' : List A) (x : A) (c : C) (more : List C)
+    → Keeps levels levels' → KeepsAll shelf shelf' → items' ≡ items ++ x ∷ [] → left ≡ c ∷ more → ((site : Site) → Holds levels' shelf' site → seen site x ≡ c)
+    → SoFar seen first_levels levels' first_shelf shelf' items' more all
+so-far-more {A} {C} {seen} {first_levels} {levels} {first_shelf} {shelf} {items} {left} {all} s levels' shelf' items' x c more l t i e shown = record {
   levels_kept = keeps-then first_levels levels levels' s.levels_kept l;
-  types_kept = keeps-then first_types types types' s.types_kept t;
+  shelf_kept = all-then first_shelf shelf shelf' s.shelf_kept t;
   same = λ site h.
-      one-more (seen site) items items' x c left more i e (shown site h) ∙ s.same site (holds-before levels levels' types types' site l t h);
+      one-more (seen site) items items' x c left more i e (shown site h) ∙ s.same site (holds-before levels levels' shelf shelf' site l t h);
 }
 
-pub so-far-end : {A C : Type 0} {seen : Site → A → C} {first_levels levels : List Level} {first_types types : List TypeList} {items : List A} {left all : List C}
-    → SoFar seen first_levels levels first_types types items left all → left ≡ [] → (site : Site) → Holds levels types site → map (seen site) items ≡ all
-so-far-end {A} {C} {seen} {first_levels} {levels} {first_types} {types} {items} {left} {all} s e site h =
+pub so-far-end : {A C : Type 0} {seen : Site → A → C} {first_levels levels : List Level} {first_shelf shelf : Shelf} {items : List A} {left all : List C}
+    → SoFar seen first_levels levels first_shelf shelf items left all → left ≡ [] → (site : Site) → Holds levels shelf site → map (seen site) items ≡ all
+so-far-end {A} {C} {seen} {first_levels} {levels} {first_shelf} {shelf} {items} {left} {all} s e site h =
     sym (append-nil (map (seen site) items)) ∙ ap (λ cs. map (seen site) items ++ cs) (sym e) ∙ s.same site h
 
 -- ---- locations
@@ -188,51 +260,51 @@ pub location-shown : (site : Site) (l : CodeLocation) (d : Directive) (body : Fo
     → level_whole [] site l.level ≡ level_of v body → location_whole [] site l ≡ location_with v d body
 location-shown site l d body v t k e = λ i. record { matching = matching_by [] (t i) (k i); level = e i }
 
-pub added-none : (outer : Values) (depth : ℕ) (levels : List Level) (types : List TypeList) (items : List CodeLocation) (all : Locations)
-    → Added outer depth levels levels types types items items all all
-added-none outer depth levels types items all = record {
+pub added-none : (outer : Values) (depth : ℕ) (levels : List Level) (shelf : Shelf) (items : List CodeLocation) (all : Locations)
+    → Added outer depth levels levels shelf shelf items items all all
+added-none outer depth levels shelf items all = record {
   added = [];
   is = sym (append-nil items);
   deep = tt;
   levels_kept = λ n x h. h;
-  types_kept = λ n x h. h;
+  shelf_kept = all-here shelf;
   same = λ site h. ap (λ f. follow f all) (seen-none site) ∙ follow-first all;
 }
 
 -- A location is pushed, and then those in it.
-pub added-more : {outer : Values} {depth : ℕ} {first levels : List Level} {first_types types : List TypeList} {old now : List CodeLocation} {left all : Locations}
-    → Added outer depth first levels first_types types old now left all
-    → (v : Values) (deeper : ℕ) (levels' levels'' : List Level) (types' types'' : List TypeList) (then last : List CodeLocation) (l : CodeLocation) (here : LocationView) (inner more : Locations)
-    → Keeps levels levels' → Keeps types types' → then ≡ now ++ l ∷ [] → l.depth ≡ depth → deeper ≡ depth + 1 → left ≡ Location here inner more
-    → ((site : Site) → Holds levels' types' site → location_whole [] site l ≡ here)
-    → Added v deeper levels' levels'' types' types'' then last NoMore inner
-    → Added outer depth first levels'' first_types types'' old last more all
-added-more {outer} {depth} {first} {levels} {first_types} {types} {old} {now} {left} {all} a v deeper levels' levels'' types' types'' then last l here inner more lk tk p d g e shown b =
+pub added-more : {outer : Values} {depth : ℕ} {first levels : List Level} {first_shelf shelf : Shelf} {old now : List CodeLocation} {left all : Locations}
+    → Added outer depth first levels first_shelf shelf old now left all
+    → (v : Values) (deeper : ℕ) (levels' levels'' : List Level) (shelf' shelf'' : Shelf) (then last : List CodeLocation) (l : CodeLocation) (here : LocationView) (inner more : Locations)
+    → Keeps levels levels' → KeepsAll shelf shelf' → then ≡ now ++ l ∷ [] → l.depth ≡ depth → deeper ≡ depth + 1 → left ≡ Location here inner more
+    → ((site : Site) → Holds levels' shelf' site → location_whole [] site l ≡ here)
+    → Added v deeper levels' levels'' shelf' shelf'' then last NoMore inner
+    → Added outer depth first levels'' first_shelf shelf'' old last more all
+added-more {outer} {depth} {first} {levels} {first_shelf} {shelf} {old} {now} {left} {all} a v deeper levels' levels'' shelf' shelf'' then last l here inner more lk tk p d g e shown b =
     let deep : AreDeep (depth + 1) b.added = subst (λ k. AreDeep k b.added) g b.deep in record {
       added = a.added ++ l ∷ b.added;
       is = b.is ∙ ap (λ xs. xs ++ b.added) p ∙ append_assoc now (l ∷ []) b.added ∙ ap (λ xs. xs ++ l ∷ b.added) a.is ∙ append_assoc old a.added (l ∷ b.added);
       deep = deep-append depth a.added (l ∷ b.added) a.deep (deep-one depth l b.added d deep);
       levels_kept = keeps-then first levels levels'' a.levels_kept (keeps-then levels levels' levels'' lk b.levels_kept);
-      types_kept = keeps-then first_types types types'' a.types_kept (keeps-then types types' types'' tk b.types_kept);
+      shelf_kept = all-then first_shelf shelf shelf'' a.shelf_kept (all-then shelf shelf' shelf'' tk b.shelf_kept);
       same = λ site h.
-          let h' : Holds levels' types' site = holds-before levels' levels'' types' types'' site b.levels_kept b.types_kept h in
+          let h' : Holds levels' shelf' site = holds-before levels' levels'' shelf' shelf'' site b.levels_kept b.shelf_kept h in
           let inside : list_seen site b.added ≡ inner = sym (follow-none (list_seen site b.added)) ∙ b.same site h in
           seen-one site depth a.added l b.added more a.deep d deep
           ∙ ap (λ x. follow (list_seen site a.added) (Location x (list_seen site b.added) more)) (shown site h')
           ∙ ap (λ x. follow (list_seen site a.added) (Location here x more)) inside
           ∙ ap (follow (list_seen site a.added)) (sym e)
-          ∙ a.same site (holds-before levels levels' types types' site lk tk h');
+          ∙ a.same site (holds-before levels levels' shelf shelf' site lk tk h');
     }
 
-pub added-end : {outer : Values} {depth : ℕ} {first levels : List Level} {first_types types : List TypeList} {old now : List CodeLocation} {left all : Locations}
-    → Added outer depth first levels first_types types old now left all → left ≡ NoMore → Added outer depth first levels first_types types old now NoMore all
-added-end {outer} {depth} {first} {levels} {first_types} {types} {old} {now} {left} {all} a e =
-    record { added = a.added; is = a.is; deep = a.deep; levels_kept = a.levels_kept; types_kept = a.types_kept; same = λ site h. ap (follow (list_seen site a.added)) (sym e) ∙ a.same site h }
+pub added-end : {outer : Values} {depth : ℕ} {first levels : List Level} {first_shelf shelf : Shelf} {old now : List CodeLocation} {left all : Locations}
+    → Added outer depth first levels first_shelf shelf old now left all → left ≡ NoMore → Added outer depth first levels first_shelf shelf old now NoMore all
+added-end {outer} {depth} {first} {levels} {first_shelf} {shelf} {old} {now} {left} {all} a e =
+    record { added = a.added; is = a.is; deep = a.deep; levels_kept = a.levels_kept; shelf_kept = a.shelf_kept; same = λ site h. ap (follow (list_seen site a.added)) (sym e) ∙ a.same site h }
 
 -- what was added to no locations is what there is
-pub added-all : {outer : Values} {depth : ℕ} {first levels : List Level} {first_types types : List TypeList} {old now : List CodeLocation} {all : Locations}
-    → Added outer depth first levels first_types types old now NoMore all → old ≡ [] → (site : Site) → Holds levels types site → list_seen site now ≡ all
-added-all {outer} {depth} {first} {levels} {first_types} {types} {old} {now} {all} a e site h =
+pub added-all : {outer : Values} {depth : ℕ} {first levels : List Level} {first_shelf shelf : Shelf} {old now : List CodeLocation} {all : Locations}
+    → Added outer depth first levels first_shelf shelf old now NoMore all → old ≡ [] → (site : Site) → Holds levels shelf site → list_seen site now ≡ all
+added-all {outer} {depth} {first} {levels} {first_shelf} {shelf} {old} {now} {all} a e site h =
     ap (list_seen site) (a.is ∙ ap (λ xs. xs ++ a.added) e) ∙ sym (follow-none (list_seen site a.added)) ∙ a.same site h
 
 -- ---- locations of a name

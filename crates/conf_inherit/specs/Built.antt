@@ -1,5 +1,5 @@
 -- The site that directives describe.
-use Rattle.std.specs.Prelude.{ℕ, Bool, true, false, ◌||◌, List, [], ◌∷◌, map, None, Some, Result, Ok, codes, bytes_eq, if◌then◌else◌}
+use Rattle.std.specs.Prelude.{ℕ, true, false, ◌||◌, List, [], ◌∷◌, map, Some, Result, Ok, codes, bytes_eq, if◌then◌else◌}
 use Rattle.conf_text.specs.declared.directive.Directive.{Directive}
 use Rattle.conf_text.specs.declared.fault.ConfFault.{ConfFault}
 use Rattle.site_model.specs.declared.site.LocationKind.{LocationKind}
@@ -25,20 +25,23 @@ kind_of (word ∷ []) = Prefix
 kind_of (modifier ∷ word ∷ words) =
     if bytes_eq modifier (codes "=") then Exactly
     else (if bytes_eq modifier (codes "^~") then FirmPrefix
-    else (if bytes_eq modifier (codes "~") || bytes_eq modifier (codes "~*") then Regex 0 else Prefix))
+    else (if bytes_eq modifier (codes "~") || bytes_eq modifier (codes "~*") then Regex 0
+    else Prefix))
 
 -- the values of a location within these
 abbrev pub inner_values : (outer : Values) → Directive → (block : Forest) → Values
 inner_values outer d block = over (stated (alias_prefix d.args) block) outer
 
 abbrev pub location_with : Values → Directive → (block : Forest) → LocationView
-location_with v d block = record { matching = matching_by [] (text_in d.args) (kind_of d.args); level = level_of v block }
+location_with v d block =
+    record { matching = matching_by [] (text_in d.args) (kind_of d.args); level = level_of v block }
 
 -- The locations of a level that paths find, in the order of the text, each with those in it.
 unfoldable pub locations_in : (outer : Values) → Forest → Locations
 locations_in outer End = NoMore
 locations_in outer (Branch d block beside) =
-    if is_found false d then Location (location_with (inner_values outer d block) d block) (locations_in (inner_values outer d block) block) (locations_in outer beside)
+    if is_found false d then Location (location_with (inner_values outer d block) d block)
+    (locations_in (inner_values outer d block) block) (locations_in outer beside)
     else locations_in outer beside
 
 abbrev pub named_with : Values → Directive → (block : Forest) → NamedView
@@ -47,7 +50,8 @@ named_with v d block = record { name = text_in d.args; level = level_of v block 
 -- the locations `@name` of a server
 unfoldable pub named_in : (outer : Values) → Forest → List NamedView
 named_in outer End = []
-named_in outer (Branch d block beside) = if is_found true d then named_with (inner_values outer d block) d block ∷ named_in outer beside else named_in outer beside
+named_in outer (Branch d block beside) = if is_found true d then named_with
+    (inner_values outer d block) d block ∷ named_in outer beside else named_in outer beside
 
 -- A server within these values, with its names, and with the addresses whose default server it is.
 abbrev pub server_with : Values → (block : Forest) → ServerView
@@ -59,7 +63,7 @@ server_with v block = record {
   locations = locations_in v block;
   named = named_in v block;
   merge = v.settings.merge;
-  visible = None;
+  visible = v.visible;
 }
 
 abbrev pub server_in : (outer : Values) → Block → ServerView
@@ -67,7 +71,11 @@ server_in outer b = server_with (over (stated (Some []) b.body) outer) b.body
 
 -- the site, whose relative paths start at this folder
 unfoldable pub site_of : (folder : List ℕ) → (http : Forest) → SiteView
-site_of folder http = record { folder = folder; servers = map (server_in (over (stated (Some []) http) defaults)) (blocks_of (codes "server") http) }
+site_of folder http = record {
+  folder = folder;
+  servers = map
+      (server_in (over (stated (Some []) http) defaults)) (blocks_of (codes "server") http);
+}
 
 -- to be read, a configuration needs nothing more; to be served, each of its directives has an effect
 abbrev pub suits : Purpose → List Directive → Result (Unit {0}) ConfFault

@@ -1,24 +1,37 @@
--- How levels and lists of media types are kept under numbers while a site is built.
-use Rattle.std.specs.Prelude.{◌≡◌, ℕ, ◌≤◌, Bool, true, false, ◌&&◌, List, [], ◌∷◌, ◌++◌, Option, None, Some, codes, slice_get}
-use Rattle.file_type.specs.Types.{TypeList}
+-- How levels and lists are kept under numbers while a site is built.
+use Rattle.std.specs.Prelude.{◌≡◌, ℕ, ◌≤◌, Bool, true, false, ◌&&◌, List, [], ◌∷◌, ◌++◌, map, Option, None, Some, is_none, option_map, unwrap_or, codes, slice_get}
 use Rattle.file_type.specs.declared.types.TypeEntry.{TypeEntry}
 use Rattle.ngx_variables.specs.declared.request.Place.{Place}
 use Rattle.ngx_variables.specs.declared.request.Place.TheVariants as places
 use Rattle.site_model.specs.declared.site.Return.{Return}
+use Rattle.site_model.specs.declared.program.RewriteStep.{RewriteStep}
+use Rattle.site_model.specs.declared.program.RewriteStep.TheVariants as steps
 use Rattle.site_model.specs.declared.site.Level.{Level}
 use Rattle.site_model.specs.declared.site.Site.{Site}
 use Rattle.site_model.specs.Levels.{raw_level}
 use Rattle.site_model.specs.declared.site.Location.{Location as CodeLocation}
 use Rattle.site_views.specs.Views.{Locations}
 use Rattle.site_views.specs.Views.Locations.{NoMore, Location}
-use Rattle.site_whole.specs.Whole.{nested, locations_whole}
+use Rattle.access_rules.specs.declared.rule.Rule.{Rule}
+use Rattle.site_model.specs.declared.site.Rules.{Rules}
+use Rattle.site_model.specs.declared.values.IndexNames.{IndexNames}
+use Rattle.site_model.specs.declared.values.PageRules.{PageRules}
+use Rattle.site_model.specs.declared.values.AuthSets.{AuthSets}
+use Rattle.site_model.specs.declared.values.Tries.{Tries}
+use Rattle.site_views.specs.Values.{Text, IndexName, PageRule}
+use Rattle.site_whole.specs.Whole.{nested, locations_whole, index_seen, page_seen, auth_set_seen, media_seen, default_index, no_media}
 use Rattle.conf_text.specs.declared.directive.Directive.{Directive}
 use Rattle.conf_values.specs.Texts.{pieces_of}
 use Rattle.std.specs.Borrow.{Bor}
 use Rattle.conf_inherit.specs.declared.level.PlaceText.{PlaceText}
 use Rattle.conf_inherit.specs.declared.level.PlaceText.TheVariants.{Root, Rest, Whole}
 use Rattle.conf_inherit.specs.declared.level.Inherited.{Inherited}
-use Rattle.conf_block.specs.Forest.{forest_of}
+use Rattle.conf_inherit.specs.declared.level.Listed.{Listed}
+use Rattle.conf_inherit.specs.declared.level.Shared.{Shared}
+use Rattle.conf_inherit.specs.declared.shelf.Shelf.{Shelf}
+use Rattle.conf_lists.specs.Words.{variables_in}
+use Rattle.conf_lists.specs.Lists.{Lists, stated_lists}
+use Rattle.conf_block.specs.Forest.{forest_of, roots}
 use Rattle.conf_block.specs.Blocks.{blocks_of}
 use Rattle.conf_inherit.specs.Values.{Values, default_entries, all_entries}
 
@@ -32,26 +45,70 @@ abbrev pub entries_by : Option (Bor (List Directive)) → List TypeEntry
 entries_by None = default_entries
 entries_by (Some level) = all_entries (blocks_of (codes "types") (forest_of level.now))
 
+-- the lists that the directives of a level state
+abbrev pub lists_at : List Directive → Lists
+lists_at level = stated_lists (roots (forest_of level))
+
+-- the value of the level that states it, or the default one
+abbrev pub listed_by : {A : Type 0} → (default : A) → (Lists → A) → Option Listed → A
+listed_by default part None = default
+listed_by default part (Some s) = part (lists_at s.level.now)
+
+abbrev pub lists_by : Shared → Lists
+lists_by s = record {
+  index = listed_by default_index (λ l. l.index) s.index;
+  pages = listed_by [] (λ l. l.pages) s.pages;
+  rules = listed_by [] (λ l. l.rules) s.rules;
+  auth_sets = listed_by [] (λ l. l.auth_sets) s.auth_sets;
+  ssi_types = listed_by no_media (λ l. l.ssi_types) s.ssi_types;
+  addition_types = listed_by no_media (λ l. l.addition_types) s.addition_types;
+}
+
 -- the values that directives are kept for
 abbrev pub values_by : Inherited → Values
 values_by v = record {
   place = place_by v.place;
   types = record { entries = entries_by v.entries; default_type = v.default_type.now };
   settings = v.settings;
+  lists = lists_by v.lists;
+  auth = option_map (λ w. w.now) v.auth;
+  before = option_map (λ w. w.now) v.before;
+  after = option_map (λ w. w.now) v.after;
+  visible = option_map (λ ws. variables_in ws.now) v.visible;
 }
 
--- a level with these values, whose media types have this number; lists of values are not read yet
-abbrev pub level_by : Values → (types : ℕ) → (internal : Bool) → Option Return → Level
-level_by v types internal returned = record {
+-- no list is stated
+abbrev pub none_shared : Shared
+none_shared = record {
+  index = None;
+  pages = None;
+  rules = None;
+  auth_sets = None;
+  ssi_types = None;
+  addition_types = None;
+}
+
+-- the rewrite program of a level that answers this, if anything
+abbrev pub steps_of : Option Return → List RewriteStep
+steps_of None = []
+steps_of (Some r) = steps.Return r.code r.text ∷ []
+
+abbrev pub number_of : Option Listed → Option ℕ
+number_of s = option_map (λ (s : Listed). s.number) s
+
+-- a level with these values, whose media types and lists have these numbers
+abbrev pub level_by : Values → (types : ℕ) → Shared → (internal : Bool) → Option Tries
+    → Option Return → Level
+level_by v types lists internal tries returned = record {
   place = v.place;
   types = types;
   requests = v.settings.requests;
   idle = v.settings.idle;
-  returned = returned;
-  index = None;
-  tries = None;
+  returned = None;
+  index = number_of lists.index;
+  tries = tries;
   internal = internal;
-  pages = None;
+  pages = number_of lists.pages;
   recursive = v.settings.recursive;
   body_most = v.settings.body_most;
   send_wait = v.settings.send_wait;
@@ -60,40 +117,113 @@ level_by v types internal returned = record {
   with_port = v.settings.with_port;
   with_server_name = v.settings.with_server_name;
   any = v.settings.any;
-  rules = None;
-  auth = None;
-  auth_sets = None;
+  rules = number_of lists.rules;
+  auth = v.auth;
+  auth_sets = number_of lists.auth_sets;
   ssi = v.settings.ssi;
   silent = v.settings.silent;
-  ssi_types = None;
+  ssi_types = number_of lists.ssi_types;
   value_most = v.settings.value_most;
   capture_most = v.settings.capture_most;
-  before = None;
-  after = None;
-  addition_types = None;
-  program = [];
+  before = v.before;
+  after = v.after;
+  addition_types = number_of lists.addition_types;
+  program = steps_of returned;
 }
 
 -- what has a number keeps it
 abbrev pub Keeps : {A : Type 0} → List A → List A → Type 0
 Keeps {A} old new = (n : ℕ) (x : A) → slice_get old n ≡ Some x → slice_get new n ≡ Some x
 
--- these levels and lists of media types are those of the site, which may have more
-abbrev pub Holds : List Level → List TypeList → Site → Type 0
-Holds levels types site = Keeps levels site.levels.items × Keeps types site.types.items
+-- each of the lists keeps its number
+pub record KeepsAll (old new : Shelf) : Type 0 where
+  pub types : Keeps old.types.items new.types.items
+  pub indexes : Keeps old.indexes.items new.indexes.items
+  pub pages : Keeps old.pages.items new.pages.items
+  pub rules : Keeps old.rules.items new.rules.items
+  pub auth_sets : Keeps old.auth_sets.items new.auth_sets.items
+  pub media : Keeps old.media.items new.media.items
 
-abbrev pub is_nil : {A : Type 0} → List A → Bool
-is_nil [] = true
-is_nil (x ∷ xs) = false
+abbrev pub shelf_of : Site → Shelf
+shelf_of site = record {
+  types = site.types;
+  indexes = site.indexes;
+  pages = site.pages;
+  rules = site.rules;
+  auth_sets = site.auth_sets;
+  media = site.media;
+}
 
--- none of these levels has a rewrite program yet
-unfoldable pub are_free : List Level → Bool
-are_free [] = true
-are_free (l ∷ ls) = is_nil l.program && are_free ls
+-- these levels and lists are those of the site, which may have more
+abbrev pub Holds : List Level → Shelf → Site → Type 0
+Holds levels shelf site = Keeps levels site.levels.items × KeepsAll shelf (shelf_of site)
 
--- no level of the site has one: what a level returns stands apart
-abbrev pub IsFree : Site → Type 0
-IsFree site = (number : ℕ) → (raw_level site number).program ≡ []
+-- what a number stands for in a list: `default` without one, and `none` where it is no item's
+abbrev pub listed_in : {A B : Type 0} → (default none : B) → (A → B) → List A → Option ℕ → B
+listed_in default none view items None = default
+listed_in default none view items (Some n) = unwrap_or (option_map view (slice_get items n)) none
+
+-- the number stands for this, also in a list that has more
+abbrev pub Stands : {A B : Type 0} → (default none : B) → (A → B) → List A → Option Listed → B
+    → Type 0
+Stands {A} default none view items s meaning =
+    (later : List A) → Keeps items later → listed_in default none view later (number_of s) ≡ meaning
+
+abbrev pub index_names : IndexNames → List IndexName
+index_names n = map index_seen n.names.items
+
+abbrev pub page_rules : PageRules → List PageRule
+page_rules r = map page_seen r.rules.items
+
+abbrev pub rules_in : Rules → List Rule
+rules_in r = r.rules.items
+
+abbrev pub sets_in : AuthSets → List (List ℕ × Text)
+sets_in s = map auth_set_seen s.sets.items
+
+-- the numbers of lists stand for these lists
+pub record FitsLists (shelf : Shelf) (s : Shared) : Type 0 where
+  pub index : Stands default_index [] index_names shelf.indexes.items s.index (lists_by s).index
+  pub pages : Stands [] [] page_rules shelf.pages.items s.pages (lists_by s).pages
+  pub rules : Stands [] [] rules_in shelf.rules.items s.rules (lists_by s).rules
+  pub auth_sets : Stands [] [] sets_in shelf.auth_sets.items s.auth_sets (lists_by s).auth_sets
+  pub ssi_types : Stands no_media no_media media_seen shelf.media.items s.ssi_types
+      (lists_by s).ssi_types
+  pub addition_types : Stands no_media no_media media_seen shelf.media.items s.addition_types
+      (lists_by s).addition_types
+
+-- the numbers of media types and lists stand for the values
+pub record Fits (shelf : Shelf) (v : Inherited) : Type 0 where
+  pub types : slice_get shelf.types.items v.types ≡ Some (values_by v).types
+  pub lists : FitsLists shelf v.lists
+
+-- what a level states of a list, if it states some
+abbrev pub Says : {A B : Type 0} → (has : B → Bool) → (A → B) → Option A → B → Type 0
+Says has view None own = has own ≡ false
+Says has view (Some item) own = (view item ≡ own) × (has own ≡ true)
+
+-- What a level states is kept under a number, and named by it; where it states nothing, what is around it is.
+pub record Placed {A : Type 0} (old new : List A) (item : A) (level : List Directive)
+    (s : Option Listed) : Type 0 where
+  pub listed : Listed
+  pub is : s ≡ Some listed
+  pub level_is : listed.level.now ≡ level
+  pub there : slice_get new listed.number ≡ Some item
+  pub kept : Keeps old new
+
+abbrev pub IsPlaced : {A : Type 0} → List A → List A → Option A → List Directive →
+    (outer s : Option Listed) → Type 0
+IsPlaced old new None level outer s = (s ≡ outer) × (new ≡ old)
+IsPlaced old new (Some item) level outer s = Placed old new item level s
+
+-- what each of these levels returns is in its rewrite program, and not apart
+unfoldable pub are_unreturned : List Level → Bool
+are_unreturned [] = true
+are_unreturned (l ∷ ls) = is_none l.returned && are_unreturned ls
+
+-- and so in each level of the site
+abbrev pub IsUnreturned : Site → Type 0
+IsUnreturned site = (number : ℕ) → (raw_level site number).returned ≡ None
 
 -- locations one level after those of another
 unfoldable pub follow : Locations → Locations → Locations
@@ -109,12 +239,14 @@ abbrev pub AreDeep : ℕ → List CodeLocation → Type 0
 AreDeep depth [] = Unit {0}
 AreDeep depth (l ∷ ls) = (depth ≤ l.depth) × AreDeep depth ls
 
--- Locations were added, none less deep than this, as long as levels and media types were; those that are left to add, after
+-- Locations were added, none less deep than this, as long as levels and lists were; those that are left to add, after
 -- these, are all.
-pub record Added (outer : Values) (depth : ℕ) (first last : List Level) (first_types last_types : List TypeList) (old new : List CodeLocation) (left all : Locations) : Type 0 where
+pub record Added (outer : Values) (depth : ℕ) (first last : List Level)
+    (first_shelf last_shelf : Shelf) (old new : List CodeLocation)
+    (left all : Locations) : Type 0 where
   pub added : List CodeLocation
   pub is : new ≡ old ++ added
   pub deep : AreDeep depth added
   pub levels_kept : Keeps first last
-  pub types_kept : Keeps first_types last_types
-  pub same : (site : Site) → Holds last last_types site → follow (list_seen site added) left ≡ all
+  pub shelf_kept : KeepsAll first_shelf last_shelf
+  pub same : (site : Site) → Holds last last_shelf site → follow (list_seen site added) left ≡ all

@@ -41,7 +41,8 @@ fn push_lines(
     entries: &mut Vec<TypeEntry>,
     block: &[Directive],
 ) -> Result<(), OutOfMemory>
-    ensures { OnOk result (entries.new.items ≡ entries.old.items ++ lines_entries (roots (forest_of block.now))) }
+    ensures { OnOk result (entries.new.items ≡ entries.old.items ++ lines_entries
+        (roots (forest_of block.now))) }
 {
     let mut rest = block;
     while let Some(branch) = first_branch(rest) {
@@ -53,7 +54,8 @@ fn push_lines(
 
 /// The lines of all `types` blocks of a level.
 fn stated_entries(alloc: Global, level: &[Directive]) -> Result<Vec<TypeEntry>, OutOfMemory>
-    ensures { IfOk result (λ entries. entries.items ≡ all_entries (blocks_of (codes "types") (forest_of level.now))) }
+    ensures { IfOk result (λ entries. entries.items ≡ all_entries
+        (blocks_of (codes "types") (forest_of level.now))) }
 {
     let mut entries = Vec::new(alloc);
     let mut rest = level;

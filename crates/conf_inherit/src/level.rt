@@ -1,16 +1,20 @@
 // The values that hold in a level.
-ghost use Rattle.std.specs.Prelude.{◌≡◌, option_map, unwrap_or, IfOk};
+ghost use Rattle.std.specs.Prelude.{◌≡◌, codes, option_map, unwrap_or, IfOk};
+ghost use Rattle.site_whole.specs.Whole.{tries_seen};
 ghost use Rattle.conf_block.specs.Forest.{forest_of, roots};
-ghost use Rattle.conf_inherit.specs.Values.{word_in, entries_in, alias_place, place_in, with_role, with_directive, settings_in, stated, over, defaults, internal_in, returned_in};
-ghost use Rattle.conf_inherit.specs.Pools.{place_by, entries_by, values_by, level_by};
+ghost use Rattle.conf_lists.specs.Words.{variables_in};
+ghost use Rattle.conf_lists.specs.Lists.{stated_lists};
+ghost use Rattle.conf_inherit.specs.Values.{word_in, entries_in, alias_place, place_in, with_role, with_directive, settings_in, auth_by, added_by, visible_in, either, lists_over, stated, over, defaults, internal_in, tries_in, returned_in};
+ghost use Rattle.conf_inherit.specs.Pools.{place_by, entries_by, lists_by, values_by, none_shared, steps_of, number_of, level_by};
 
 use byte_text::{ByteText, OutOfMemory};
 use conf_block::{first_branch, has_named, next_named, role_of};
+use conf_lists::tries_of;
 use conf_table::Role;
 use conf_text::Directive;
 use conf_values::{Settings, return_by, value_of};
 use ngx_variables::Place;
-use site_model::{Level, Program, Return};
+use site_model::{Level, Program, Return, RewriteStep, Tries};
 use std::alloc::Global;
 
 /// The first word of the first directive of this name.
@@ -34,6 +38,24 @@ pub enum PlaceText<'a> {
     Whole(&'a [u8]),
 }
 
+/// A list that a level states, by the level and by the number of the list.
+#[derive(Clone, Copy)]
+pub struct Listed<'a> {
+    pub level: &'a [Directive],
+    pub number: u32,
+}
+
+/// The lists that hold in a level: each that of the level that states it, if one does.
+#[derive(Clone, Copy)]
+pub struct Shared<'a> {
+    pub index: Option<Listed<'a>>,
+    pub pages: Option<Listed<'a>>,
+    pub rules: Option<Listed<'a>>,
+    pub auth_sets: Option<Listed<'a>>,
+    pub ssi_types: Option<Listed<'a>>,
+    pub addition_types: Option<Listed<'a>>,
+}
+
 /// The values that hold in a level and are inherited, by the directives that state them.
 #[derive(Clone, Copy)]
 pub struct Inherited<'a> {
@@ -44,12 +66,34 @@ pub struct Inherited<'a> {
     /// The number of the list of media types.
     pub types: u32,
     pub settings: Settings,
+    pub lists: Shared<'a>,
+    /// The URI of the subrequest that decides on access, and of those before and after a body.
+    pub auth: Option<&'a [u8]>,
+    pub before: Option<&'a [u8]>,
+    pub after: Option<&'a [u8]>,
+    /// The words of the `ssi_visible` that holds.
+    pub visible: Option<&'a [ByteText]>,
+}
+
+/// No list is stated.
+fn no_lists() -> Shared<'static>
+    ensures { result ≡ none_shared }
+{
+    Shared {
+        index: None,
+        pages: None,
+        rules: None,
+        auth_sets: None,
+        ssi_types: None,
+        addition_types: None,
+    }
 }
 
 /// The values that hold where nothing is stated.
 pub fn defaults() -> Inherited<'static>
     ensures values { values_by result ≡ defaults }
     ensures types { result.types ≡ 0 }
+    ensures lists { result.lists ≡ none_shared }
 {
     Inherited {
         place: PlaceText::Root(b"html"),
@@ -57,6 +101,11 @@ pub fn defaults() -> Inherited<'static>
         default_type: b"text/plain",
         types: 0,
         settings: Settings::new(),
+        lists: no_lists(),
+        auth: None,
+        before: None,
+        after: None,
+        visible: None,
     }
 }
 
@@ -71,13 +120,33 @@ fn alias_place<'a>(prefix: Option<&'a [u8]>, text: &'a [u8]) -> PlaceText<'a>
 }
 
 fn place_in<'a>(prefix: Option<&'a [u8]>, level: &'a [Directive]) -> Option<PlaceText<'a>>
-    ensures { option_map place_by result ≡ place_in (option_map (λ t. t.now) prefix.entry) (forest_of level.now) }
+    ensures { option_map place_by result ≡ place_in (option_map (λ t. t.now) prefix.entry)
+        (forest_of level.now) }
 {
     if let Some(text) = word_in(level, b"root") {
         return Some(PlaceText::Root(text));
     }
     let text = word_in(level, b"alias")?;
     Some(alias_place(prefix, text))
+}
+
+fn place_over<'a>(
+    prefix: Option<&'a [u8]>,
+    level: &'a [Directive],
+    outer: PlaceText<'a>,
+) -> PlaceText<'a>
+    ensures { place_by result ≡ unwrap_or
+        (place_in (option_map (λ t. t.now) prefix.entry) (forest_of level.now))
+        (place_by outer.entry) }
+{
+    place_in(prefix, level).unwrap_or(outer)
+}
+
+fn default_over<'a>(level: &'a [Directive], outer: &'a [u8]) -> &'a [u8]
+    ensures { result.now ≡ unwrap_or
+        (word_in (codes "default_type") (forest_of level.now)) outer.now }
+{
+    word_in(level, b"default_type").unwrap_or(outer)
 }
 
 fn with_role(settings: Settings, role: Role, words: &[ByteText]) -> Settings
@@ -117,7 +186,8 @@ fn entries_over<'a>(
     level: &'a [Directive],
     outer: Option<&'a [Directive]>,
 ) -> Option<&'a [Directive]>
-    ensures { entries_by result ≡ unwrap_or (entries_in (forest_of level.now)) (entries_by outer.entry) }
+    ensures { entries_by result ≡ unwrap_or (entries_in (forest_of level.now))
+        (entries_by outer.entry) }
 {
     if has_named(level, b"types") {
         Some(level)
@@ -126,23 +196,93 @@ fn entries_over<'a>(
     }
 }
 
-/// What a block states whose `alias` takes this prefix off, if any, over the values around it. The number of the media types
-/// is that of those around it.
-#[tactic(auto, unfolding(crate::specs::Values::stated))]
+/// The URI of `auth_request`, and none for `off`.
+fn auth_by(word: &[u8]) -> Option<&[u8]>
+    ensures { option_map (λ w. w.now) result ≡ auth_by word.now }
+{
+    if word == b"off".as_slice() {
+        None
+    } else {
+        Some(word)
+    }
+}
+
+fn auth_over<'a>(level: &'a [Directive], outer: Option<&'a [u8]>) -> Option<&'a [u8]>
+    ensures { option_map (λ w. w.now) result ≡ unwrap_or
+        (option_map auth_by (word_in (codes "auth_request") (forest_of level.now)))
+        (option_map (λ w. w.now) outer.entry) }
+{
+    match word_in(level, b"auth_request") {
+        None => outer,
+        Some(word) => auth_by(word),
+    }
+}
+
+/// The URI of an addition, and none for the empty word.
+fn added_by(word: &[u8]) -> Option<&[u8]>
+    ensures { option_map (λ w. w.now) result ≡ added_by word.now }
+{
+    if word.is_empty() { None } else { Some(word) }
+}
+
+/// The URI of the first directive of this name, or else this one.
+fn added_over<'a>(level: &'a [Directive], name: &[u8], outer: Option<&'a [u8]>) -> Option<&'a [u8]>
+    ensures { option_map (λ w. w.now) result ≡ unwrap_or
+        (option_map added_by (word_in name.now (forest_of level.now)))
+        (option_map (λ w. w.now) outer.entry) }
+{
+    match word_in(level, name) {
+        None => outer,
+        Some(word) => added_by(word),
+    }
+}
+
+/// The words of `ssi_visible`, or else these.
+fn visible_over<'a>(level: &'a [Directive], outer: Option<&'a [ByteText]>) -> Option<&'a [ByteText]>
+    ensures { option_map (λ ws. variables_in ws.now) result ≡ either
+        (visible_in (forest_of level.now)) (option_map (λ ws. variables_in ws.now) outer.entry) }
+{
+    match next_named(level, b"ssi_visible") {
+        None => outer,
+        Some(branch) => Some(branch.directive.args.as_slice()),
+    }
+}
+
+/// What a block states whose `alias` takes this prefix off, if any, with these lists, over the values around it. The number of
+/// the media types is that of those around it.
 pub fn stated_over<'a>(
     prefix: Option<&'a [u8]>,
     level: &'a [Directive],
+    lists: Shared<'a>,
     outer: Inherited<'a>,
 ) -> Inherited<'a>
-    ensures values { values_by result ≡ over (stated (option_map (λ t. t.now) prefix.entry) (forest_of level.now)) (values_by outer.entry) }
+    requires { lists_by lists ≡ lists_over (stated_lists (roots (forest_of level.now)))
+        (lists_by outer.lists) }
+    ensures values { values_by result ≡ over
+        (stated (option_map (λ t. t.now) prefix.entry) (forest_of level.now))
+        (values_by outer.entry) }
     ensures types { result.types ≡ outer.entry.types }
+    ensures lists { result.lists ≡ lists.entry }
 {
+    let place = place_over(prefix, level, outer.place);
+    let entries = entries_over(level, outer.entries);
+    let default_type = default_over(level, outer.default_type);
+    let settings = settings_in(level, outer.settings);
+    let auth = auth_over(level, outer.auth);
+    let before = added_over(level, b"add_before_body", outer.before);
+    let after = added_over(level, b"add_after_body", outer.after);
+    let visible = visible_over(level, outer.visible);
     Inherited {
-        place: place_in(prefix, level).unwrap_or(outer.place),
-        entries: entries_over(level, outer.entries),
-        default_type: word_in(level, b"default_type").unwrap_or(outer.default_type),
+        place,
+        entries,
+        default_type,
         types: outer.types,
-        settings: settings_in(level, outer.settings),
+        settings,
+        lists,
+        auth,
+        before,
+        after,
+        visible,
     }
 }
 
@@ -170,25 +310,77 @@ fn returned_in(alloc: Global, level: &[Directive]) -> Result<Option<Return>, Out
     }
 }
 
-/// A level with these values, and with what it alone states. Lists of values are not read yet, and have their defaults.
+/// The names that a level tries.
+fn tries_in(alloc: Global, level: &[Directive]) -> Result<Option<Tries>, OutOfMemory>
+    ensures { IfOk result
+        (λ tries. option_map tries_seen tries ≡ tries_in (forest_of level.now)) }
+{
+    match next_named(level, b"try_files") {
+        None => Ok(None),
+        Some(branch) => {
+            let tries = tries_of(alloc, branch.directive.args.as_slice())?;
+            Ok(tries)
+        }
+    }
+}
+
+fn copied(alloc: Global, text: Option<&[u8]>) -> Result<Option<ByteText>, OutOfMemory>
+    ensures { IfOk result (λ copy. copy ≡ option_map (λ t. t.now) text.entry) }
+{
+    match text {
+        None => Ok(None),
+        Some(text) => Ok(Some(ByteText::from_slice(alloc, text)?)),
+    }
+}
+
+fn number_of(listed: Option<Listed<'_>>) -> Option<u32>
+    ensures { result ≡ number_of listed.entry }
+{
+    match listed {
+        None => None,
+        Some(listed) => Some(listed.number),
+    }
+}
+
+/// The rewrite program of a level that answers this, if anything.
+fn program_of(alloc: Global, returned: Option<Return>) -> Result<Program, OutOfMemory>
+    ensures { IfOk result (λ p. p ≡ steps_of returned) }
+{
+    let mut program = Program::new(alloc);
+    match returned {
+        None => Ok(program),
+        Some(Return { code, text }) => {
+            program.push(RewriteStep::Return { code, text })?;
+            Ok(program)
+        }
+    }
+}
+
+/// A level with these values, and with what it alone states: what it returns is its rewrite program.
 pub fn level_of(
     alloc: Global,
     values: Inherited<'_>,
     level: &[Directive],
 ) -> Result<Level, OutOfMemory>
-    ensures { IfOk result (λ l. l ≡ level_by (values_by values.entry) values.entry.types (internal_in (forest_of level.now)) (returned_in (forest_of level.now))) }
+    ensures values { IfOk result (λ l. l ≡ level_by
+        (values_by values.entry) values.entry.types values.entry.lists
+        (internal_in (forest_of level.now)) l.tries (returned_in (forest_of level.now))) }
+    ensures tries { IfOk result (λ l. option_map tries_seen l.tries ≡ tries_in
+        (forest_of level.now)) }
 {
     let settings = values.settings;
+    let lists = values.lists;
+    let returned = returned_in(alloc, level)?;
     Ok(Level {
         place: place_of(alloc, values.place)?,
         types: values.types,
         requests: settings.requests,
         idle: settings.idle,
-        returned: returned_in(alloc, level)?,
-        index: None,
-        tries: None,
+        returned: None,
+        index: number_of(lists.index),
+        tries: tries_in(alloc, level)?,
         internal: has_named(level, b"internal"),
-        pages: None,
+        pages: number_of(lists.pages),
         recursive: settings.recursive,
         body_most: settings.body_most,
         send_wait: settings.send_wait,
@@ -197,17 +389,17 @@ pub fn level_of(
         with_port: settings.with_port,
         with_server_name: settings.with_server_name,
         any: settings.any,
-        rules: None,
-        auth: None,
-        auth_sets: None,
+        rules: number_of(lists.rules),
+        auth: copied(alloc, values.auth)?,
+        auth_sets: number_of(lists.auth_sets),
         ssi: settings.ssi,
         silent: settings.silent,
-        ssi_types: None,
+        ssi_types: number_of(lists.ssi_types),
         value_most: settings.value_most,
         capture_most: settings.capture_most,
-        before: None,
-        after: None,
-        addition_types: None,
-        program: Program::new(alloc),
+        before: copied(alloc, values.before)?,
+        after: copied(alloc, values.after)?,
+        addition_types: number_of(lists.addition_types),
+        program: program_of(alloc, returned)?,
     })
 }

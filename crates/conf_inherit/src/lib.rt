@@ -5,6 +5,8 @@ mod entries;
 mod laws;
 mod level;
 mod pool;
+mod shared;
+mod shelf;
 mod site;
 
 pub use laws::{the_last_holds, what_is_around_holds, what_is_stated_holds};

@@ -1,5 +1,5 @@
 // The site that directives describe.
-ghost use Rattle.std.specs.Prelude.{◌≡◌, ◌+◌, [], map, Some, slice_get, codes, Ok, Err, bytes_eq, IfOk, IfErr};
+ghost use Rattle.std.specs.Prelude.{◌≡◌, ◌+◌, [], map, option_map, codes, Ok, Err, bytes_eq, IfOk, IfErr};
 ghost use Rattle.conf_text.specs.Reading.{OnFault};
 ghost use Rattle.site_model.specs.declared.site.Site.{Site as Whole};
 ghost use Rattle.site_views.specs.Views.Locations.{NoMore};
@@ -7,17 +7,19 @@ ghost use Rattle.site_whole.specs.Whole.{level_whole, location_whole, named_whol
 ghost use Rattle.conf_block.specs.Forest.{forest_of};
 ghost use Rattle.conf_block.specs.Blocks.{blocks_of};
 ghost use Rattle.conf_check.specs.Gives.{Gives};
+ghost use Rattle.conf_lists.specs.Words.{variables_in as variables_meant};
 ghost use Rattle.conf_inherit.specs.Values.{level_of as level_meant};
-ghost use Rattle.conf_inherit.specs.Pools.{Keeps, Holds, IsFree, Added, list_seen, values_by};
+ghost use Rattle.conf_inherit.specs.Pools.{Keeps, KeepsAll, Holds, IsUnreturned, Fits, Added, list_seen, values_by};
 ghost use Rattle.conf_inherit.specs.Built.{kind_of, inner_values, location_with, locations_in as locations_meant, named_with, named_in as named_meant, server_with, server_in, site_of, suits, built};
 
 use crate::entries::types_of;
 use crate::level::{Inherited, defaults, level_of, word_in};
 use crate::pool::Pool;
-use byte_text::{ByteText, OutOfMemory};
+use crate::shelf::Shelf;
+use byte_text::{ByteText, ByteTexts, OutOfMemory};
 use conf_block::{Branch, alias_prefix, http_in, listens_of, next_location, next_named, text_in};
 use conf_check::{check, check_effects};
-use conf_lists::{defaults_of, first_shown, names_of};
+use conf_lists::{defaults_of, first_shown, names_of, variables_in};
 use conf_text::{ConfError, Directive};
 use site_model::{Location, LocationKind, NamedLocation, Server, Site};
 use std::alloc::Global;
@@ -38,11 +40,12 @@ fn add_level(
     values: Inherited<'_>,
     block: &[Directive],
 ) -> Result<u32, OutOfMemory>
-    requires { slice_get pool.old.types.items values.types ≡ Some (values_by values).types }
-    ensures seen { IfOk result (λ n. (site : Whole) → Holds pool.new.levels.items pool.new.types.items site
+    requires { Fits pool.old.shelf values }
+    ensures seen { IfOk result (λ n. (site : Whole)
+        → Holds pool.new.levels.items pool.new.shelf site
         → level_whole [] site n ≡ level_meant (values_by values.entry) (forest_of block.now)) }
     ensures levels { IfOk result (λ n. Keeps pool.old.levels.items pool.new.levels.items) }
-    ensures types { IfOk result (λ n. pool.new.types.items ≡ pool.old.types.items) }
+    ensures shelf { IfOk result (λ n. pool.new.shelf ≡ pool.old.shelf) }
 {
     let number = pool.add_level(level_of(alloc, values, block)?)?;
     Ok(number)
@@ -79,13 +82,16 @@ fn location_of(
     depth: u32,
     branch: Branch<'_>,
 ) -> Result<Location, OutOfMemory>
-    requires { slice_get pool.old.types.items values.types ≡ Some (values_by values).types }
-    ensures seen { IfOk result (λ l. (site : Whole) → Holds pool.new.levels.items pool.new.types.items site
-        → location_whole [] site l ≡ location_with (values_by values.entry) branch.entry.directive.now (forest_of branch.entry.block.now)) }
+    requires { Fits pool.old.shelf values }
+    ensures seen { IfOk result (λ l. (site : Whole)
+        → Holds pool.new.levels.items pool.new.shelf site
+        → location_whole [] site l ≡ location_with
+        (values_by values.entry) branch.entry.directive.now
+        (forest_of branch.entry.block.now)) }
     ensures depth { IfOk result (λ l. l.depth ≡ depth) }
-    ensures there { IfOk result (λ l. slice_get pool.new.types.items values.entry.types ≡ Some (values_by values.entry).types) }
+    ensures there { IfOk result (λ l. Fits pool.new.shelf values.entry) }
     ensures levels { IfOk result (λ l. Keeps pool.old.levels.items pool.new.levels.items) }
-    ensures types { IfOk result (λ l. pool.new.types.items ≡ pool.old.types.items) }
+    ensures shelf { IfOk result (λ l. pool.new.shelf ≡ pool.old.shelf) }
 {
     let words = branch.directive.args.as_slice();
     let level = add_level(alloc, pool, values, branch.block)?;
@@ -117,9 +123,12 @@ fn add_locations<'a>(
     level: &'a [Directive],
     locations: &mut Vec<Location>,
 ) -> Result<(), OutOfMemory>
-    requires { slice_get pool.old.types.items outer.types ≡ Some (values_by outer).types }
-    ensures { IfOk result (λ u. Added (values_by outer.entry) depth pool.old.levels.items pool.new.levels.items pool.old.types.items pool.new.types.items
-        locations.old.items locations.new.items NoMore (locations_meant (values_by outer.entry) (forest_of level.now))) }
+    requires { Fits pool.old.shelf outer }
+    ensures { IfOk result (λ u. Added
+        (values_by outer.entry) depth pool.old.levels.items pool.new.levels.items pool.old.shelf
+        pool.new.shelf
+        locations.old.items locations.new.items NoMore
+        (locations_meant (values_by outer.entry) (forest_of level.now))) }
 {
     let mut rest = level;
     while let Some(branch) = next_location(rest, false) {
@@ -140,11 +149,15 @@ fn named_of<'a>(
     outer: Inherited<'a>,
     branch: Branch<'a>,
 ) -> Result<NamedLocation, OutOfMemory>
-    requires { slice_get pool.old.types.items outer.types ≡ Some (values_by outer).types }
-    ensures seen { IfOk result (λ n. (site : Whole) → Holds pool.new.levels.items pool.new.types.items site
-        → named_whole [] site n ≡ named_with (inner_values (values_by outer.entry) branch.entry.directive.now (forest_of branch.entry.block.now)) branch.entry.directive.now (forest_of branch.entry.block.now)) }
+    requires { Fits pool.old.shelf outer }
+    ensures seen { IfOk result (λ n. (site : Whole)
+        → Holds pool.new.levels.items pool.new.shelf site
+        → named_whole [] site n ≡ named_with
+        (inner_values (values_by outer.entry) branch.entry.directive.now
+        (forest_of branch.entry.block.now)) branch.entry.directive.now
+        (forest_of branch.entry.block.now)) }
     ensures levels { IfOk result (λ n. Keeps pool.old.levels.items pool.new.levels.items) }
-    ensures types { IfOk result (λ n. Keeps pool.old.types.items pool.new.types.items) }
+    ensures shelf { IfOk result (λ n. KeepsAll pool.old.shelf pool.new.shelf) }
 {
     let words = branch.directive.args.as_slice();
     let values = pool.inner(alloc, alias_prefix(words), branch.block, outer)?;
@@ -160,11 +173,13 @@ fn named_in<'a>(
     outer: Inherited<'a>,
     server: &'a [Directive],
 ) -> Result<Vec<NamedLocation>, OutOfMemory>
-    requires { slice_get pool.old.types.items outer.types ≡ Some (values_by outer).types }
-    ensures seen { IfOk result (λ ns. (site : Whole) → Holds pool.new.levels.items pool.new.types.items site
-        → map (named_whole [] site) ns.items ≡ named_meant (values_by outer.entry) (forest_of server.now)) }
+    requires { Fits pool.old.shelf outer }
+    ensures seen { IfOk result (λ ns. (site : Whole)
+        → Holds pool.new.levels.items pool.new.shelf site
+        → map (named_whole [] site) ns.items ≡ named_meant (values_by outer.entry)
+        (forest_of server.now)) }
     ensures levels { IfOk result (λ ns. Keeps pool.old.levels.items pool.new.levels.items) }
-    ensures types { IfOk result (λ ns. Keeps pool.old.types.items pool.new.types.items) }
+    ensures shelf { IfOk result (λ ns. KeepsAll pool.old.shelf pool.new.shelf) }
 {
     let mut named = Vec::new(alloc);
     let mut rest = server;
@@ -182,15 +197,28 @@ fn locations_in<'a>(
     outer: Inherited<'a>,
     server: &'a [Directive],
 ) -> Result<Vec<Location>, OutOfMemory>
-    requires { slice_get pool.old.types.items outer.types ≡ Some (values_by outer).types }
-    ensures seen { IfOk result (λ ls. (site : Whole) → Holds pool.new.levels.items pool.new.types.items site
-        → list_seen site ls.items ≡ locations_meant (values_by outer.entry) (forest_of server.now)) }
+    requires { Fits pool.old.shelf outer }
+    ensures seen { IfOk result (λ ls. (site : Whole)
+        → Holds pool.new.levels.items pool.new.shelf site
+        → list_seen site ls.items ≡ locations_meant (values_by outer.entry)
+        (forest_of server.now)) }
     ensures levels { IfOk result (λ ls. Keeps pool.old.levels.items pool.new.levels.items) }
-    ensures types { IfOk result (λ ls. Keeps pool.old.types.items pool.new.types.items) }
+    ensures shelf { IfOk result (λ ls. KeepsAll pool.old.shelf pool.new.shelf) }
 {
     let mut locations = Vec::new(alloc);
     add_locations(alloc, pool, outer, 0, server, &mut locations)?;
     Ok(locations)
+}
+
+/// The variables that documents see, where some are stated.
+fn visible_of(alloc: Global, words: Option<&[ByteText]>) -> Result<Option<ByteTexts>, OutOfMemory>
+    ensures { IfOk result
+        (λ names. names ≡ option_map (λ ws. variables_meant ws.now) words.entry) }
+{
+    match words {
+        None => Ok(None),
+        Some(words) => Ok(Some(variables_in(alloc, words)?)),
+    }
 }
 
 /// A server in which these values hold.
@@ -200,11 +228,12 @@ fn server_of<'a>(
     values: Inherited<'a>,
     block: &'a [Directive],
 ) -> Result<Server, OutOfMemory>
-    requires { slice_get pool.old.types.items values.types ≡ Some (values_by values).types }
-    ensures seen { IfOk result (λ s. (site : Whole) → Holds pool.new.levels.items pool.new.types.items site
+    requires { Fits pool.old.shelf values }
+    ensures seen { IfOk result (λ s. (site : Whole)
+        → Holds pool.new.levels.items pool.new.shelf site
         → server_whole [] site s ≡ server_with (values_by values.entry) (forest_of block.now)) }
     ensures levels { IfOk result (λ s. Keeps pool.old.levels.items pool.new.levels.items) }
-    ensures types { IfOk result (λ s. Keeps pool.old.types.items pool.new.types.items) }
+    ensures shelf { IfOk result (λ s. KeepsAll pool.old.shelf pool.new.shelf) }
 {
     let listens = listens_of(alloc, block)?;
     let level = add_level(alloc, pool, values, block)?;
@@ -213,6 +242,7 @@ fn server_of<'a>(
     let defaults = defaults_of(alloc, block)?;
     let names = names_of(alloc, block)?;
     let first_name = ByteText::from_slice(alloc, first_shown(word_in(block, b"server_name")))?;
+    let visible = visible_of(alloc, values.visible)?;
     Ok(Server {
         listens,
         level,
@@ -222,7 +252,7 @@ fn server_of<'a>(
         first_name,
         named,
         merge: values.settings.merge,
-        visible: None,
+        visible,
     })
 }
 
@@ -233,9 +263,10 @@ fn servers_of<'a>(
     outer: Inherited<'a>,
     http: &'a [Directive],
 ) -> Result<Vec<Server>, OutOfMemory>
-    requires { slice_get pool.old.types.items outer.types ≡ Some (values_by outer).types }
-    ensures { IfOk result (λ ss. (site : Whole) → Holds pool.new.levels.items pool.new.types.items site
-        → map (server_whole [] site) ss.items ≡ map (server_in (values_by outer.entry)) (blocks_of (codes "server") (forest_of http.now))) }
+    requires { Fits pool.old.shelf outer }
+    ensures { IfOk result (λ ss. (site : Whole) → Holds pool.new.levels.items pool.new.shelf site
+        → map (server_whole [] site) ss.items ≡ map (server_in (values_by outer.entry))
+        (blocks_of (codes "server") (forest_of http.now))) }
 {
     let mut servers = Vec::new(alloc);
     let mut rest = http;
@@ -250,24 +281,34 @@ fn servers_of<'a>(
 /// The site of these directives, which stand in `http`.
 #[tactic(auto, unfolding(crate::specs::Built::site_of))]
 fn site_of(alloc: Global, folder: &[u8], http: &[Directive]) -> Result<Site, OutOfMemory>
-    ensures seen { IfOk result (λ site. whole [] site ≡ site_of folder.now (forest_of http.now)) }
-    ensures free { IfOk result (λ site. IsFree site) }
+    ensures seen { IfOk result
+        (λ site. whole [] site ≡ site_of folder.now (forest_of http.now)) }
+    ensures unreturned { IfOk result (λ site. IsUnreturned site) }
 {
     let mut pool = Pool::new(alloc)?;
     let values = pool.inner(alloc, Some(b""), http, defaults())?;
     let servers = servers_of(alloc, &mut pool, values, http)?;
+    let Pool { levels, shelf } = pool;
+    let Shelf {
+        types,
+        indexes,
+        pages,
+        rules,
+        auth_sets,
+        media,
+    } = shelf;
     Ok(Site {
         folder: ByteText::from_slice(alloc, folder)?,
         servers,
-        levels: pool.levels,
-        types: pool.types,
+        levels,
+        types,
         outside: level_of(alloc, defaults(), &[])?,
         plain: types_of(alloc, defaults())?,
-        indexes: Vec::new(alloc),
-        pages: Vec::new(alloc),
-        rules: Vec::new(alloc),
-        auth_sets: Vec::new(alloc),
-        media: Vec::new(alloc),
+        indexes,
+        pages,
+        rules,
+        auth_sets,
+        media,
     })
 }
 
@@ -286,8 +327,8 @@ fn suit(alloc: Global, purpose: Purpose, directives: &[Directive]) -> Result<(),
 /// that at which relative paths start.
 ///
 /// The values of a level are those that its block states, over those of the blocks around it, over the defaults. Locations
-/// have their kinds and those in them; servers their names; patterns, lists of values and rewrite
-/// programs are not read yet.
+/// have their kinds and those in them, servers their names. What a level returns is its rewrite program; other steps of
+/// programs and patterns are not read yet.
 ///
 /// # Errors
 ///
@@ -299,9 +340,11 @@ pub fn build(
     folder: &[u8],
     directives: &[Directive],
 ) -> Result<Site, ConfError>
-    ensures free { IfOk result (λ site. IsFree site) }
-    ensures ok { IfOk result (λ site. built purpose folder.now directives.now ≡ Ok (whole [] site)) }
-    ensures fault { IfErr result (λ e. OnFault e (λ fault. built purpose folder.now directives.now ≡ Err fault)) }
+    ensures unreturned { IfOk result (λ site. IsUnreturned site) }
+    ensures ok { IfOk result (λ site. built purpose folder.now directives.now ≡ Ok
+        (whole [] site)) }
+    ensures fault { IfErr result (λ e. OnFault e
+        (λ fault. built purpose folder.now directives.now ≡ Err fault)) }
 {
     check(alloc, directives)?;
     suit(alloc, purpose, directives)?;

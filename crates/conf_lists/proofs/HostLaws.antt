@@ -1,6 +1,5 @@
 -- Names and addresses, directive by directive.
-use Rattle.std.proofs.Common.{◌≡◌, ℕ, List, [], ◌∷◌, ◌++◌, map, Option, None, Some, refl, sym, ap, ◌∙◌, append_assoc, append-nil}
-use Rattle.std.proofs.lemmas.List.{map_push}
+use Rattle.std.proofs.Common.{◌≡◌, List, [], ◌∷◌, ◌++◌, map, Option, None, Some, refl, sym, ap, ◌∙◌, append_assoc, append-nil}
 use Rattle.http_types.specs.declared.words.Addr.{Addr}
 use Rattle.site_views.specs.Views.{ServerName}
 use Rattle.conf_text.specs.declared.directive.Directive.{Directive}
@@ -37,6 +36,3 @@ marked-branch d now then addr f block beside e a n =
 
 pub marked-none : (now : List Addr) (f : Forest) → f ≡ End → now ++ marked_in (roots f) ≡ now
 marked-none now f e = ap (λ ds. now ++ marked_in ds) (roots-none f e) ∙ append-nil now
-
-pub pushed : {A C : Type 0} (seen : A → C) (items now : List A) (x : A) (c : C) → now ≡ items ++ x ∷ [] → seen x ≡ c → map seen now ≡ map seen items ++ c ∷ []
-pushed seen items now x c e s = ap (map seen) e ∙ map_push seen items x ∙ ap (λ c. map seen items ++ c ∷ []) s

@@ -1,1 +1,3 @@
+pub mod Words
 pub mod Hosts
+pub mod Lists

@@ -54,7 +54,8 @@ fn name_of(alloc: Global, word: &[u8]) -> Result<ServerName, OutOfMemory>
 }
 
 fn push_name(alloc: Global, names: &mut Vec<ServerName>, word: &[u8]) -> Result<(), OutOfMemory>
-    ensures { OnOk result (map (name_seen []) names.new.items ≡ map (name_seen []) names.old.items ++ name_of word.now ∷ []) }
+    ensures { OnOk result (map (name_seen []) names.new.items ≡ map (name_seen []) names.old.items
+        ++ name_of word.now ∷ []) }
 {
     names.push(name_of(alloc, word)?)?;
     Ok(())
@@ -65,7 +66,8 @@ fn push_names(
     names: &mut Vec<ServerName>,
     words: &[ByteText],
 ) -> Result<(), OutOfMemory>
-    ensures { OnOk result (map (name_seen []) names.new.items ≡ map (name_seen []) names.old.items ++ map name_of words.now) }
+    ensures { OnOk result (map (name_seen []) names.new.items ≡ map (name_seen []) names.old.items
+        ++ map name_of words.now) }
 {
     for word in words {
         push_name(alloc, names, word.as_slice())?;
@@ -75,7 +77,8 @@ fn push_names(
 
 /// The names that the `server_name` directives of a server state.
 fn stated_names(alloc: Global, server: &[Directive]) -> Result<Vec<ServerName>, OutOfMemory>
-    ensures { IfOk result (λ names. map (name_seen []) names.items ≡ names_in (blocks_of (codes "server_name") (forest_of server.now))) }
+    ensures { IfOk result (λ names. map (name_seen []) names.items ≡ names_in
+        (blocks_of (codes "server_name") (forest_of server.now))) }
 {
     let mut names = Vec::new(alloc);
     let mut rest = server;
@@ -88,7 +91,8 @@ fn stated_names(alloc: Global, server: &[Directive]) -> Result<Vec<ServerName>, 
 
 /// The names of a server: the empty one where it states none (<https://nginx.org/en/docs/http/server_names.html>).
 pub fn names_of(alloc: Global, server: &[Directive]) -> Result<Vec<ServerName>, OutOfMemory>
-    ensures { IfOk result (λ names. map (name_seen []) names.items ≡ or_empty (names_in (blocks_of (codes "server_name") (forest_of server.now)))) }
+    ensures { IfOk result (λ names. map (name_seen []) names.items ≡ or_empty
+        (names_in (blocks_of (codes "server_name") (forest_of server.now)))) }
 {
     let mut names = stated_names(alloc, server)?;
     if names.is_empty() {

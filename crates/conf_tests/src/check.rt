@@ -117,11 +117,9 @@ fn what_has_no_effect_yet_is_told_so(rt: HostRuntime) -> Result<(), Fail> {
                 1,
                 b"set",
             ),
-            (b"http { server { }\nserver { } }", 2, b"server"),
-            (b"http { server { }\nserver {\nlisten 80; } }", 3, b"listen"),
-            (b"http { server { location = / { } } }", 1, b"location"),
+            (b"http { server { location ~ x { } } }", 1, b"location"),
             (
-                b"http { server { location / {\nlocation /a { } } } }",
+                b"http { server { location / {\nlocation ~* /a { } } } }",
                 2,
                 b"location",
             ),
@@ -130,12 +128,39 @@ fn what_has_no_effect_yet_is_told_so(rt: HostRuntime) -> Result<(), Fail> {
                 2,
                 b"return",
             ),
-            (b"http { server { server_name a; } }", 1, b"server_name"),
             (
-                b"http { keepalive_timeout 5;\nclient_max_body_size 5; server { } }",
+                b"http { server { server_name a;\nserver_name b ~x; } }",
                 2,
-                b"client_max_body_size",
+                b"server_name",
             ),
+            (
+                b"http { keepalive_timeout 5;\nsatisfy any; server { } }",
+                2,
+                b"satisfy",
+            ),
+        ],
+    )
+}
+
+/// Each text has no fault, and each of its directives has an effect.
+fn have_effects(rt: &impl Abort, alloc: Global, texts: &[&[u8]]) -> Result<(), Fail> {
+    for text in texts {
+        assert!(rt; first_fault(alloc, *text)?.is_none());
+        assert!(rt; first_without_effect(alloc, *text)?.is_none());
+    }
+    Ok(())
+}
+
+#[test]
+fn what_has_an_effect_is_served(rt: HostRuntime) -> Result<(), Fail> {
+    have_effects(
+        &rt,
+        rt.alloc(),
+        &[
+            b"http { server { } server { } }",
+            b"http { client_max_body_size 5; recursive_error_pages on; error_page 404 =200 /e; server { index a; location /e { internal; try_files $uri =404; } } }",
+            b"http { server { server_name a; } server { listen 80 default_server; server_name *.b c.* ''; merge_slashes off; } }",
+            b"http { server { location ^~ /a { location /a/b { location = /a/b/c { } } } location = / { } location @d { } } }",
         ],
     )
 }

@@ -8,6 +8,8 @@ mod check;
 #[cfg(test)]
 mod hosts;
 #[cfg(test)]
+mod lists;
+#[cfg(test)]
 mod patterns;
 #[cfg(test)]
 mod site;

@@ -3,7 +3,7 @@ use conf_inherit::{Purpose, build};
 use conf_text::{ConfError, parse};
 use file_type::Types;
 use ngx_variables::{Piece, Place, Value};
-use site_model::{Return, Site};
+use site_model::{RewriteStep, Site};
 use std::alloc::Global;
 use std::process::Abort;
 use std::test::Fail;
@@ -41,19 +41,24 @@ fn types_onto(out: &mut ByteText, types: &Types) -> Result<(), OutOfMemory> {
     Ok(())
 }
 
-/// What is returned, as `CODE:TEXT`.
-fn returned_onto(alloc: Global, out: &mut ByteText, returned: &Return) -> Result<(), OutOfMemory> {
-    out.extend(format!(in alloc; " {}", returned.code)?.as_bytes())?;
-    match &returned.text {
-        None => Ok(()),
-        Some(text) => {
-            out.push(b':')?;
-            value_onto(out, text)
+/// What a step returns, as `CODE:TEXT`, or another step, as `?`.
+fn step_onto(alloc: Global, out: &mut ByteText, step: &RewriteStep) -> Result<(), OutOfMemory> {
+    match step {
+        RewriteStep::Return { code, text } => {
+            out.extend(format!(in alloc; " {}", code)?.as_bytes())?;
+            match text {
+                None => Ok(()),
+                Some(text) => {
+                    out.push(b':')?;
+                    value_onto(out, text)
+                }
+            }
         }
+        _ => out.extend(b" ?"),
     }
 }
 
-/// The level with a number as `PLACE TYPES REQUESTS IDLE RETURN`, in a line of its own.
+/// The level with a number as `PLACE TYPES REQUESTS IDLE PROGRAM`, in a line of its own.
 fn level_onto(
     alloc: Global,
     out: &mut ByteText,
@@ -66,8 +71,8 @@ fn level_onto(
             types_onto(out, types)?;
         }
         out.extend(format!(in alloc; " {} {}", level.requests, level.idle)?.as_bytes())?;
-        if let Some(returned) = &level.returned {
-            returned_onto(alloc, out, returned)?;
+        for step in level.program.as_slice() {
+            step_onto(alloc, out, step)?;
         }
     }
     out.push(b'\n')

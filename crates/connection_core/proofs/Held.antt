@@ -9,9 +9,9 @@ use Rattle.ngx_outside.specs.declared.event.Event.{Event}
 use Rattle.ngx_outside.specs.declared.event.Event.TheVariants as ev
 use Rattle.ngx_outside.specs.declared.event.StepAnswer.{StepAnswer}
 use Rattle.ngx_outside.specs.declared.event.StepAnswer.TheVariants.{Done, Skipped, OutOfMemory}
-use Rattle.site_model.specs.declared.site.Site.{Site}
-use Rattle.connection.specs.declared.conn.Conn.{Conn}
-use Rattle.connection.specs.Conn.{view_of, left_of, price, ended_by, StepsConn}
+use Rattle.http_connection.specs.declared.conn.Conn.{Conn}
+use Rattle.http_connection.specs.Conn.{view_of, left_of, price, ended_by, StepsConn}
+use Rattle.http_connection.specs.Rests.{Serves}
 use Rattle.connection_core.specs.Table.{view_in, journal_in, left_in, is_own, price_each, Below, StandsAt, BelongsAt, Placed, Replaced}
 use Rattle.connection_core.proofs.Tables.{there, elsewhere, nowhere, none_of_two}
 use Rattle.connection_core.proofs.Rows.{Parted, parted_at}
@@ -62,45 +62,45 @@ replaced_at at conns Does p here new e d = record {
 }
 
 -- what the connection under the number shows
-pub seen : (site : Site) (c at : ℕ) (ids : List ℕ) (conns : List Conn) (s : Seat c at ids conns) → view_in site ids conns c ≡ view_of site s.placed.here
-seen site c at ids conns s =
+pub seen : (serves : Serves) (c at : ℕ) (ids : List ℕ) (conns : List Conn) (s : Seat c at ids conns) → view_in serves ids conns c ≡ view_of serves s.placed.here
+seen serves c at ids conns s =
     let p = s.placed in
     let t = s.stands in
-    ap (λ l. view_in site l conns c) t.whole ∙ ap (λ l. view_in site (t.front ++ c ∷ t.back) l c) p.whole ∙ there site t.front p.front c p.here t.back p.back s.even t.below
+    ap (λ l. view_in serves l conns c) t.whole ∙ ap (λ l. view_in serves (t.front ++ c ∷ t.back) l c) p.whole ∙ there serves t.front p.front c p.here t.back p.back s.even t.below
 
 -- what it shows when it has changed
-pub changed : (site : Site) (c at : ℕ) (ids : List ℕ) (conns conns' : List Conn) (Does : Conn → Conn → Type 0) (s : Seat c at ids conns) →
-    (r : Replaced at conns Does s.placed conns') → view_in site ids conns' c ≡ view_of site r.there
-changed site c at ids conns conns' Does s r =
+pub changed : (serves : Serves) (c at : ℕ) (ids : List ℕ) (conns conns' : List Conn) (Does : Conn → Conn → Type 0) (s : Seat c at ids conns) →
+    (r : Replaced at conns Does s.placed conns') → view_in serves ids conns' c ≡ view_of serves r.there
+changed serves c at ids conns conns' Does s r =
     let p = s.placed in
     let t = s.stands in
-    ap (λ l. view_in site l conns' c) t.whole ∙ ap (λ l. view_in site (t.front ++ c ∷ t.back) l c) r.whole ∙ there site t.front p.front c r.there t.back p.back s.even t.below
+    ap (λ l. view_in serves l conns' c) t.whole ∙ ap (λ l. view_in serves (t.front ++ c ∷ t.back) l c) r.whole ∙ there serves t.front p.front c r.there t.back p.back s.even t.below
 
 -- other numbers see nothing of it
-beside : (site : Site) (c at : ℕ) (ids : List ℕ) (conns conns' : List Conn) (Does : Conn → Conn → Type 0) (s : Seat c at ids conns) →
-    Replaced at conns Does s.placed conns' → (q : ℕ) → q ≢ c → view_in site ids conns' q ≡ view_in site ids conns q
-beside site c at ids conns conns' Does s r q ne =
+beside : (serves : Serves) (c at : ℕ) (ids : List ℕ) (conns conns' : List Conn) (Does : Conn → Conn → Type 0) (s : Seat c at ids conns) →
+    Replaced at conns Does s.placed conns' → (q : ℕ) → q ≢ c → view_in serves ids conns' q ≡ view_in serves ids conns q
+beside serves c at ids conns conns' Does s r q ne =
     let p = s.placed in
     let t = s.stands in
-    ap (λ l. view_in site l conns' q) t.whole ∙ ap (λ l. view_in site (t.front ++ c ∷ t.back) l q) r.whole ∙ elsewhere site t.front p.front c r.there t.back p.back q s.even ne
-    ∙ sym (ap (λ l. view_in site l conns q) t.whole ∙ ap (λ l. view_in site (t.front ++ c ∷ t.back) l q) p.whole ∙ elsewhere site t.front p.front c p.here t.back p.back q s.even ne)
+    ap (λ l. view_in serves l conns' q) t.whole ∙ ap (λ l. view_in serves (t.front ++ c ∷ t.back) l q) r.whole ∙ elsewhere serves t.front p.front c r.there t.back p.back q s.even ne
+    ∙ sym (ap (λ l. view_in serves l conns q) t.whole ∙ ap (λ l. view_in serves (t.front ++ c ∷ t.back) l q) p.whole ∙ elsewhere serves t.front p.front c p.here t.back p.back q s.even ne)
 
 -- one connection has changed
-pub one_steps : (site : Site) (c at : ℕ) (ids : List ℕ) (conns conns' : List Conn) (now : Start) (e : Event) (a : StepAnswer) (s : Seat c at ids conns) →
-    Replaced at conns (λ old new. StepsConn site now e a old new) s.placed conns' → (course : Course) → OneSteps c (StepsOwn course now e a) (view_in site ids conns) (view_in site ids conns')
-one_steps site c at ids conns conns' now e a s r course = record {
+pub one_steps : (serves : Serves) (c at : ℕ) (ids : List ℕ) (conns conns' : List Conn) (now : Start) (e : Event) (a : StepAnswer) (s : Seat c at ids conns) →
+    Replaced at conns (λ old new. StepsConn serves now e a old new) s.placed conns' → (course : Course) → OneSteps c (StepsOwn course now e a) (view_in serves ids conns) (view_in serves ids conns')
+one_steps serves c at ids conns conns' now e a s r course = record {
   own =
-      subst (λ v. StepsOwn course now e a v (view_in site ids conns' c)) (sym (seen site c at ids conns s))
-      (subst (λ v. StepsOwn course now e a (view_of site s.placed.here) v) (sym (changed site c at ids conns conns' (λ old new. StepsConn site now e a old new) s r)) (r.does.own course));
-  others = beside site c at ids conns conns' (λ old new. StepsConn site now e a old new) s r;
+      subst (λ v. StepsOwn course now e a v (view_in serves ids conns' c)) (sym (seen serves c at ids conns s))
+      (subst (λ v. StepsOwn course now e a (view_of serves s.placed.here) v) (sym (changed serves c at ids conns conns' (λ old new. StepsConn serves now e a old new) s r)) (r.does.own course));
+  others = beside serves c at ids conns conns' (λ old new. StepsConn serves now e a old new) s r;
 }
 
 -- its input ended as its event says
-pub one_ended : (site : Site) (c at : ℕ) (ids : List ℕ) (conns conns' : List Conn) (now : Start) (e : Event) (a : StepAnswer) (s : Seat c at ids conns) →
-    Replaced at conns (λ old new. StepsConn site now e a old new) s.placed conns' → (view_in site ids conns' c).ended ≡ ended_by e a (view_in site ids conns c).ended
-one_ended site c at ids conns conns' now e a s r =
-    ap (λ (v : ConnView). v.ended) (changed site c at ids conns conns' (λ old new. StepsConn site now e a old new) s r) ∙ r.does.ended
-    ∙ sym (ap (λ (v : ConnView). ended_by e a v.ended) (seen site c at ids conns s))
+pub one_ended : (serves : Serves) (c at : ℕ) (ids : List ℕ) (conns conns' : List Conn) (now : Start) (e : Event) (a : StepAnswer) (s : Seat c at ids conns) →
+    Replaced at conns (λ old new. StepsConn serves now e a old new) s.placed conns' → (view_in serves ids conns' c).ended ≡ ended_by e a (view_in serves ids conns c).ended
+one_ended serves c at ids conns conns' now e a s r =
+    ap (λ (v : ConnView). v.ended) (changed serves c at ids conns conns' (λ old new. StepsConn serves now e a old new) s r) ∙ r.does.ended
+    ∙ sym (ap (λ (v : ConnView). ended_by e a v.ended) (seen serves c at ids conns s))
 
 pub left_split : (front back : List Conn) (conn : Conn) → left_in (front ++ conn ∷ back) ≡ left_in front + ((1 + left_of conn) + left_in back)
 left_split front back conn =
@@ -136,9 +136,9 @@ left_more (ev.Tick moment) a k m n x y o f g h = cc
 left_more (ev.Tree to) a k m n x y o f g h = cc
 left_more (ev.Gone conn) a k m n x y o f g h = cc
 
-pub left_after : (site : Site) (c at : ℕ) (ids : List ℕ) (conns conns' : List Conn) (now : Start) (e : Event) (a : StepAnswer) (s : Seat c at ids conns) → is_own e ≡ true →
-    Replaced at conns (λ old new. StepsConn site now e a old new) s.placed conns' → LeftBy price_each e a (left_in conns) (left_in conns')
-left_after site c at ids conns conns' now e a s o r =
+pub left_after : (serves : Serves) (c at : ℕ) (ids : List ℕ) (conns conns' : List Conn) (now : Start) (e : Event) (a : StepAnswer) (s : Seat c at ids conns) → is_own e ≡ true →
+    Replaced at conns (λ old new. StepsConn serves now e a old new) s.placed conns' → LeftBy price_each e a (left_in conns) (left_in conns')
+left_after serves c at ids conns conns' now e a s o r =
     let p = s.placed in
     let was = ap left_in p.whole ∙ left_split p.front p.back p.here in
     let is = ap left_in r.whole ∙ left_split p.front p.back r.there in
@@ -158,13 +158,13 @@ skips_nobody course now (ev.Tick moment) o = cc
 skips_nobody course now (ev.Tree to) o = cc
 skips_nobody course now (ev.Gone conn) o = cc
 
-pub unseen : (site : Site) (c at : ℕ) (ids : List ℕ) (conns : List Conn) → BelongsAt c ids at → view_in site ids conns c ≡ nobody
-unseen site c at ids conns b = nowhere site ids conns c (subst (λ l. AllByRecursion (λ id. id ≢ c) l) (sym b.whole) (none_of_two b.front b.back c b.below b.above))
+pub unseen : (serves : Serves) (c at : ℕ) (ids : List ℕ) (conns : List Conn) → BelongsAt c ids at → view_in serves ids conns c ≡ nobody
+unseen serves c at ids conns b = nowhere serves ids conns c (subst (λ l. AllByRecursion (λ id. id ≢ c) l) (sym b.whole) (none_of_two b.front b.back c b.below b.above))
 
-pub none_steps : (site : Site) (c at : ℕ) (ids : List ℕ) (conns : List Conn) (now : Start) (e : Event) (course : Course) → is_own e ≡ true → BelongsAt c ids at →
-    OneSteps c (StepsOwn course now e Skipped) (view_in site ids conns) (view_in site ids conns)
-none_steps site c at ids conns now e course o b = record {
-  own = subst (λ v. StepsOwn course now e Skipped v v) (sym (unseen site c at ids conns b)) (skips_nobody course now e o);
+pub none_steps : (serves : Serves) (c at : ℕ) (ids : List ℕ) (conns : List Conn) (now : Start) (e : Event) (course : Course) → is_own e ≡ true → BelongsAt c ids at →
+    OneSteps c (StepsOwn course now e Skipped) (view_in serves ids conns) (view_in serves ids conns)
+none_steps serves c at ids conns now e course o b = record {
+  own = subst (λ v. StepsOwn course now e Skipped v v) (sym (unseen serves c at ids conns b)) (skips_nobody course now e o);
   others = λ q ne. refl;
 }
 
@@ -200,8 +200,8 @@ journal_nowhere (id ∷ ids) (conn ∷ conns) c a =
     let h : eqb id c ≡ false = grind (arith, nat_tests) in
     ap (λ t. cond t conn.journal.items (journal_in ids conns c)) h ∙ journal_nowhere ids conns c a.1
 
-pub journal_seen : (site : Site) (c at : ℕ) (ids : List ℕ) (conns : List Conn) (s : Seat c at ids conns) → journal_in ids conns c ≡ s.placed.here.journal.items
-journal_seen site c at ids conns s =
+pub journal_seen : (c at : ℕ) (ids : List ℕ) (conns : List Conn) (s : Seat c at ids conns) → journal_in ids conns c ≡ s.placed.here.journal.items
+journal_seen c at ids conns s =
     let p = s.placed in
     let t = s.stands in
     ap (λ l. journal_in l conns c) t.whole ∙ ap (λ l. journal_in (t.front ++ c ∷ t.back) l c) p.whole ∙ journal_there t.front p.front c p.here t.back p.back s.even t.below

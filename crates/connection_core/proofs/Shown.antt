@@ -2,9 +2,9 @@
 use Rattle.std.proofs.Common.{◌≡◌, ℕ, true, false, cond, eqb, List, [], ◌∷◌, refl}
 use Rattle.std.specs.Prelude.{map}
 use Rattle.ngx_outside.specs.Views.{start_of, log_of, IsSound, nobody}
-use Rattle.site_model.specs.declared.site.Site.{Site}
-use Rattle.connection.specs.declared.conn.Conn.{Conn}
-use Rattle.connection.specs.Conn.{view_of, AllSound, AllExact, IsExact}
+use Rattle.http_connection.specs.declared.conn.Conn.{Conn}
+use Rattle.http_connection.specs.Conn.{view_of, AllSound, AllExact, IsExact}
+use Rattle.http_connection.specs.Rests.{Serves}
 use Rattle.connection_core.specs.Table.{view_in, journal_in}
 
 nobody_sound : IsSound nobody
@@ -26,11 +26,11 @@ nobody_sound = record {
   closes = λ l h e trees more later. cc;
 }
 
-pub sound_in : AllSound → (site : Site) (ids : List ℕ) (conns : List Conn) (c : ℕ) → IsSound (view_in site ids conns c)
-sound_in all site [] conns c = nobody_sound
-sound_in all site (id ∷ ids) [] c = nobody_sound
-sound_in all site (id ∷ ids) (conn ∷ conns) c =
-    elim (eqb id c) as (λ t. IsSound (cond t (view_of site conn) (view_in site ids conns c))) [ true ↦ all site conn | false ↦ sound_in all site ids conns c ]
+pub sound_in : AllSound → (serves : Serves) (ids : List ℕ) (conns : List Conn) (c : ℕ) → IsSound (view_in serves ids conns c)
+sound_in all serves [] conns c = nobody_sound
+sound_in all serves (id ∷ ids) [] c = nobody_sound
+sound_in all serves (id ∷ ids) (conn ∷ conns) c =
+    elim (eqb id c) as (λ t. IsSound (cond t (view_of serves conn) (view_in serves ids conns c))) [ true ↦ all serves conn | false ↦ sound_in all serves ids conns c ]
 
 nobody_exact : IsExact nobody
 nobody_exact = record {
@@ -39,26 +39,26 @@ nobody_exact = record {
   busy = λ l b trees start later none logs. cc;
 }
 
-pub exact_in : AllExact → (site : Site) (ids : List ℕ) (conns : List Conn) (c : ℕ) → IsExact (view_in site ids conns c)
-exact_in all site [] conns c = nobody_exact
-exact_in all site (id ∷ ids) [] c = nobody_exact
-exact_in all site (id ∷ ids) (conn ∷ conns) c =
-    elim (eqb id c) as (λ t. IsExact (cond t (view_of site conn) (view_in site ids conns c))) [ true ↦ all site conn | false ↦ exact_in all site ids conns c ]
+pub exact_in : AllExact → (serves : Serves) (ids : List ℕ) (conns : List Conn) (c : ℕ) → IsExact (view_in serves ids conns c)
+exact_in all serves [] conns c = nobody_exact
+exact_in all serves (id ∷ ids) [] c = nobody_exact
+exact_in all serves (id ∷ ids) (conn ∷ conns) c =
+    elim (eqb id c) as (λ t. IsExact (cond t (view_of serves conn) (view_in serves ids conns c))) [ true ↦ all serves conn | false ↦ exact_in all serves ids conns c ]
 
-pub started_in : (site : Site) (ids : List ℕ) (conns : List Conn) (c : ℕ) → map start_of (journal_in ids conns c) ≡ (view_in site ids conns c).starts
-started_in site [] conns c = refl
-started_in site (id ∷ ids) [] c = refl
-started_in site (id ∷ ids) (conn ∷ conns) c =
-    elim (eqb id c) as (λ t. map start_of (cond t conn.journal.items (journal_in ids conns c)) ≡ (cond t (view_of site conn) (view_in site ids conns c)).starts) [ true ↦ refl | false ↦ started_in site ids conns c ]
+pub started_in : (serves : Serves) (ids : List ℕ) (conns : List Conn) (c : ℕ) → map start_of (journal_in ids conns c) ≡ (view_in serves ids conns c).starts
+started_in serves [] conns c = refl
+started_in serves (id ∷ ids) [] c = refl
+started_in serves (id ∷ ids) (conn ∷ conns) c =
+    elim (eqb id c) as (λ t. map start_of (cond t conn.journal.items (journal_in ids conns c)) ≡ (cond t (view_of serves conn) (view_in serves ids conns c)).starts) [ true ↦ refl | false ↦ started_in serves ids conns c ]
 
-pub logged_in : (site : Site) (ids : List ℕ) (conns : List Conn) (c : ℕ) → map log_of (journal_in ids conns c) ≡ (view_in site ids conns c).logs
-logged_in site [] conns c = refl
-logged_in site (id ∷ ids) [] c = refl
-logged_in site (id ∷ ids) (conn ∷ conns) c =
-    elim (eqb id c) as (λ t. map log_of (cond t conn.journal.items (journal_in ids conns c)) ≡ (cond t (view_of site conn) (view_in site ids conns c)).logs) [ true ↦ refl | false ↦ logged_in site ids conns c ]
+pub logged_in : (serves : Serves) (ids : List ℕ) (conns : List Conn) (c : ℕ) → map log_of (journal_in ids conns c) ≡ (view_in serves ids conns c).logs
+logged_in serves [] conns c = refl
+logged_in serves (id ∷ ids) [] c = refl
+logged_in serves (id ∷ ids) (conn ∷ conns) c =
+    elim (eqb id c) as (λ t. map log_of (cond t conn.journal.items (journal_in ids conns c)) ≡ (cond t (view_of serves conn) (view_in serves ids conns c)).logs) [ true ↦ refl | false ↦ logged_in serves ids conns c ]
 
-pub raceless_in : (site : Site) (ids : List ℕ) (conns : List Conn) (c : ℕ) → (view_in site ids conns c).raceless ≡ true
-raceless_in site [] conns c = refl
-raceless_in site (id ∷ ids) [] c = refl
-raceless_in site (id ∷ ids) (conn ∷ conns) c =
-    elim (eqb id c) as (λ t. (cond t (view_of site conn) (view_in site ids conns c)).raceless ≡ true) [ true ↦ refl | false ↦ raceless_in site ids conns c ]
+pub raceless_in : (serves : Serves) (ids : List ℕ) (conns : List Conn) (c : ℕ) → (view_in serves ids conns c).raceless ≡ true
+raceless_in serves [] conns c = refl
+raceless_in serves (id ∷ ids) [] c = refl
+raceless_in serves (id ∷ ids) (conn ∷ conns) c =
+    elim (eqb id c) as (λ t. (cond t (view_of serves conn) (view_in serves ids conns c)).raceless ≡ true) [ true ↦ refl | false ↦ raceless_in serves ids conns c ]

@@ -8,7 +8,7 @@ use Rattle.ngx_outside.specs.declared.event.Event.{Event}
 use Rattle.ngx_outside.specs.declared.event.Event.TheVariants as ev
 use Rattle.ngx_outside.specs.declared.event.StepAnswer.{StepAnswer}
 use Rattle.ngx_outside.specs.declared.event.StepAnswer.TheVariants.{Done, Skipped, OutOfMemory}
-use Rattle.connection.specs.Conn.{ended_by}
+use Rattle.http_connection.specs.Conn.{ended_by}
 use Rattle.connection_core.specs.Table.{is_own, event_conn, Counted}
 
 own_steps : (fresh : Addr → Addr → Course) (now : Start) (e : Event) (a : StepAnswer) (old new : ℕ → ConnView) → is_own e ≡ true →

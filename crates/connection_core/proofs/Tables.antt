@@ -3,9 +3,9 @@ use Rattle.std.proofs.Common.{◌≡◌, ◌≢◌, ℕ, ◌<◌, true, false, c
 use Rattle.std.specs.List.{AllByRecursion}
 use Rattle.std.proofs.lemmas.Bool.Decides.{nat_tests}
 use Rattle.ngx_outside.specs.Views.{nobody}
-use Rattle.site_model.specs.declared.site.Site.{Site}
-use Rattle.connection.specs.declared.conn.Conn.{Conn}
-use Rattle.connection.specs.Conn.{view_of}
+use Rattle.http_connection.specs.declared.conn.Conn.{Conn}
+use Rattle.http_connection.specs.Conn.{view_of}
+use Rattle.http_connection.specs.Rests.{Serves}
 use Rattle.connection_core.specs.Table.{view_in, Below, Above}
 
 same : (a b : ℕ) → a ≡ b → eqb a b ≡ true
@@ -21,29 +21,29 @@ above_not : (a b : ℕ) → b < a → a ≢ b
 above_not a b h e = omega (arith, h, e)
 
 -- the connection under its number
-pub there : (site : Site) (front : List ℕ) (before : List Conn) (c : ℕ) (conn : Conn) (back : List ℕ) (after : List Conn) → length before ≡ length front → Below c front →
-    view_in site (front ++ c ∷ back) (before ++ conn ∷ after) c ≡ view_of site conn
-there site [] [] c conn back after e b = ap (λ t. cond t (view_of site conn) (view_in site back after c)) (same c c refl)
-there site [] (x ∷ before) c conn back after e b = absurd (omega (arith, e))
-there site (f ∷ front) [] c conn back after e b = absurd (omega (arith, e))
-there site (f ∷ front) (x ∷ before) c conn back after e b =
-    ap (λ t. cond t (view_of site x) (view_in site (front ++ c ∷ back) (before ++ conn ∷ after) c)) (differs f c (below_not f c b.0))
-    ∙ there site front before c conn back after (omega (arith, e)) b.1
+pub there : (serves : Serves) (front : List ℕ) (before : List Conn) (c : ℕ) (conn : Conn) (back : List ℕ) (after : List Conn) → length before ≡ length front → Below c front →
+    view_in serves (front ++ c ∷ back) (before ++ conn ∷ after) c ≡ view_of serves conn
+there serves [] [] c conn back after e b = ap (λ t. cond t (view_of serves conn) (view_in serves back after c)) (same c c refl)
+there serves [] (x ∷ before) c conn back after e b = absurd (omega (arith, e))
+there serves (f ∷ front) [] c conn back after e b = absurd (omega (arith, e))
+there serves (f ∷ front) (x ∷ before) c conn back after e b =
+    ap (λ t. cond t (view_of serves x) (view_in serves (front ++ c ∷ back) (before ++ conn ∷ after) c)) (differs f c (below_not f c b.0))
+    ∙ there serves front before c conn back after (omega (arith, e)) b.1
 
 -- other numbers don't see it
-pub elsewhere : (site : Site) (front : List ℕ) (before : List Conn) (c : ℕ) (conn : Conn) (back : List ℕ) (after : List Conn) (q : ℕ) → length before ≡ length front → q ≢ c →
-    view_in site (front ++ c ∷ back) (before ++ conn ∷ after) q ≡ view_in site (front ++ back) (before ++ after) q
-elsewhere site [] [] c conn back after q e ne = ap (λ t. cond t (view_of site conn) (view_in site back after q)) (differs c q (λ h. ne (sym h)))
-elsewhere site [] (x ∷ before) c conn back after q e ne = absurd (omega (arith, e))
-elsewhere site (f ∷ front) [] c conn back after q e ne = absurd (omega (arith, e))
-elsewhere site (f ∷ front) (x ∷ before) c conn back after q e ne =
-    ap (λ v. cond (eqb f q) (view_of site x) v) (elsewhere site front before c conn back after q (omega (arith, e)) ne)
+pub elsewhere : (serves : Serves) (front : List ℕ) (before : List Conn) (c : ℕ) (conn : Conn) (back : List ℕ) (after : List Conn) (q : ℕ) → length before ≡ length front → q ≢ c →
+    view_in serves (front ++ c ∷ back) (before ++ conn ∷ after) q ≡ view_in serves (front ++ back) (before ++ after) q
+elsewhere serves [] [] c conn back after q e ne = ap (λ t. cond t (view_of serves conn) (view_in serves back after q)) (differs c q (λ h. ne (sym h)))
+elsewhere serves [] (x ∷ before) c conn back after q e ne = absurd (omega (arith, e))
+elsewhere serves (f ∷ front) [] c conn back after q e ne = absurd (omega (arith, e))
+elsewhere serves (f ∷ front) (x ∷ before) c conn back after q e ne =
+    ap (λ v. cond (eqb f q) (view_of serves x) v) (elsewhere serves front before c conn back after q (omega (arith, e)) ne)
 
 -- a number that isn't there
-pub nowhere : (site : Site) (ids : List ℕ) (conns : List Conn) (c : ℕ) → AllByRecursion (λ id. id ≢ c) ids → view_in site ids conns c ≡ nobody
-nowhere site [] conns c a = refl
-nowhere site (id ∷ ids) [] c a = refl
-nowhere site (id ∷ ids) (conn ∷ conns) c a = ap (λ t. cond t (view_of site conn) (view_in site ids conns c)) (differs id c a.0) ∙ nowhere site ids conns c a.1
+pub nowhere : (serves : Serves) (ids : List ℕ) (conns : List Conn) (c : ℕ) → AllByRecursion (λ id. id ≢ c) ids → view_in serves ids conns c ≡ nobody
+nowhere serves [] conns c a = refl
+nowhere serves (id ∷ ids) [] c a = refl
+nowhere serves (id ∷ ids) (conn ∷ conns) c a = ap (λ t. cond t (view_of serves conn) (view_in serves ids conns c)) (differs id c a.0) ∙ nowhere serves ids conns c a.1
 
 pub none_of_two : (front back : List ℕ) (c : ℕ) → Below c front → Above c back → AllByRecursion (λ id. id ≢ c) (front ++ back)
 none_of_two [] [] c b a = b

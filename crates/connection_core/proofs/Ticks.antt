@@ -4,10 +4,10 @@ use Rattle.std.proofs.lemmas.List.{append-nil}
 use Rattle.std.proofs.lemmas.List.Sums.{sum_by-cons}
 use Rattle.std.specs.List.{insert, remove}
 use Rattle.ngx_outside.specs.Views.{Ticked, Waits, nobody}
-use Rattle.site_model.specs.declared.site.Site.{Site}
-use Rattle.connection.specs.declared.conn.Conn.{Conn}
-use Rattle.connection.specs.Conn.{view_of, left_of, due_at}
-use Rattle.connection.specs.Times.{soonest}
+use Rattle.http_connection.specs.declared.conn.Conn.{Conn}
+use Rattle.http_connection.specs.Conn.{view_of, left_of, due_at}
+use Rattle.http_connection.specs.Rests.{Serves}
+use Rattle.http_connection.specs.Times.{soonest}
 use Rattle.connection_core.specs.Table.{view_in, left_in, AllKnown, AllLater, AllTicked, TickedOne}
 use Rattle.connection_core.proofs.Held.{Seat}
 use Rattle.connection_core.proofs.Ends.{Gap, conns_put, conns_cut}
@@ -21,7 +21,7 @@ before_due now soon (Some d) due lt le e =
 
 waits_one : (now soon : ℕ) (x : Conn) → now < soon → soon ≤ soonest (due_at x) → TickedOne now x x
 waits_one now soon x lt le = record {
-  ticked = λ site. Waits (λ due e. before_due now soon (due_at x) due lt le e) refl;
+  ticked = λ serves. Waits (λ due e. before_due now soon (due_at x) due lt le e) refl;
   left = omega arith;
   asked = omega arith;
   ended = refl;
@@ -36,21 +36,21 @@ nobody_waits : (now : ℕ) → Ticked now nobody nobody
 nobody_waits now = Waits (λ due h. cc) refl
 
 -- what each number shows
-pub ticked_in : (site : Site) (ids : List ℕ) (conns conns' : List Conn) (now : ℕ) → AllTicked now conns conns' → (q : ℕ) → Ticked now (view_in site ids conns q) (view_in site ids conns' q)
-ticked_in site [] conns conns' now a q = nobody_waits now
-ticked_in site (id ∷ ids) [] [] now a q = nobody_waits now
-ticked_in site (id ∷ ids) [] (y ∷ conns') now a q = absurd a
-ticked_in site (id ∷ ids) (x ∷ conns) [] now a q = absurd a
-ticked_in site (id ∷ ids) (x ∷ conns) (y ∷ conns') now a q =
-    elim (eqb id q) as (λ t. Ticked now (cond t (view_of site x) (view_in site ids conns q)) (cond t (view_of site y) (view_in site ids conns' q))) [ true ↦ a.0.ticked site | false ↦ ticked_in site ids conns conns' now a.1 q ]
+pub ticked_in : (serves : Serves) (ids : List ℕ) (conns conns' : List Conn) (now : ℕ) → AllTicked now conns conns' → (q : ℕ) → Ticked now (view_in serves ids conns q) (view_in serves ids conns' q)
+ticked_in serves [] conns conns' now a q = nobody_waits now
+ticked_in serves (id ∷ ids) [] [] now a q = nobody_waits now
+ticked_in serves (id ∷ ids) [] (y ∷ conns') now a q = absurd a
+ticked_in serves (id ∷ ids) (x ∷ conns) [] now a q = absurd a
+ticked_in serves (id ∷ ids) (x ∷ conns) (y ∷ conns') now a q =
+    elim (eqb id q) as (λ t. Ticked now (cond t (view_of serves x) (view_in serves ids conns q)) (cond t (view_of serves y) (view_in serves ids conns' q))) [ true ↦ a.0.ticked serves | false ↦ ticked_in serves ids conns conns' now a.1 q ]
 
-pub ticked_ended : (site : Site) (ids : List ℕ) (conns conns' : List Conn) (now : ℕ) → AllTicked now conns conns' → (q : ℕ) → (view_in site ids conns' q).ended ≡ (view_in site ids conns q).ended
-ticked_ended site [] conns conns' now a q = refl
-ticked_ended site (id ∷ ids) [] [] now a q = refl
-ticked_ended site (id ∷ ids) [] (y ∷ conns') now a q = absurd a
-ticked_ended site (id ∷ ids) (x ∷ conns) [] now a q = absurd a
-ticked_ended site (id ∷ ids) (x ∷ conns) (y ∷ conns') now a q =
-    elim (eqb id q) as (λ t. (cond t (view_of site y) (view_in site ids conns' q)).ended ≡ (cond t (view_of site x) (view_in site ids conns q)).ended) [ true ↦ a.0.ended | false ↦ ticked_ended site ids conns conns' now a.1 q ]
+pub ticked_ended : (serves : Serves) (ids : List ℕ) (conns conns' : List Conn) (now : ℕ) → AllTicked now conns conns' → (q : ℕ) → (view_in serves ids conns' q).ended ≡ (view_in serves ids conns q).ended
+ticked_ended serves [] conns conns' now a q = refl
+ticked_ended serves (id ∷ ids) [] [] now a q = refl
+ticked_ended serves (id ∷ ids) [] (y ∷ conns') now a q = absurd a
+ticked_ended serves (id ∷ ids) (x ∷ conns) [] now a q = absurd a
+ticked_ended serves (id ∷ ids) (x ∷ conns) (y ∷ conns') now a q =
+    elim (eqb id q) as (λ t. (cond t (view_of serves y) (view_in serves ids conns' q)).ended ≡ (cond t (view_of serves x) (view_in serves ids conns q)).ended) [ true ↦ a.0.ended | false ↦ ticked_ended serves ids conns conns' now a.1 q ]
 
 -- nothing more is left to do, and no job asks of another tree
 pub ticked_left : (now : ℕ) (conns conns' : List Conn) → AllTicked now conns conns' → left_in conns' ≤ left_in conns

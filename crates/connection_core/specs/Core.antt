@@ -4,14 +4,20 @@ use Rattle.http_types.specs.declared.words.Addr.{Addr}
 use Rattle.ngx_outside.specs.Views.{ConnView, Course, Start, start_of, log_of, IsSound}
 use Rattle.ngx_outside.specs.declared.event.Entry.{Entry}
 use Rattle.ngx_outside.specs.Seen.{Terms, CoreSeen}
-use Rattle.connection.specs.Conn.{fresh_course, IsExact}
-use Rattle.connection_core.specs.Table.{view_in, journal_in, left_in, listens_there, most_held, price_each}
+use Rattle.http_connection.specs.Conn.{fresh_course, IsExact}
+use Rattle.http_connection.specs.Rests.{Serves}
+use Rattle.connection_core.specs.Table.{serves_with, view_in, journal_in, left_in, listens_there, most_held, price_each}
+use Rattle.ngx_pattern.specs.Pattern.{Pattern as SetPattern}
 use Rattle.site_model.specs.declared.site.Site.{Site}
 use Rattle.connection_core.specs.declared.hub.Hub.{Hub}
 
+-- what its connections are served: the site, with its patterns
+abbrev pub serves_at : Hub → Serves
+serves_at h = serves_with h.space.patterns h.table.served
+
 -- what it shows of each connection
 abbrev pub view_at : Hub → ℕ → ConnView
-view_at h = view_in h.table.site h.table.ids.items h.table.conns.items
+view_at h = view_in (serves_at h) h.table.ids.items h.table.conns.items
 
 -- the requests that were started on each
 abbrev pub journal_at : Hub → ℕ → List Entry
@@ -23,7 +29,7 @@ conns_held h = h.table.ids.items
 
 -- what is to come on one that is opened now, with these ends
 abbrev pub fresh_at : Hub → Addr → Addr → Course
-fresh_at h local peer = fresh_course h.table.site local peer
+fresh_at h local peer = fresh_course h.space.patterns h.table.served.site local peer
 
 abbrev pub now_at : Hub → Start
 now_at h = record { moment = h.moment; tree = h.tree }
@@ -37,19 +43,19 @@ price_at h = price_each
 abbrev pub refused_at : Hub → ℕ
 refused_at h = h.refused
 
--- What a core of a site keeps to: each connection is served by the site at its two ends, where one
--- of the site's servers listens at its local end; at most 512 are held at once.
-abbrev pub site_terms : Site → Terms
-site_terms site = record {
-  fresh = fresh_course site;
-  serves = listens_there site;
+-- What a core of a site with these patterns keeps to: each connection is served by the site at its
+-- two ends, where one of the site's servers listens at its local end; at most 512 are held at once.
+abbrev pub site_terms : List SetPattern → Site → Terms
+site_terms patterns site = record {
+  fresh = fresh_course patterns site;
+  serves = listens_there patterns site;
   limit = most_held;
   price = price_each;
 }
 
 -- what it keeps to
 abbrev pub terms_at : Hub → Terms
-terms_at h = site_terms h.table.site
+terms_at h = site_terms h.space.patterns h.table.served.site
 
 -- all that it shows; it doesn't tell the events that it was given
 abbrev pub seen_at : Hub → CoreSeen

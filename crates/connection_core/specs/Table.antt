@@ -9,19 +9,27 @@ use Rattle.ngx_outside.specs.declared.event.Entry.{Entry}
 use Rattle.ngx_outside.specs.declared.event.Event.{Event}
 use Rattle.ngx_outside.specs.declared.event.Event.TheVariants as ev
 use Rattle.http_types.specs.declared.words.Addr.{Addr}
-use Rattle.site_model.specs.Levels.{seen}
-use Rattle.site_model.specs.Search.{server_for}
+use Rattle.ngx_pattern.specs.Pattern.{Pattern as SetPattern}
+use Rattle.pattern_search.specs.Found.{patterns_seen}
 use Rattle.site_model.specs.declared.site.Site.{Site}
-use Rattle.connection.specs.declared.conn.Conn.{Conn}
-use Rattle.connection.specs.Conn.{view_of, left_of, asked_of, due_at, price}
-use Rattle.connection.specs.Times.{soonest}
+use Rattle.site_views.specs.Choice.{default_server}
+use Rattle.site_whole.specs.Whole.{whole}
+use Rattle.served_site.specs.declared.served.ServedSite.{ServedSite}
+use Rattle.http_connection.specs.declared.conn.Conn.{Conn}
+use Rattle.http_connection.specs.Conn.{view_of, left_of, asked_of, due_at, price}
+use Rattle.http_connection.specs.Rests.{Serves}
+use Rattle.http_connection.specs.Times.{soonest}
+
+-- a site that is served, with its patterns
+abbrev pub serves_with : List SetPattern → ServedSite → Serves
+serves_with patterns served = record { patterns = patterns; served = served }
 
 -- what the connection under a number shows
-abbrev pub view_in : Site → List ℕ → List Conn → ℕ → ConnView
-view_in site [] conns c = nobody
-view_in site (id ∷ ids) [] c = nobody
-view_in site (id ∷ ids)
-    (conn ∷ conns) c = if id == c then view_of site conn else view_in site ids conns c
+abbrev pub view_in : Serves → List ℕ → List Conn → ℕ → ConnView
+view_in serves [] conns c = nobody
+view_in serves (id ∷ ids) [] c = nobody
+view_in serves (id ∷ ids)
+    (conn ∷ conns) c = if id == c then view_of serves conn else view_in serves ids conns c
 
 -- the requests that were started on the connection under a number
 abbrev pub journal_in : List ℕ → List Conn → ℕ → List Entry
@@ -45,7 +53,7 @@ AllLater soon conns = AllByRecursion (λ conn. soon ≤ soonest (due_at conn)) c
 -- What the clock's telling does to a connection: it is given up exactly where its moment has come,
 -- and nothing more is left to do.
 pub record TickedOne (now : ℕ) (old new : Conn) : Type 0 where
-  pub ticked : (site : Site) → Ticked now (view_of site old) (view_of site new)
+  pub ticked : (serves : Serves) → Ticked now (view_of serves old) (view_of serves new)
   pub left : left_of new ≤ left_of old
   pub asked : asked_of new ≤ asked_of old
   pub ended : new.ended ≡ old.ended
@@ -93,17 +101,19 @@ is_among c [] = false
 is_among c (id ∷ ids) = id == c || is_among c ids
 
 -- a server of the site listens at a local end
-abbrev pub listens_there : Site → Addr → Bool
-listens_there site local = is_some (server_for (seen site).servers local)
+abbrev pub listens_there : List SetPattern → Site → Addr → Bool
+listens_there patterns site local = is_some
+    (default_server (whole (patterns_seen patterns) site).servers local)
 
 -- there is room for one more, and the site listens at this local end
-abbrev pub has_place : Site → List ℕ → Addr → Bool
-has_place site ids local = nat_lt (length ids) most_held && listens_there site local
+abbrev pub has_place : List SetPattern → Site → List ℕ → Addr → Bool
+has_place patterns site ids local = nat_lt (length ids) most_held &&
+    listens_there patterns site local
 
 -- whether a connection of this number can be opened at a local end: it isn't held, there is room,
 -- and the site listens there
-abbrev pub opens_in : Site → List ℕ → ℕ → Addr → Bool
-opens_in site ids c local = not (is_among c ids) && has_place site ids local
+abbrev pub opens_in : List SetPattern → Site → List ℕ → ℕ → Addr → Bool
+opens_in patterns site ids c local = not (is_among c ids) && has_place patterns site ids local
 
 -- what an opening, or a byte that arrives, may add to the work that is left
 abbrev pub price_each : ℕ

@@ -5,11 +5,13 @@ ghost use Rattle.connection_core.specs.Table.{AllKnown, Counted};
 
 use crate::law::cores_are_sound;
 use crate::table::Table;
-use connection::{Workspace, connections_are_sound, next_want};
 use file_tree::Ask;
+use http_connection::{Conn, connections_are_sound, next_want};
 use http_types::Addr;
 use ngx_outside::{Entry, Event, EventCore, StepAnswer, StopCause, Want};
-use site_model::Site;
+use ngx_pattern::PatternSet;
+use request_flow::Workspace;
+use served_site::ServedSite;
 use std::alloc::Global;
 
 /// No moment is later than the last second of the year 9999.
@@ -39,36 +41,48 @@ pub struct Hub {
 }
 
 impl Hub {
-    ghost use Rattle.std.specs.Prelude.{◌≡◌, ◌↔◌, ℕ, Bool, [], true, IfOk, Contains};
+    ghost use Rattle.std.specs.Prelude.{◌≡◌, ◌↔◌, ◌≤◌, ℕ, Bool, [], true, IfSome, MatchOption, Contains};
     ghost use Rattle.std.specs.List.Sorted.{IsStrictlyIncreasing};
     ghost use Rattle.http_types.specs.declared.words.Addr.{Addr as End};
     ghost use Rattle.ngx_outside.specs.Views.{Steps, OpensIf, LeftBy, CountsRefused, TakesNone, Course, now_after, ended_after, nobody, is_idle as idle_in};
     ghost use Rattle.connection_core.specs.Table.{is_own, event_conn, price_each};
-    ghost use Rattle.connection_core.specs.Core.{view_at, journal_at, conns_held, terms_at, site_terms, now_at, left_at, refused_at};
+    ghost use Rattle.http_connection.specs.Conn.{view_of, asked_of};
+    ghost use Rattle.connection_core.specs.Core.{serves_at, view_at, journal_at, conns_held, terms_at, site_terms, now_at, left_at, refused_at};
 
-    /// A core that holds no connection, at moment 0 and tree 0.
-    pub fn new(alloc: Global, site: Site) -> Self
+    /// A core that holds no connection, at moment 0 and tree 0, of a site with these patterns.
+    pub fn new(alloc: Global, served: ServedSite, patterns: PatternSet) -> Self
         ensures empty { (c : ℕ) → view_at result c ≡ nobody }
         ensures none { conns_held result ≡ [] }
-        ensures terms { terms_at result ≡ site_terms site }
+        ensures terms { terms_at result ≡ site_terms patterns served.site }
         ensures now { now_at result ≡ record { moment = 0; tree = 0 } }
         ensures left { left_at result ≡ 0 }
         ensures refused { refused_at result ≡ 0 }
     {
         Hub {
-            space: Workspace::new(alloc),
-            table: Table::new(alloc, site),
+            space: Workspace::new(alloc, patterns),
+            table: Table::new(alloc, served),
             moment: 0,
             tree: 0,
             refused: 0,
         }
     }
 
+    // The connection under a number.
+    fn get(&self, conn: u32) -> Option<&Conn>
+        ensures view { MatchOption result (view_at self.now conn ≡ nobody)
+            (λ c. view_at self.now conn ≡ view_of (serves_at self.now) c.now) }
+        ensures known { IfSome result (λ c. asked_of c.now ≤ self.now.tree) }
+        ensures journal { MatchOption result (journal_at self.now conn ≡ [])
+            (λ c. journal_at self.now conn ≡ c.now.journal.items) }
+    {
+        self.table.get(conn)
+    }
+
     /// Whether nothing is to be done on a connection until more arrives; false where it isn't held.
     pub fn is_idle(&self, conn: u32) -> bool
         ensures { result ≡ idle_in (view_at self.now conn) }
     {
-        match self.table.get(conn) {
+        match self.get(conn) {
             Some(held) => held.is_idle(),
             None => false,
         }
@@ -78,7 +92,7 @@ impl Hub {
     pub fn is_shut(&self, conn: u32) -> bool
         ensures { result ≡ (view_at self.now conn).shut }
     {
-        match self.table.get(conn) {
+        match self.get(conn) {
             Some(held) => held.is_shut(),
             None => false,
         }
@@ -88,7 +102,7 @@ impl Hub {
     pub fn cause(&self, conn: u32) -> Option<StopCause>
         ensures { result ≡ (view_at self.now conn).cause }
     {
-        match self.table.get(conn) {
+        match self.get(conn) {
             Some(held) => held.cause(),
             None => None,
         }
@@ -98,7 +112,7 @@ impl Hub {
     pub fn journal(&self, conn: u32) -> &[Entry]
         ensures { result.now ≡ journal_at self.now conn }
     {
-        match self.table.get(conn) {
+        match self.get(conn) {
             Some(held) => held.journal(),
             None => &[],
         }
@@ -128,7 +142,8 @@ impl Hub {
         ensures left { LeftBy price_each event.entry result (left_at self.old) (left_at self.new) }
         ensures refused { CountsRefused event.entry result (refused_at self.old)
             (refused_at self.new) }
-        ensures site { self.new.table.site ≡ self.old.table.site }
+        ensures served { self.new.table.served ≡ self.old.table.served }
+        ensures patterns { self.new.space.patterns ≡ self.old.space.patterns }
         ensures ids { self.new.table.ids.items ≡ self.old.table.ids.items }
     {
         let answer = self
@@ -183,7 +198,7 @@ impl EventCore for Hub {
     }
 
     fn pending(&self, conn: u32) -> &[u8] {
-        match self.table.get(conn) {
+        match self.get(conn) {
             Some(held) => held.pending(),
             None => &[],
         }
@@ -195,14 +210,14 @@ impl EventCore for Hub {
 
     fn next_want(&self, conn: u32, due: bool, full: bool) -> Option<Want> {
         connections_are_sound();
-        match self.table.get(conn) {
+        match self.get(conn) {
             Some(held) => next_want(held, conn, due, full),
             None => None,
         }
     }
 
     fn ask(&self, conn: u32, node: u32) -> Option<&Ask> {
-        match self.table.get(conn) {
+        match self.get(conn) {
             Some(held) => held.ask(node),
             None => None,
         }

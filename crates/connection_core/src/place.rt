@@ -1,13 +1,14 @@
 // One connection among those that are held.
 ghost use Rattle.std.specs.Prelude.{◌≡◌, ◌+◌, ◌-◌, ◌^◌, ◌≤◌, ◌<◌, true, length, vec_len, vec_capacity, insert, remove, MatchResult, get_or};
 ghost use Rattle.std.specs.List.Sorted.{IsStrictlyIncreasing};
-ghost use Rattle.connection.specs.Conn.{StepsConn, TimesConn, due_at};
-ghost use Rattle.connection.specs.Times.{soonest};
-ghost use Rattle.connection_core.specs.Table.{is_own, StandsAt, BelongsAt, Placed, Replaced, AllTicked, AllLater};
+ghost use Rattle.http_connection.specs.Conn.{StepsConn, TimesConn, due_at};
+ghost use Rattle.http_connection.specs.Times.{soonest};
+ghost use Rattle.connection_core.specs.Table.{serves_with, is_own, StandsAt, BelongsAt, Placed, Replaced, AllTicked, AllLater};
 
-use connection::{Conn, Workspace};
+use http_connection::Conn;
 use ngx_outside::{Event, StepAnswer};
-use site_model::Site;
+use request_flow::Workspace;
+use served_site::ServedSite;
 
 /// The place of a number, or the place where it belongs.
 pub(crate) fn place(ids: &[u32], conn: u32) -> Result<usize, usize>
@@ -92,16 +93,18 @@ pub(crate) fn tick_all(conns: &mut [Conn], now: u64) -> u64
 pub(crate) fn happen(
     conn: &mut Conn,
     space: &mut Workspace,
-    site: &Site,
+    served: &ServedSite,
     moment: u64,
     tree: u64,
     event: Event,
 ) -> StepAnswer
     ensures steps { is_own event.entry ≡ true →
-        StepsConn site.now (record { moment = moment; tree = tree }) event.entry result conn.old
-        conn.new }
+        StepsConn (serves_with space.old.patterns served.now)
+        (record { moment = moment; tree = tree }) event.entry result conn.old conn.new }
     ensures times { is_own event.entry ≡ true →
-        TimesConn site.now moment event.entry result conn.old conn.new }
+        TimesConn (serves_with space.old.patterns served.now)
+        (record { moment = moment; tree = tree }) event.entry result conn.old conn.new }
+    ensures patterns { space.new.patterns ≡ space.old.patterns }
 {
     match event {
         Event::Opened {
@@ -119,7 +122,7 @@ pub(crate) fn happen(
             answer,
         } => conn.file_done(moment, node, answer),
         Event::JobFailed { conn: _, node } => conn.job_failed(node),
-        Event::Run { conn: _, node } => conn.runs(space, site, moment, tree, node),
+        Event::Run { conn: _, node } => conn.runs(space, served, moment, tree, node),
         Event::Tick { now: _ } => StepAnswer::Skipped,
         Event::Tree { to: _ } => StepAnswer::Skipped,
         Event::Gone { conn: _ } => StepAnswer::Skipped,
@@ -131,7 +134,7 @@ pub(crate) fn happen_at(
     conns: &mut Vec<Conn>,
     at: usize,
     space: &mut Workspace,
-    site: &Site,
+    served: &ServedSite,
     moment: u64,
     tree: u64,
     event: Event,
@@ -139,9 +142,10 @@ pub(crate) fn happen_at(
     requires placed { Placed at conns.old.items }
     ensures replaced { is_own event.entry ≡ true → (p : Placed at conns.old.items) →
         Replaced at conns.old.items
-        (λ old new. StepsConn site.now
+        (λ old new. StepsConn (serves_with space.old.patterns served.now)
         (record { moment = moment; tree = tree }) event.entry result old new) p conns.new.items }
     ensures len { vec_len conns.new ≡ vec_len conns.old }
+    ensures patterns { space.new.patterns ≡ space.old.patterns }
 {
-    happen(&mut conns[at], space, site, moment, tree, event)
+    happen(&mut conns[at], space, served, moment, tree, event)
 }

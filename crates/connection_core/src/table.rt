@@ -6,10 +6,11 @@ ghost use Rattle.connection_core.specs.Table.{AllLater};
 
 use crate::place::{earlier, happen_at, place, place_near, put_at, take_out, tick_all};
 use byte_text::OutOfMemory;
-use connection::{Conn, Workspace};
+use http_connection::Conn;
 use http_types::Addr;
 use ngx_outside::{Event, StepAnswer};
-use site_model::Site;
+use request_flow::Workspace;
+use served_site::ServedSite;
 use std::alloc::Global;
 
 /// So many connections are held at most (nginx's `worker_connections`).
@@ -19,7 +20,7 @@ const MOST: usize = 512;
 /// before which none of them is given up.
 #[derive(Drop)]
 pub(crate) struct Table {
-    pub(crate) site: Site,
+    pub(crate) served: ServedSite,
     pub(crate) ids: Vec<u32>,
     pub(crate) conns: Vec<Conn>,
     near: usize,
@@ -34,15 +35,17 @@ impl Table {
     ghost use Rattle.http_types.specs.declared.words.Addr.{Addr as End};
     ghost use Rattle.ngx_outside.specs.Views.{Start, Steps, StepsOwn, OneSteps, LeftBy, OpensIf, TakesNone, CountsHeld, Course, Fresh, nobody};
     ghost use Rattle.ngx_outside.specs.declared.event.Event.TheVariants.{Opened, Gone};
-    ghost use Rattle.connection.specs.Conn.{view_of, fresh_course, left_of, weight, asked_of, ended_by};
-    ghost use Rattle.connection_core.specs.Table.{is_own, view_in, journal_in, left_in, price_each, opens_in, AllKnown, AllTicked, BelongsAt};
+    ghost use Rattle.http_connection.specs.Conn.{view_of, fresh_course, left_of, weight, asked_of, ended_by};
+    ghost use Rattle.http_connection.specs.Rests.{Serves};
+    ghost use Rattle.ngx_pattern.specs.Pattern.{Pattern as SetPattern};
+    ghost use Rattle.connection_core.specs.Table.{is_own, serves_with, listens_there, view_in, journal_in, left_in, price_each, opens_in, AllKnown, AllTicked, BelongsAt};
 
     /// No connection is held.
-    pub(crate) fn new(alloc: Global, site: Site) -> Self
-        ensures { (result.site ≡ site) × (result.ids.items ≡ []) × (result.conns.items ≡ []) }
+    pub(crate) fn new(alloc: Global, served: ServedSite) -> Self
+        ensures { (result.served ≡ served) × (result.ids.items ≡ []) × (result.conns.items ≡ []) }
     {
         Table {
-            site,
+            served,
             ids: Vec::new(alloc),
             conns: Vec::new(alloc),
             near: 0,
@@ -52,10 +55,9 @@ impl Table {
 
     /// The connection under a number.
     pub(crate) fn get(&self, conn: u32) -> Option<&Conn>
-        ensures view { MatchOption result (view_in self.now.site self.now.ids.items
-            self.now.conns.items conn ≡ nobody)
-            (λ c. view_in self.now.site self.now.ids.items self.now.conns.items conn ≡ view_of
-            self.now.site c.now) }
+        ensures view { (x : Serves) → MatchOption result
+            (view_in x self.now.ids.items self.now.conns.items conn ≡ nobody)
+            (λ c. view_in x self.now.ids.items self.now.conns.items conn ≡ view_of x c.now) }
         ensures known { (tree : ℕ) → AllKnown tree self.now.conns.items →
             IfSome result (λ c. asked_of c.now ≤ tree) }
         ensures journal { MatchOption result (journal_in self.now.ids.items self.now.conns.items
@@ -68,6 +70,17 @@ impl Table {
         }
     }
 
+    // Whether a server of the site listens at a local end.
+    fn is_listening(&self, local: Addr) -> bool
+        ensures { (patterns : List SetPattern) → result ≡ listens_there patterns
+            self.now.served.site local }
+    {
+        match self.served.default_at(local) {
+            Some(_) => true,
+            None => false,
+        }
+    }
+
     // Room for one connection more, and the connection.
     fn make(
         &mut self,
@@ -77,19 +90,19 @@ impl Table {
         moment: u64,
     ) -> Result<Conn, OutOfMemory>
         requires { vec_len self.old.ids < 512 }
-        ensures site { self.new.site ≡ self.old.site }
+        ensures served { self.new.served ≡ self.old.served }
         ensures ids { self.new.ids.items ≡ self.old.ids.items }
         ensures conns { self.new.conns.items ≡ self.old.conns.items }
         ensures ids_room { OnOk result (vec_len self.new.ids < vec_capacity self.new.ids) }
         ensures conns_room { OnOk result (vec_len self.new.conns < vec_capacity self.new.conns) }
-        ensures fresh { IfOk result (λ c. (site : _) →
-            Fresh (fresh_course site local peer) (view_of site c)) }
+        ensures fresh { IfOk result (λ c. (x : Serves) →
+            Fresh (fresh_course x.patterns x.served.site local peer) (view_of x c)) }
         ensures left { IfOk result (λ c. left_of c ≡ 1 + weight) }
         ensures asked { IfOk result (λ c. asked_of c ≡ 0) }
     {
         self.ids.reserve(1)?;
         self.conns.reserve(1)?;
-        let conn = Conn::new(alloc, &self.site, local, peer, moment)?;
+        let conn = Conn::new(alloc, &self.served, local, peer, moment)?;
         Ok(conn)
     }
 
@@ -100,7 +113,7 @@ impl Table {
         requires conns_room { vec_len self.old.conns < vec_capacity self.old.conns }
         ensures ids { self.new.ids.items ≡ insert self.old.ids.items at conn }
         ensures conns { self.new.conns.items ≡ insert self.old.conns.items at fresh }
-        ensures site { self.new.site ≡ self.old.site }
+        ensures served { self.new.served ≡ self.old.served }
     {
         self.near = at;
         self.soon = earlier(self.soon, &fresh);
@@ -117,11 +130,15 @@ impl Table {
         peer: Addr,
         moment: u64,
     ) -> StepAnswer
-        ensures steps { (now : Start) → OneSteps conn
-            (StepsOwn (fresh_course self.old.site local peer) now (Opened conn local peer) result)
-            (view_in self.old.site self.old.ids.items self.old.conns.items)
-            (view_in self.new.site self.new.ids.items self.new.conns.items) }
-        ensures opens { OpensIf (opens_in self.old.site self.old.ids.items)
+        ensures steps { (patterns : List SetPattern) (now : Start) → OneSteps conn
+            (StepsOwn (fresh_course patterns self.old.served.site local peer) now
+            (Opened conn local peer) result)
+            (view_in (serves_with patterns self.old.served) self.old.ids.items
+            self.old.conns.items)
+            (view_in (serves_with patterns self.new.served) self.new.ids.items
+            self.new.conns.items) }
+        ensures opens { (patterns : List SetPattern) →
+            OpensIf (opens_in patterns self.old.served.site self.old.ids.items)
             (Opened conn local peer) result }
         ensures held { CountsHeld (Opened conn local peer) result (length self.old.ids.items)
             (length self.new.ids.items) }
@@ -130,9 +147,9 @@ impl Table {
             AllKnown tree self.new.conns.items }
         ensures left { LeftBy price_each (Opened conn local peer) result
             (left_in self.old.conns.items) (left_in self.new.conns.items) }
-        ensures site { self.new.site ≡ self.old.site }
+        ensures served { self.new.served ≡ self.old.served }
     {
-        if self.ids.len() >= MOST || !self.site.is_listening(local) {
+        if self.ids.len() >= MOST || !self.is_listening(local) {
             return StepAnswer::Skipped;
         }
         match place(self.ids.as_slice(), conn) {
@@ -159,22 +176,35 @@ impl Table {
         requires own { is_own event ≡ true }
         ensures steps { OneSteps conn (StepsOwn nobody.course
             (record { moment = moment; tree = tree }) event.entry result)
-            (view_in self.old.site self.old.ids.items self.old.conns.items)
-            (view_in self.new.site self.new.ids.items self.new.conns.items) }
+            (view_in (serves_with space.old.patterns self.old.served) self.old.ids.items
+            self.old.conns.items)
+            (view_in (serves_with space.new.patterns self.new.served) self.new.ids.items
+            self.new.conns.items) }
         ensures left { LeftBy price_each event.entry result (left_in self.old.conns.items)
             (left_in self.new.conns.items) }
-        ensures ended { (view_in self.new.site self.new.ids.items self.new.conns.items conn).ended ≡
+        ensures ended { (view_in (serves_with space.new.patterns self.new.served)
+            self.new.ids.items self.new.conns.items conn).ended ≡
             ended_by event.entry result
-            (view_in self.old.site self.old.ids.items self.old.conns.items conn).ended }
+            (view_in (serves_with space.old.patterns self.old.served) self.old.ids.items
+            self.old.conns.items conn).ended }
         ensures taken { TakesNone event.entry result }
         ensures known { AllKnown tree self.old.conns.items → AllKnown tree self.new.conns.items }
         ensures ids { self.new.ids.items ≡ self.old.ids.items }
-        ensures site { self.new.site ≡ self.old.site }
+        ensures served { self.new.served ≡ self.old.served }
+        ensures patterns { space.new.patterns ≡ space.old.patterns }
     {
         match place_near(self.ids.as_slice(), self.near, conn) {
             Ok(at) => {
                 self.near = at;
-                let answer = happen_at(&mut self.conns, at, space, &self.site, moment, tree, event);
+                let answer = happen_at(
+                    &mut self.conns,
+                    at,
+                    space,
+                    &self.served,
+                    moment,
+                    tree,
+                    event,
+                );
                 self.soon = earlier(self.soon, &self.conns[at]);
                 answer
             }
@@ -187,7 +217,7 @@ impl Table {
         requires { now < 2 ^ 64 - 1 }
         ensures ticked { AllTicked now self.old.conns.items self.new.conns.items }
         ensures ids { self.new.ids.items ≡ self.old.ids.items }
-        ensures site { self.new.site ≡ self.old.site }
+        ensures served { self.new.served ≡ self.old.served }
     {
         if self.soon <= now {
             self.soon = tick_all(self.conns.as_mut_slice(), now);
@@ -196,10 +226,12 @@ impl Table {
 
     /// Lets a connection go, whose link is to be closed.
     pub(crate) fn close(&mut self, conn: u32) -> StepAnswer
-        ensures steps { (now : Start) → OneSteps conn
+        ensures steps { (patterns : List SetPattern) (now : Start) → OneSteps conn
             (StepsOwn nobody.course now (Gone conn) result)
-            (view_in self.old.site self.old.ids.items self.old.conns.items)
-            (view_in self.new.site self.new.ids.items self.new.conns.items) }
+            (view_in (serves_with patterns self.old.served) self.old.ids.items
+            self.old.conns.items)
+            (view_in (serves_with patterns self.new.served) self.new.ids.items
+            self.new.conns.items) }
         ensures held { CountsHeld (Gone conn) result (length self.old.ids.items)
             (length self.new.ids.items) }
         ensures taken { TakesNone (Gone conn) result }
@@ -207,7 +239,7 @@ impl Table {
             AllKnown tree self.new.conns.items }
         ensures left { LeftBy price_each (Gone conn) result (left_in self.old.conns.items)
             (left_in self.new.conns.items) }
-        ensures site { self.new.site ≡ self.old.site }
+        ensures served { self.new.served ≡ self.old.served }
     {
         match place(self.ids.as_slice(), conn) {
             Ok(at) => {

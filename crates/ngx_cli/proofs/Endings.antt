@@ -15,7 +15,6 @@ use Rattle.report_text.specs.Lines.{ended}
 use Rattle.report_text.specs.Faults.{conf_fault_line}
 use Rattle.site_model.specs.declared.site.Site.{Site}
 use Rattle.site_whole.specs.Whole.{whole}
-use Rattle.conf_inherit.specs.Pools.{IsFree}
 use Rattle.conf_inherit.specs.declared.site.Purpose.{Purpose}
 use Rattle.conf_inherit.specs.declared.site.Purpose.TheVariants as purposes
 use Rattle.site_service.specs.Serving.{Outside, Serving}
@@ -25,13 +24,13 @@ use Rattle.ngx_cli.specs.declared.status.Status.TheVariants as status
 use Rattle.ngx_cli.specs.Commands.{Output, Printed, CutShort, ComesTo, Describes, IsFaultLine, OfFault, OfFiles, IsCheckLine, OfSite, OfNoSite, ReplayEnds, CheckEnds, ServeEnds, PutsText, counts_of, served_status}
 
 -- a site was served
-pub served : (o : Outside) (out : Output) (path : List ℕ) (turns : ℕ) (e : Ending) (site : Site) (reading : FilesSeen) → Describes purposes.Serving o.files reading path (Ok (whole [] site)) → IsFree site →
+pub served : (o : Outside) (out : Output) (path : List ℕ) (turns : ℕ) (e : Ending) (site : Site) (reading : FilesSeen) → Describes purposes.Serving o.files reading path (Ok (whole [] site)) →
     Serving site turns e (record o { files = reading }) → Printed out [] → (e ≡ ending.Ended → o.links'.over ≡ true) → (e ≡ ending.ListenFault → Rose o.links.faults o.links'.faults) → (e ≡ ending.NextFault → Rose o.links.faults o.links'.faults) →
     ServeEnds o out path turns (served_status e)
-served o out path turns ending.Ended site reading d f s p ends listen next = (ends refl, record { site = site; reading = reading; described = d; free = f; serving = s; printed = p })
-served o out path turns ending.TurnsUsed site reading d f s p ends listen next = record { site = site; reading = reading; described = d; free = f; serving = s; printed = p }
-served o out path turns ending.ListenFault site reading d f s p ends listen next = (listen refl, inl (record { site = site; reading = reading; described = d; free = f; serving = s; printed = p }))
-served o out path turns ending.NextFault site reading d f s p ends listen next = (next refl, inr (record { site = site; reading = reading; described = d; free = f; serving = s; printed = p }))
+served o out path turns ending.Ended site reading d s p ends listen next = (ends refl, record { site = site; reading = reading; described = d; serving = s; printed = p })
+served o out path turns ending.TurnsUsed site reading d s p ends listen next = record { site = site; reading = reading; described = d; serving = s; printed = p }
+served o out path turns ending.ListenFault site reading d s p ends listen next = (listen refl, inl (record { site = site; reading = reading; described = d; serving = s; printed = p }))
+served o out path turns ending.NextFault site reading d s p ends listen next = (next refl, inr (record { site = site; reading = reading; described = d; serving = s; printed = p }))
 
 -- a text that was due couldn't be put
 cut : (IsDue : List ℕ → Type 0) (out : Output) (text : List ℕ) → IsDue text → PutsText out text (Err status.SinkFault) → CutShort IsDue out

@@ -11,7 +11,6 @@ use Rattle.conf_text.specs.declared.fault.FaultKind.TheVariants.{ReadFault}
 use Rattle.site_views.specs.Views.{Locations, ServerView, SiteView}
 use Rattle.site_views.specs.Views.Locations.{NoMore, Location}
 use Rattle.site_whole.specs.Whole.{whole}
-use Rattle.conf_inherit.specs.Pools.{IsFree}
 use Rattle.conf_inherit.specs.declared.site.Purpose.{Purpose}
 use Rattle.conf_inherit.specs.declared.site.Purpose.TheVariants as purposes
 use Rattle.conf_include.specs.Listings.{Names, IsNaming}
@@ -114,8 +113,10 @@ pub record Describes (purpose : Purpose) (files reading : FilesSeen) (path : Lis
 
 -- what is to be printed of a configuration that can't be served: its first fault, with the path of
 -- its file; or that a file couldn't be read, with the path of the file that names it
-pub data IsFaultLine (purpose : Purpose) (files files' : FilesSeen) (path text : List ℕ) : Type 0 where
-  OfFault : (fault : ConfFault) (at : List ℕ) → Describes purpose files files' path (Err (fault, at)) →
+pub data IsFaultLine (purpose : Purpose) (files files' : FilesSeen)
+    (path text : List ℕ) : Type 0 where
+  OfFault : (fault : ConfFault) (at : List ℕ) → Describes purpose files files' path
+      (Err (fault, at)) →
       text ≡ ended (conf_fault_line at fault) → IsFaultLine purpose files files' path text
   OfFiles : (fault : ConfFault) (at : List ℕ) → fault.kind ≡ ReadFault →
       Rose files.faults files'.faults → text ≡ ended (conf_fault_line at fault) →
@@ -182,7 +183,6 @@ pub record Served (o : Outside) (out : Output) (path : List ℕ) (turns : ℕ)
   pub site : Site
   pub reading : FilesSeen
   pub described : Describes purposes.Serving o.files reading path (Ok (whole [] site))
-  pub free : IsFree site
   pub serving : Serving site turns e (record o { files = reading })
   pub printed : Printed out []
 

@@ -21,14 +21,14 @@ use Rattle.site_views.specs.Views.{SiteView}
 use Rattle.site_whole.specs.Whole.{whole}
 use Rattle.conf_inherit.specs.declared.site.Purpose.TheVariants as purposes
 use Rattle.site_model.specs.declared.site.Site.{Site}
-use Rattle.connection.specs.Answers.{answers, answer_logs, answers_close, service_of}
+use Rattle.answers_meaning.specs.Answers.{responses, logs_in, close_in, answers}
+use Rattle.request_flow.specs.Openings.{service_of}
 use Rattle.connection_core.specs.Core.{site_terms}
 use Rattle.report_text.specs.declared.report.ConnState.{ConnState}
 use Rattle.report_text.specs.declared.report.ConnState.TheVariants.{Stopped, Idle, Busy}
 use Rattle.report_text.specs.Report.{Report, run_text}
 use Rattle.report_text.specs.Lines.{ended}
 use Rattle.report_text.specs.Faults.{script_fault_line, conf_fault_line}
-use Rattle.conf_inherit.specs.Pools.{IsFree}
 use Rattle.ngx_cli.specs.Naming.{conf_names}
 use Rattle.ngx_cli.specs.Sites.{site_at}
 use Rattle.ngx_cli.specs.declared.script.Outcome.{Outcome}
@@ -42,7 +42,8 @@ main_path (conf ∷ confs) = conf.path
 -- The configurations of a script come to this: the site of the main one, which is to be served, with each include replaced
 -- by those that it names, or the first fault, with the path of its configuration.
 abbrev pub Describe : List Conf → Result SiteView (ConfFault × List ℕ) → Type 0
-Describe confs outcome = site_at purposes.Serving (conf_tree confs) (conf_names confs) (main_path confs) ≡ outcome
+Describe confs outcome =
+    site_at purposes.Serving (conf_tree confs) (conf_names confs) (main_path confs) ≡ outcome
 
 -- before a run nothing is held and nothing waits, at moment 0 and with the first tree
 pub record IsNew (s : Stage) : Type 0 where
@@ -83,36 +84,38 @@ pub record Answered (site : Site) (told : Told) (v : ConnView) (lane : Lane)
   pub came : List ℕ
   pub arrived : sent ≡ came ++ lane.queue
   pub front : (trees : Trees) → Agree told.trees told.newest trees →
-      IsPrefixOf lane.went (answers (service_of site ends.local ends.peer) 0 trees came v.starts)
+      IsPrefixOf lane.went (answers (service_of [] site ends.local ends.peer) 0 trees came v.starts)
   pub on : v.cause ≡ None → (trees : Trees) → Agree told.trees told.newest trees →
       (more : List ℕ) (later : List Start) →
-      answers (service_of site ends.local ends.peer) 0 trees (came ++ more)
+      answers (service_of [] site ends.local ends.peer) 0 trees (came ++ more)
       (v.starts ++ later) ≡ lane.went ++ v.course.bytes trees more later
   pub whole : is_idle v ≡ true → (trees : Trees) → Agree told.trees told.newest trees →
       (later : List Start) →
-      answers (service_of site ends.local ends.peer) 0 trees came (v.starts ++ later) ≡ lane.went
+      answers (service_of [] site ends.local ends.peer) 0 trees came (v.starts ++ later) ≡ lane.went
   pub closes : v.cause ≡ None → v.shut ≡ true → is_given lane.tail ≡ false → (trees : Trees) →
       Agree told.trees told.newest trees → (more : List ℕ) (later : List Start) →
-      answers (service_of site ends.local ends.peer) 0 trees (came ++ more)
+      answers (service_of [] site ends.local ends.peer) 0 trees (came ++ more)
       (v.starts ++ later) ≡ lane.went
   pub logged : (trees : Trees) → Agree told.trees told.newest trees →
-      Logged v.logs (answer_logs (service_of site ends.local ends.peer) 0 trees came v.starts)
+      Logged v.logs
+      (logs_in (responses (service_of [] site ends.local ends.peer) 0 trees came v.starts))
   pub all_logged : is_idle v ≡ true → (trees : Trees) → Agree told.trees told.newest trees →
       (later : List Start) →
       v.logs ≡ map (λ l. Some l)
-      (answer_logs (service_of site ends.local ends.peer) 0 trees came (v.starts ++ later))
+      (logs_in (responses (service_of [] site ends.local ends.peer) 0 trees came
+      (v.starts ++ later)))
   pub busy : v.cause ≡ None → is_idle v ≡ false → (trees : Trees) →
       Agree told.trees told.newest trees → (start : Start) (later : List Start) →
-      answers (service_of site ends.local ends.peer) 0 trees came
+      answers (service_of [] site ends.local ends.peer) 0 trees came
       (v.starts ++ start ∷ later) ≡ lane.went →
       v.logs ≢ map (λ l. Some l)
-      (answer_logs (service_of site ends.local ends.peer) 0 trees came
-      (v.starts ++ start ∷ later))
+      (logs_in (responses (service_of [] site ends.local ends.peer) 0 trees came
+      (v.starts ++ start ∷ later)))
   pub rests : v.cause ≡ None → v.shut ≡ true → is_idle v ≡ true
   pub shuts : is_idle v ≡ true → (trees : Trees) → Agree told.trees told.newest trees →
       (later : List Start) →
-      v.shut ≡ (is_given lane.tail || answers_close
-      (service_of site ends.local ends.peer) 0 trees came (v.starts ++ later))
+      v.shut ≡ (is_given lane.tail || close_in
+      (responses (service_of [] site ends.local ends.peer) 0 trees came (v.starts ++ later)))
 
 -- A run of a script's lines, over its tree, on a new core of a site, and the text that is printed
 -- of it: a report on each connection, by number, and the counts of the lines that were skipped and
@@ -124,7 +127,7 @@ pub record Ran (site : Site) (tree : List TreeLine) (events : List EventLine)
   pub skipped : ℕ
   pub refused : ℕ
   pub begins : IsNew first
-  pub plays : Plays (site_terms site) events (told_first tree) first 0 0 last skipped refused
+  pub plays : Plays (site_terms [] site) events (told_first tree) first 0 0 last skipped refused
   pub conns : List ℕ
   pub held : AreHeld conns last.view
   pub journals : ℕ → List Entry
@@ -141,7 +144,6 @@ pub record Ran (site : Site) (tree : List TreeLine) (events : List EventLine)
 pub record RanOn (script : Script) (text : List ℕ) : Type 0 where
   pub site : Site
   pub described : Describe script.confs (Ok (whole [] site))
-  pub free : IsFree site
   pub ran : Ran site script.tree script.events text
 
 -- What a script's bytes come to, and what is printed: the first fault of the script; the first

@@ -7,7 +7,7 @@ ghost use Rattle.report_text.specs.Report.{run_text, report_of};
 ghost use Rattle.report_text.specs.Lines.{ended};
 ghost use Rattle.report_text.specs.Faults.{conf_fault_line};
 ghost use Rattle.site_whole.specs.Whole.{whole};
-ghost use Rattle.conf_inherit.specs.Pools.{IsFree};
+ghost use Rattle.conf_inherit.specs.Pools.{IsUnreturned};
 ghost use Rattle.ngx_cli.specs.Sites.{OnFault};
 ghost use Rattle.ngx_cli.specs.Running.{main_path as path_of_main, Describe, report_in, Ran, Replays};
 
@@ -20,10 +20,12 @@ use ngx_outside::{
     StopCause, all_is_logged_when_idle, all_is_sent_when_idle, all_is_sent_when_shut,
     shut_is_exact, tracks_begin,
 };
+use ngx_pattern::PatternSet;
 use replay_confs::ConfFiles;
 use replay_run::{Counts, Player, files_of, run_lines};
 use replay_text::{Conf, Confs, EventLine, ScriptError, ScriptFault, TreeLine, read};
 use report_text::{ConnReport, ConnState, conf_fault_text, conn_text, end_text, script_fault_text};
+use served_site::ServedSite;
 use site_model::Site;
 use std::alloc::Global;
 
@@ -51,7 +53,7 @@ fn main_path(confs: &[Conf]) -> &[u8]
 // The site that a script's configurations describe.
 fn site_of(alloc: Global, confs: &Confs) -> Result<Site, ExpandError>
     ensures ok { IfOk result (λ site. Describe confs.now (Ok (whole [] site))) }
-    ensures free { IfOk result (λ site. IsFree site) }
+    ensures unreturned { IfOk result (λ site. IsUnreturned site) }
     ensures fault { IfErr result (λ e. OnFault e
         (λ fault at. Describe confs.now (Err (fault, at)))) }
 {
@@ -124,6 +126,7 @@ fn run(
     events: &[EventLine],
     out: &mut ByteText,
 ) -> Result<(), OutOfMemory>
+    requires { IsUnreturned site }
     ensures { OnOk result ((text : List ℕ) × (out.new ≡ out.old ++ text) ×
         Ran site tree.now events.now text) }
 {
@@ -133,7 +136,9 @@ fn run(
     shut_is_exact();
     all_is_logged_when_idle();
     cores_are_sound();
-    let mut hub = Hub::new(alloc, site);
+    let served = ServedSite::new(alloc, site)?;
+    let patterns = PatternSet::new(alloc);
+    let mut hub = Hub::new(alloc, served, patterns);
     let mut player = Player::new(alloc);
     let mut files = files_of(alloc, tree)?;
     let counts = run_lines(&mut player, &mut hub, &mut files, events)?;

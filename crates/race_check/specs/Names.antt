@@ -10,7 +10,8 @@ has names name = contains_by (λ key. bytes_eq name key.items) names.names
 
 -- the set has grown by the names of which this is so and that aren't settled
 abbrev pub Notes : (settled old new : NameSet) → (List ℕ → Bool) → Type 0
-Notes settled old new reads = (name : List ℕ) → has new name ≡ ((reads name && not (has settled name)) || has old name)
+Notes settled old new reads =
+    (name : List ℕ) → has new name ≡ ((reads name && not (has settled name)) || has old name)
 
 abbrev pub is_file_test : Test → Bool
 is_file_test (IsSet variable) = false

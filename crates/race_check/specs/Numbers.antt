@@ -10,7 +10,9 @@ use Rattle.site_model.specs.Levels.{raw_level}
 
 -- its own, those of its locations, and those of its locations `@name`
 abbrev pub level_numbers : Server → List ℕ
-level_numbers s = s.level ∷ (map (λ (l : Location). l.level) s.locations.items ++ map (λ (n : NamedLocation). n.level) s.named.items)
+level_numbers s =
+    s.level ∷ (map (λ (l : Location). l.level) s.locations.items
+    ++ map (λ (n : NamedLocation). n.level) s.named.items)
 
 -- the level of the block of an `if`
 abbrev pub number_of : Option ℕ → List ℕ

@@ -31,7 +31,16 @@ line_list (Some line) = line ∷ []
 -- where the values of a level are stated, by its lines; and where the directives of its program are
 abbrev pub values_at_lines : (files : ℕ → List ℕ) → Values → Option LevelLines → LevelSources
 values_at_lines files v None =
-    record { values = v; program = []; place = []; index = []; tries = []; pages = []; auth_sets = []; lines = [] }
+    record {
+      values = v;
+      program = [];
+      place = [];
+      index = [];
+      tries = [];
+      pages = [];
+      auth_sets = [];
+      lines = [];
+    }
 values_at_lines files v (Some l) =
     record {
       values = v;
@@ -44,23 +53,46 @@ values_at_lines files v (Some l) =
       lines = [];
     }
 
-abbrev pub program_at_lines : (files : ℕ → List ℕ) → Values → Program → Option LevelLines → LevelSources
+abbrev pub program_at_lines : (files : ℕ → List ℕ) → Values → Program → Option LevelLines
+    → LevelSources
 program_at_lines files v program None =
-    record { values = v; program = program; place = []; index = []; tries = []; pages = []; auth_sets = []; lines = [] }
+    record {
+      values = v;
+      program = program;
+      place = [];
+      index = [];
+      tries = [];
+      pages = [];
+      auth_sets = [];
+      lines = [];
+    }
 program_at_lines files v program (Some l) =
-    record { values = v; program = program; place = []; index = []; tries = []; pages = []; auth_sets = []; lines = map (source_at files) l.program.items }
+    record {
+      values = v;
+      program = program;
+      place = [];
+      index = [];
+      tries = [];
+      pages = [];
+      auth_sets = [];
+      lines = map (source_at files) l.program.items;
+    }
 
-module _ (files : ℕ → List ℕ) (patterns : List Pattern) (site : Site) (table : List LevelLines) where
+module _ (files : ℕ → List ℕ) (patterns : List Pattern) (site : Site)
+    (table : List LevelLines) where
   -- the lines of a level are those of its number
   abbrev pub value_sources : ℕ → LevelSources
   value_sources n = values_at_lines files (values_seen site (raw_level site n)) (slice_get table n)
 
   abbrev pub program_sources : ℕ → LevelSources
-  program_sources n = program_at_lines files (values_seen site (raw_level site n)) (program_seen patterns site (raw_level site n)) (slice_get table n)
+  program_sources n = program_at_lines files (values_seen site (raw_level site n))
+      (program_seen patterns site (raw_level site n)) (slice_get table n)
 
   -- of a server the values of all levels, and the programs
   abbrev pub server_sources : Server → List LevelSources
-  server_sources s = map value_sources (value_numbers site (level_numbers s)) ++ map program_sources (level_numbers s)
+  server_sources s =
+      map value_sources (value_numbers site (level_numbers s))
+      ++ map program_sources (level_numbers s)
 
 -- ---- the lines of a variable
 
@@ -68,7 +100,8 @@ module _ (files : ℕ → List ℕ) (patterns : List Pattern) (site : Site) (tab
 abbrev pub lines_of : {A : Type 0} → (A → Bool) → List A → List Line → List Line
 lines_of test [] lines = []
 lines_of test (a ∷ others) [] = []
-lines_of test (a ∷ others) (l ∷ lines) = if test a then l ∷ lines_of test others lines else lines_of test others lines
+lines_of test (a ∷ others) (l ∷ lines) =
+    if test a then l ∷ lines_of test others lines else lines_of test others lines
 
 abbrev pub keep_if : Bool → List Line → List Line
 keep_if b lines = if b then lines else []
@@ -93,10 +126,12 @@ module _ (patterns : List Pattern) (site : Site) (table : List LevelLines) (name
   reads_of_values n = value_reads name (values_seen site (raw_level site n)) (slice_get table n)
 
   abbrev pub reads_of_program : ℕ → List Line
-  reads_of_program n = program_lines (in_directive name) (program_seen patterns site (raw_level site n)) (slice_get table n)
+  reads_of_program n = program_lines (in_directive name)
+      (program_seen patterns site (raw_level site n)) (slice_get table n)
 
   abbrev pub sets_of_program : ℕ → List Line
-  sets_of_program n = program_lines (sets_it name) (program_seen patterns site (raw_level site n)) (slice_get table n)
+  sets_of_program n = program_lines (sets_it name) (program_seen patterns site (raw_level site n))
+      (slice_get table n)
 
   abbrev pub all_reads : (values levels : List ℕ) → List Line
   all_reads values levels = flat_map reads_of_values values ++ flat_map reads_of_program levels
@@ -137,11 +172,14 @@ conflict_seen files c =
 
 -- Of each server in turn, which count from `number` on, exactly its named variables, in rising order, each with the lines where
 -- it is set and read.
-module _ (files : ℕ → List ℕ) (patterns : List Pattern) (site : Site) (table : List LevelLines) where
+module _ (files : ℕ → List ℕ) (patterns : List Pattern) (site : Site)
+    (table : List LevelLines) where
   abbrev pub AreServers : (number : ℕ) → Server → List Conflict → Type 0
-  AreServers number s conflicts = AreConflicts number (server_whole patterns site s) (server_sources files patterns site table s) (map (conflict_seen files) conflicts)
+  AreServers number s conflicts = AreConflicts number (server_whole patterns site s)
+      (server_sources files patterns site table s) (map (conflict_seen files) conflicts)
 
   unfoldable pub AreTold : (number : ℕ) → List Server → List Conflict → Type 0
   AreTold number [] conflicts = conflicts ≡ []
   AreTold number (s ∷ servers) conflicts =
-      (here : List Conflict) × (later : List Conflict) × AreServers number s here × AreTold (number + 1) servers later × (conflicts ≡ here ++ later)
+      (here : List Conflict) × (later : List Conflict) × AreServers number s here ×
+      AreTold (number + 1) servers later × (conflicts ≡ here ++ later)

@@ -24,18 +24,21 @@ has_or_all (Some names) name = has names name
 pub record AreMarks (server : ServerView) (marks : Marks) : Type 0 where
   pub one : (name : List ℕ) → is_one (known marks.texts name) ≡ is_one_text (set_texts server name)
   pub is_there : (name : List ℕ) → is_some (known marks.texts name) ≡ is_set server name
-  pub by_auth : (name : List ℕ) → has marks.auth name ≡ list_any (auth_sets_it name) (all_values server)
+  pub by_auth : (name : List ℕ) → has marks.auth name ≡ list_any (auth_sets_it name)
+      (all_values server)
   pub begins : (name : List ℕ) → has marks.first name ≡ begins_with_set name server.level.program
   pub not_private : (name : List ℕ) → has marks.exposed name ≡ not (is_private server name)
   pub has_documents : marks.documents ≡ list_any (λ (v : Values). v.ssi) (all_values server)
   pub seen : (name : List ℕ) → has_or_all marks.visible name ≡ is_visible server.visible name
 
 abbrev pub has_one_value : Marks → List ℕ → Bool
-has_one_value marks name = not (has marks.auth name) && is_one (known marks.texts name) && has marks.first name
+has_one_value marks name =
+    not (has marks.auth name) && is_one (known marks.texts name) && has marks.first name
 
 -- a variable that is set in an open server is named
 abbrev pub is_marked : Marks → List ℕ → Bool
-is_marked marks name = not (has_one_value marks name) && ((marks.documents && has_or_all marks.visible name) || has marks.exposed name)
+is_marked marks name = not (has_one_value marks name) &&
+    ((marks.documents && has_or_all marks.visible name) || has marks.exposed name)
 
 -- all variables that are set, each once, in the order of their bytes
 pub record AllSet (texts : SetTexts) (names : List (List ℕ)) : Type 0 where
@@ -43,7 +46,12 @@ pub record AllSet (texts : SetTexts) (names : List (List ℕ)) : Type 0 where
   pub rising : IsStrictlySortedBy (slice_cmp nat_cmp) names
 
 abbrev pub marked : (number : ℕ) → Marks → List ℕ → Named
-marked number marks name = record { server = number; name = name; documents = marks.documents && has_or_all marks.visible name }
+marked number marks name =
+    record {
+      server = number;
+      name = name;
+      documents = marks.documents && has_or_all marks.visible name;
+    }
 
 -- exactly the variables that are named in a server, each once, in the order of their bytes
 pub record AreNamed (server : ServerView) (names : List (List ℕ)) : Type 0 where
@@ -51,8 +59,10 @@ pub record AreNamed (server : ServerView) (names : List (List ℕ)) : Type 0 whe
   pub rising : IsStrictlySortedBy (slice_cmp nat_cmp) names
 
 abbrev pub named_at : (number : ℕ) → ServerView → List ℕ → Named
-named_at number server name = record { server = number; name = name; documents = is_shown server name }
+named_at number server name =
+    record { server = number; name = name; documents = is_shown server name }
 
 -- those of one server were added
 abbrev pub HasNamed : (number : ℕ) → ServerView → (old new : List Named) → Type 0
-HasNamed number server old new = (names : List (List ℕ)) × AreNamed server names × (new ≡ old ++ map (named_at number server) names)
+HasNamed number server old new = (names : List (List ℕ)) × AreNamed server names ×
+    (new ≡ old ++ map (named_at number server) names)

@@ -40,7 +40,8 @@ fn push_names(
     lines: &[Line],
 ) -> Result<(), OutOfMemory>
     ensures { OnOk result (out.new.items ≡ out.old.items
-        ++ lines_of (λ (i : NameView). text_has name.now i.text) (map index_seen names.now) lines.now) }
+        ++ lines_of (λ (i : NameView). text_has name.now i.text)
+        (map index_seen names.now) lines.now) }
 {
     let mut left = lines;
     for index in names {
@@ -62,7 +63,8 @@ fn push_index(
     lines: &[Line],
 ) -> Result<(), OutOfMemory>
     ensures { OnOk result (out.new.items ≡ out.old.items
-        ++ lines_of (λ (i : NameView). text_has name.now i.text) (index_at site.now number) lines.now) }
+        ++ lines_of (λ (i : NameView). text_has name.now i.text)
+        (index_at site.now number) lines.now) }
 {
     match number {
         Some(number) => match site.indexes.get(number as usize) {
@@ -83,7 +85,8 @@ fn push_pages(
     lines: &[Line],
 ) -> Result<(), OutOfMemory>
     ensures { OnOk result (out.new.items ≡ out.old.items
-        ++ lines_of (λ (r : RuleView). target_has name.now r.target) (map page_seen rules.now) lines.now) }
+        ++ lines_of (λ (r : RuleView). target_has name.now r.target)
+        (map page_seen rules.now) lines.now) }
 {
     let mut left = lines;
     for rule in rules {
@@ -103,7 +106,8 @@ fn push_auth_sets(
     lines: &[Line],
 ) -> Result<(), OutOfMemory>
     ensures { OnOk result (out.new.items ≡ out.old.items
-        ++ lines_of (λ (s : List ℕ × Text). text_has name.now s.1) (map auth_set_seen sets.now) lines.now) }
+        ++ lines_of (λ (s : List ℕ × Text). text_has name.now s.1)
+        (map auth_set_seen sets.now) lines.now) }
 {
     let mut left = lines;
     for set in sets {
@@ -188,7 +192,8 @@ fn push_setting_steps(
 fn after_returned<'a>(returned: &Option<Return>, lines: &'a [Line]) -> &'a [Line]
     ensures { (test : Directive → Bool) (program : Directives)
         → lines_of test (returned_first returned.now ++ program) lines.now
-        ≡ lines_of test (returned_first returned.now) lines.now ++ lines_of test program result.now }
+        ≡ lines_of test (returned_first returned.now) lines.now
+        ++ lines_of test program result.now }
 {
     match returned {
         Some(_) => match lines {
@@ -231,7 +236,8 @@ fn push_program_reads(
 ) -> Result<(), OutOfMemory>
     ensures { OnOk result ((patterns : List Pattern) (site : SiteRow)
         → out.new.items ≡ out.old.items
-        ++ program_lines (in_directive name.now) (program_seen patterns site level.now) (Some lines.now)) }
+        ++ program_lines (in_directive name.now) (program_seen patterns site level.now)
+        (Some lines.now)) }
 {
     let lines = lines.program.as_slice();
     push_returned(out, name, &level.returned, lines)?;
@@ -249,7 +255,8 @@ fn push_program_sets(
 ) -> Result<(), OutOfMemory>
     ensures { OnOk result ((patterns : List Pattern) (site : SiteRow)
         → out.new.items ≡ out.old.items
-        ++ program_lines (set_by name.now) (program_seen patterns site level.now) (Some lines.now)) }
+        ++ program_lines (set_by name.now) (program_seen patterns site level.now)
+        (Some lines.now)) }
 {
     let rest = after_returned(&level.returned, lines.program.as_slice());
     push_setting_steps(out, name, level.program.as_slice(), rest)?;

@@ -48,7 +48,8 @@ fn reads_in_order(
     name: &[u8],
 ) -> Result<Vec<Line>, OutOfMemory>
     ensures { IfOk result (λ lines. (patterns : List Pattern)
-        → AreInOrder (all_reads patterns site.now table.now name.now values.now levels.now) lines.items) }
+        → AreInOrder
+        (all_reads patterns site.now table.now name.now values.now levels.now) lines.items) }
 {
     let lines = reads_of(alloc, site, table, values, levels, name)?;
     Ok(in_order(lines))

@@ -44,11 +44,14 @@ file_rest sending left item =
 -- where this is at the path for which it asked
 abbrev pub told_rest : World → List SetPattern → Site → Tree → InPhases → Wait → Item → Rest
 told_rest w patterns site tree request wait item =
-    act_rest w tree (terms_seen request.terms) (phases_told w patterns site request.phases wait item) request.vars
+    act_rest w tree (terms_seen request.terms)
+    (phases_told w patterns site request.phases wait item) request.vars
 
 abbrev pub stage_rest : World → List SetPattern → Site → Tree → Stage → Item → Rest
-stage_rest w patterns site tree (Asked request wait) item = told_rest w patterns site tree request wait item
-stage_rest w patterns site tree (Told request wait node) item = told_rest w patterns site tree request wait (told_item node item)
+stage_rest w patterns site tree (Asked request wait) item =
+    told_rest w patterns site tree request wait item
+stage_rest w patterns site tree (Told request wait node) item =
+    told_rest w patterns site tree request wait (told_item node item)
 stage_rest w patterns site tree (Reading sending left) item = file_rest sending left item
 stage_rest w patterns site tree (Came sending left placed) item = file_rest sending left item
 
@@ -60,7 +63,8 @@ item_asked trees (ask.Read path start count of) = trees of path
 -- what is still to come of the response to a request in flight
 abbrev pub flow_rest : World → List SetPattern → Site → Option Flow → Trees → Rest
 flow_rest w patterns site None trees = no_rest
-flow_rest w patterns site (Some flow) trees = stage_rest w patterns site (trees (tree_of flow.ask)) flow.stage (item_asked trees flow.ask)
+flow_rest w patterns site (Some flow) trees =
+    stage_rest w patterns site (trees (tree_of flow.ask)) flow.stage (item_asked trees flow.ask)
 
 -- ---- how far it is
 
@@ -123,7 +127,8 @@ stage_written (Came sending left placed) count = Came sending left (placed - cou
 
 abbrev pub flow_written : Option Flow → ℕ → Option Flow
 flow_written None count = None
-flow_written (Some flow) count = Some (record { ask = flow.ask; stage = stage_written flow.stage count })
+flow_written (Some flow) count =
+    Some (record { ask = flow.ask; stage = stage_written flow.stage count })
 
 -- ---- what fits
 
@@ -134,15 +139,18 @@ is_stat (ask.Read path start count of) = false
 -- the block is the first part of what is left, as long as a block may be
 abbrev pub is_block : (len left : ℕ) → Ask → Bool
 is_block len left (ask.Stat path of) = false
-is_block len left (ask.Read path start count of) = (start == len - left) && (count == min left block_most)
+is_block len left (ask.Read path start count of) =
+    (start == len - left) && (count == min left block_most)
 
 -- how far a request is fits its job and the bytes for its peer, of which there are this many
 abbrev pub stage_fits : Ask → Stage → (size : ℕ) → Bool
 stage_fits job (Asked request wait) size = is_stat job && (size == 0)
 stage_fits job (Told request wait node) size = is_stat job && (size == 0)
-stage_fits job (Reading sending left) size = (nat_le left sending.len && is_block sending.len left job) && nat_le size placed_most
+stage_fits job (Reading sending left) size =
+    (nat_le left sending.len && is_block sending.len left job) && nat_le size placed_most
 stage_fits job (Came sending left placed) size =
-    (nat_le left sending.len && not (is_stat job)) && ((nat_le placed size && nat_le placed placed_most) && nat_le size kept_most)
+    (nat_le left sending.len && not (is_stat job)) &&
+    ((nat_le placed size && nat_le placed placed_most) && nat_le size kept_most)
 
 -- where none is in flight, no more bytes are kept than may be placed
 abbrev pub flow_fits : Option Flow → (size : ℕ) → Bool
@@ -169,7 +177,8 @@ abbrev pub stage_left : Stage → (size : ℕ) → ℕ
 stage_left (Asked request wait) size = flow_most + 2 * request.questions + 2
 stage_left (Told request wait node) size = flow_most + 2 * request.questions + 1
 stage_left (Reading sending left) size = 8 * left + 2
-stage_left (Came sending left placed) size = (size - placed) + (8 * left + (if left == 0 then 1 else 3))
+stage_left (Came sending left placed) size =
+    (size - placed) + (8 * left + (if left == 0 then 1 else 3))
 
 abbrev pub flow_left : Option Flow → (size : ℕ) → ℕ
 flow_left None size = 0
@@ -206,7 +215,8 @@ stage_length (Came sending left placed) = 0
 -- it is served so
 abbrev pub StageBy : (server length : ℕ) → Stage → Type 0
 StageBy server length (Asked request wait) = (request.server ≡ server) × (request.length ≡ length)
-StageBy server length (Told request wait node) = (request.server ≡ server) × (request.length ≡ length)
+StageBy server length (Told request wait node) =
+    (request.server ≡ server) × (request.length ≡ length)
 StageBy server length (Reading sending left) = Unit {0}
 StageBy server length (Came sending left placed) = Unit {0}
 

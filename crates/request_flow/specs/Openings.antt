@@ -20,7 +20,13 @@ use Rattle.request_flow.specs.declared.flow.Terms.{Terms as CodeTerms}
 -- what a connection with these ends is served: the site, its patterns, and the filters that a server has
 abbrev pub service_of : List SetPattern → Site → (local peer : Addr) → Service
 service_of patterns site local peer =
-    record { site = whole (patterns_seen patterns) site; finds = found; members = shipped; local = local; peer = peer }
+    record {
+      site = whole (patterns_seen patterns) site;
+      finds = found;
+      members = shipped;
+      local = local;
+      peer = peer;
+    }
 
 abbrev pub start_at : Opening → Start
 start_at o = record { moment = o.moment; tree = o.tree }
@@ -46,8 +52,20 @@ main_at g o =
 
 -- what a response is asked with
 abbrev pub terms_seen : CodeTerms → Terms
-terms_seen t = record { moment = t.moment; version = t.version; no_body = t.no_body; before = t.before; head_keeps = t.head_keeps }
+terms_seen t = record {
+  moment = t.moment;
+  version = t.version;
+  no_body = t.no_body;
+  before = t.before;
+  head_keeps = t.head_keeps;
+}
 
 abbrev pub terms_at : Opening → Terms
 terms_at o =
-    record { moment = o.moment; version = o.head.now.version; no_body = is_head o.head.now.method; before = o.before; head_keeps = o.head.now.keep }
+    record {
+      moment = o.moment;
+      version = o.head.now.version;
+      no_body = is_head o.head.now.method;
+      before = o.before;
+      head_keeps = o.head.now.keep;
+    }

@@ -60,7 +60,8 @@ act_rest w tree t m vars =
 
 -- before its phases
 abbrev pub opened_rest : World → Tree → Terms → Main → Request → Rest
-opened_rest w tree t main request = act_rest w tree t (rounds w most_changes (outside main request)) []
+opened_rest w tree t main request =
+    act_rest w tree t (rounds w most_changes (outside main request)) []
 
 -- ---- how it goes on
 
@@ -80,7 +81,8 @@ values_by site (Some number) other = Some (values_seen site (raw_level site numb
 -- A request goes on: what is kept for the peer and what is still to come stay the same, and so does whether the connection
 -- closes after it; what is logged now and what will be is what was to be; the level of which the number is told is the one
 -- that answers; and subrequests are asked for as before.
-pub record Follows (site : Site) (before after : Rest) (out out' : List ℕ) (closing closing' : Bool) (log : Option Log) (number : Option ℕ) : Type 0 where
+pub record Follows (site : Site) (before after : Rest) (out out' : List ℕ) (closing closing' : Bool)
+    (log : Option Log) (number : Option ℕ) : Type 0 where
   pub bytes : out' ++ after.bytes ≡ out ++ before.bytes
   pub closes : closes_after after closing' ≡ closes_after before closing
   pub logged : logged_by log ++ after.logs ≡ before.logs

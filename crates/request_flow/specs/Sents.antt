@@ -62,7 +62,8 @@ put_now r t keep = if r.gone then [] else head_of (head_seen r t keep) ++ conten
 -- Whether the connection stays open after a reply: where the request's head allows it, the level does, and no error closes it.
 abbrev pub stays_seen : CodeTerms → Level → Reply → Bool
 stays_seen t level r =
-    t.head_keeps && (nat_lt (t.before + 1) level.requests && not (level.idle == 0)) && not (r.closes || r.gone)
+    t.head_keeps && (nat_lt (t.before + 1) level.requests && not (level.idle == 0))
+    && not (r.closes || r.gone)
 
 -- no filter of the level acts on a body
 abbrev pub is_unfiltered : Level → Bool
@@ -123,4 +124,5 @@ prepared_rest t p vars = came_rest t (came_as p vars) 0
 -- where a request in its phases made this step, and these are the bytes of the file
 abbrev pub step_rest : World → List SetPattern → Site → Tree → InPhases → Step → List ℕ → Rest
 step_rest w patterns site tree request step bytes =
-    act_rest w tree (terms_seen request.terms) (phases_left w patterns site bytes request.phases step) request.vars
+    act_rest w tree (terms_seen request.terms)
+    (phases_left w patterns site bytes request.phases step) request.vars

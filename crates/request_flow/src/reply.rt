@@ -165,7 +165,8 @@ pub fn put_refusal(
     ensures put { (start : Start) → start.moment ≡ moment
         → OnOk result (out.new ≡ out.old ++ (refusal code start no_body).bytes) }
     ensures fits { OnOk result (length out.new ≤ length out.old + 65536) }
-    ensures log { (start : Start) → IfOk result (λ size. (code, size) ≡ (refusal code start no_body).log) }
+    ensures log { (start : Start) → IfOk result
+        (λ size. (code, size) ≡ (refusal code start no_body).log) }
     ensures kept { space.new.patterns ≡ space.old.patterns }
 {
     let mut page = ByteText::new(space.alloc);

@@ -57,7 +57,8 @@ fn run_told(
         let site = ground.now.site.now in
         IfOk result (λ o. Follows site
         (flow_rest w space.old.patterns site (Some (heard_flow heard)) trees)
-        (flow_rest w space.old.patterns site o.flow trees) out.old out.new closing o.closing o.log o.level) }
+        (flow_rest w space.old.patterns site o.flow trees) out.old out.new closing o.closing o.log
+        o.level) }
     ensures over { IfOk result (λ o. is_some o.log ≡ not (is_some o.flow)) }
     ensures fits { IfOk result (λ o. flow_fits o.flow (length out.new) ≡ true) }
     ensures lowers { IfOk result (λ o. length out.new + flow_left o.flow (length out.new)
@@ -185,7 +186,8 @@ pub fn run_on(
         let w = world_in space.old.patterns ground.now shipped in
         let site = ground.now.site.now in
         IfOk result (λ o. Follows site (flow_rest w space.old.patterns site (Some flow) trees)
-        (flow_rest w space.old.patterns site o.flow trees) out.old out.new closing o.closing o.log o.level) }
+        (flow_rest w space.old.patterns site o.flow trees) out.old out.new closing o.closing o.log
+        o.level) }
     ensures over { IfOk result (λ o. is_some o.log ≡ not (is_some o.flow)) }
     ensures fits { IfOk result (λ o. flow_fits o.flow (length out.new) ≡ true) }
     ensures lowers { IfOk result (λ o. length out.new + flow_left o.flow (length out.new)

@@ -148,7 +148,8 @@ fn reading(number: u32, status: u16, file: FileAt, closing: bool) -> Onward
         ≡ file_rest (record { status = status; len = file.len }) file.len
         (item_asked trees file.ask) }
     ensures flow { is_some result.flow ≡ true }
-    ensures others { (result.closing ≡ closing) × (result.log ≡ None) × (result.level ≡ Some number) }
+    ensures others { (result.closing ≡ closing) × (result.log ≡ None) ×
+        (result.level ≡ Some number) }
     ensures fits { (count : ℕ) → count ≤ 65536 → flow_fits result.flow count ≡ true }
     ensures lowers { (count : ℕ) → count ≤ 65536 → count + flow_left result.flow count < flow_most }
     ensures by { (server length : ℕ) → IsServedBy server length result.flow }
@@ -190,7 +191,8 @@ fn answer(
         (flow_rest w patterns site o.flow trees) out.old out.new closing o.closing o.log o.level) }
     ensures over { IfOk result (λ o. is_some o.log ≡ not (is_some o.flow)) }
     ensures fits { IfOk result (λ o. flow_fits o.flow (length out.new) ≡ true) }
-    ensures lowers { IfOk result (λ o. length out.new + flow_left o.flow (length out.new) < flow_most) }
+    ensures lowers { IfOk result (λ o. length out.new + flow_left o.flow
+        (length out.new) < flow_most) }
     ensures by { (server length : ℕ) → IfOk result (λ o. IsServedBy server length o.flow) }
     ensures asked { IfOk result (λ o. tree_asked o.flow ≤ known_tree known) }
     ensures closes { IfOk result (λ o. closing ≡ true → o.closing ≡ true) }
@@ -231,7 +233,8 @@ pub(crate) fn go_on(
         let w = world_in patterns ground.now shipped in
         let site = ground.now.site.now in
         IfOk result (λ o. Follows site
-        (step_rest w patterns site (trees (known_tree known)) request step (known_bytes known trees))
+        (step_rest w patterns site (trees (known_tree known)) request step
+        (known_bytes known trees))
         (flow_rest w patterns site o.flow trees) out.old out.new closing o.closing o.log o.level) }
     ensures over { IfOk result (λ o. is_some o.log ≡ not (is_some o.flow)) }
     ensures fits { IfOk result (λ o. flow_fits o.flow (length out.new) ≡ true) }
@@ -315,7 +318,8 @@ pub fn start(
         (main_at ground.now opening.entry) (request_of
         (server_whole (patterns_seen space.old.patterns) site ground.now.server.now)
         opening.entry.head.now))
-        (flow_rest w space.old.patterns site o.flow trees) out.old out.new false o.closing o.log o.level) }
+        (flow_rest w space.old.patterns site o.flow trees) out.old out.new false o.closing o.log
+        o.level) }
     ensures over { IfOk result (λ o. is_some o.log ≡ not (is_some o.flow)) }
     ensures fits { IfOk result (λ o. flow_fits o.flow (length out.new) ≡ true) }
     ensures lowers { IfOk result (λ o. length out.new + flow_left o.flow (length out.new)

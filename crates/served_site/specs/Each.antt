@@ -7,4 +7,5 @@ use Rattle.location_search.specs.declared.locations.Locations.{Locations}
 -- the locations with each number are those of the server with that number
 abbrev pub AreOfEach : List Locations → Locations → List Server → Server → Type 0
 AreOfEach locations spare_locations servers spare =
-    (number : ℕ) → AreOf (unwrap_or (slice_get locations number) spare_locations) (unwrap_or (slice_get servers number) spare)
+    (number : ℕ) → AreOf (unwrap_or (slice_get locations number) spare_locations)
+    (unwrap_or (slice_get servers number) spare)

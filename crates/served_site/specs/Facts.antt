@@ -40,16 +40,20 @@ Node-set = Coded-set node_row.the_row.coded
 same_node : (x y : Option Node) → IsProp (x ≡ y)
 same_node x y = hlevel (Node-set, props)
 
-node_prop : (nodes : List Node) (number : ℕ) (here : CodeLocation) (inner : List Member) → IsProp (IsNodeOf nodes number here inner)
+node_prop : (nodes : List Node) (number : ℕ) (here : CodeLocation) (inner : List Member)
+    → IsProp (IsNodeOf nodes number here inner)
 node_prop nodes number here inner a b =
     let e : Some a.node ≡ Some b.node = sym a.is ∙ b.is in
     let p : a.node ≡ b.node = cc in
     λ i. record {
       node = p i;
-      is = is_prop→PathP (λ i. slice_get nodes number ≡ Some (p i)) (λ i. same_node (slice_get nodes number) (Some (p i))) a.is b.is i;
+      is = is_prop→PathP (λ i. slice_get nodes number ≡ Some (p i))
+          (λ i. same_node (slice_get nodes number) (Some (p i))) a.is b.is i;
       level = is_prop→PathP (λ i. (p i).level ≡ here.level) (λ i. hlevel props) a.level b.level i;
-      firm = is_prop→PathP (λ i. (p i).firm ≡ is_firm here.kind) (λ i. hlevel props) a.firm b.firm i;
-      list = is_prop→PathP (λ i. HasList (p i).list inner) (λ i. list_prop (p i).list inner) a.list b.list i;
+      firm =
+          is_prop→PathP (λ i. (p i).firm ≡ is_firm here.kind) (λ i. hlevel props) a.firm b.firm i;
+      list = is_prop→PathP (λ i. HasList (p i).list inner)
+          (λ i. list_prop (p i).list inner) a.list b.list i;
     }
 
 have_prop : (nodes : List Node) (bound : ℕ) (tree : Numbered) → IsProp (HaveNodes nodes bound tree)
@@ -67,13 +71,16 @@ tree_prop nodes number tree a b =
     let p : a.node ≡ b.node = cc in
     λ i. record {
       node = p i;
-      is = is_prop→PathP (λ i. slice_get nodes number ≡ Some (p i)) (λ i. same_node (slice_get nodes number) (Some (p i))) a.is b.is i;
-      list = is_prop→PathP (λ i. HasList (p i).list (members tree)) (λ i. list_prop (p i).list (members tree)) a.list b.list i;
+      is = is_prop→PathP (λ i. slice_get nodes number ≡ Some (p i))
+          (λ i. same_node (slice_get nodes number) (Some (p i))) a.is b.is i;
+      list = is_prop→PathP (λ i. HasList (p i).list (members tree))
+          (λ i. list_prop (p i).list (members tree)) a.list b.list i;
       inner = have_prop nodes number tree a.inner b.inner i;
     }
 
 pub locations_prop : (l : Locations) (s : Server) → IsProp (AreOf l s)
 locations_prop l s = hlevel (tree_prop, props)
 
-pub each_prop : (locations : List Locations) (spare_locations : Locations) (servers : List Server) (spare : Server) → IsProp (AreOfEach locations spare_locations servers spare)
+pub each_prop : (locations : List Locations) (spare_locations : Locations) (servers : List Server)
+    (spare : Server) → IsProp (AreOfEach locations spare_locations servers spare)
 each_prop locations spare_locations servers spare = Π_prop (λ number. locations_prop _ _)

@@ -18,4 +18,5 @@ raw_locations s number = unwrap_or (slice_get s.locations.items number) s.spare_
 
 -- as the recursive meaning sees it, with these patterns
 abbrev pub server_numbered : List SetPattern → ServedSite → ℕ → ServerView
-server_numbered patterns s number = server_whole (patterns_seen patterns) s.site (raw_server s number)
+server_numbered patterns s number =
+    server_whole (patterns_seen patterns) s.site (raw_server s number)

@@ -99,7 +99,8 @@ impl ServedSite {
 
     /// A number that a server has.
     fn known(&self, number: Option<u32>) -> Option<u32>
-        ensures { (patterns : List SetPattern) → option_map (server_numbered patterns self.now) result
+        ensures { (patterns : List SetPattern) → option_map
+            (server_numbered patterns self.now) result
             ≡ server_at (whole (patterns_seen patterns) self.now.site) number }
     {
         match number {
@@ -127,7 +128,8 @@ impl ServedSite {
 
     /// The number of the server of a local end where no host is known, and none where no server listens there.
     pub fn default_at(&self, local: Addr) -> Option<u32>
-        ensures { (patterns : List SetPattern) → option_map (server_numbered patterns self.now) result
+        ensures { (patterns : List SetPattern) → option_map
+            (server_numbered patterns self.now) result
             ≡ default_server (whole (patterns_seen patterns) self.now.site).servers local }
     {
         self.known(self.servers.default_at(local))

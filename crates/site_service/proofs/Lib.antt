@@ -1,1 +1,2 @@
+pub mod EndsLaws
 pub mod Becoming

@@ -1,6 +1,7 @@
 -- A site that is served, by what was taken of each link and sent on it.
-use Rattle.std.specs.Prelude.{◌≡◌, ◌≢◌, ℕ, ◌≤◌, ◌-◌, ◌^◌, true, false, List, [], ◌++◌, None, Some}
+use Rattle.std.specs.Prelude.{◌≡◌, ◌≢◌, ℕ, ◌≤◌, ◌-◌, ◌^◌, true, false, List, [], ◌++◌, None, Some, map, flat_map}
 use Rattle.file_tree.specs.Tree.{Trees}
+use Rattle.http_types.specs.declared.words.Addr.{Addr}
 use Rattle.ngx_outside.specs.Causes.{Rose}
 use Rattle.ngx_outside.specs.Seen.{LinksSeen, FilesSeen, ClockSeen}
 use Rattle.ngx_outside.specs.Views.{ConnView, Start, IsSound}
@@ -13,10 +14,14 @@ use Rattle.ready_loop.specs.Turns.{AtRest, TurnsTaken}
 use Rattle.ready_loop.specs.declared.service.Ending.{Ending}
 use Rattle.ready_loop.specs.declared.service.Ending.TheVariants as ending
 use Rattle.site_model.specs.declared.site.Site.{Site}
-use Rattle.site_model.specs.Levels.{seen, addresses}
-use Rattle.connection.specs.Answers.{Service, answers, answers_close, service_of}
-use Rattle.connection.specs.Conn.{fresh_course}
+use Rattle.site_views.specs.Views.{ListenView, ServerView}
+use Rattle.site_whole.specs.Whole.{whole}
+use Rattle.answers_meaning.specs.Asking.{Service}
+use Rattle.answers_meaning.specs.Answers.{answers, responses, close_in}
+use Rattle.request_flow.specs.Openings.{service_of}
+use Rattle.http_connection.specs.Conn.{fresh_course}
 use Rattle.connection_core.specs.Core.{site_terms}
+use Rattle.site_service.specs.Ends.{each_once}
 
 -- What a call meets, before it and after it: files, links and a clock.
 pub record Outside : Type 0 where
@@ -37,11 +42,18 @@ pub record AreNew (links : LinksSeen) : Type 0 where
 abbrev pub SayAsTold : Outside → Trees → Type 0
 SayAsTold o trees = Agree o.files'.trees o.files'.newest trees
 
--- what a link is served: the site, at the link's two ends
-abbrev pub service_at : Site → Outside → ℕ → Service
-service_at site o id = service_of site (o.links'.link id).local (o.links'.link id).peer
+-- the addresses that a server listens on, as its meaning sees them, and those of a site's servers, each once
+abbrev pub addresses_of : ServerView → List Addr
+addresses_of server = map (λ (l : ListenView). l.addr) server.listens
 
--- the answers to what was taken of a link, with this behind it
+abbrev pub addresses : Site → List Addr
+addresses site = each_once (flat_map addresses_of (whole [] site).servers)
+
+-- what a link is served: the site, which has no patterns, at the link's two ends
+abbrev pub service_at : Site → Outside → ℕ → Service
+service_at site o id = service_of [] site (o.links'.link id).local (o.links'.link id).peer
+
+-- the answers to what was taken of a link, with this after it
 abbrev pub answers_to : Site → Outside → ℕ → Trees → (more : List ℕ) → List Start → List ℕ
 answers_to site o id trees more starts = answers (service_at site o id) 0 trees
     ((o.links'.link id).taken ++ more) starts
@@ -65,18 +77,19 @@ NothingWasMissed site o id starts =
 abbrev pub StaysOpen : Site → Outside → ℕ → List Start → Type 0
 StaysOpen site o id starts =
     (trees : Trees) → SayAsTold o trees → (later : List Start) →
-    answers_close (service_at site o id) 0 trees (o.links'.link id).taken (starts ++ later) ≡ false
+    close_in (responses (service_at site o id) 0 trees (o.links'.link id).taken
+    (starts ++ later)) ≡ false
 
 -- too many subrequests were foreseen when the connection of a link was opened
 abbrev pub WasForeseen : Site → Outside → ℕ → List Start → Type 0
 WasForeseen site o id starts =
     (trees : Trees) → SayAsTold o trees →
-    (fresh_course site (o.links'.link id).local (o.links'.link id).peer).heavy trees
+    (fresh_course [] site (o.links'.link id).local (o.links'.link id).peer).heavy trees
     (o.links'.link id).taken starts ≡ true
 
 -- the connection of a link may be given up when a moment comes
 abbrev pub IsTimed : Site → Outside → ℕ → Type 0
-IsTimed site o id = (fresh_course site (o.links'.link id).local
+IsTimed site o id = (fresh_course [] site (o.links'.link id).local
     (o.links'.link id).peer).timed ≡ true
 
 -- What a cause of a stop comes of: a fault of the link or of the files, an event that was refused
@@ -128,7 +141,7 @@ pub data Became (site : Site) (o : Outside) (rests : Type 0) (ticks : List Tick)
     (id : ℕ) : Type 0 where
   TurnedAway : o.links'.is_open id ≡ false → (o.links'.link id).taken ≡ [] →
       (o.links'.link id).sent ≡ [] →
-      Reason (Rose 0 o.links'.refused) (site_terms site) (o.links'.link id) →
+      Reason (Rose 0 o.links'.refused) (site_terms [] site) (o.links'.link id) →
       Became site o rests ticks id
   Served : LinkServed site o rests ticks id → Became site o rests ticks id
 
@@ -141,6 +154,6 @@ pub record Serving (site : Site) (turns : ℕ) (e : Ending) (o : Outside) : Type
   pub links : o.links.tells ≡ true → o.files.tells ≡ true → (id : ℕ) → o.links'.used id ≡ true →
       Became site o (e ≢ ending.ListenFault) ticks id
   pub listens : e ≢ ending.ListenFault →
-      o.links'.listening ≡ o.links.listening ++ addresses (seen site)
+      o.links'.listening ≡ o.links.listening ++ addresses site
   pub notices : o.links.tells ≡ true → o.links.notices ≤ 2 ^ 64 - 1 →
       TurnsTaken e turns o.links.notices o.links'.notices

@@ -1,28 +1,21 @@
 // Serves a site over links.
-ghost use Rattle.std.specs.Prelude.{◌≡◌, ◌≤◌, true, IfOk, OnOk, Ok, flat_map};
+ghost use Rattle.std.specs.Prelude.{◌≡◌, ◌≤◌, ℕ, true, None, IfOk, OnOk, Ok};
 ghost use Rattle.ngx_outside.specs.Causes.{Rose};
+ghost use Rattle.site_model.specs.Levels.{raw_level};
 ghost use Rattle.site_service.specs.Serving.{AreNew, Outside, Serving};
 
+use crate::ends::addresses;
 use byte_text::OutOfMemory;
 use connection_core::{Hub, cores_are_sound};
-use http_types::Addr;
 use ngx_outside::{Clock, Files, Links, all_is_sent_when_idle, shut_is_exact};
+use ngx_pattern::PatternSet;
 use ready_loop::{Ending, closed_unended_sent_all, closed_unstopped_sent_all, kept_begins, serve};
-use site_model::{Server, Site};
+use served_site::ServedSite;
+use site_model::Site;
 use std::alloc::Global;
 
-// The addresses that the servers of a site listen on.
-fn addresses(alloc: Global, servers: &[Server]) -> Result<Vec<Addr>, OutOfMemory>
-    ensures { IfOk result (λ all. all.items ≡ flat_map (λ s. s.listens) servers.now) }
-{
-    let mut all = Vec::new(alloc);
-    for server in servers {
-        all.extend_from_slice(server.listens.as_slice())?;
-    }
-    Ok(all)
-}
-
-/// Serves a site over new links, on all its addresses, for that many turns.
+/// Serves a site over new links, on each of its addresses once, for that many turns. It has no patterns, and none of its levels has a
+/// `return` beside its rewrite program.
 pub fn serve_site<F: Files, L: Links, C: Clock>(
     alloc: Global,
     site: Site,
@@ -32,6 +25,7 @@ pub fn serve_site<F: Files, L: Links, C: Clock>(
     turns: u64,
 ) -> Result<Ending, OutOfMemory>
     requires links { AreNew (L.seen links.old) }
+    requires unreturned { (number : ℕ) → (raw_level site number).returned ≡ None }
     ensures serving { IfOk result (λ e. Serving site turns e (record {
       files = F.seen files.old;
       files' = F.seen files.new;
@@ -54,7 +48,9 @@ pub fn serve_site<F: Files, L: Links, C: Clock>(
     shut_is_exact();
     cores_are_sound();
     let addrs = addresses(alloc, site.servers.as_slice())?;
-    let mut hub = Hub::new(alloc, site);
+    let served = ServedSite::new(alloc, site)?;
+    let patterns = PatternSet::new(alloc);
+    let mut hub = Hub::new(alloc, served, patterns);
     let ending = serve(
         alloc,
         &mut hub,

@@ -1,17 +1,17 @@
-use Rattle.std.proofs.Common.{◌≡◌, Option, option_map, ap, ◌∙◌, arith}
+use Rattle.std.proofs.Common.{◌≡◌, ap, ◌∙◌, arith}
 use Rattle.conf_block.specs.Forest.{forest_of}
 use Rattle.conf_block.specs.Locations.{alias_prefix}
-use Rattle.conf_inherit.specs.Values.{Values, stated, over}
+use Rattle.conf_inherit.specs.Values.{stated, over}
 use Rattle.conf_inherit.specs.Pools.{values_by}
 use Rattle.conf_inherit.specs.Built.{location_with, locations_in, inner_values}
-use Rattle.conf_inherit.proofs.SiteLaws.{keeps-same, keeps-then, locations-none, locations-by, added-none, added-more, added-end}
+use Rattle.conf_inherit.proofs.SiteLaws.{keeps-same, keeps-then, all-same, all-then, fits-later, locations-none, locations-by, added-none, added-more, added-end}
 use Rattle.conf_inherit.proofs.site.+add_locations.Goals as goal
 
 pub loop-branch-init : goal.loop-branch-init
 loop-branch-init t c = (added-none _ _ _ _ _ _, omega arith)
 
 pub inner-requires : goal.inner-requires
-inner-requires t c = c.loop-branch.invariant.0.types_kept _ _ c.requires
+inner-requires t c = fits-later _ _ c.args.outer c.loop-branch.invariant.0.shelf_kept c.requires
 
 pub location_of-requires : goal.location_of-requires
 location_of-requires t c = c.in_ok-values.ensures.there
@@ -27,7 +27,7 @@ loop-branch-preserved t c =
       added-more c.loop-branch.invariant.0 v c.in_ok-inside.inside _ _ _ _ _ _ c.in_ok-location_of.field-0 (location_with v d block) (locations_in v block)
           (locations_in outer (forest_of c.in-Some.branch.beside.now))
           (keeps-then _ _ _ (keeps-same _ _ c.in_ok-values.ensures.levels) c.in_ok-location_of.ensures.levels)
-          (keeps-then _ _ _ c.in_ok-values.ensures.types (keeps-same _ _ c.in_ok-location_of.ensures.types))
+          (all-then _ _ _ c.in_ok-values.ensures.shelf (all-same _ _ c.in_ok-location_of.ensures.shelf))
           c.in_ok-push.ensures.items c.in_ok-location_of.ensures.depth c.in_ok-inside.ensures
           (locations-by outer v _ d block _ c.in-Some.ensures.forest c.in-Some.ensures.found within) c.in_ok-location_of.ensures.seen c.in_ok-add_locations.ensures,
       omega (arith, c.in-Some.ensures.beside),

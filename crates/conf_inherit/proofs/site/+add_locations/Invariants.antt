@@ -10,7 +10,7 @@ decreases-add_locations l = length l.level.now
 -- the locations so far, and those that are left
 abbrev pub invariant-loop-branch : goal.invariant-loop-branch
 invariant-loop-branch l =
-    Added (values_by l.outer) l.depth l.fn.pool.levels.items l.pool.levels.items l.fn.pool.types.items l.pool.types.items l.fn.locations.items l.locations.items
+    Added (values_by l.outer) l.depth l.fn.pool.levels.items l.pool.levels.items l.fn.pool.shelf l.pool.shelf l.fn.locations.items l.locations.items
     (locations_in (values_by l.outer) (forest_of l.rest)) (locations_in (values_by l.outer) (forest_of l.level))
     × (length l.rest ≤ length l.level)
 

@@ -7,5 +7,5 @@ returns-clause-seen c = λ site h. added-all c.in_ok-add_locations.ensures c.new
 pub returns-clause-levels : goal.returns-clause-levels
 returns-clause-levels c = c.in_ok-add_locations.ensures.levels_kept
 
-pub returns-clause-types : goal.returns-clause-types
-returns-clause-types c = c.in_ok-add_locations.ensures.types_kept
+pub returns-clause-shelf : goal.returns-clause-shelf
+returns-clause-shelf c = c.in_ok-add_locations.ensures.shelf_kept

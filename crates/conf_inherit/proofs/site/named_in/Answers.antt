@@ -1,16 +1,16 @@
 use Rattle.std.proofs.Common.{rules}
-use Rattle.conf_inherit.proofs.SiteLaws.{so-far-begin, so-far-more, so-far-end, named-none, named-here}
+use Rattle.conf_inherit.proofs.SiteLaws.{fits-later, so-far-begin, so-far-more, so-far-end, named-none, named-here}
 use Rattle.conf_inherit.proofs.site.named_in.Goals as goal
 
 pub loop-branch-init : goal.loop-branch-init
 loop-branch-init c = so-far-begin _ _ _ _ _ (search rules)
 
 pub named_of-requires : goal.named_of-requires
-named_of-requires c = c.loop-branch.invariant.types_kept _ _ c.requires
+named_of-requires c = fits-later _ _ c.args.outer c.loop-branch.invariant.shelf_kept c.requires
 
 pub loop-branch-preserved : goal.loop-branch-preserved
 loop-branch-preserved c =
-    so-far-more c.loop-branch.invariant _ _ _ c.in_ok-named_of.field-0 _ _ c.in_ok-named_of.ensures.levels c.in_ok-named_of.ensures.types (search rules)
+    so-far-more c.loop-branch.invariant _ _ _ c.in_ok-named_of.field-0 _ _ c.in_ok-named_of.ensures.levels c.in_ok-named_of.ensures.shelf (search rules)
     (named-here _ _ c.in-Some.branch.directive.now _ _ c.in-Some.ensures.forest c.in-Some.ensures.found) c.in_ok-named_of.ensures.seen
 
 pub returns-clause-seen : goal.returns-clause-seen
@@ -19,5 +19,5 @@ returns-clause-seen c = λ site h. so-far-end c.loop-branch.invariant (named-non
 pub returns-clause-levels : goal.returns-clause-levels
 returns-clause-levels c = c.loop-branch.invariant.levels_kept
 
-pub returns-clause-types : goal.returns-clause-types
-returns-clause-types c = c.loop-branch.invariant.types_kept
+pub returns-clause-shelf : goal.returns-clause-shelf
+returns-clause-shelf c = c.loop-branch.invariant.shelf_kept

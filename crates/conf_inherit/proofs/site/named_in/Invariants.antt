@@ -9,7 +9,7 @@ use Rattle.conf_inherit.proofs.site.named_in.Given as goal
 -- the locations so far, and those that are left
 abbrev pub invariant-loop-branch : goal.invariant-loop-branch
 invariant-loop-branch l =
-    SoFar (λ site n. named_whole [] site n) l.fn.pool.levels.items l.pool.levels.items l.fn.pool.types.items l.pool.types.items l.named.items
+    SoFar (λ site n. named_whole [] site n) l.fn.pool.levels.items l.pool.levels.items l.fn.pool.shelf l.pool.shelf l.named.items
     (named_in (values_by l.outer) (forest_of l.rest)) (named_in (values_by l.outer) (forest_of l.server))
 
 abbrev pub decreases-loop-branch : goal.decreases-loop-branch

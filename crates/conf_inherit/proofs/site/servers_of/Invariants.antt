@@ -11,7 +11,7 @@ use Rattle.conf_inherit.proofs.site.servers_of.Given as goal
 -- the servers so far, and those that are left
 abbrev pub invariant-loop-branch : goal.invariant-loop-branch
 invariant-loop-branch l =
-    SoFar (λ site s. server_whole [] site s) l.fn.pool.levels.items l.pool.levels.items l.fn.pool.types.items l.pool.types.items l.servers.items
+    SoFar (λ site s. server_whole [] site s) l.fn.pool.levels.items l.pool.levels.items l.fn.pool.shelf l.pool.shelf l.servers.items
     (map (server_in (values_by l.outer)) (blocks_of (codes "server") (forest_of l.rest))) (map (server_in (values_by l.outer)) (blocks_of (codes "server") (forest_of l.http)))
 
 abbrev pub decreases-loop-branch : goal.decreases-loop-branch

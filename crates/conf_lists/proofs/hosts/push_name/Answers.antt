@@ -1,6 +1,6 @@
 use Rattle.std.proofs.Common.{[]}
 use Rattle.site_whole.specs.Whole.{name_seen}
-use Rattle.conf_lists.proofs.HostLaws.{pushed}
+use Rattle.conf_lists.proofs.WordLaws.{pushed}
 use Rattle.conf_lists.proofs.hosts.push_name.Goals as goal
 
 pub returns : goal.returns

@@ -31,7 +31,7 @@ returns-in-Ok-serve_site g c =
     let out : Output = record { before = u.seen c.args.out.now; after = u.seen c.args.out.now } in
     let described : Describes purposes.Serving o.files (f.seen c.site_at.new.files) path (Ok (whole [] site)) = record { reads = a.reading; is = a.exact } in
     subst (ServeEnds o out path c.args.turns) (sym c.served_status.ensures)
-    (served o out path c.args.turns e site (f.seen c.site_at.new.files) described a.free s.serving (λ tells. sym (append-nil (u.seen c.args.out.now).written))
+    (served o out path c.args.turns e site (f.seen c.site_at.new.files) described s.serving (λ tells. sym (append-nil (u.seen c.args.out.now).written))
     (λ is. s.ended (ap Ok is)) (λ is. s.listen_fault (ap Ok is)) (λ is. s.next_fault (ap Ok is)))
 
 pub returns-in-Err-Fault : goal.returns-in-Err-Fault

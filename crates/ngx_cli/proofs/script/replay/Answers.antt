@@ -15,7 +15,6 @@ returns-in-Ok-site_of c =
         record {
           site = site;
           described = c.in-Ok-site_of.ensures.ok;
-          free = c.in-Ok-site_of.ensures.free;
           ran = subst (λ t. Ran site t script.events r.0) c.as_slice.ensures (subst (λ e. Ran site c.as_slice.result.now e r.0) c.as_slice-in-Ok-site_of.ensures r.2);
         },
       ),

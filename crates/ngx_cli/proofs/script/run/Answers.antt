@@ -1,13 +1,13 @@
 use Rattle.std.proofs.Common.{◌≡◌, [], refl, sym, ap, ◌∙◌, subst}
 use Rattle.std.specs.Prelude.{map}
 use Rattle.ngx_outside.specs.Views.{Start}
-use Rattle.connection.specs.Conn.{fresh_course}
 use Rattle.replay_run.specs.Told.{Told, told_of, told_first, told_in}
 use Rattle.replay_run.specs.Scene.{Stage, stage}
 use Rattle.replay_run.specs.Plays.{Plays, sent_in}
 use Rattle.replay_run.specs.Standing.{AllStanding}
 use Rattle.ngx_outside.specs.Seen.{Terms}
-use Rattle.connection_core.specs.Core.{view_at, now_at, fresh_at, site_terms, journal_at, conns_held}
+use Rattle.http_connection.specs.Conn.{fresh_course}
+use Rattle.connection_core.specs.Core.{view_at, now_at, fresh_at, terms_at, site_terms, journal_at, conns_held}
 use Rattle.report_text.specs.Report.{run_text}
 use Rattle.ngx_cli.specs.Running.{IsNew, report_in}
 use Rattle.ngx_cli.proofs.Answering.{answered, begins_standing, opened_by_lines}
@@ -18,6 +18,8 @@ returns c =
     let site = c.args.site in
     let events = c.args.events.now in
     let hub = c.new-hub.result in
+    let terms : terms_at hub ≡ site_terms [] site =
+    c.new-hub.ensures.terms ∙ ap (λ ps. site_terms ps c.in_ok-served.served.site) c.new-patterns.ensures ∙ ap (site_terms []) c.in_ok-served.ensures in
     let files = c.in_ok-files.files in
     let told : told_of files ≡ told_first c.args.tree.now = c.in_ok-files.ensures.told in
     let end = c.run_lines.new.core in
@@ -33,8 +35,8 @@ returns c =
         skipped = counts.skipped;
         refused = counts.refused;
         begins = new;
-        plays = subst (λ t. Plays (site_terms site) events t first 0 0 last counts.skipped counts.refused) told
-            (subst (λ (m : Terms). Plays m events (told_of files) first 0 0 last counts.skipped counts.refused) c.new-hub.ensures.terms c.in_ok-counts.ensures.plays);
+        plays = subst (λ t. Plays (site_terms [] site) events t first 0 0 last counts.skipped counts.refused) told
+            (subst (λ (m : Terms). Plays m events (told_of files) first 0 0 last counts.skipped counts.refused) terms c.in_ok-counts.ensures.plays);
         conns = conns_held end;
         held = c.put_run.ensures.held;
         journals = journal_at end;
@@ -43,8 +45,8 @@ returns c =
         opened = opened_by_lines events first last.lanes new c.in_ok-counts.ensures.opened;
         printed = refl;
         answered = λ q among. answered c.all_is_sent_when_idle.ensures c.all_is_sent_when_shut.ensures c.shut_is_exact.ensures c.all_is_logged_when_idle.ensures site (told_in events (told_first c.args.tree.now)) (last.view q) (last.lanes q) (sent_in events q) ((c.put_run.ensures.held.held q).0 among) (c.cores_are_sound.ensures end q).sound (c.cores_are_sound.ensures end q).exact
-            (subst (λ t. AllStanding (fresh_course site) (told_in events t) last (λ k. sent_in events k)) told
-            (subst (λ (m : Terms). AllStanding m.fresh (told_in events (told_of files)) last (λ k. sent_in events k)) c.new-hub.ensures.terms (c.in_ok-counts.ensures.stands (λ k. []) (begins_standing (fresh_at hub) (told_of files) first new))) q);
+            (subst (λ t. AllStanding (fresh_course [] site) (told_in events t) last (λ k. sent_in events k)) told
+            (subst (λ (m : Terms). AllStanding m.fresh (told_in events (told_of files)) last (λ k. sent_in events k)) terms (c.in_ok-counts.ensures.stands (λ k. []) (begins_standing (fresh_at hub) (told_of files) first new))) q);
       },
     )
 

@@ -1,8 +1,9 @@
-use Rattle.std.proofs.Common.{◌≡◌, ◌≤◌, length, subst, arith}
-use Rattle.ngx_outside.specs.Views.{Start, nobody}
-use Rattle.connection.specs.Conn.{due_at}
-use Rattle.connection.specs.Times.{soonest}
-use Rattle.connection_core.specs.Table.{Placed}
+use Rattle.std.proofs.Common.{◌≡◌, ◌≤◌, length, subst, sym, arith}
+use Rattle.ngx_outside.specs.Views.{Start, StepsOwn, OneSteps, nobody}
+use Rattle.http_connection.specs.Conn.{due_at, ended_by}
+use Rattle.http_connection.specs.Times.{soonest}
+use Rattle.http_connection.specs.Rests.{Serves}
+use Rattle.connection_core.specs.Table.{serves_with, view_in, Placed}
 use Rattle.connection_core.proofs.Ticks.{set_later}
 use Rattle.connection_core.proofs.Held.{here_is, seat_at, one_steps, one_ended, left_after, none_steps, stands_in, belongs_in}
 use Rattle.connection_core.proofs.Ends.{own_known}
@@ -20,7 +21,10 @@ returns-in-Ok-clause-steps c =
     let even : length t.conns.items ≡ length t.ids.items = omega (arith, t.paired, t.ids.ok.0, t.conns.ok.0) in
     let s = seat_at c.args.conn c.in-Ok.at t.ids.items t.conns.items (stands_in c.args.conn c.in-Ok.at c.as_slice.result.now t.ids.items c.as_slice.ensures.value c.in-Ok.ensures) even in
     let now : Start = record { moment = c.args.moment; tree = c.args.tree } in
-    one_steps t.site c.args.conn c.in-Ok.at t.ids.items t.conns.items c.happen_at-answer.new.conns.items now c.args.event c.happen_at-answer.result s (c.happen_at-answer.ensures.replaced c.requires.own s.placed) nobody.course
+    let x : Serves = serves_with c.args.space.now.patterns t.served in
+    let n = c.happen_at-answer.new in
+    subst (λ p. OneSteps c.args.conn (StepsOwn nobody.course now c.args.event c.happen_at-answer.result) (view_in x t.ids.items t.conns.items) (view_in (serves_with p t.served) t.ids.items n.conns.items)) (sym c.happen_at-answer.ensures.patterns)
+    (one_steps x c.args.conn c.in-Ok.at t.ids.items t.conns.items c.happen_at-answer.new.conns.items now c.args.event c.happen_at-answer.result s (c.happen_at-answer.ensures.replaced c.requires.own s.placed) nobody.course)
 
 pub returns-in-Ok-clause-left : goal.returns-in-Ok-clause-left
 returns-in-Ok-clause-left c =
@@ -28,7 +32,8 @@ returns-in-Ok-clause-left c =
     let even : length t.conns.items ≡ length t.ids.items = omega (arith, t.paired, t.ids.ok.0, t.conns.ok.0) in
     let s = seat_at c.args.conn c.in-Ok.at t.ids.items t.conns.items (stands_in c.args.conn c.in-Ok.at c.as_slice.result.now t.ids.items c.as_slice.ensures.value c.in-Ok.ensures) even in
     let now : Start = record { moment = c.args.moment; tree = c.args.tree } in
-    left_after t.site c.args.conn c.in-Ok.at t.ids.items t.conns.items c.happen_at-answer.new.conns.items now c.args.event c.happen_at-answer.result s c.requires.own (c.happen_at-answer.ensures.replaced c.requires.own s.placed)
+    let x : Serves = serves_with c.args.space.now.patterns t.served in
+    left_after x c.args.conn c.in-Ok.at t.ids.items t.conns.items c.happen_at-answer.new.conns.items now c.args.event c.happen_at-answer.result s c.requires.own (c.happen_at-answer.ensures.replaced c.requires.own s.placed)
 
 pub returns-in-Ok-clause-ended : goal.returns-in-Ok-clause-ended
 returns-in-Ok-clause-ended c =
@@ -36,7 +41,10 @@ returns-in-Ok-clause-ended c =
     let even : length t.conns.items ≡ length t.ids.items = omega (arith, t.paired, t.ids.ok.0, t.conns.ok.0) in
     let s = seat_at c.args.conn c.in-Ok.at t.ids.items t.conns.items (stands_in c.args.conn c.in-Ok.at c.as_slice.result.now t.ids.items c.as_slice.ensures.value c.in-Ok.ensures) even in
     let now : Start = record { moment = c.args.moment; tree = c.args.tree } in
-    one_ended t.site c.args.conn c.in-Ok.at t.ids.items t.conns.items c.happen_at-answer.new.conns.items now c.args.event c.happen_at-answer.result s (c.happen_at-answer.ensures.replaced c.requires.own s.placed)
+    let x : Serves = serves_with c.args.space.now.patterns t.served in
+    let n = c.happen_at-answer.new in
+    subst (λ p. (view_in (serves_with p t.served) t.ids.items n.conns.items c.args.conn).ended ≡ ended_by c.args.event c.happen_at-answer.result (view_in x t.ids.items t.conns.items c.args.conn).ended) (sym c.happen_at-answer.ensures.patterns)
+    (one_ended x c.args.conn c.in-Ok.at t.ids.items t.conns.items c.happen_at-answer.new.conns.items now c.args.event c.happen_at-answer.result s (c.happen_at-answer.ensures.replaced c.requires.own s.placed))
 
 pub returns-in-Ok-clause-taken : goal.returns-in-Ok-clause-taken
 returns-in-Ok-clause-taken c =
@@ -49,7 +57,8 @@ pub returns-in-Err-clause-steps : goal.returns-in-Err-clause-steps
 returns-in-Err-clause-steps c =
     let t = c.args.self.now in
     let now : Start = record { moment = c.args.moment; tree = c.args.tree } in
-    none_steps t.site c.args.conn c.in-Err.field-0 t.ids.items t.conns.items now c.args.event nobody.course c.requires.own (belongs_in c.args.conn c.in-Err.field-0 c.as_slice.result.now t.ids.items c.as_slice.ensures.value c.in-Err.ensures)
+    let x : Serves = serves_with c.args.space.now.patterns t.served in
+    none_steps x c.args.conn c.in-Err.field-0 t.ids.items t.conns.items now c.args.event nobody.course c.requires.own (belongs_in c.args.conn c.in-Err.field-0 c.as_slice.result.now t.ids.items c.as_slice.ensures.value c.in-Err.ensures)
 
 pub returns-in-Ok-clause-known : goal.returns-in-Ok-clause-known
 returns-in-Ok-clause-known c = λ known.
@@ -57,7 +66,8 @@ returns-in-Ok-clause-known c = λ known.
     let even : length t.conns.items ≡ length t.ids.items = omega (arith, t.paired, t.ids.ok.0, t.conns.ok.0) in
     let s = seat_at c.args.conn c.in-Ok.at t.ids.items t.conns.items (stands_in c.args.conn c.in-Ok.at c.as_slice.result.now t.ids.items c.as_slice.ensures.value c.in-Ok.ensures) even in
     let now : Start = record { moment = c.args.moment; tree = c.args.tree } in
-    own_known t.site c.args.conn c.in-Ok.at t.conns.items c.happen_at-answer.new.conns.items now c.args.event c.happen_at-answer.result s.placed (c.happen_at-answer.ensures.replaced c.requires.own s.placed) known
+    let x : Serves = serves_with c.args.space.now.patterns t.served in
+    own_known x c.args.conn c.in-Ok.at t.conns.items c.happen_at-answer.new.conns.items now c.args.event c.happen_at-answer.result s.placed (c.happen_at-answer.ensures.replaced c.requires.own s.placed) known
 
 pub invariant_of-self : goal.invariant_of-self
 invariant_of-self c =

@@ -1,6 +1,0 @@
-use Rattle.std.proofs.Common.{length}
-use Rattle.connection.proofs.Sound.{bounded}
-use Rattle.connection.proofs.law.connections_are_bounded.Goals as goal
-
-pub returns : goal.returns
-returns c = λ s. (s.few, bounded s.flow (length s.out) s.flowing)

@@ -1,9 +1,0 @@
-use Rattle.std.proofs.Common.{refl}
-use Rattle.connection.proofs.Sound.{sound}
-use Rattle.connection.specs.Answers.{service_of}
-use Rattle.connection.specs.Conn.{due_at}
-use Rattle.connection.proofs.Timed.{sound_until, view_of_parts, dead_waits}
-use Rattle.connection.proofs.law.connections_are_sound.Goals as goal
-
-pub returns : goal.returns
-returns c = λ site s. sound_until (due_at s) (view_of_parts site s) refl (dead_waits s) (sound c.full_decides.ensures (service_of site s.local s.peer) s.cause s.flow s.out s.journal.items s.closing s.ended s.body s.held s.next s.looked s.dropped s.quit s.flowing s.drained s.unended s.logged)

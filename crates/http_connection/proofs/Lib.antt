@@ -1,0 +1,10 @@
+pub mod Bodies
+pub mod Kept
+pub mod Moves
+pub mod Begins
+pub mod Opens
+pub mod Sound
+pub mod Exact
+pub mod Wanted
+pub mod Timed
+pub mod Least

@@ -1,0 +1,623 @@
+-- The steps of a connection, by its parts.
+use Rattle.std.proofs.Common.{◌≡◌, ℕ, ◌+◌, ◌-◌, ◌*◌, ◌<◌, ◌≤◌, min, Bool, true, false, ◌&&◌, ◌||◌, cond, eqb, List, [], ◌∷◌, ◌++◌, length, take, drop, map, Option, None, Some, inl, inr, refl, sym, ap, ◌∙◌, subst, append_assoc, length-append, length-drop, arith, suc, zero, set, get_or}
+use Rattle.std.specs.Prelude.{nat_le, nat_lt, not, is_some, ◌==◌}
+use Rattle.std.specs.List.{Contains}
+use Rattle.std.proofs.lemmas.List.{append-nil, take-append-drop, map-append, drop-append-le, length-take}
+use Rattle.std.proofs.lemmas.Bool.Decides.{nat_tests}
+use Rattle.file_tree.specs.Tree.{Trees}
+use Rattle.file_tree.specs.declared.job.Ask.{Ask}
+use Rattle.ngx_outside.specs.Views.{Start, start_of, Log, log_of, Logged, Ground, Holds, Went, Ran, Goes, Refused, is_live, ask_in}
+use Rattle.ngx_outside.specs.Views.Ground.{Always}
+use Rattle.ngx_outside.specs.declared.event.Entry.{Entry}
+use Rattle.ngx_outside.specs.declared.event.StopCause.{StopCause}
+use Rattle.ngx_outside.specs.declared.event.StopCause.TheVariants as stop
+use Rattle.req_head.specs.declared.head.Head.{Head as RequestHead}
+use Rattle.req_head.specs.declared.head.HeadStep.{HeadStep}
+use Rattle.req_head.specs.declared.head.HeadStep.TheVariants.{More, Head, Bad}
+use Rattle.req_head.specs.Step.{head_step}
+use Rattle.req_head.specs.Laws.{HeadStays, RefusalStays, SizeFits}
+use Rattle.body_frame.specs.State.{body_of}
+use Rattle.body_frame.specs.declared.state.BodyState.{BodyState}
+use Rattle.answers_meaning.specs.Asking.{Service}
+use Rattle.answers_meaning.specs.Answers.{Response, Answer, Sends, then_closes, responses, first_response, response_at, refusal, bytes_in, logs_in, close_in, heavy_in, any_over, after_body}
+use Rattle.request_flow.specs.declared.flow.Flow.{Flow}
+use Rattle.request_flow.specs.declared.flow.Stage.{Stage}
+use Rattle.request_flow.specs.declared.flow.Stage.TheVariants.{Asked, Told, Reading, Came}
+use Rattle.request_flow.specs.Flows.{shown_of, shown_by, shown_most, placed_most, kept_most, stage_fits, flow_fits, stage_written, flow_written, flow_left, asking_most, flow_most, tree_asked, jobs_of, waits}
+use Rattle.request_meaning.specs.Counts.{most_subs}
+use Rattle.request_flow.specs.Rests.{Rest, closes_after, logged_by, Follows}
+use Rattle.http_connection.specs.Rests.{Serves, rest_in, is_over}
+use Rattle.http_connection.specs.Steps.{begins, rest_of, past_body, logged_in, IsLogged, Drops, RanOne}
+use Rattle.http_connection.specs.Conn.{view_at, after_at, bytes_at, logs_at, heavy_at, left_at, room_at, starts_at, pending_at, weight, price}
+
+never : (A : Type 0) → false ≡ true → A
+never A e = cc
+
+shown_within : (n k : ℕ) (xs : List ℕ) → n ≤ length (take k xs) → (n ≤ k) × (n ≤ length xs)
+shown_within n k xs h = let e = length-take k xs in (omega (arith, e, h), omega (arith, e, h))
+
+written_some : (n : ℕ) (flow : Option Flow) → is_some (flow_written flow n) ≡ is_some flow
+written_some n None = refl
+written_some n (Some flow) = refl
+
+pub not_stopped : (cause : Option StopCause) (flow : Option Flow) (out : List ℕ) (n : ℕ) → (is_some cause ≡ true → out ≡ []) → 0 < n → n ≤ length (pending_at flow out) → is_some cause ≡ false
+not_stopped None flow out n h a b = refl
+not_stopped (Some cause) flow out n h a b = absurd (let e = ap length (h refl) in let w = shown_within n (shown_of flow) out b in omega (arith, e, w.1, a))
+
+pub below : (a b : ℕ) → nat_le a b ≡ true → a ≤ b
+below a b e = grind (arith, nat_tests)
+
+at_most : (a b : ℕ) → a ≤ b → nat_le a b ≡ true
+at_most a b e = grind (arith, nat_tests)
+
+same_size : (a b : ℕ) → (a == b) ≡ true → a ≡ b
+same_size a b e = grind (arith, nat_tests)
+
+pub and_left : (a b : Bool) → (a && b) ≡ true → a ≡ true
+and_left true b e = refl
+and_left false b e = cc
+
+pub and_right : (a b : Bool) → (a && b) ≡ true → b ≡ true
+and_right true b e = e
+and_right false b e = cc
+
+and_both : (a b : Bool) → a ≡ true → b ≡ true → (a && b) ≡ true
+and_both true b e f = f
+and_both false b e f = cc
+
+some_room : (t : Bool) (n room : ℕ) → nat_le 8192 n ≡ t → cond t None (Some (8192 - n)) ≡ Some room → 0 < room
+some_room true n room e h = cc
+some_room false n room e h =
+    let lt : n < 8192 = grind (arith, nat_tests) in
+    let r : 8192 - n ≡ room = cc in
+    omega arith
+
+pub arrived_left : (cause : Option StopCause) (flow : Option Flow) (out : List ℕ) (closing closing' : Bool) (held held' kept bytes : List ℕ) (n : ℕ) → closing ≡ false → held' ≡ held ++ kept → length kept ≤ n → left_at cause flow out closing' held' ≤ left_at cause flow out closing held + price * n
+unfolding price weight
+arrived_left None flow out true closing' held held' kept bytes n o e h = cc
+arrived_left None flow out false true held held' kept bytes n o e h = omega arith
+arrived_left None flow out false false held held' kept bytes n o e h =
+    let s : length held' ≡ length held + length kept = ap length e ∙ length-append held kept in
+    omega (arith, s, h)
+arrived_left (Some cause) flow out closing closing' held held' kept bytes n o e h = omega arith
+
+pub node_ready : (t : Bool) (node : ℕ) → t ≡ true → node ≡ 0 → Contains (cond t (0 ∷ []) []) node
+node_ready true node e f = subst (Contains (0 ∷ [])) (sym f) (0, omega arith, refl)
+node_ready false node e f = cc
+
+responses_head : HeadStays → SizeFits → (service : Service) (k : ℕ) (trees : Trees) (input more : List ℕ) (start : Start) (later : List Start) (head : RequestHead) (size : ℕ) → head_step input ≡ Head head size →
+    responses service k trees (input ++ more) (start ∷ later) ≡ Sends (response_at service trees k start head) ∷ cond (response_at service trees k start head).stays (after_body (body_of head.body (drop size input ++ more)) (λ n. responses service (k + 1) trees (drop n (drop size input ++ more)) later)) then_closes
+unfolding responses
+responses_head stays fits service k trees input more start later head size h =
+    ap (λ s. first_response service trees k start s (λ n kind. after_body (body_of kind (drop n (input ++ more))) (λ m. responses service (k + 1) trees (drop m (drop n (input ++ more))) later))) (stays input more head size h)
+    ∙ ap (λ i. Sends (response_at service trees k start head) ∷ cond (response_at service trees k start head).stays (after_body (body_of head.body i) (λ n. responses service (k + 1) trees (drop n i) later)) then_closes) (drop-append-le size input more (fits input head size h).1)
+
+responses_bad : RefusalStays → (service : Service) (k : ℕ) (trees : Trees) (input more : List ℕ) (start : Start) (later : List Start) (code : ℕ) (no_body : Bool) → head_step input ≡ Bad code no_body →
+    responses service k trees (input ++ more) (start ∷ later) ≡ Sends (refusal code start no_body) ∷ then_closes
+unfolding responses
+responses_bad stays service k trees input more start later code no_body h =
+    ap (λ s. first_response service trees k start s (λ n kind. after_body (body_of kind (drop n (input ++ more))) (λ m. responses service (k + 1) trees (drop m (drop n (input ++ more))) later))) (stays input more code no_body h)
+
+pub entered_logs : (journal : List Entry) (entry : Entry) → logged_in (journal ++ entry ∷ []) ≡ logged_in journal ++ logged_by (log_of entry)
+unfolding logged_in
+entered_logs [] entry = append-nil (logged_by (log_of entry))
+entered_logs (e ∷ journal) entry = ap (λ x. logged_by (log_of e) ++ x) (entered_logs journal entry) ∙ sym (append_assoc (logged_by (log_of e)) (logged_in journal) (logged_by (log_of entry)))
+
+set_last : (front : List Entry) (last new : Entry) → set (front ++ last ∷ []) (length front) new ≡ front ++ new ∷ []
+set_last [] last new = refl
+set_last (x ∷ front) last new = ap (λ r. x ∷ r) (set_last front last new)
+
+not_twice : (b : Bool) → b ≡ not (not b)
+not_twice true = refl
+not_twice false = refl
+
+falls : (w w' n n' : ℕ) (closing : Bool) → w' < w + weight → n' < n → 1 + w' + cond closing 0 (weight * (n' + 1)) < 1 + w + weight * (n + 1)
+unfolding weight
+falls w w' n n' true a b = omega arith
+falls w w' n n' false a b = omega arith
+
+pub not_over : (a b : Bool) → a ≡ not b → not a ≡ b
+not_over true true e = cc
+not_over true false e = refl
+not_over false true e = refl
+not_over false false e = cc
+
+pub some_taken : (n room taken : ℕ) → taken ≡ min n room → (n == 0) ≡ false → 0 < room → 0 < taken
+some_taken n room taken e f h = grind (arith, nat_tests)
+
+pub within_taken : (n room taken : ℕ) → taken ≡ min n room → taken ≤ n
+within_taken n room taken e = omega arith
+
+pub written_asked : (n : ℕ) (flow flow' : Option Flow) → flow' ≡ flow_written flow n → tree_asked flow' ≡ tree_asked flow
+written_asked n None flow' e = ap tree_asked e
+written_asked n (Some flow) flow' e = ap tree_asked e
+
+pub none_taken : (n : ℕ) → take {A = ℕ} n [] ≡ []
+none_taken zero = refl
+none_taken (suc n) = refl
+
+pub refused_left : (cause : Option StopCause) (flow flow' : Option Flow) (out out' : List ℕ) (closing closing' : Bool) (held held' : List ℕ) → is_some cause ≡ false → left_at (Some stop.Memory) flow' out' closing' held' < left_at cause flow out closing held
+refused_left None flow flow' out out' closing closing' held held' live = omega arith
+refused_left (Some cause) flow flow' out out' closing closing' held held' live = cc
+
+finished_at : (xs : List Entry) (n : ℕ) (new default : Entry) → start_of new ≡ start_of (get_or xs n default) → map start_of (set xs n new) ≡ map start_of xs
+finished_at [] n new default e = refl
+finished_at (x ∷ xs) zero new default e = ap (λ s. s ∷ map start_of xs) e
+finished_at (x ∷ xs) (suc n) new default e = ap (λ r. start_of x ∷ r) (finished_at xs n new default e)
+
+pub finished : (xs : List Entry) (n : ℕ) (entry new : Entry) → entry ≡ get_or xs n entry → start_of new ≡ start_of entry → map start_of (set xs n new) ≡ map start_of xs
+finished xs n entry new is e = finished_at xs n new entry (e ∙ ap start_of is)
+
+-- what is logged of its requests are the logs of its responses
+logged_shown : (in_flight : Bool) (logs : List (Option Log)) (over later : List Log) → logs ≡ map (λ l. Some l) over ++ cond in_flight (None ∷ []) [] → Logged logs (over ++ later)
+logged_shown true logs over later e = record { over = over; later = later; first = refl; told = inr e }
+logged_shown false logs over later e = record { over = over; later = later; first = refl; told = inl (e ∙ append-nil (map (λ l. Some l) over)) }
+
+-- the front of a front
+front_of : (n k : ℕ) (xs : List ℕ) → n ≤ length (take k xs) → take n (take k xs) ≡ take n xs
+front_of zero k xs h = refl
+front_of (suc n) zero xs h = absurd (omega (arith, h))
+front_of (suc n) (suc k) [] h = refl
+front_of (suc n) (suc k) (x ∷ xs) h = ap (λ r. x ∷ r) (front_of n k xs (omega (arith, h)))
+
+-- a request in flight stays so
+pub wrote_logged : (n : ℕ) (flow flow' : Option Flow) (journal : List Entry) → flow' ≡ flow_written flow n → IsLogged (is_some flow) journal → IsLogged (is_some flow') journal
+wrote_logged n flow flow' journal e told = subst (λ b. IsLogged b journal) (sym (ap is_some e ∙ written_some n flow)) told
+
+-- no more are shown than are placed
+shown_placed : (n placed : ℕ) → n ≤ cond (nat_lt placed shown_most) placed shown_most → n ≤ placed
+shown_placed n placed h = by (nat_lt placed shown_most) refl h
+  where
+    by : (t : Bool) → nat_lt placed shown_most ≡ t → n ≤ cond t placed shown_most → n ≤ placed
+    by true e h = h
+    by false e h = grind (arith, nat_tests)
+
+-- the bytes for the peer and what is left of the response
+abbrev pub work : Option Flow → ℕ → ℕ
+work flow size = size + flow_left flow size
+
+stage_falls : (flow : Flow) (n size : ℕ) → 0 < n → n ≤ size → n ≤ shown_by flow.stage → stage_fits flow.ask flow.stage size ≡ true → work (Some (record { ask = flow.ask; stage = stage_written flow.stage n })) (size - n) < work (Some flow) size
+stage_falls flow n size some within shown fits = by flow.stage shown fits
+  where
+    by : (stage : Stage) → n ≤ shown_by stage → stage_fits flow.ask stage size ≡ true → work (Some (record { ask = flow.ask; stage = stage_written stage n })) (size - n) < work (Some (record { ask = flow.ask; stage = stage })) size
+    by (Asked request wait) h f = omega (arith, some, within)
+    by (Told request wait node) h f = omega (arith, some, within)
+    by (Reading sending left) h f = omega (arith, some, within)
+    by (Came sending left placed) h f =
+        let p = shown_placed n placed h in
+        omega (arith, some, within, p)
+
+wrote_falls : (n : ℕ) (flow : Option Flow) (size : ℕ) → 0 < n → n ≤ size → n ≤ shown_of flow → flow_fits flow size ≡ true → work (flow_written flow n) (size - n) < work flow size
+wrote_falls n None size some within shown fits = omega (arith, some, within)
+wrote_falls n (Some flow) size some within shown fits = stage_falls flow n size some within shown fits
+
+pub wrote_left : (cause : Option StopCause) (flow flow' : Option Flow) (out out' : List ℕ) (closing : Bool) (held : List ℕ) (n : ℕ) → is_some cause ≡ false → out' ≡ drop n out → 0 < n → n ≤ length (pending_at flow out) → flow' ≡ flow_written flow n → flow_fits flow (length out) ≡ true →
+    left_at cause flow' out' closing held < left_at cause flow out closing held
+wrote_left None flow flow' out out' closing held n live e some within w fits =
+    let s = shown_within n (shown_of flow) out within in
+    let size : length out' ≡ length out - n = ap length e ∙ length-drop n out in
+    let falls = subst (λ f. work f (length out - n) < work flow (length out)) (sym w) (wrote_falls n flow (length out) some s.1 s.0 fits) in
+    subst (λ k. 1 + work flow' k + cond closing 0 (weight * (length held + 1)) < 1 + work flow (length out) + cond closing 0 (weight * (length held + 1))) (sym size) (omega (arith, falls))
+wrote_left (Some cause) flow flow' out out' closing held n live e some within w fits = cc
+
+pub goes_left : (cause : Option StopCause) (flow flow' : Option Flow) (out out' : List ℕ) (closing closing' : Bool) (held : List ℕ) → is_some cause ≡ false → (closing ≡ true → closing' ≡ true) → work flow' (length out') < work flow (length out) → left_at cause flow' out' closing' held < left_at cause flow out closing held
+goes_left (Some cause) flow flow' out out' closing closing' held live k w = cc
+goes_left None flow flow' out out' true true held live k w = omega (arith, w)
+goes_left None flow flow' out out' true false held live k w = absurd (let e : false ≡ true = k refl in cc)
+goes_left None flow flow' out out' false true held live k w = omega (arith, w)
+goes_left None flow flow' out out' false false held live k w = omega (arith, w)
+
+-- it stands so beside fewer bytes
+stage_stands : (flow : Flow) (n size : ℕ) → 0 < n → n ≤ size → n ≤ shown_by flow.stage → stage_fits flow.ask flow.stage size ≡ true → stage_fits flow.ask (stage_written flow.stage n) (size - n) ≡ true
+stage_stands flow n size some within shown fits = by flow.stage shown fits
+  where
+    by : (stage : Stage) → n ≤ shown_by stage → stage_fits flow.ask stage size ≡ true → stage_fits flow.ask (stage_written stage n) (size - n) ≡ true
+    by (Asked request wait) h f = absurd (let z = same_size size 0 (and_right _ (size == 0) f) in omega (arith, some, within, z))
+    by (Told request wait node) h f = absurd (let z = same_size size 0 (and_right _ (size == 0) f) in omega (arith, some, within, z))
+    by (Reading sending left) h f = and_both _ (nat_le (size - n) placed_most) (and_left _ (nat_le size placed_most) f) (at_most (size - n) placed_most (let z = below size placed_most (and_right _ (nat_le size placed_most) f) in omega (arith, z)))
+    by (Came sending left placed) h f =
+        let q = and_right _ ((nat_le placed size && nat_le placed placed_most) && nat_le size kept_most) f in
+        let p = and_left (nat_le placed size && nat_le placed placed_most) (nat_le size kept_most) q in
+        let k = below size kept_most (and_right (nat_le placed size && nat_le placed placed_most) (nat_le size kept_most) q) in
+        let a = below placed size (and_left (nat_le placed size) (nat_le placed placed_most) p) in
+        let b = below placed placed_most (and_right (nat_le placed size) (nat_le placed placed_most) p) in
+        and_both _ ((nat_le (placed - n) (size - n) && nat_le (placed - n) placed_most) && nat_le (size - n) kept_most) (and_left _ ((nat_le placed size && nat_le placed placed_most) && nat_le size kept_most) f)
+        (and_both (nat_le (placed - n) (size - n) && nat_le (placed - n) placed_most) (nat_le (size - n) kept_most)
+        (and_both (nat_le (placed - n) (size - n)) (nat_le (placed - n) placed_most) (at_most (placed - n) (size - n) (omega (arith, a))) (at_most (placed - n) placed_most (omega (arith, b))))
+        (at_most (size - n) kept_most (omega (arith, k))))
+
+pub wrote_stands : (n : ℕ) (flow flow' : Option Flow) (out out' : List ℕ) → flow' ≡ flow_written flow n → out' ≡ drop n out → 0 < n → n ≤ length (pending_at flow out) → flow_fits flow (length out) ≡ true → flow_fits flow' (length out') ≡ true
+wrote_stands n None flow' out out' w e some within fits =
+    let size : length out' ≡ length out - n = ap length e ∙ length-drop n out in
+    let few = below (length out) placed_most fits in
+    ap (λ f. flow_fits f (length out')) w ∙ at_most (length out') placed_most (omega (arith, size, few))
+wrote_stands n (Some flow) flow' out out' w e some within fits =
+    let s = shown_within n (shown_by flow.stage) out within in
+    let size : length out' ≡ length out - n = ap length e ∙ length-drop n out in
+    subst (λ k. flow_fits flow' k ≡ true) (sym size) (subst (λ f. flow_fits f (length out - n) ≡ true) (sym w) (stage_stands flow n (length out) some s.1 s.0 fits))
+
+-- bytes arrive
+pub room_some : (stopped closing ended : Bool) (held : List ℕ) (room : ℕ) → room_at stopped closing ended held ≡ Some room → (stopped ≡ false) × (closing ≡ false) × (ended ≡ false) × (0 < room)
+room_some false false false held room h = (refl, refl, refl, some_room (nat_le 8192 (length held)) (length held) room refl h)
+room_some false false true held room h = cc
+room_some false true ended held room h = cc
+room_some true closing ended held room h = cc
+
+-- behind a body that is dropped, and what is held behind it
+absorbed : (g : List ℕ → List Answer) (body body' : Option BodyState) (held held' bytes kept more : List ℕ) (broken : Bool) → (is_some body ≡ true → held ≡ []) → (body ≡ None → (body' ≡ None) × (broken ≡ false) × (kept ≡ bytes)) → Drops (rest_of body) bytes body' kept broken →
+    held' ≡ held ++ kept → past_body body (held ++ (bytes ++ more)) g ≡ cond broken then_closes (past_body body' (held' ++ more) g)
+absorbed g None body' held held' bytes kept more broken drained still d e =
+    let s = still refl in
+    let whole : held' ++ more ≡ held ++ (bytes ++ more) = ap (λ l. l ++ more) (e ∙ ap (λ k. held ++ k) s.2) ∙ append_assoc held bytes more in
+    sym (ap (λ b. cond b then_closes (past_body body' (held' ++ more) g)) s.1 ∙ ap (λ b. past_body b (held' ++ more) g) s.0 ∙ ap g whole)
+absorbed g (Some state) body' held held' bytes kept more broken drained still d e =
+    let none = drained refl in
+    ap (λ h. past_body (Some state) (h ++ (bytes ++ more)) g) none ∙ d.rest g more
+    ∙ ap (λ k. cond broken then_closes (past_body body' (k ++ more) g)) (sym (e ∙ ap (λ h. h ++ kept) none))
+
+-- whether the connection closes behind a response, where it doesn't yet
+behind_kept : (r : Rest) (closing closing' : Bool) (x y : List Answer) → closing ≡ false → x ≡ cond closing' then_closes y → cond (closes_after r closing) then_closes x ≡ cond (closes_after r closing') then_closes y
+behind_kept r closing closing' x y e f = ap (λ c. cond (closes_after r c) then_closes x) e ∙ by r.stays
+  where
+    by : (stays : Bool) → cond (cond stays false true) then_closes x ≡ cond (cond stays closing' true) then_closes y
+    by true = f
+    by false = refl
+
+-- a further request starts
+pub starts_if : (stopped closing : Bool) (out : List ℕ) (body : Option BodyState) (next : HeadStep) → starts_at stopped closing out body next ≡ true → (stopped ≡ false) × (closing ≡ false) × (begins next ≡ true) × (body ≡ None)
+starts_if false false [] None (Head head size) h = (refl, refl, refl, refl)
+starts_if false false [] None (Bad code no_body) h = (refl, refl, refl, refl)
+starts_if false false [] None More h = cc
+starts_if false false [] (Some state) next h = cc
+starts_if false false (b ∷ out) body next h = cc
+starts_if false true out body next h = cc
+starts_if true closing out body next h = cc
+
+-- where the response keeps the connection open, what comes is what comes behind the body; else nothing
+kept_or_closed : (keep broken closes : Bool) (x y : List Answer) → closes ≡ cond keep broken true → x ≡ cond broken then_closes y → cond keep x then_closes ≡ cond closes then_closes y
+kept_or_closed true broken closes x y c e = e ∙ ap (λ t. cond t then_closes y) (sym c)
+kept_or_closed false broken closes x y c e = ap (λ t. cond t then_closes y) (sym c)
+
+-- a request that was started is logged where it isn't in flight
+over_logged : (in_flight : Bool) (logs : List Log) (log : Option Log) → is_some log ≡ not in_flight → (map (λ l. Some l) logs ++ []) ++ log ∷ [] ≡ map (λ l. Some l) (logs ++ logged_by log) ++ cond in_flight (None ∷ []) []
+over_logged false logs None e = cc
+over_logged true logs (Some log) e = cc
+over_logged false logs (Some log) e = ap (λ x. x ++ Some log ∷ []) (append-nil (map (λ l. Some l) logs)) ∙ sym (append-nil (map (λ l. Some l) (logs ++ log ∷ [])) ∙ map-append (λ l. Some l) logs (log ∷ []))
+over_logged true logs None e = ap (λ x. x ++ None ∷ []) (append-nil (map (λ l. Some l) logs)) ∙ sym (ap (λ x. map (λ l. Some l) x ++ None ∷ []) (append-nil logs))
+
+pub entered_logged : (in_flight : Bool) (journal : List Entry) (entry : Entry) (log : Option Log) → log_of entry ≡ log → IsLogged false journal → is_some log ≡ not in_flight → IsLogged in_flight (journal ++ entry ∷ [])
+entered_logged in_flight journal entry log is told over =
+    map-append log_of journal (entry ∷ []) ∙ ap (λ x. x ++ log_of entry ∷ []) told ∙ ap (λ x. (map (λ l. Some l) (logged_in journal) ++ []) ++ x ∷ []) is
+    ∙ over_logged in_flight (logged_in journal) log over ∙ ap (λ x. map (λ l. Some l) (logged_in journal ++ logged_by x) ++ cond in_flight (None ∷ []) []) (sym is)
+    ∙ ap (λ x. map (λ l. Some l) x ++ cond in_flight (None ∷ []) []) (sym (entered_logs journal entry))
+
+-- the entry of the request in flight is the last one
+record Open (journal : List Entry) (logs : List Log) : Type 0 where
+  front : List Entry
+  last : Entry
+  whole : journal ≡ front ++ last ∷ []
+  unlogged : log_of last ≡ None
+  logged : map log_of front ≡ map (λ l. Some l) logs
+
+open_of : (journal : List Entry) (logs : List Log) → map log_of journal ≡ map (λ l. Some l) logs ++ None ∷ [] → Open journal logs
+open_of [] [] e = cc
+open_of [] (l ∷ logs) e = cc
+open_of (x ∷ []) [] e = record { front = []; last = x; whole = refl; unlogged = cc; logged = refl }
+open_of (x ∷ []) (l ∷ []) e = cc
+open_of (x ∷ []) (l ∷ m ∷ logs) e = cc
+open_of (x ∷ y ∷ journal) [] e = cc
+open_of (x ∷ y ∷ journal) (l ∷ logs) e =
+    let head : log_of x ≡ Some l = cc in
+    let o = open_of (y ∷ journal) logs (let tail : map log_of (y ∷ journal) ≡ map (λ l. Some l) logs ++ None ∷ [] = cc in tail) in
+    record { front = x ∷ o.front; last = o.last; whole = ap (λ r. x ∷ r) o.whole; unlogged = o.unlogged; logged = ap (λ z. z ∷ map log_of o.front) head ∙ ap (λ r. Some l ∷ r) o.logged }
+
+open_logs : (journal : List Entry) → (o : Open journal (logged_in journal)) → logged_in journal ≡ logged_in o.front
+open_logs journal o = ap logged_in o.whole ∙ entered_logs o.front o.last ∙ ap (λ x. logged_in o.front ++ logged_by x) o.unlogged ∙ append-nil (logged_in o.front)
+
+front_logged : (journal : List Entry) → (o : Open journal (logged_in journal)) → IsLogged false o.front
+front_logged journal o = o.logged ∙ ap (map (λ l. Some l)) (open_logs journal o) ∙ sym (append-nil (map (λ l. Some l) (logged_in o.front)))
+
+-- it is logged where its request is over
+finished_as : (journal : List Entry) (n : ℕ) (new : Entry) → n ≡ length journal - 1 → (o : Open journal (logged_in journal)) → set journal n new ≡ o.front ++ new ∷ []
+finished_as journal n new e o =
+    let size : n ≡ length o.front = (let a = ap length o.whole in let b = length-append o.front (o.last ∷ []) in omega (arith, e, a, b)) in
+    ap (λ k. set journal k new) size ∙ ap (λ j. set j (length o.front) new) o.whole ∙ set_last o.front o.last new
+
+pub finished_logged : (journal : List Entry) (n : ℕ) (new : Entry) → n ≡ length journal - 1 → IsLogged true journal → IsLogged (not (is_some (log_of new))) (set journal n new)
+finished_logged journal n new e told =
+    let o = open_of journal (logged_in journal) told in
+    subst (IsLogged (not (is_some (log_of new)))) (sym (finished_as journal n new e o)) (entered_logged (not (is_some (log_of new))) o.front new (log_of new) refl (front_logged journal o) (not_twice (is_some (log_of new))))
+
+pub finished_logs : (journal : List Entry) (n : ℕ) (new : Entry) → n ≡ length journal - 1 → IsLogged true journal → logged_in (set journal n new) ≡ logged_in journal ++ logged_by (log_of new)
+finished_logs journal n new e told =
+    let o = open_of journal (logged_in journal) told in
+    ap logged_in (finished_as journal n new e o) ∙ entered_logs o.front new ∙ ap (λ x. x ++ logged_by (log_of new)) (sym (open_logs journal o))
+
+-- what a job that waits says of the request in flight
+pub job_waits : (flow : Flow) (node : ℕ) (job : Ask) → ask_in (jobs_of (Some flow)) node ≡ Some job → (waits flow.stage ≡ true) × (flow.ask ≡ job)
+job_waits flow node job e = by (waits flow.stage) refl e
+  where
+    some : (t : Bool) → cond t (Some flow.ask) None ≡ Some job → flow.ask ≡ job
+    some true e = cc
+    some false e = cc
+
+    by : (t : Bool) → waits flow.stage ≡ t → ask_in (cond t (record { node = 0; ask = flow.ask } ∷ []) []) node ≡ Some job → (waits flow.stage ≡ true) × (flow.ask ≡ job)
+    by true w e = (w, some (eqb 0 node) e)
+    by false w e = cc
+
+-- where a request is in flight the connection is live
+pub waits_live : (cause : Option StopCause) (flow : Option Flow) (f : Flow) → (is_some cause ≡ true → flow ≡ None) → flow ≡ Some f → is_some cause ≡ false
+waits_live None flow f quit is = refl
+waits_live (Some cause) flow f quit is = absurd (let e : None ≡ Some f = sym (quit refl) ∙ is in cc)
+
+-- the journal's last request is over
+map_length : {A B : Type 0} (f : A → B) (xs : List A) → length (map f xs) ≡ length xs
+map_length f [] = refl
+map_length f (x ∷ xs) = ap suc (map_length f xs)
+
+pub same_length : (xs ys : List Entry) → map start_of ys ≡ map start_of xs → length ys ≡ length xs
+same_length xs ys e = sym (map_length start_of ys) ∙ ap length e ∙ map_length start_of xs
+
+pub lighter : (flow : Option Flow) (size : ℕ) → size + flow_left flow size < asking_most → work flow size < weight
+unfolding weight asking_most flow_most
+lighter flow size h = omega (arith, h)
+
+module _ (serves : Serves) where
+  -- a live connection goes on
+  live_at : (service : Service) (cause : Option StopCause) (flow : Option Flow) (out : List ℕ) (journal : List Entry) (closing ended : Bool) (body : Option BodyState) (held : List ℕ) (next : HeadStep) → is_some cause ≡ false → is_live (view_at serves service cause flow out journal closing ended body held next) ≡ true
+  live_at service None flow out journal closing ended body held next h = refl
+  live_at service (Some cause) flow out journal closing ended body held next h = cc
+
+  logged_at : (service : Service) (flow : Option Flow) (journal : List Entry) (closing : Bool) (body : Option BodyState) (held : List ℕ) → IsLogged (is_some flow) journal → (trees : Trees) (more : List ℕ) (later : List Start) →
+      Logged (map log_of journal) (logs_at service (rest_in serves flow) journal closing body held trees more later)
+  logged_at service flow journal closing body held told trees more later =
+      logged_shown (is_some flow) (map log_of journal) (logged_in journal) ((rest_in serves flow trees).logs ++ logs_in (after_at service (rest_in serves flow) journal closing body held trees more later)) told
+
+  -- what was written of a request's bytes changes nothing of what is to come
+  written_rest : (flow : Flow) (n : ℕ) (trees : Trees) → rest_in serves (Some (record { ask = flow.ask; stage = stage_written flow.stage n })) trees ≡ rest_in serves (Some flow) trees
+  written_rest flow n trees = by flow.stage
+    where
+      by : (stage : Stage) → rest_in serves (Some (record { ask = flow.ask; stage = stage_written stage n })) trees ≡ rest_in serves (Some (record { ask = flow.ask; stage = stage })) trees
+      by (Asked request wait) = refl
+      by (Told request wait node) = refl
+      by (Reading sending left) = refl
+      by (Came sending left placed) = refl
+
+  wrote_rest : (n : ℕ) (flow flow' : Option Flow) (trees : Trees) → flow' ≡ flow_written flow n → rest_in serves flow' trees ≡ rest_in serves flow trees
+  wrote_rest n None flow' trees e = ap (λ f. rest_in serves f trees) e
+  wrote_rest n (Some flow) flow' trees e = ap (λ f. rest_in serves f trees) e ∙ written_rest flow n trees
+
+  -- the first pending bytes go
+  pub wrote_went : (service : Service) (cause : Option StopCause) (flow flow' : Option Flow) (out out' : List ℕ) (journal : List Entry) (closing ended : Bool) (body : Option BodyState) (held : List ℕ) (next : HeadStep) (n : ℕ) → is_some cause ≡ false → out' ≡ drop n out → n ≤ length (pending_at flow out) → flow' ≡ flow_written flow n → IsLogged (is_some flow) journal →
+      Went Always (view_at serves service cause flow out journal closing ended body held next) (view_at serves service cause flow' out' journal closing ended body held next) [] (take n (pending_at flow out)) []
+  wrote_went service cause flow flow' out out' journal closing ended body held next n live e within w told = record {
+    before = live_at service cause flow out journal closing ended body held next live;
+    after = live_at service cause flow' out' journal closing ended body held next live;
+    moved = record {
+      starts = sym (append-nil (map start_of journal));
+      raceless = refl;
+      timed = refl;
+      bytes = λ trees is more later.
+          let tail : Rest → List ℕ = λ r. r.bytes ++ bytes_in (cond (closes_after r closing) then_closes (past_body body (held ++ more) (λ input. responses service (length journal) trees input later))) in
+          ap (λ p. p ++ tail (rest_in serves flow trees)) (sym (take-append-drop n out)) ∙ append_assoc (take n out) (drop n out) (tail (rest_in serves flow trees))
+          ∙ ap (λ p. p ++ (drop n out ++ tail (rest_in serves flow trees))) (sym (front_of n (shown_of flow) out within))
+          ∙ ap (λ p. take n (pending_at flow out) ++ (p ++ tail (rest_in serves flow trees))) (sym e)
+          ∙ ap (λ r. take n (pending_at flow out) ++ (out' ++ tail r)) (sym (wrote_rest n flow flow' trees w));
+      logs = λ trees is more later.
+          ap (λ (r : Rest). logged_in journal ++ (r.logs ++ logs_in (cond (closes_after r closing) then_closes (past_body body (held ++ more) (λ input. responses service (length journal) trees input later))))) (sym (wrote_rest n flow flow' trees w));
+      closes = λ trees is more later.
+          ap (λ (r : Rest). close_in (cond (closes_after r closing) then_closes (past_body body (held ++ more) (λ input. responses service (length journal) trees input later)))) (sym (wrote_rest n flow flow' trees w));
+      heavy = λ trees is more later h.
+          ap (λ (r : Rest). is_over r || heavy_in (cond (closes_after r closing) then_closes (past_body body (held ++ more) (λ input. responses service (length journal) trees input later)))) (sym (wrote_rest n flow flow' trees w)) ∙ h;
+    };
+    logged = logged_at service flow' journal closing body held (wrote_logged n flow flow' journal w told);
+  }
+
+  pub arrived_went : (service : Service) (cause : Option StopCause) (flow : Option Flow) (out : List ℕ) (journal : List Entry) (closing closing' ended : Bool) (body body' : Option BodyState) (held held' kept : List ℕ) (next next' : HeadStep) (bytes : List ℕ) → is_some cause ≡ false → closing ≡ false →
+      (is_some body ≡ true → held ≡ []) → (body ≡ None → (body' ≡ None) × (closing' ≡ false) × (kept ≡ bytes)) → Drops (rest_of body) bytes body' kept closing' → held' ≡ held ++ kept → IsLogged (is_some flow) journal →
+      Went Always (view_at serves service cause flow out journal closing ended body held next) (view_at serves service cause flow out journal closing' ended body' held' next') bytes [] []
+  arrived_went service cause flow out journal closing closing' ended body body' held held' kept next next' bytes live unclosed drained still d e told = record {
+    before = live_at service cause flow out journal closing ended body held next live;
+    after = live_at service cause flow out journal closing' ended body' held' next' live;
+    moved = record {
+      starts = sym (append-nil (map start_of journal));
+      raceless = refl;
+      timed = refl;
+      bytes = λ trees is more later. ap (λ x. out ++ ((rest_in serves flow trees).bytes ++ bytes_in x)) (same trees more later);
+      logs = λ trees is more later. ap (λ x. logged_in journal ++ ((rest_in serves flow trees).logs ++ logs_in x)) (same trees more later);
+      closes = λ trees is more later. ap close_in (same trees more later);
+      heavy = λ trees is more later h. ap (λ a. is_over (rest_in serves flow trees) || heavy_in a) (same trees more later) ∙ h;
+    };
+    logged = logged_at service flow journal closing' body' held' told;
+  }
+    where
+      same : (trees : Trees) (more : List ℕ) (later : List Start) → after_at service (rest_in serves flow) journal closing body held trees (bytes ++ more) later ≡ after_at service (rest_in serves flow) journal closing' body' held' trees more later
+      same trees more later =
+          let g : List ℕ → List Answer = λ input. responses service (length journal) trees input later in
+          behind_kept (rest_in serves flow trees) closing closing' (past_body body (held ++ (bytes ++ more)) g) (past_body body' (held' ++ more) g) unclosed (absorbed g body body' held held' bytes kept more closing' drained still d e)
+
+  -- A request was started: this is its response, before those that are still to come.
+  record Said (service : Service) (trees : Trees) (now : Start) (flow' : Option Flow) (out out' : List ℕ) (journal journal' : List Entry) (closing closing' : Bool) (body body' : Option BodyState) (held held' : List ℕ) (log : Option Log) (more : List ℕ) (later : List Start) : Type 0 where
+    said : Response
+    first : after_at service (rest_in serves None) journal closing body held trees more (now ∷ later) ≡ Sends said ∷ after_at service (rest_in serves flow') journal' closing' body' held' trees more later
+    put : out' ++ (rest_in serves flow' trees).bytes ≡ out ++ said.bytes
+    logged : logged_by log ++ (rest_in serves flow' trees).logs ≡ said.log ∷ []
+    heavy : is_over (rest_in serves flow' trees) ≡ nat_lt most_subs said.subs
+
+  said_of : HeadStays → RefusalStays → SizeFits → (service : Service) (trees : Trees) (now : Start) (flow' : Option Flow) (out out' : List ℕ) (journal journal' : List Entry) (entry : Entry) (closing closing' : Bool) (body body' : Option BodyState) (held held' : List ℕ) (next : HeadStep) (log : Option Log) →
+      closing ≡ false → body ≡ None → next ≡ head_step held → journal' ≡ journal ++ entry ∷ [] → RanOne serves service trees now (length journal) next held held' body' flow' out out' closing' log → (more : List ℕ) (later : List Start) →
+      Said service trees now flow' out out' journal journal' closing closing' body body' held held' log more later
+  unfolding refusal
+  said_of stays refused fits service trees now flow' out out' journal journal' entry closing closing' body body' held held' (Head head size) log c b l j r more later =
+      let k = length journal in
+      let whole : Response = response_at service trees k now head in
+      let rest = rest_in serves flow' trees in
+      let g : List ℕ → List Answer = λ input. responses service (k + 1) trees input later in
+      let count : length journal' ≡ k + 1 = ap length j ∙ length-append journal (entry ∷ []) in
+      let behind = drop size held in
+      record {
+        said = whole;
+        first =
+            ap (λ x. cond x then_closes (past_body body (held ++ more) (λ input. responses service k trees input (now ∷ later)))) c
+            ∙ ap (λ x. past_body x (held ++ more) (λ input. responses service k trees input (now ∷ later))) b
+            ∙ responses_head stays fits service k trees held more now later head size (sym l)
+            ∙ ap (λ x. Sends whole ∷ x) (kept_or_closed whole.stays r.broken (closes_after rest closing') (after_body (body_of head.body (behind ++ more)) (λ n. g (drop n (behind ++ more)))) (past_body body' (held' ++ more) g) r.closes (r.drops.rest g more))
+            ∙ ap (λ n. Sends whole ∷ cond (closes_after rest closing') then_closes (past_body body' (held' ++ more) (λ input. responses service n trees input later))) (sym count);
+        put = r.put;
+        logged = r.logged;
+        heavy = ap (λ n. nat_lt most_subs n) r.subs;
+      }
+  said_of stays refused fits service trees now flow' out out' journal journal' entry closing closing' body body' held held' (Bad code no_body) log c b l j r more later =
+      let whole : Response = refusal code now no_body in
+      record {
+        said = whole;
+        first =
+            ap (λ x. cond x then_closes (past_body body (held ++ more) (λ input. responses service (length journal) trees input (now ∷ later)))) c
+            ∙ ap (λ x. past_body x (held ++ more) (λ input. responses service (length journal) trees input (now ∷ later))) b
+            ∙ responses_bad refused service (length journal) trees held more now later code no_body (sym l)
+            ∙ ap (λ x. Sends whole ∷ cond x then_closes (past_body body' (held' ++ more) (λ input. responses service (length journal') trees input later))) (sym r.closes)
+            ∙ ap (λ f. Sends whole ∷ cond (closes_after (rest_in serves f trees) closing') then_closes (past_body body' (held' ++ more) (λ input. responses service (length journal') trees input later))) (sym r.over);
+        put = ap (λ f. out' ++ (rest_in serves f trees).bytes) r.over ∙ append-nil out' ∙ r.put;
+        logged = ap (λ f. logged_by log ++ (rest_in serves f trees).logs) r.over ∙ append-nil (logged_by log) ∙ ap logged_by r.logged;
+        heavy = ap (λ f. is_over (rest_in serves f trees)) r.over;
+      }
+  said_of stays refused fits service trees now flow' out out' journal journal' entry closing closing' body body' held held' More log c b l j r more later = absurd r
+
+  -- whether a request asks for too many subrequests
+  said_heavy : (service : Service) (trees : Trees) (now : Start) (flow' : Option Flow) (out out' : List ℕ) (journal journal' : List Entry) (closing closing' : Bool) (body body' : Option BodyState) (held held' : List ℕ) (log : Option Log) (more : List ℕ) (later : List Start) →
+      Said service trees now flow' out out' journal journal' closing closing' body body' held held' log more later →
+      heavy_at service (rest_in serves None) journal closing body held trees more (now ∷ later) ≡ heavy_at service (rest_in serves flow') journal' closing' body' held' trees more later
+  unfolding any_over
+  said_heavy service trees now flow' out out' journal journal' closing closing' body body' held held' log more later s =
+      ap (λ a. heavy_in a) s.first
+      ∙ ap (λ b. b || heavy_in (after_at service (rest_in serves flow') journal' closing' body' held' trees more later)) (sym s.heavy)
+
+  -- the bytes that are still to come, and the logs
+  said_bytes : (service : Service) (trees : Trees) (now : Start) (flow' : Option Flow) (out out' : List ℕ) (journal journal' : List Entry) (closing closing' : Bool) (body body' : Option BodyState) (held held' : List ℕ) (log : Option Log) (more : List ℕ) (later : List Start) →
+      Said service trees now flow' out out' journal journal' closing closing' body body' held held' log more later →
+      bytes_at service (rest_in serves None) out journal closing body held trees more (now ∷ later) ≡ bytes_at service (rest_in serves flow') out' journal' closing' body' held' trees more later
+  said_bytes service trees now flow' out out' journal journal' closing closing' body body' held held' log more later s =
+      let rest = rest_in serves flow' trees in
+      let behind = bytes_in (after_at service (rest_in serves flow') journal' closing' body' held' trees more later) in
+      ap (λ x. out ++ bytes_in x) s.first ∙ sym (append_assoc out s.said.bytes behind) ∙ ap (λ x. x ++ behind) (sym s.put) ∙ append_assoc out' rest.bytes behind
+
+  said_logs : (service : Service) (trees : Trees) (now : Start) (flow' : Option Flow) (out out' : List ℕ) (journal journal' : List Entry) (closing closing' : Bool) (body body' : Option BodyState) (held held' : List ℕ) (log : Option Log) (more : List ℕ) (later : List Start) →
+      logged_in journal' ≡ logged_in journal ++ logged_by log → Said service trees now flow' out out' journal journal' closing closing' body body' held held' log more later →
+      logs_at service (rest_in serves None) journal closing body held trees more (now ∷ later) ≡ logs_at service (rest_in serves flow') journal' closing' body' held' trees more later
+  said_logs service trees now flow' out out' journal journal' closing closing' body body' held held' log more later e s =
+      let rest = rest_in serves flow' trees in
+      let behind = logs_in (after_at service (rest_in serves flow') journal' closing' body' held' trees more later) in
+      ap (λ x. logged_in journal ++ logs_in x) s.first ∙ ap (λ x. logged_in journal ++ (x ++ behind)) (sym s.logged)
+      ∙ ap (λ x. logged_in journal ++ x) (append_assoc (logged_by log) rest.logs behind) ∙ sym (append_assoc (logged_in journal) (logged_by log) (rest.logs ++ behind))
+      ∙ ap (λ x. x ++ (rest.logs ++ behind)) (sym e)
+
+  -- a request that was started is over where it is logged
+  pub ran_over : (service : Service) (trees : Trees) (start : Start) (k : ℕ) (next : HeadStep) (held held' : List ℕ) (body : Option BodyState) (flow : Option Flow) (out out' : List ℕ) (closing : Bool) (log : Option Log) → RanOne serves service trees start k next held held' body flow out out' closing log → is_some log ≡ not (is_some flow)
+  ran_over service trees start k (Head head size) held held' body flow out out' closing log r = r.over
+  ran_over service trees start k (Bad code no_body) held held' body flow out out' closing log r = ap is_some r.logged ∙ ap (λ f. not (is_some f)) (sym r.over)
+  ran_over service trees start k More held held' body flow out out' closing log r = absurd r
+
+  pub ran_went : HeadStays → RefusalStays → SizeFits → (service : Service) (now : Start) (cause : Option StopCause) (flow' : Option Flow) (out out' : List ℕ) (journal journal' : List Entry) (entry : Entry) (closing closing' ended : Bool) (body body' : Option BodyState) (held held' : List ℕ) (next next' : HeadStep) (log : Option Log) →
+      is_some cause ≡ false → closing ≡ false → body ≡ None → next ≡ head_step held → start_of entry ≡ now → log_of entry ≡ log → journal' ≡ journal ++ entry ∷ [] → ((trees : Trees) → RanOne serves service trees now (length journal) next held held' body' flow' out out' closing' log) →
+      IsLogged (is_some flow') journal' → Ran now (view_at serves service cause None out journal closing ended body held next) (view_at serves service cause flow' out' journal' closing' ended body' held' next')
+  ran_went stays refused fits service now cause flow' out out' journal journal' entry closing closing' ended body body' held held' next next' log live c b l s g j r told =
+      Goes (now ∷ []) (inr refl) (record {
+        before = live_at service cause None out journal closing ended body held next live;
+        after = live_at service cause flow' out' journal' closing' ended body' held' next' live;
+        moved = record {
+          starts = ap (map start_of) j ∙ map-append start_of journal (entry ∷ []) ∙ ap (λ x. map start_of journal ++ x ∷ []) s;
+          raceless = refl;
+          timed = refl;
+          bytes = λ trees is more later. said_bytes service trees now flow' out out' journal journal' closing closing' body body' held held' log more later (said trees more later);
+          logs = λ trees is more later. said_logs service trees now flow' out out' journal journal' closing closing' body body' held held' log more later
+              (ap logged_in j ∙ entered_logs journal entry ∙ ap (λ x. logged_in journal ++ logged_by x) g) (said trees more later);
+          closes = λ trees is more later. ap close_in (said trees more later).first;
+          heavy = λ trees is more later h. said_heavy service trees now flow' out out' journal journal' closing closing' body body' held held' log more later (said trees more later) ∙ h;
+        };
+        logged = logged_at service flow' journal' closing' body' held' told;
+      })
+    where
+      said : (trees : Trees) (more : List ℕ) (later : List Start) → Said service trees now flow' out out' journal journal' closing closing' body body' held held' log more later
+      said trees more later = said_of stays refused fits service trees now flow' out out' journal journal' entry closing closing' body body' held held' next log c b l j (r trees) more later
+
+  pub ran_left : SizeFits → (service : Service) (trees : Trees) (now : Start) (k : ℕ) (cause : Option StopCause) (flow' : Option Flow) (out out' : List ℕ) (closing closing' : Bool) (body' : Option BodyState) (held held' : List ℕ) (next : HeadStep) (log : Option Log) →
+      is_some cause ≡ false → closing ≡ false → next ≡ head_step held → work flow' (length out') < weight → RanOne serves service trees now k next held held' body' flow' out out' closing' log → left_at cause flow' out' closing' held' < left_at cause None out closing held
+  ran_left fits service trees now k (Some cause) flow' out out' closing closing' body' held held' next log live c l f r = cc
+  ran_left fits service trees now k None flow' out out' closing closing' body' held held' (Head head size) log live c l f r =
+      let s = fits held head size (sym l) in
+      let d : length (drop size held) ≡ length held - size = length-drop size held in
+      let shorter : length held' < length held = omega (arith, s.0, s.1, d, r.drops.shorter) in
+      let w : work flow' (length out') < work None (length out) + weight = omega (arith, f) in
+      rw c (falls (work None (length out)) (work flow' (length out')) (length held) (length held') closing' w shorter)
+  ran_left fits service trees now k None flow' out out' closing closing' body' held held' (Bad code no_body) log live c l f r =
+      rw (c, r.closes) (omega (arith, f))
+  ran_left fits service trees now k None flow' out out' closing closing' body' held held' More log live c l f r = absurd r
+
+  -- a request that seeks a file goes on
+  goes_after : (service : Service) (trees : Trees) (flow flow' : Option Flow) (out out' : List ℕ) (journal journal' : List Entry) (closing closing' : Bool) (body : Option BodyState) (held more : List ℕ) (later : List Start) (log : Option Log) (level : Option ℕ) → length journal' ≡ length journal →
+      Follows serves.served.site (rest_in serves flow trees) (rest_in serves flow' trees) out out' closing closing' log level → after_at service (rest_in serves flow) journal closing body held trees more later ≡ after_at service (rest_in serves flow') journal' closing' body held trees more later
+  goes_after service trees flow flow' out out' journal journal' closing closing' body held more later log level n g =
+      let tail : ℕ → Bool → List Answer = λ k c. cond c then_closes (past_body body (held ++ more) (λ input. responses service k trees input later)) in
+      ap (tail (length journal)) (sym g.closes) ∙ ap (λ k. tail k (closes_after (rest_in serves flow' trees) closing')) (sym n)
+
+  goes_heavy : (service : Service) (trees : Trees) (flow flow' : Option Flow) (out out' : List ℕ) (journal journal' : List Entry) (closing closing' : Bool) (body : Option BodyState) (held more : List ℕ) (later : List Start) (log : Option Log) (level : Option ℕ) → length journal' ≡ length journal →
+      Follows serves.served.site (rest_in serves flow trees) (rest_in serves flow' trees) out out' closing closing' log level → heavy_at service (rest_in serves flow) journal closing body held trees more later ≡ heavy_at service (rest_in serves flow') journal' closing' body held trees more later
+  goes_heavy service trees flow flow' out out' journal journal' closing closing' body held more later log level n g =
+      ap (λ a. is_over (rest_in serves flow trees) || heavy_in a) (goes_after service trees flow flow' out out' journal journal' closing closing' body held more later log level n g)
+      ∙ ap (λ k. nat_lt most_subs k || heavy_in (after_at service (rest_in serves flow') journal' closing' body held trees more later)) (sym g.subs)
+
+  goes_bytes : (service : Service) (trees : Trees) (flow flow' : Option Flow) (out out' : List ℕ) (journal journal' : List Entry) (closing closing' : Bool) (body : Option BodyState) (held more : List ℕ) (later : List Start) (log : Option Log) (level : Option ℕ) → length journal' ≡ length journal →
+      Follows serves.served.site (rest_in serves flow trees) (rest_in serves flow' trees) out out' closing closing' log level → bytes_at service (rest_in serves flow) out journal closing body held trees more later ≡ bytes_at service (rest_in serves flow') out' journal' closing' body held trees more later
+  goes_bytes service trees flow flow' out out' journal journal' closing closing' body held more later log level n g =
+      let r = rest_in serves flow trees in
+      let r' = rest_in serves flow' trees in
+      let behind = bytes_in (after_at service (rest_in serves flow') journal' closing' body held trees more later) in
+      ap (λ x. out ++ (r.bytes ++ bytes_in x)) (goes_after service trees flow flow' out out' journal journal' closing closing' body held more later log level n g)
+      ∙ sym (append_assoc out r.bytes behind) ∙ ap (λ x. x ++ behind) (sym g.bytes) ∙ append_assoc out' r'.bytes behind
+
+  goes_logs : (service : Service) (trees : Trees) (flow flow' : Option Flow) (out out' : List ℕ) (journal journal' : List Entry) (closing closing' : Bool) (body : Option BodyState) (held more : List ℕ) (later : List Start) (log : Option Log) (level : Option ℕ) → length journal' ≡ length journal →
+      logged_in journal' ≡ logged_in journal ++ logged_by log → Follows serves.served.site (rest_in serves flow trees) (rest_in serves flow' trees) out out' closing closing' log level → logs_at service (rest_in serves flow) journal closing body held trees more later ≡ logs_at service (rest_in serves flow') journal' closing' body held trees more later
+  goes_logs service trees flow flow' out out' journal journal' closing closing' body held more later log level n e g =
+      let r = rest_in serves flow trees in
+      let r' = rest_in serves flow' trees in
+      let behind = logs_in (after_at service (rest_in serves flow') journal' closing' body held trees more later) in
+      ap (λ x. logged_in journal ++ (r.logs ++ logs_in x)) (goes_after service trees flow flow' out out' journal journal' closing closing' body held more later log level n g)
+      ∙ ap (λ x. logged_in journal ++ (x ++ behind)) (sym g.logged) ∙ ap (λ x. logged_in journal ++ x) (append_assoc (logged_by log) r'.logs behind)
+      ∙ sym (append_assoc (logged_in journal) (logged_by log) (r'.logs ++ behind)) ∙ ap (λ x. x ++ (r'.logs ++ behind)) (sym e)
+
+  pub goes_went : (ground : Ground) (service : Service) (cause : Option StopCause) (flow flow' : Option Flow) (out out' : List ℕ) (journal journal' : List Entry) (closing closing' ended : Bool) (body : Option BodyState) (held : List ℕ) (next : HeadStep) (log : Option Log) (level : Option ℕ) →
+      is_some cause ≡ false → length journal' ≡ length journal → map start_of journal' ≡ map start_of journal → logged_in journal' ≡ logged_in journal ++ logged_by log → IsLogged (is_some flow') journal' →
+      ((trees : Trees) → Holds ground trees → Follows serves.served.site (rest_in serves flow trees) (rest_in serves flow' trees) out out' closing closing' log level) →
+      Went ground (view_at serves service cause flow out journal closing ended body held next) (view_at serves service cause flow' out' journal' closing' ended body held next) [] [] []
+  goes_went ground service cause flow flow' out out' journal journal' closing closing' ended body held next log level live n m e told g = record {
+    before = live_at service cause flow out journal closing ended body held next live;
+    after = live_at service cause flow' out' journal' closing' ended body held next live;
+    moved = record {
+      starts = m ∙ sym (append-nil (map start_of journal));
+      raceless = refl;
+      timed = refl;
+      bytes = λ trees is more later. goes_bytes service trees flow flow' out out' journal journal' closing closing' body held more later log level n (g trees is);
+      logs = λ trees is more later. goes_logs service trees flow flow' out out' journal journal' closing closing' body held more later log level n e (g trees is);
+      closes = λ trees is more later. ap close_in (goes_after service trees flow flow' out out' journal journal' closing closing' body held more later log level n (g trees is));
+      heavy = λ trees is more later h. goes_heavy service trees flow flow' out out' journal journal' closing closing' body held more later log level n (g trees is) ∙ h;
+    };
+    logged = logged_at service flow' journal' closing' body held told;
+  }
+
+  -- an event for which there was no memory
+  pub refused : (now : Start) (service : Service) (cause : Option StopCause) (flow flow' : Option Flow) (out out' : List ℕ) (journal journal' : List Entry) (closing closing' ended ended' : Bool) (body body' : Option BodyState) (held held' : List ℕ) (next next' : HeadStep) →
+      is_some cause ≡ false → out' ≡ [] → journal' ≡ journal → Refused now (view_at serves service cause flow out journal closing ended body held next) (view_at serves service (Some stop.Memory) flow' out' journal' closing' ended' body' held' next')
+  refused now service cause flow flow' out out' journal journal' closing closing' ended ended' body body' held held' next next' live e j = (
+    [],
+    inl refl,
+    record {
+      before = live_at service cause flow out journal closing ended body held next live;
+      held = refl;
+      why = refl;
+      pending = ap (take (shown_of flow')) e ∙ none_taken (shown_of flow');
+      starts = ap (map start_of) j ∙ sym (append-nil (map start_of journal));
+      logs = ap (map log_of) j ∙ sym (append-nil (map log_of journal));
+      logged = λ all l. subst (λ x. Logged x all) (sym (ap (map log_of) j)) l;
+      raceless = refl;
+    },
+  )

@@ -1,0 +1,321 @@
+-- What a connection shows is sound.
+use Rattle.std.proofs.Common.{◌≡◌, ◌≢◌, ℕ, ◌+◌, ◌-◌, ◌<◌, ◌≤◌, drop, take, Bool, true, false, not, ◌&&◌, ◌||◌, cond, List, [], ◌∷◌, ◌++◌, length, map, Option, None, Some, refl, sym, ap, ◌∙◌, arith, suc, zero}
+use Rattle.std.specs.Prelude.{is_some, nat_le, nat_lt, ◌==◌}
+use Rattle.file_tree.specs.declared.job.Ask.{Ask}
+use Rattle.std.proofs.lemmas.List.{append-nil}
+use Rattle.std.proofs.lemmas.Bool.Decides.{nat_tests}
+use Rattle.file_tree.specs.Tree.{Trees}
+use Rattle.ngx_outside.specs.Views.{Start, log_of, IsSound, is_idle, no_bytes, no_nodes, no_jobs}
+use Rattle.ngx_outside.specs.declared.event.Entry.{Entry}
+use Rattle.ngx_outside.specs.declared.event.StopCause.{StopCause}
+use Rattle.req_head.specs.declared.head.HeadStep.{HeadStep}
+use Rattle.req_head.specs.declared.head.HeadStep.TheVariants.{More, Head, Bad}
+use Rattle.req_head.specs.Step.{head_step}
+use Rattle.req_head.specs.Laws.{FullDecides}
+use Rattle.body_frame.specs.Outcome.{Short}
+use Rattle.body_frame.specs.State.{body_of}
+use Rattle.body_frame.specs.declared.state.BodyState.{BodyState}
+use Rattle.request_flow.specs.declared.flow.Flow.{Flow}
+use Rattle.request_flow.specs.declared.flow.Stage.{Stage}
+use Rattle.request_flow.specs.declared.flow.Stage.TheVariants.{Asked, Told, Reading, Came}
+use Rattle.http_connection.specs.Steps.{starts, rest_of, past_body, logged_in, IsLogged}
+use Rattle.http_connection.specs.Conn.{view_at, after_at, bytes_at, logs_at, room_at, starts_at, idle_at, shut_at}
+use Rattle.http_connection.proofs.Moves.{room_some, none_taken, below, and_left, and_right}
+use Rattle.answers_meaning.specs.Asking.{Service}
+use Rattle.answers_meaning.specs.Answers.{Answer, then_closes, responses, first_response, bytes_in, logs_in, close_in, after_body}
+use Rattle.http_connection.specs.Rests.{rest_in, Serves}
+use Rattle.request_flow.specs.Flows.{jobs_of, is_stat, may_run, shown_by, shown_most, placed_most, kept_most, is_block, stage_fits, flow_fits}
+
+unlogged_close : (closing : Bool) → logs_in (cond closing then_closes []) ≡ []
+unlogged_close true = refl
+unlogged_close false = refl
+
+is_close : (closing : Bool) → close_in (cond closing then_closes []) ≡ closing
+is_close true = refl
+is_close false = refl
+
+positive : 0 < shown_most
+unfolding shown_most
+positive = omega arith
+
+pub record Idle (out : List ℕ) (closing : Bool) (body : Option BodyState) (next : HeadStep) : Type 0 where
+  pub unsent : no_bytes out ≡ true
+  pub waits : (closing || not (starts body next)) ≡ true
+
+unstarted : (t : Bool) → no_nodes (cond t (0 ∷ []) []) ≡ true → t ≡ false
+unstarted true e = cc
+unstarted false e = refl
+
+waits_by : (out : List ℕ) (closing : Bool) (body : Option BodyState) (next : HeadStep) → no_bytes out ≡ true → starts_at false closing out body next ≡ false → (closing || not (starts body next)) ≡ true
+waits_by [] true body next p e = refl
+waits_by [] false body next p e = ap not e
+waits_by (b ∷ out) closing body next p e = cc
+
+pub shut_parts : (out : List ℕ) (closing ended : Bool) (body : Option BodyState) (next : HeadStep) → shut_at false None closing ended out body next ≡ true → Idle out closing body next
+shut_parts [] true ended body next h = record { unsent = refl; waits = refl }
+shut_parts [] false true (Some state) next h = record { unsent = refl; waits = refl }
+shut_parts [] false true None More h = record { unsent = refl; waits = refl }
+shut_parts [] false true None (Head head size) h = cc
+shut_parts [] false true None (Bad code no_body) h = cc
+shut_parts [] false false body next h = cc
+shut_parts (b ∷ out) true ended body next h = cc
+shut_parts (b ∷ out) false true body next h = cc
+shut_parts (b ∷ out) false false body next h = cc
+
+never_all : (a b : Bool) → (a && b && false) ≡ true → ⊥
+never_all true true e = cc
+never_all true false e = cc
+never_all false b e = cc
+
+never_mid : (a : Bool) → (a && false && true) ≡ true → ⊥
+never_mid true e = cc
+never_mid false e = cc
+
+full_shown : (placed : ℕ) → placed_most ≤ placed → cond (nat_lt placed shown_most) placed shown_most ≡ shown_most
+unfolding placed_most shown_most
+full_shown placed a = ap (λ t. cond t placed 65536) (let f : nat_lt placed 65536 ≡ false = grind (arith, nat_tests) in f)
+
+idle_none : (out : List ℕ) (closing : Bool) (body : Option BodyState) (next : HeadStep) →
+    (no_bytes out && (closing || not (starts body next))) ≡ (no_bytes out && no_nodes (cond (starts_at false closing out body next) (0 ∷ []) []) && true)
+idle_none (b ∷ out) closing body next = refl
+idle_none [] true body next = refl
+idle_none [] false body next = elim (starts body next) as (λ t. not t ≡ (no_nodes (cond t (0 ∷ []) []) && true)) [ true ↦ refl | false ↦ refl ]
+
+pub unshut : (closing ended : Bool) → ((closing || ended) && false) ≡ true → ⊥
+unshut true ended e = cc
+unshut false true e = cc
+unshut false false e = cc
+
+below_none : (size : ℕ) → (size == 0) ≡ true → nat_le size placed_most ≡ true
+unfolding placed_most
+below_none size f = grind (arith, nat_tests)
+
+-- bytes that begin no request are answered by nothing
+unanswered : (service : Service) (k : ℕ) (trees : Trees) (held : List ℕ) (later : List Start) → More ≡ head_step held → responses service k trees (held ++ []) later ≡ []
+unfolding responses
+unanswered service k trees held [] e = refl
+unanswered service k trees held (start ∷ later) e =
+    ap (λ s. first_response service trees k start s (λ n kind. after_body (body_of kind (drop n (held ++ []))) (λ m. responses service (k + 1) trees (drop m (drop n (held ++ []))) later)))
+    (ap head_step (append-nil held) ∙ sym e)
+
+-- a body that isn't ended is followed by nothing yet
+unfinished : (state : BodyState) (held : List ℕ) (g : List ℕ → List Answer) → held ≡ [] → rest_of (Some state) [] ≡ Short → past_body (Some state) (held ++ []) g ≡ []
+unfinished state held g e s = ap (λ h. past_body (Some state) (h ++ []) g) e ∙ ap (λ o. after_body o (λ n. g (drop n []))) s
+
+-- nothing is sent or logged where it closes
+silent_close : (closing : Bool) → bytes_in (cond closing then_closes []) ≡ []
+silent_close true = refl
+silent_close false = refl
+
+-- some bytes are shown where some are kept
+shown_some : (n : ℕ) (xs : List ℕ) → 0 < n → no_bytes (take n xs) ≡ no_bytes xs
+shown_some n [] h = ap no_bytes (none_taken n)
+shown_some zero (x ∷ xs) h = absurd (omega (arith, h))
+shown_some (suc n) (x ∷ xs) h = refl
+
+shown_none : (out : List ℕ) → no_bytes (take shown_most out) ≡ no_bytes out
+shown_none out = shown_some shown_most out positive
+
+pub idle_parts : (out : List ℕ) (closing : Bool) (body : Option BodyState) (next : HeadStep) → (no_bytes (take shown_most out) && no_nodes (cond (starts_at false closing out body next) (0 ∷ []) []) && true) ≡ true → Idle out closing body next
+idle_parts out closing body next h =
+    let nodes = no_nodes (cond (starts_at false closing out body next) (0 ∷ []) []) in
+    let both = and_left (no_bytes (take shown_most out) && nodes) true h in
+    let unsent : no_bytes out ≡ true = sym (shown_none out) ∙ and_left (no_bytes (take shown_most out)) nodes both in
+    record {
+      unsent = unsent;
+      waits = waits_by out closing body next unsent (unstarted (starts_at false closing out body next) (and_right (no_bytes (take shown_most out)) nodes both));
+    }
+
+-- nothing is read behind the end of the input
+silent_at : (stopped closing ended : Bool) (held : List ℕ) → ended ≡ true → room_at stopped closing ended held ≡ None
+silent_at true closing ended held e = refl
+silent_at false true ended held e = refl
+silent_at false false true held e = refl
+silent_at false false false held e = cc
+
+-- and these are decided
+decided : FullDecides → (held : List ℕ) (next : HeadStep) → next ≡ head_step held → 8192 ≤ length held → next ≢ More
+decided full held next e h m = full held h (sym e ∙ m)
+
+-- where as much is placed as there is room for, all of what is shown is there
+some_kept : (placed : ℕ) (xs : List ℕ) → placed_most ≤ placed → placed ≤ length xs → no_bytes xs ≡ false
+unfolding placed_most
+some_kept placed [] a b = absurd (omega (arith, a, b))
+some_kept placed (x ∷ xs) a b = refl
+
+unplaced : (out : List ℕ) (t : Bool) (placed : ℕ) → nat_lt placed placed_most ≡ t → placed ≤ length out →
+    (no_bytes (take (cond (nat_lt placed shown_most) placed shown_most) out) && no_nodes (cond (not false && t) (0 ∷ []) []) && true) ≡ true → ⊥
+unplaced out true placed e within h = never_mid (no_bytes (take (cond (nat_lt placed shown_most) placed shown_most) out)) h
+unplaced out false placed e within h =
+    let most : placed_most ≤ placed = grind (arith, nat_tests) in
+    let some : no_bytes (take (cond (nat_lt placed shown_most) placed shown_most) out) ≡ false = ap (λ n. no_bytes (take n out)) (full_shown placed most) ∙ shown_none out ∙ some_kept placed out most within in
+    let is = and_left (no_bytes (take (cond (nat_lt placed shown_most) placed shown_most) out)) true (and_left (no_bytes (take (cond (nat_lt placed shown_most) placed shown_most) out) && true) true h) in
+    let clash : true ≡ false = sym is ∙ some in
+    cc
+
+-- a request in flight waits for its job, or runs, or has bytes to be written
+busy : (flow : Flow) (out : List ℕ) → flow_fits (Some flow) (length out) ≡ true →
+    (no_bytes (take (shown_by flow.stage) out) && no_nodes (cond (not false && may_run flow.stage) (0 ∷ []) []) && no_jobs (jobs_of (Some flow))) ≡ true → ⊥
+busy flow out fits h = by flow.stage fits h
+  where
+    by : (stage : Stage) → stage_fits flow.ask stage (length out) ≡ true →
+        (no_bytes (take (shown_by stage) out) && no_nodes (cond (not false && may_run stage) (0 ∷ []) []) && no_jobs (jobs_of (Some (record { ask = flow.ask; stage = stage })))) ≡ true → ⊥
+    by (Asked request wait) f h = never_all (no_bytes (take shown_most out)) true h
+    by (Told request wait node) f h = never_mid (no_bytes (take shown_most out)) h
+    by (Reading sending left) f h = never_all (no_bytes (take shown_most out)) true h
+    by (Came sending left placed) f h =
+        let q = and_right (nat_le left sending.len && not (is_stat flow.ask)) ((nat_le placed (length out) && nat_le placed placed_most) && nat_le (length out) kept_most) f in
+        let p = and_left (nat_le placed (length out) && nat_le placed placed_most) (nat_le (length out) kept_most) q in
+        unplaced out (nat_lt placed placed_most) placed refl (below placed (length out) (and_left (nat_le placed (length out)) (nat_le placed placed_most) p)) h
+
+-- what is idle by its parts is shown as idle
+is_false : (b : Bool) → (b ≡ true → ⊥) → b ≡ false
+is_false true h = absurd (h refl)
+is_false false h = refl
+
+-- as much is kept for a peer
+few_kept : (size : ℕ) → nat_le size placed_most ≡ true → size ≤ kept_most
+unfolding placed_most kept_most
+few_kept size f = let z = below size 98304 f in omega (arith, z)
+
+stage_bounded : (size : ℕ) (job : Ask) (stage : Stage) → stage_fits job stage size ≡ true → size ≤ kept_most
+stage_bounded size job (Asked request wait) f = few_kept size (below_none size (and_right (is_stat job) (size == 0) f))
+stage_bounded size job (Told request wait node) f = few_kept size (below_none size (and_right (is_stat job) (size == 0) f))
+stage_bounded size job (Reading sending left) f = few_kept size (and_right (nat_le left sending.len && is_block sending.len left job) (nat_le size placed_most) f)
+stage_bounded size job (Came sending left placed) f =
+    below size kept_most (and_right (nat_le placed size && nat_le placed placed_most) (nat_le size kept_most) (and_right (nat_le left sending.len && not (is_stat job)) ((nat_le placed size && nat_le placed placed_most) && nat_le size kept_most) f))
+
+pub bounded : (flow : Option Flow) (size : ℕ) → flow_fits flow size ≡ true → size ≤ kept_most
+bounded None size f = few_kept size f
+bounded (Some flow) size f = stage_bounded size flow.ask flow.stage f
+
+module _ (serves : Serves) where
+  -- where no request begins there are no further responses, and the connection closes where it does so behind its last one
+  quiet_after : (service : Service) (journal : List Entry) (closing : Bool) (body : Option BodyState) (held : List ℕ) (next : HeadStep) (trees : Trees) (later : List Start) →
+      (closing || not (starts body next)) ≡ true → next ≡ head_step held → (is_some body ≡ true → held ≡ []) → (is_some body ≡ true → rest_of body [] ≡ Short) → after_at service (rest_in serves None) journal closing body held trees [] later ≡ cond closing then_closes []
+  quiet_after service journal true body held next trees later q e d u = refl
+  quiet_after service journal false (Some state) held next trees later q e d u = unfinished state held (λ input. responses service (length journal) trees input later) (d refl) (u refl)
+  quiet_after service journal false None held More trees later q e d u = unanswered service (length journal) trees held later e
+  quiet_after service journal false None held (Head head size) trees later q e d u = cc
+  quiet_after service journal false None held (Bad code no_body) trees later q e d u = cc
+
+  -- where nothing is kept for the peer either, nothing more comes
+  quiet : (service : Service) (out : List ℕ) (journal : List Entry) (closing : Bool) (body : Option BodyState) (held : List ℕ) (next : HeadStep) (trees : Trees) (later : List Start) →
+      no_bytes out ≡ true → (closing || not (starts body next)) ≡ true → next ≡ head_step held → (is_some body ≡ true → held ≡ []) → (is_some body ≡ true → rest_of body [] ≡ Short) → bytes_at service (rest_in serves None) out journal closing body held trees [] later ≡ []
+  quiet service [] journal closing body held next trees later p q e d u = ap bytes_in (quiet_after service journal closing body held next trees later q e d u) ∙ silent_close closing
+  quiet service (b ∷ out) journal closing body held next trees later p q e d u = cc
+
+  -- and all responses are logged
+  quiet_logs : (service : Service) (journal : List Entry) (closing : Bool) (body : Option BodyState) (held : List ℕ) (next : HeadStep) (trees : Trees) (later : List Start) → IsLogged false journal →
+      (closing || not (starts body next)) ≡ true → next ≡ head_step held → (is_some body ≡ true → held ≡ []) → (is_some body ≡ true → rest_of body [] ≡ Short) →
+      map log_of journal ≡ map (λ l. Some l) (logs_at service (rest_in serves None) journal closing body held trees [] later)
+  quiet_logs service journal closing body held next trees later told q e d u =
+      told ∙ append-nil (map (λ l. Some l) (logged_in journal))
+      ∙ ap (map (λ l. Some l)) (sym (ap (λ x. logged_in journal ++ logs_in x) (quiet_after service journal closing body held next trees later q e d u) ∙ ap (λ x. logged_in journal ++ x) (unlogged_close closing) ∙ append-nil (logged_in journal)))
+
+  -- an idle one is to be closed exactly where its input has ended or it closes behind its last response
+  shut_by : (out : List ℕ) (closing ended : Bool) (body : Option BodyState) (next : HeadStep) → Idle out closing body next →
+      shut_at false None closing ended out body next ≡ (ended || closing)
+  shut_by (b ∷ out) closing ended body next i = absurd (let e = i.unsent in cc)
+  shut_by [] true true body next i = refl
+  shut_by [] true false body next i = refl
+  shut_by [] false true body next i = i.waits
+  shut_by [] false false body next i = refl
+
+  shuts_by : (service : Service) (out : List ℕ) (journal : List Entry) (closing ended : Bool) (body : Option BodyState) (held : List ℕ) (next : HeadStep) (trees : Trees) (later : List Start) → Idle out closing body next →
+      next ≡ head_step held → (is_some body ≡ true → held ≡ []) → (is_some body ≡ true → rest_of body [] ≡ Short) →
+      shut_at false None closing ended out body next ≡ (ended || close_in (after_at service (rest_in serves None) journal closing body held trees [] later))
+  shuts_by service out journal closing ended body held next trees later i e d u =
+      shut_by out closing ended body next i
+      ∙ ap (λ b. ended || b) (sym (ap close_in (quiet_after service journal closing body held next trees later i.waits e d u) ∙ is_close closing))
+
+  -- one that closes before the end of its input closes behind its response, and nothing comes behind that
+  closed : (service : Service) (out : List ℕ) (journal : List Entry) (closing ended : Bool) (body : Option BodyState) (held : List ℕ) (next : HeadStep) (trees : Trees) (more : List ℕ) (later : List Start) →
+      shut_at false None closing ended out body next ≡ true → ended ≡ false → bytes_at service (rest_in serves None) out journal closing body held trees more later ≡ []
+  closed service [] journal true ended body held next trees more later h e = refl
+  closed service [] journal false false body held next trees more later h e = cc
+  closed service [] journal false true body held next trees more later h e = cc
+  closed service (b ∷ out) journal true ended body held next trees more later h e = cc
+  closed service (b ∷ out) journal false false body held next trees more later h e = cc
+  closed service (b ∷ out) journal false true body held next trees more later h e = cc
+
+  -- where no bytes are taken though nothing is closed, as many are held as are looked at
+  held_full : (n : ℕ) → cond (nat_le 8192 n) None (Some (8192 - n)) ≡ None → 8192 ≤ n
+  held_full n h = by (nat_le 8192 n) refl h
+    where
+      by : (t : Bool) → nat_le 8192 n ≡ t → cond t None (Some (8192 - n)) ≡ None → 8192 ≤ n
+      by true e h = grind (arith, nat_tests)
+      by false e h = cc
+
+  -- an idle connection that isn't to be closed reads
+  reading : FullDecides → (out : List ℕ) (closing ended : Bool) (body : Option BodyState) (held : List ℕ) (next : HeadStep) → next ≡ head_step held → (is_some body ≡ true → held ≡ []) → Idle out closing body next → shut_at false None closing ended out body next ≡ false → room_at false closing ended held ≢ None
+  reading full (b ∷ out) closing ended body held next looked drained i shut none = absurd (let e = i.unsent in cc)
+  reading full [] true ended body held next looked drained i shut none = cc
+  reading full [] false true body held next looked drained i shut none = absurd (let e : true ≡ false = sym i.waits ∙ shut in cc)
+  reading full [] false false None held (Head head size) looked drained i shut none = absurd (let e = i.waits in cc)
+  reading full [] false false None held (Bad code no_body) looked drained i shut none = absurd (let e = i.waits in cc)
+  reading full [] false false None held More looked drained i shut none = absurd (decided full held More looked (held_full (length held) none) refl)
+  reading full [] false false (Some state) held next looked drained i shut none = absurd (let n = ap length (drained refl) in let h = held_full (length held) none in omega (arith, n, h))
+
+  pub idle_shown : (service : Service) (cause : Option StopCause) (flow : Option Flow) (out : List ℕ) (journal : List Entry) (closing ended : Bool) (body : Option BodyState) (held : List ℕ) (next : HeadStep) → flow_fits flow (length out) ≡ true →
+      idle_at (is_some cause) flow closing out body next ≡ is_idle (view_at serves service cause flow out journal closing ended body held next)
+  idle_shown service (Some why) None out journal closing ended body held next fits = refl
+  idle_shown service (Some why) (Some flow) out journal closing ended body held next fits = refl
+  idle_shown service None None out journal closing ended body held next fits =
+      idle_none out closing body next ∙ ap (λ b. b && no_nodes (cond (starts_at false closing out body next) (0 ∷ []) []) && true) (sym (shown_none out))
+  idle_shown service None (Some flow) out journal closing ended body held next fits = sym (is_false _ (busy flow out fits))
+
+  pub sound : FullDecides → (service : Service) (cause : Option StopCause) (flow : Option Flow) (out : List ℕ) (journal : List Entry) (closing ended : Bool) (body : Option BodyState) (held : List ℕ) (next : HeadStep) →
+      (is_some cause ≡ false → next ≡ head_step held) → (is_some cause ≡ true → out ≡ []) → (is_some cause ≡ true → flow ≡ None) → flow_fits flow (length out) ≡ true → (is_some body ≡ true → held ≡ []) → (is_some body ≡ true → rest_of body [] ≡ Short) → (is_some cause ≡ false → IsLogged (is_some flow) journal) → IsSound (view_at serves service cause flow out journal closing ended body held next)
+  sound full service (Some why) (Some flow) out journal closing ended body held next looked dropped quit fits drained unended told = absurd (let e : Some flow ≡ None = quit refl in cc)
+  sound full service (Some why) None out journal closing ended body held next looked dropped quit fits drained unended told = record {
+    unsent = λ h. ap (take shown_most) (dropped refl) ∙ none_taken shown_most;
+    unready = λ h. refl;
+    unasked = λ h. refl;
+    unread = λ h. refl;
+    untimed = λ h. refl;
+    stopped = λ cause h e. refl;
+    absent = λ h. cc;
+    roomy = λ room h. cc;
+    silent = λ h. refl;
+    reads = λ h. cc;
+    idle = λ h trees later. cc;
+    logged = λ h trees later. cc;
+    shut = λ h s trees later. cc;
+    shuts = λ h trees later. cc;
+    closes = λ h s e trees more later. cc;
+  }
+  sound full service None None out journal closing ended body held next looked dropped quit fits drained unended told = record {
+    unsent = λ h. cc;
+    unready = λ h. cc;
+    unasked = λ h. refl;
+    unread = λ h. cc;
+    untimed = λ h. refl;
+    stopped = λ cause h e. cc;
+    absent = λ h. cc;
+    roomy = λ room h. (room_some false closing ended held room h).3;
+    silent = silent_at false closing ended held;
+    reads = λ h s. reading full out closing ended body held next (looked refl) drained (idle_parts out closing body next h) s;
+    idle = λ h trees later. let i = idle_parts out closing body next h in quiet service out journal closing body held next trees later i.unsent i.waits (looked refl) drained unended;
+    logged = λ h trees later. let i = idle_parts out closing body next h in quiet_logs service journal closing body held next trees later (told refl) i.waits (looked refl) drained unended;
+    shut = λ l h trees later. let i = shut_parts out closing ended body next h in quiet service out journal closing body held next trees later i.unsent i.waits (looked refl) drained unended;
+    shuts = λ h trees later. shuts_by service out journal closing ended body held next trees later (idle_parts out closing body next h) (looked refl) drained unended;
+    closes = λ l h e trees more later. closed service out journal closing ended body held next trees more later h e;
+  }
+  sound full service None (Some flow) out journal closing ended body held next looked dropped quit fits drained unended told = record {
+    unsent = λ h. cc;
+    unready = λ h. cc;
+    unasked = λ h. cc;
+    unread = λ h. cc;
+    untimed = λ h. refl;
+    stopped = λ cause h e. cc;
+    absent = λ h. cc;
+    roomy = λ room h. (room_some false closing ended held room h).3;
+    silent = silent_at false closing ended held;
+    reads = λ h. absurd (busy flow out fits h);
+    idle = λ h trees later. absurd (busy flow out fits h);
+    logged = λ h trees later. absurd (busy flow out fits h);
+    shut = λ l h trees later. absurd (unshut closing ended h);
+    shuts = λ h trees later. absurd (busy flow out fits h);
+    closes = λ l h e trees more later. absurd (unshut closing ended h);
+  }

@@ -1,0 +1,96 @@
+use Rattle.std.proofs.Common.{inl, None, refl, ◌≡◌, ◌≤◌, [], ◌∙◌, sym, ap, subst, false, length, drop, ◌++◌, List, ℕ, arith}
+use Rattle.std.specs.Prelude.{is_some, ◌==◌}
+use Rattle.std.proofs.lemmas.List.{length-take}
+use Rattle.ngx_outside.specs.Views.{Went}
+use Rattle.ngx_outside.specs.Views.Ground.{Always}
+use Rattle.http_connection.specs.Conn.{view_at}
+use Rattle.http_connection.proofs.Kept.{held_few, held_drained, none_fits, none_held}
+use Rattle.http_connection.proofs.Moves.{room_some, arrived_went, arrived_left, some_taken, refused, refused_left}
+use Rattle.http_connection.proofs.Timed.{went_until, refused_until}
+use Rattle.http_connection.proofs.conn.Conn.arrived.Goals as goal
+use Rattle.http_connection.specs.Rests.{service_in}
+use Rattle.request_flow.specs.Flows.{tree_asked}
+
+pub returns-in-Ok-clause-steps : goal.returns-in-Ok-clause-steps
+returns-in-Ok-clause-steps c = λ site now conn.
+    let s = c.args.self.now in
+    let service = service_in site s.local s.peer in
+    let d = c.drop_rest-dropped.result in
+    let n = c.take_in.new in
+    let first = c.first_bytes-bytes.result.now in
+    let kept : List ℕ = drop d.used first in
+    let has = sym c.room.ensures ∙ c.in-Some.is in
+    let r = room_some (is_some s.cause) s.closing s.ended s.held c.in-Some.room has in
+    let some : (length c.args.bytes.now == 0) ≡ false = sym c.is_empty.ensures ∙ c.if-is_empty.false in
+    let held : n.held ≡ s.held ++ kept = c.in-Ok.ensures.held ∙ ap (λ x. s.held ++ x) c.last_bytes.ensures in
+    let drops = c.drop_rest-dropped.ensures.drops in
+    let few : length kept ≤ c.min-taken.result =
+    let a = drops.shorter in
+    let b = ap length c.first_bytes-bytes.ensures in
+    let e = length-take c.min-taken.result c.args.bytes.now in
+    omega (arith, a, b, e) in
+    record {
+      own = λ course. (
+        record { most = c.in-Some.room; has_room = has; takes = c.min-taken.ensures; some = some_taken (length c.args.bytes.now) c.in-Some.room c.min-taken.result c.min-taken.ensures some r.3 },
+        went_until _ _ Always _ _ _ [] [] (subst (λ b. Went Always (view_at site service s.cause s.flow s.out s.journal.items s.closing s.ended s.body s.held s.next) (view_at site service s.cause s.flow s.out s.journal.items d.broken s.ended d.body n.held n.next) b [] []) c.first_bytes-bytes.ensures
+            (arrived_went site service s.cause s.flow s.out s.journal.items s.closing d.broken s.ended s.body d.body s.held n.held kept s.next n.next first r.0 r.1 s.drained c.drop_rest-dropped.ensures.none drops held (s.logged r.0))),
+      );
+      left = arrived_left s.cause s.flow s.out s.closing d.broken s.held n.held kept c.args.bytes.now c.min-taken.result r.1 held few;
+      ended = refl;
+      taken = tt;
+      asked = inl (omega arith);
+    }
+
+pub returns-in-Err-clause-steps : goal.returns-in-Err-clause-steps
+returns-in-Err-clause-steps c = λ site now conn.
+    let s = c.args.self.now in
+    let service = service_in site s.local s.peer in
+    let n = c.take_in.new in
+    let has = sym c.room.ensures ∙ c.in-Some.is in
+    let r = room_some (is_some s.cause) s.closing s.ended s.held c.in-Some.room has in
+    record {
+      own = λ course. refused_until _ _ now _ _ (refused site now service s.cause s.flow c.put.new.slot s.out c.clear.new.self s.journal.items s.journal.items s.closing s.closing s.ended s.ended s.body None s.held c.clear-in-Err.new.self s.next n.next r.0 c.clear.ensures refl);
+      left = refused_left s.cause s.flow c.put.new.slot s.out c.clear.new.self s.closing s.closing s.held c.clear-in-Err.new.self r.0;
+      ended = refl;
+      taken = tt;
+      asked = inl (let e = ap tree_asked c.put.ensures in omega (arith, e));
+    }
+
+pub invariant_of-self : goal.invariant_of-self
+invariant_of-self c =
+    let s = c.args.self.now in
+    let d = c.drop_rest-dropped.result in
+    let n = c.take_in.new in
+    let first = c.first_bytes-bytes.result.now in
+    let kept : List ℕ = drop d.used first in
+    let has = sym c.room.ensures ∙ c.in-Some.is in
+    let held : n.held ≡ s.held ++ kept = c.in-Ok.ensures.held ∙ ap (λ x. s.held ++ x) c.last_bytes.ensures in
+    let drops = c.drop_rest-dropped.ensures.drops in
+    let few : length kept ≤ c.min-taken.result =
+    let a = drops.shorter in
+    let b = ap length c.first_bytes-bytes.ensures in
+    let e = length-take c.min-taken.result c.args.bytes.now in
+    omega (arith, a, b, e) in
+    let within : c.min-taken.result ≤ c.in-Some.room = omega (arith, c.min-taken.ensures) in
+    record {
+      looked = λ h. c.in-Ok.ensures.next;
+      dropped = s.dropped;
+      quit = s.quit;
+      flowing = s.flowing;
+      few = held_few (is_some s.cause) s.closing s.ended s.held n.held kept c.in-Some.room c.min-taken.result has held few within;
+      drained = held_drained s.body d.body s.held n.held first kept d.broken s.drained c.drop_rest-dropped.ensures.none drops.drained held;
+      unended = drops.unended;
+      logged = s.logged;
+    }
+
+pub invariant_of-self-in-Err : goal.invariant_of-self-in-Err
+invariant_of-self-in-Err c = record {
+  looked = λ h. cc;
+  dropped = λ h. c.clear.ensures;
+  quit = λ h. c.put.ensures;
+  flowing = none_fits c.put.new.slot c.clear.new.self c.put.ensures c.clear.ensures;
+  few = none_held c.clear-in-Err.new.self c.clear-in-Err.ensures;
+  drained = λ h. cc;
+  unended = λ h. cc;
+  logged = λ h. cc;
+}

@@ -1,0 +1,6 @@
+use Rattle.std.proofs.Common.{length}
+use Rattle.http_connection.proofs.Sound.{bounded}
+use Rattle.http_connection.proofs.law.connections_are_bounded.Goals as goal
+
+pub returns : goal.returns
+returns c = λ s. (s.few, bounded s.flow (length s.out) s.flowing)

@@ -1,0 +1,5 @@
+pub mod Rests
+pub mod Steps
+pub mod Conn
+pub mod Times
+pub mod Wants

@@ -1,0 +1,125 @@
+-- What becomes of a connection's parts.
+use Rattle.std.specs.Prelude.{◌≡◌, ◌≤◌, ℕ, Bool, true, false, not, is_some, Option, None, Some, List, [], ◌∷◌, ◌++◌, length, drop, map, if◌then◌else◌}
+use Rattle.file_tree.specs.Tree.{Trees}
+use Rattle.ngx_outside.specs.Views.{Start, Log, log_of}
+use Rattle.ngx_outside.specs.declared.event.Entry.{Entry}
+use Rattle.body_frame.specs.Outcome.{BodyOutcome, Whole, Short}
+use Rattle.body_frame.specs.State.{body_of, rest_body}
+use Rattle.body_frame.specs.declared.state.BodyState.{BodyState}
+use Rattle.answers_meaning.specs.Asking.{Service, server_for}
+use Rattle.answers_meaning.specs.Answers.{Answer, then_closes, after_body, response_at, refusal}
+use Rattle.request_flow.specs.declared.flow.Flow.{Flow}
+use Rattle.request_flow.specs.Rests.{closes_after, logged_by}
+use Rattle.http_connection.specs.Rests.{Serves, service_in, rest_in, values_at}
+use Rattle.http_connection.specs.Times.{or_values, values_in}
+use Rattle.http_connection.specs.declared.open.Meeting.{Meeting}
+use Rattle.req_head.specs.declared.head.Head.{Head as RequestHead}
+use Rattle.req_head.specs.declared.head.HeadStep.{HeadStep}
+use Rattle.req_head.specs.declared.head.HeadStep.TheVariants.{More, Head, Bad}
+
+-- held bytes begin a request, or what is no request
+abbrev pub begins : HeadStep → Bool
+begins (Head head size) = true
+begins (Bad code no_body) = true
+begins More = false
+
+-- a further request may start, once nothing of a body is to be dropped
+abbrev pub starts : Option BodyState → HeadStep → Bool
+starts None next = begins next
+starts (Some state) next = false
+
+-- what a text says of the rest of a body, where there is one
+abbrev pub rest_of : Option BodyState → List ℕ → BodyOutcome
+rest_of None text = Whole 0
+rest_of (Some state) text = rest_body state text
+
+-- the answers to bytes at whose front the rest of a body may be, by those to what comes after that
+abbrev pub past_body : Option BodyState → List ℕ → (List ℕ → List Answer) → List Answer
+past_body body input g = after_body (rest_of body input) (λ count. g (drop count input))
+
+-- A body's rest was dropped from the front of these bytes as far as it is there: the answers to
+-- them, whatever comes after them, are those to what is held then; where the body is broken the
+-- connection closes. Where it isn't ended, nothing is held.
+pub record Drops (from : List ℕ → BodyOutcome) (input : List ℕ) (body : Option BodyState)
+    (held : List ℕ) (broken : Bool) : Type 0 where
+  pub rest : (g : List ℕ → List Answer) (more : List ℕ) →
+      after_body (from (input ++ more))
+      (λ count. g (drop count (input ++ more))) ≡ (if broken then then_closes else past_body body
+      (held ++ more) g)
+  pub drained : is_some body ≡ true → held ≡ []
+  pub unended : is_some body ≡ true → rest_of body [] ≡ Short
+  pub shorter : length held ≤ length input
+
+-- the logs in a journal, of the requests that are over
+unfoldable pub logged_in : List Entry → List Log
+logged_in [] = []
+logged_in (entry ∷ journal) = logged_by entry.log ++ logged_in journal
+
+-- each request of a journal is logged, but the last one where it is in flight
+abbrev pub IsLogged : Bool → List Entry → Type 0
+IsLogged in_flight journal = map log_of journal ≡ map (λ l. Some l) (logged_in journal) ++
+    (if in_flight then None ∷ [] else [])
+
+-- What is refused is answered by the built-in page of a code, after which the connection closes.
+pub record Refuses (code : ℕ) (start : Start) (no_body : Bool) (flow' : Option Flow)
+    (out out' : List ℕ) (closing : Bool) (log : Option Log) : Type 0 where
+  pub put : out' ≡ out ++ (refusal code start no_body).bytes
+  pub over : flow' ≡ None
+  pub logged : log ≡ Some (refusal code start no_body).log
+  pub closes : closing ≡ true
+
+abbrev pub start_in : Meeting → Start
+start_in m = record { moment = m.moment; tree = m.tree }
+
+-- A request was opened: what was put and what is still to come is its response.
+pub record Opened (x : Serves) (trees : Trees) (m : Meeting) (k : ℕ) (head : RequestHead)
+    (flow' : Option Flow) (out out' : List ℕ) (closing : Bool)
+    (log : Option Log) (number : Option ℕ) : Type 0 where
+  pub put : out' ++ (rest_in x flow' trees).bytes ≡ out ++
+      (response_at (service_in x m.local m.peer) trees k (start_in m) head).bytes
+  pub closes : closes_after (rest_in x flow' trees) closing ≡ not
+      (response_at (service_in x m.local m.peer) trees k (start_in m) head).stays
+  pub logged : logged_by log ++ (rest_in x flow' trees).logs ≡
+      (response_at (service_in x m.local m.peer) trees k (start_in m) head).log ∷ []
+  pub subs : (rest_in x flow' trees).subs ≡
+      (response_at (service_in x m.local m.peer) trees k (start_in m) head).subs
+  pub level : or_values (values_at x.served number) (rest_in x flow' trees).values
+      ≡ values_in (service_in x m.local m.peer) trees (start_in m) head
+      (server_for (service_in x m.local m.peer) head)
+
+-- A request starts: its head is dropped, and its body as far as it is there. What was put after what is kept for the peer and
+-- what is still to come is its response, which is logged once all of it was put; and the connection closes after it where the
+-- response says so or the body is broken.
+pub record RanHead (x : Serves) (service : Service) (trees : Trees) (start : Start) (k : ℕ)
+    (head : RequestHead) (size : ℕ) (held held' : List ℕ)
+    (body' : Option BodyState) (flow' : Option Flow) (out out' : List ℕ) (closing : Bool)
+    (log : Option Log) : Type 0 where
+  pub broken : Bool
+  pub put : out' ++ (rest_in x flow' trees).bytes ≡ out ++
+      (response_at service trees k start head).bytes
+  pub closes : closes_after (rest_in x flow' trees) closing ≡
+      (if (response_at service trees k start head).stays then broken else true)
+  pub logged : logged_by log ++ (rest_in x flow' trees).logs ≡
+      (response_at service trees k start head).log ∷ []
+  pub subs : (rest_in x flow' trees).subs ≡ (response_at service trees k start head).subs
+  pub over : is_some log ≡ not (is_some flow')
+  pub drops : Drops (body_of head.body) (drop size held) body' held' broken
+
+-- One that is refused closes the connection, and its bytes stay.
+pub record RanBad (start : Start) (code : ℕ) (no_body : Bool) (held held' : List ℕ)
+    (body' : Option BodyState) (flow' : Option Flow) (out out' : List ℕ)
+    (closing : Bool) (log : Option Log) : Type 0 where
+  pub put : out' ≡ out ++ (refusal code start no_body).bytes
+  pub stands : held' ≡ held
+  pub bodiless : body' ≡ None
+  pub over : flow' ≡ None
+  pub logged : log ≡ Some (refusal code start no_body).log
+  pub closes : closing ≡ true
+
+abbrev pub RanOne : Serves → Service → Trees → Start → ℕ → HeadStep → List ℕ → List ℕ
+    → Option BodyState → Option Flow → List ℕ → List ℕ → Bool → Option Log → Type 0
+RanOne x service trees start k (Head head size) held held' body' flow' out out' closing log =
+    RanHead x service trees start k head size held held' body' flow' out out' closing log
+RanOne x service trees start k (Bad code no_body) held held' body' flow' out out' closing log =
+    RanBad start code no_body held held' body' flow' out out' closing log
+RanOne x service trees start k More held held' body' flow' out out' closing log = ⊥

@@ -1,0 +1,189 @@
+// How long a connection waits for its peer.
+ghost use Rattle.std.specs.Prelude.{◌≡◌, ◌≤◌, List};
+ghost use Rattle.ngx_pattern.specs.Pattern.{Pattern as SetPattern};
+ghost use Rattle.pattern_search.specs.Found.{patterns_seen};
+ghost use Rattle.site_model.specs.declared.site.Site.{Site as SiteRow};
+ghost use Rattle.site_views.specs.Choice.{default_server};
+ghost use Rattle.site_whole.specs.Whole.{values_seen, whole};
+ghost use Rattle.http_connection.specs.Rests.{values_at};
+ghost use Rattle.http_connection.specs.declared.times.Awaited.{Awaited as Awaiting};
+ghost use Rattle.http_connection.specs.Times.{seconds_in, after, due_of, soonest, mark_by, awaited_by, pace_seen, paced, own_values, head_wait_in};
+
+use http_types::Addr;
+use served_site::ServedSite;
+use site_model::Level;
+
+/// How long a response may wait to be read, and how long a connection is kept open after it, in seconds
+/// (`send_timeout`, of which 0 is no limit, and `keepalive_timeout`).
+#[derive(Clone, Copy, Debug, PartialEq, Eq)]
+pub struct Pace {
+    pub send: u64,
+    pub idle: u64,
+}
+
+/// What a connection waits by, in seconds: the moment that its waiting began, how long it waits for a head
+/// (`client_header_timeout`, of which 0 is no limit), and the pace of its last response.
+#[derive(Clone, Copy, Debug, PartialEq, Eq)]
+pub struct Times {
+    pub mark: u64,
+    pub head: u64,
+    pub pace: Pace,
+}
+
+/// What is awaited of a peer: nothing, that it takes bytes, a head, or a further request.
+#[derive(Clone, Copy, Debug, PartialEq, Eq)]
+pub enum Awaited {
+    Nothing,
+    Room,
+    Head,
+    Further,
+}
+
+/// Whether bytes are pending, and whether a request is in flight: it isn't over, or some of its response is unsent.
+#[derive(Clone, Copy)]
+pub(crate) struct Sending {
+    pub(crate) pending: bool,
+    pub(crate) in_flight: bool,
+}
+
+// Milliseconds as whole seconds, of which a part counts as one.
+#[tactic(auto, unfolding(crate::specs::Times::seconds_in))]
+fn seconds(milliseconds: u64) -> u64
+    ensures { result ≡ seconds_in milliseconds }
+{
+    let whole = milliseconds / 1000;
+    if milliseconds % 1000 == 0 {
+        whole
+    } else {
+        whole + 1
+    }
+}
+
+/// The pace of a response where no server answers.
+pub(crate) const NO_PACE: Pace = Pace { send: 0, idle: 0 };
+
+/// The pace of a level.
+#[tactic(auto, unfolding(site_whole::specs::Whole::values_seen))]
+fn pace_of(level: &Level) -> Pace
+    ensures { (site : SiteRow) → result ≡ pace_seen (values_seen site level.now) }
+{
+    Pace {
+        send: seconds(level.send_wait),
+        idle: seconds(level.idle),
+    }
+}
+
+/// The pace after a step that put the head of a response by the level with this number, if it put one.
+pub(crate) fn pace_after(served: &ServedSite, level: Option<u32>, before: Pace) -> Pace
+    ensures { result ≡ paced (values_at served.now level) before }
+{
+    match level {
+        Some(number) => pace_of(served.site().level(number)),
+        None => before,
+    }
+}
+
+/// The number of the own level of the server at a local end.
+#[tactic(auto, unfolding(site_whole::specs::Whole::server_whole, site_whole::specs::Whole::level_whole))]
+pub(crate) fn own_level(served: &ServedSite, local: Addr) -> Option<u32>
+    ensures { (patterns : List SetPattern) → values_at served.now result
+        ≡ own_values (default_server (whole
+        (patterns_seen patterns) served.now.site).servers local) }
+{
+    match served.default_at(local) {
+        Some(number) => Some(served.server(number).level),
+        None => None,
+    }
+}
+
+/// How long a head is awaited by a level, in seconds.
+#[tactic(auto, unfolding(site_whole::specs::Whole::values_seen))]
+fn head_wait_of(level: &Level) -> u64
+    ensures { (site : SiteRow) → result ≡ seconds_in (values_seen site level.now).head_wait }
+{
+    seconds(level.head_wait)
+}
+
+/// How long a head is awaited at a local end, in seconds.
+pub(crate) fn head_wait_at(served: &ServedSite, local: Addr) -> u64
+    ensures { (patterns : List SetPattern) → result
+        ≡ head_wait_in (own_values (default_server
+        (whole (patterns_seen patterns) served.now.site).servers local)) }
+{
+    match own_level(served, local) {
+        Some(number) => head_wait_of(served.site().level(number)),
+        None => 0,
+    }
+}
+
+/// What is awaited, by whether the link is to be closed, bytes are pending, a request is in flight or may start, none was
+/// started yet, and bytes are held.
+pub(crate) fn awaited_of(
+    is_shut: bool,
+    is_pending: bool,
+    is_busy: bool,
+    is_first: bool,
+    is_held: bool,
+) -> Awaited
+    ensures { result ≡ awaited_by is_shut is_pending is_busy is_first is_held }
+{
+    if is_shut {
+        Awaited::Nothing
+    } else if is_pending {
+        Awaited::Room
+    } else if is_busy {
+        Awaited::Nothing
+    } else if is_first {
+        Awaited::Head
+    } else if is_held {
+        Awaited::Head
+    } else {
+        Awaited::Further
+    }
+}
+
+// So long after the mark, where a time of no seconds is no limit.
+fn limit(mark: u64, wait: u64) -> u64
+    ensures { result ≡ soonest (after mark wait) }
+{
+    if wait == 0 {
+        u64::MAX
+    } else {
+        mark.saturating_add(wait)
+    }
+}
+
+/// The moment at which a connection is given up, the type's last one where there is none.
+pub(crate) fn due(awaited: Awaited, times: Times) -> u64
+    ensures { result ≡ soonest (due_of awaited times) }
+{
+    match awaited {
+        Awaited::Nothing => u64::MAX,
+        Awaited::Room => limit(times.mark, times.pace.send),
+        Awaited::Head => limit(times.mark, times.head),
+        Awaited::Further => times.mark.saturating_add(times.pace.idle),
+    }
+}
+
+/// A moment before which a connection isn't given up, whatever is awaited.
+pub(crate) fn least_due(times: Times) -> u64
+    ensures { (awaited : Awaiting) → result ≤ soonest (due_of awaited times) }
+{
+    limit(times.mark, times.pace.send)
+        .min(limit(times.mark, times.head))
+        .min(times.mark.saturating_add(times.pace.idle))
+}
+
+/// The mark after a step: this moment where bytes came to be pending or a request came to its end.
+pub(crate) fn marked(mark: u64, moment: u64, before: Sending, after: Sending) -> u64
+    ensures { result ≡ mark_by mark moment before.pending before.in_flight after.pending
+        after.in_flight }
+{
+    if !before.pending && after.pending {
+        moment
+    } else if before.in_flight && !after.in_flight {
+        moment
+    } else {
+        mark
+    }
+}

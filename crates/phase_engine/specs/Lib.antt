@@ -1,4 +1,0 @@
-pub mod Serving
-pub mod Asking
-pub mod Outcomes
-pub mod Shown
