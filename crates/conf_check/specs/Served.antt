@@ -1,12 +1,12 @@
 -- What is served today.
-use Rattle.std.specs.Prelude.{ℕ, List, Bool, true, false, not, ◌||◌, ◌&&◌, Option, None, Some, is_some, Result, if◌then◌else◌}
+use Rattle.std.specs.Prelude.{ℕ, List, Bool, true, false, not, ◌||◌, ◌&&◌, Option, None, Some, is_some, bytes_eq, codes, Result, if◌then◌else◌}
 use Rattle.std.specs.List.{list_any}
 use Rattle.conf_text.specs.declared.directive.Directive.{Directive}
 use Rattle.conf_text.specs.declared.fault.FaultKind.{FaultKind}
 use Rattle.conf_text.specs.declared.fault.FaultKind.TheVariants.{NotServed}
 use Rattle.conf_text.specs.declared.fault.ConfFault.{ConfFault}
 use Rattle.conf_table.specs.declared.rule.Feature.{Feature}
-use Rattle.conf_table.specs.declared.rule.Feature.TheVariants.{Core, Matching, Content as Contents, Deadlines}
+use Rattle.conf_table.specs.declared.rule.Feature.TheVariants.{Core, Matching, Content as Contents, Access, Deadlines}
 use Rattle.conf_table.specs.declared.rule.DirectiveRule.{DirectiveRule}
 use Rattle.conf_table.specs.declared.role.Role.{Role}
 use Rattle.conf_table.specs.declared.role.Role.TheVariants as roles
@@ -27,6 +27,7 @@ abbrev pub has_feature : Feature → Bool
 has_feature Core = true
 has_feature Matching = true
 has_feature Contents = true
+has_feature Access = true
 has_feature Deadlines = true
 has_feature _ = false
 
@@ -34,6 +35,10 @@ has_feature _ = false
 abbrev pub served_by : Option DirectiveRule → Bool
 served_by None = false
 served_by (Some rule) = has_feature rule.served_by
+
+-- a directive whose effect is a subrequest
+abbrev pub asks : List ℕ → Bool
+asks name = bytes_eq name (codes "auth_request") || bytes_eq name (codes "auth_request_set")
 
 abbrev pub is_answered : Form → Bool
 is_answered Wrong = false
@@ -54,7 +59,7 @@ has_form _ args = true
 
 -- each line of `types`, and each directive that has an effect, or needs none
 abbrev pub is_served : Content → Directive → Bool
-is_served here d = not (are_directives here) || (served_by (entry_of d.name) && has_form (role_of d.name) d.args)
+is_served here d = not (are_directives here) || (served_by (entry_of d.name) && not (asks d.name) && has_form (role_of d.name) d.args)
 
 -- one that isn't served is refused, by a fault of its own: its name is known
 abbrev pub refusal : Bool → Option FaultKind

@@ -64,9 +64,10 @@ fn check_all(alloc: Global, directives: &[Directive]) -> Result<(), ConfError>
 
 /// Looks for the first directive that has no effect yet, in the order of the text.
 ///
-/// Today servers have an effect, by their addresses and names, with locations that are found by a text, what `return` answers
-/// in either that doesn't redirect, where files are, of which types they are and how long a connection is kept; and what needs
-/// none, as it is accepted without effect.
+/// Today servers have an effect, by their addresses and names, with locations that are found by a text: where files are, of
+/// which types they are, their index, what `try_files` finds, pages of errors, the size of bodies, access by address, what
+/// `return` answers that doesn't redirect, how long a connection is kept and a peer may take; and what needs none, as it is
+/// accepted without effect.
 ///
 /// # Errors
 ///

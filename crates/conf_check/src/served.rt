@@ -6,7 +6,7 @@ ghost use Rattle.conf_values.specs.Words.{begins_with};
 ghost use Rattle.conf_values.specs.Returning.{form_of as form};
 ghost use Rattle.conf_block.specs.Forest.{forest_of};
 ghost use Rattle.conf_check.specs.Gives.{Gives};
-ghost use Rattle.conf_check.specs.Served.{has_feature, served_by, is_answered, has_text, has_form, is_served, refusal, served};
+ghost use Rattle.conf_check.specs.Served.{has_feature, served_by, asks, is_answered, has_text, has_form, is_served, refusal, served};
 
 use crate::fault::faulty;
 use byte_text::ByteText;
@@ -21,9 +21,17 @@ fn has_feature(feature: Feature) -> bool
     ensures { result ≡ has_feature feature }
 {
     match feature {
-        Feature::Core | Feature::Matching | Feature::Content | Feature::Deadlines => true,
+        Feature::Core | Feature::Matching | Feature::Content => true,
+        Feature::Access | Feature::Deadlines => true,
         _ => false,
     }
+}
+
+/// Whether the effect of a directive of this name is a subrequest.
+fn asks(name: &[u8]) -> bool
+    ensures { result ≡ asks name.now }
+{
+    name == b"auth_request".as_slice() || name == b"auth_request_set".as_slice()
 }
 
 /// Whether a directive of this name is of one of these features.
@@ -82,7 +90,7 @@ fn is_served(here: Content, directive: &Directive) -> bool
 {
     let name = directive.name.as_slice();
     !are_directives(here)
-        || (is_featured(name) && has_form(role_of(name), directive.args.as_slice()))
+        || (is_featured(name) && !asks(name) && has_form(role_of(name), directive.args.as_slice()))
 }
 
 /// A directive that isn't served is refused as such, and not as one of an unknown name.

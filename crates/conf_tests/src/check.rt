@@ -134,9 +134,9 @@ fn what_has_no_effect_yet_is_told_so(rt: HostRuntime) -> Result<(), Fail> {
                 b"server_name",
             ),
             (
-                b"http { keepalive_timeout 5;\nsatisfy any; server { } }",
+                b"http { keepalive_timeout 5;\nssi on; server { } }",
                 2,
-                b"satisfy",
+                b"ssi",
             ),
         ],
     )
@@ -158,6 +158,7 @@ fn what_has_an_effect_is_served(rt: HostRuntime) -> Result<(), Fail> {
         rt.alloc(),
         &[
             b"http { server { } server { } }",
+            b"http { allow 10.0.0.0/8; deny all; satisfy any; server { } }",
             b"http { client_max_body_size 5; recursive_error_pages on; error_page 404 =200 /e; server { index a; location /e { internal; try_files $uri =404; } } }",
             b"http { server { server_name a; } server { listen 80 default_server; server_name *.b c.* ''; merge_slashes off; } }",
             b"http { server { location ^~ /a { location /a/b { location = /a/b/c { } } } location = / { } location @d { } } }",
