@@ -1,7 +1,7 @@
 -- What a request's head asks for, of which server, and what its variables mean.
 use Rattle.std.specs.Prelude.{ℕ, List, [], ◌∷◌, ◌++◌, Option, None, Result, Ok, Err}
 use Rattle.filter_api.specs.Members.{Member}
-use Rattle.http_moment.specs.Shown.{shown_text}
+use Rattle.http_moment.specs.Shown.{shown_text, default_format}
 use Rattle.http_types.specs.declared.words.Addr.{Addr}
 use Rattle.http_types.specs.declared.words.BodyKind.{BodyKind}
 use Rattle.http_types.specs.declared.words.BodyKind.TheVariants.{Empty, Length, Chunked}
@@ -17,7 +17,6 @@ use Rattle.site_views.specs.Pattern.{Finds}
 use Rattle.site_views.specs.Views.{SiteView, ServerView}
 use Rattle.site_views.specs.Choice.{server_of}
 use Rattle.request_meaning.specs.Serving.{World}
-use Rattle.request_meaning.specs.Documents.{default_format}
 
 -- what a connection is served: a site, what its patterns find, the body filters, and the connection's two ends
 pub record Service : Type 0 where

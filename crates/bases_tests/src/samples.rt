@@ -1,8 +1,8 @@
 // A request to `/d/` with the arguments `a=1`, whose files are below `/w`.
 use byte_text::ByteText;
-use http_header::HeaderMap;
 use http_types::{Addr, Method, Version};
-use ngx_variables::{Groups, Main, Place, Request, Role, Value};
+use ngx_variables::{Groups, LocalDate, Main, Place, Request, Role, Value};
+use req_head::HeadFields;
 use site_model::{Level, Program};
 use std::alloc::Global;
 use std::net::{IpAddr, Ipv4Addr};
@@ -36,8 +36,8 @@ pub fn main_request(alloc: Global) -> Result<Main, Fail> {
         peer: end,
         moment: 0,
         tree: 0,
-        date: ByteText::new(alloc),
-        fields: HeaderMap::new(alloc),
+        date: LocalDate::of(0),
+        fields: HeadFields::new(alloc),
         folder: text(alloc, b"/etc/ngx")?,
     })
 }
@@ -60,7 +60,6 @@ pub fn level(alloc: Global) -> Result<Level, Fail> {
         types: 0,
         requests: 1000,
         idle: 75_000,
-        returned: None,
         index: None,
         tries: None,
         internal: false,

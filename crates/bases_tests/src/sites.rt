@@ -49,7 +49,6 @@ fn level(alloc: Global) -> Result<Level, Fail> {
         types: 0,
         requests: 1000,
         idle: 75_000,
-        returned: None,
         index: None,
         tries: None,
         internal: false,

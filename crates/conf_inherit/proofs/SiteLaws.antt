@@ -1,8 +1,6 @@
 -- What a site under construction shows.
-use Rattle.std.proofs.Common.{◌≡◌, ℕ, zero, suc, ◌+◌, ◌&&◌, length, Bool, List, [], ◌∷◌, ◌++◌, map, true, false, cond, Option, Some, None, is_some, option_map, unwrap_or, refl, sym, ap, subst, ◌∙◌, append_assoc, append-nil}
-use Rattle.std.specs.Prelude.{is_none}
+use Rattle.std.proofs.Common.{◌≡◌, ℕ, zero, suc, ◌+◌, length, Bool, List, [], ◌∷◌, ◌++◌, map, true, false, cond, Option, Some, None, is_some, option_map, unwrap_or, refl, sym, ap, subst, ◌∙◌, append_assoc, append-nil}
 use Rattle.std.specs.List.{slice_get}
-use Rattle.std.proofs.lemmas.Bool.{and_parts}
 use Rattle.std.proofs.lemmas.List.{map_push}
 use Rattle.file_type.specs.Types.{TypeList}
 use Rattle.site_model.specs.declared.values.Tries.{Tries as CodeTries}
@@ -14,19 +12,19 @@ use Rattle.site_model.specs.declared.site.Site.{Site}
 use Rattle.site_model.specs.Levels.{types_at, raw_level}
 use Rattle.site_views.specs.Views.{LevelView, LocationView, Locations, NamedView}
 use Rattle.site_views.specs.Views.Locations.{NoMore, Location}
-use Rattle.site_whole.specs.Whole.{values_seen, step_seen, program_seen, level_whole, location_whole, named_whole, matching_by, returned_first, tries_seen, media_seen, default_index, no_media}
+use Rattle.site_whole.specs.Whole.{values_seen, step_seen, program_seen, level_whole, location_whole, named_whole, matching_by, tries_seen, media_seen, default_index, no_media}
 use Rattle.std.specs.Prelude.{codes}
 use Rattle.std.specs.Option.{option_and_then}
 use Rattle.conf_text.specs.declared.directive.Directive.{Directive}
 use Rattle.conf_block.specs.Forest.{Forest, End, Branch}
 use Rattle.conf_block.specs.Locations.{text_in, is_found}
 use Rattle.conf_block.specs.Blocks.{block_of, blocks_of, from_first}
-use Rattle.conf_inherit.specs.Values.{Values, all_values, all_entries, entries_in, first_word, word_in, stated, over, level_with, level_of, internal_in, tries_in, returned_in}
+use Rattle.conf_inherit.specs.Values.{Values, all_values, all_entries, entries_in, first_word, word_in, stated, over, program_by, level_with, level_of, internal_in, tries_in, returned_in}
 use Rattle.conf_inherit.specs.declared.level.Inherited.{Inherited}
 use Rattle.conf_inherit.specs.declared.level.Listed.{Listed}
 use Rattle.conf_inherit.specs.declared.level.Shared.{Shared}
 use Rattle.conf_inherit.specs.declared.shelf.Shelf.{Shelf}
-use Rattle.conf_inherit.specs.Pools.{Keeps, KeepsAll, Holds, are_unreturned, IsUnreturned, Stands, Fits, FitsLists, AreDeep, Added, lists_by, values_by, shelf_of, index_names, page_rules, rules_in, sets_in, steps_of, level_by, follow, list_seen}
+use Rattle.conf_inherit.specs.Pools.{Keeps, KeepsAll, Holds, Stands, Fits, FitsLists, AreDeep, Added, lists_by, values_by, shelf_of, index_names, page_rules, rules_in, sets_in, steps_of, level_by, follow, list_seen}
 use Rattle.conf_inherit.specs.Built.{kind_of, inner_values, location_with, locations_in, named_with, named_in}
 use Rattle.conf_inherit.proofs.NestLaws.{seen-none, seen-one, follow-none, follow-first, deep-append, deep-one}
 
@@ -115,7 +113,7 @@ abbrev seen_level : Site → Level → LevelView
 seen_level site l = record { values = values_seen site l; program = program_seen [] site l }
 
 -- the program of what a level returns is seen as what it returns
-returned-seen : (site : Site) (returned : Option Return) → map (step_seen [] site) (steps_of returned) ≡ returned_first returned
+returned-seen : (site : Site) (returned : Option Return) → map (step_seen [] site) (steps_of returned) ≡ program_by returned
 returned-seen site None = refl
 returned-seen site (Some r) = refl
 
@@ -150,38 +148,6 @@ level-shown site levels shelf v n body level h l e r f =
     level-step site n ∙ ap (seen_level site) (raw-there site n level (h.0 n level l) ∙ e)
     ∙ seen-by site shelf v f.lists h.1 v.types (internal_in body) level.tries (returned_in body) (types-there site v.types (values_by v).types (h.1.types v.types (values_by v).types f.types))
     ∙ ap (λ t. level_with (values_by v) (internal_in body) t (returned_in body)) r
-
--- levels whose programs hold what they return
-
-none-last : (ls : List Level) (level : Level) → are_unreturned ls ≡ true → level.returned ≡ None → are_unreturned (ls ++ level ∷ []) ≡ true
-unfolding are_unreturned
-none-last [] level h p = ap (λ returned. is_none returned && true) p
-none-last (l ∷ ls) level h p =
-    let parts = and_parts (is_none l.returned) (are_unreturned ls) h in
-    ap (λ t. t && are_unreturned (ls ++ level ∷ [])) parts.0 ∙ none-last ls level parts.1 p
-
--- pushed or not
-pub unreturned-either : (old new : List Level) (level : Level) (pushed : Bool) → new ≡ cond pushed (old ++ level ∷ []) old → are_unreturned old ≡ true → level.returned ≡ None → are_unreturned new ≡ true
-unreturned-either old new level true e h p = ap are_unreturned e ∙ none-last old level h p
-unreturned-either old new level false e h p = ap are_unreturned e ∙ h
-
-pub unreturned-none : (levels : List Level) → levels ≡ [] → are_unreturned levels ≡ true
-unfolding are_unreturned
-unreturned-none levels e = ap are_unreturned e
-
-none-is : {A : Type 0} (o : Option A) → is_none o ≡ true → o ≡ None
-none-is None e = refl
-none-is (Some a) e = cc
-
-none-or : (ls : List Level) (n : ℕ) (other : Level) → are_unreturned ls ≡ true → other.returned ≡ None → (unwrap_or (slice_get ls n) other).returned ≡ None
-unfolding are_unreturned
-none-or [] n other h p = p
-none-or (l ∷ ls) zero other h p = none-is l.returned (and_parts (is_none l.returned) (are_unreturned ls) h).0
-none-or (l ∷ ls) (suc n) other h p = none-or ls n other (and_parts (is_none l.returned) (are_unreturned ls) h).1 p
-
-pub unreturned-site : (site : Site) → are_unreturned site.levels.items ≡ true → site.outside.returned ≡ None → IsUnreturned site
-unfolding raw_level
-unreturned-site site h p = λ n. none-or site.levels.items n site.outside h p
 
 -- items that are shown so far, and those that are to come
 

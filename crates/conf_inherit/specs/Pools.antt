@@ -1,5 +1,5 @@
 -- How levels and lists are kept under numbers while a site is built.
-use Rattle.std.specs.Prelude.{◌≡◌, ℕ, ◌≤◌, Bool, true, false, ◌&&◌, List, [], ◌∷◌, ◌++◌, map, Option, None, Some, is_none, option_map, unwrap_or, codes, slice_get}
+use Rattle.std.specs.Prelude.{◌≡◌, ℕ, ◌≤◌, Bool, true, false, List, [], ◌∷◌, ◌++◌, map, Option, None, Some, option_map, unwrap_or, codes, slice_get}
 use Rattle.file_type.specs.declared.types.TypeEntry.{TypeEntry}
 use Rattle.ngx_variables.specs.declared.request.Place.{Place}
 use Rattle.ngx_variables.specs.declared.request.Place.TheVariants as places
@@ -8,7 +8,6 @@ use Rattle.site_model.specs.declared.program.RewriteStep.{RewriteStep}
 use Rattle.site_model.specs.declared.program.RewriteStep.TheVariants as steps
 use Rattle.site_model.specs.declared.site.Level.{Level}
 use Rattle.site_model.specs.declared.site.Site.{Site}
-use Rattle.site_model.specs.Levels.{raw_level}
 use Rattle.site_model.specs.declared.site.Location.{Location as CodeLocation}
 use Rattle.site_views.specs.Views.{Locations}
 use Rattle.site_views.specs.Views.Locations.{NoMore, Location}
@@ -104,7 +103,6 @@ level_by v types lists internal tries returned = record {
   types = types;
   requests = v.settings.requests;
   idle = v.settings.idle;
-  returned = None;
   index = number_of lists.index;
   tries = tries;
   internal = internal;
@@ -215,15 +213,6 @@ abbrev pub IsPlaced : {A : Type 0} → List A → List A → Option A → List D
     (outer s : Option Listed) → Type 0
 IsPlaced old new None level outer s = (s ≡ outer) × (new ≡ old)
 IsPlaced old new (Some item) level outer s = Placed old new item level s
-
--- what each of these levels returns is in its rewrite program, and not apart
-unfoldable pub are_unreturned : List Level → Bool
-are_unreturned [] = true
-are_unreturned (l ∷ ls) = is_none l.returned && are_unreturned ls
-
--- and so in each level of the site
-abbrev pub IsUnreturned : Site → Type 0
-IsUnreturned site = (number : ℕ) → (raw_level site number).returned ≡ None
 
 -- locations one level after those of another
 unfoldable pub follow : Locations → Locations → Locations

@@ -7,8 +7,10 @@ use Rattle.ngx_variables.specs.declared.request.Place.{Place}
 use Rattle.ngx_variables.specs.declared.request.Place.TheVariants.{Root, Rest, Whole}
 use Rattle.site_model.specs.declared.site.Return.{Return}
 use Rattle.site_views.specs.Values.{Values as AllValues, Tries, MediaTypes}
+use Rattle.site_views.specs.Rewrites.{Program}
+use Rattle.site_views.specs.Rewrites.Directive.{Return as Returns}
 use Rattle.site_views.specs.Views.{LevelView}
-use Rattle.site_whole.specs.Whole.{default_index, no_media, returned_first}
+use Rattle.site_whole.specs.Whole.{default_index, no_media}
 use Rattle.conf_text.specs.declared.directive.Directive.{Directive}
 use Rattle.conf_table.specs.declared.role.Role.{Role}
 use Rattle.conf_table.specs.declared.role.Role.TheVariants as roles
@@ -242,9 +244,14 @@ all_values v internal tries = record {
   addition_types = v.lists.addition_types;
 }
 
+-- the rewrite program of a level that answers this, if anything
+abbrev pub program_by : Option Return → Program
+program_by None = []
+program_by (Some r) = Returns r.code r.text ∷ []
+
 abbrev pub level_with : Values → (internal : Bool) → Option Tries → Option Return → LevelView
 level_with v internal tries returned =
-    record { values = all_values v internal tries; program = returned_first returned }
+    record { values = all_values v internal tries; program = program_by returned }
 
 -- the level of a block in which these values hold
 abbrev pub level_of : Values → Forest → LevelView

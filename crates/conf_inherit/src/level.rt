@@ -376,7 +376,6 @@ pub fn level_of(
         types: values.types,
         requests: settings.requests,
         idle: settings.idle,
-        returned: None,
         index: number_of(lists.index),
         tries: tries_in(alloc, level)?,
         internal: has_named(level, b"internal"),

@@ -1,8 +1,8 @@
 // The levels and the lists of a site, under numbers.
-ghost use Rattle.std.specs.Prelude.{◌≡◌, true, None, Some, slice_get, option_map, IfOk};
+ghost use Rattle.std.specs.Prelude.{◌≡◌, Some, slice_get, option_map, IfOk};
 ghost use Rattle.conf_block.specs.Forest.{forest_of};
 ghost use Rattle.conf_inherit.specs.Values.{stated, over, defaults as default_values};
-ghost use Rattle.conf_inherit.specs.Pools.{are_unreturned, Keeps, KeepsAll, Fits, none_shared, FitsLists, values_by};
+ghost use Rattle.conf_inherit.specs.Pools.{Keeps, KeepsAll, Fits, none_shared, FitsLists, values_by};
 
 use crate::entries::types_of;
 use crate::level::{Inherited, defaults, stated_over};
@@ -20,7 +20,6 @@ use std::alloc::Global;
 pub struct Pool {
     pub levels: Vec<Level>,
     pub shelf: Shelf,
-    ghost unreturned: { are_unreturned levels.items ≡ true },
 }
 
 impl Pool {
@@ -46,7 +45,6 @@ impl Pool {
 
     /// Keeps a level, and gives its number.
     pub fn add_level(&mut self, level: Level) -> Result<u32, OutOfMemory>
-        requires { level.returned ≡ None }
         ensures there { IfOk result (λ n. slice_get self.new.levels.items n ≡ Some level) }
         ensures levels { IfOk result (λ n. Keeps self.old.levels.items self.new.levels.items) }
         ensures shelf { IfOk result (λ n. self.new.shelf ≡ self.old.shelf) }

@@ -9,7 +9,7 @@ ghost use Rattle.conf_block.specs.Blocks.{blocks_of};
 ghost use Rattle.conf_check.specs.Gives.{Gives};
 ghost use Rattle.conf_lists.specs.Words.{variables_in as variables_meant};
 ghost use Rattle.conf_inherit.specs.Values.{level_of as level_meant};
-ghost use Rattle.conf_inherit.specs.Pools.{Keeps, KeepsAll, Holds, IsUnreturned, Fits, Added, list_seen, values_by};
+ghost use Rattle.conf_inherit.specs.Pools.{Keeps, KeepsAll, Holds, Fits, Added, list_seen, values_by};
 ghost use Rattle.conf_inherit.specs.Built.{kind_of, inner_values, location_with, locations_in as locations_meant, named_with, named_in as named_meant, server_with, server_in, site_of, suits, built};
 
 use crate::entries::types_of;
@@ -281,9 +281,8 @@ fn servers_of<'a>(
 /// The site of these directives, which stand in `http`.
 #[tactic(auto, unfolding(crate::specs::Built::site_of))]
 fn site_of(alloc: Global, folder: &[u8], http: &[Directive]) -> Result<Site, OutOfMemory>
-    ensures seen { IfOk result
+    ensures { IfOk result
         (λ site. whole [] site ≡ site_of folder.now (forest_of http.now)) }
-    ensures unreturned { IfOk result (λ site. IsUnreturned site) }
 {
     let mut pool = Pool::new(alloc)?;
     let values = pool.inner(alloc, Some(b""), http, defaults())?;
@@ -340,7 +339,6 @@ pub fn build(
     folder: &[u8],
     directives: &[Directive],
 ) -> Result<Site, ConfError>
-    ensures unreturned { IfOk result (λ site. IsUnreturned site) }
     ensures ok { IfOk result (λ site. built purpose folder.now directives.now ≡ Ok
         (whole [] site)) }
     ensures fault { IfErr result (λ e. OnFault e

@@ -1,7 +1,9 @@
 use byte_text::{ByteText, OutOfMemory};
-use http_header::{HeaderMap, HeaderName, HeaderValue};
 use http_types::{Addr, Method, Version};
-use ngx_variables::{Groups, Main, Place, Request, Role, Value, ValueFault, VarTable, is_builtin};
+use ngx_variables::{
+    Groups, LocalDate, Main, Place, Request, Role, Value, ValueFault, VarTable, is_builtin,
+};
+use req_head::{HeadFields, HeadStep, read_head};
 use std::alloc::Global;
 use std::net::{IpAddr, Ipv4Addr, Ipv6Addr};
 use std::process::Abort;
@@ -34,8 +36,8 @@ fn empty_main(alloc: Global) -> Main {
         },
         moment: 0,
         tree: 0,
-        date: ByteText::new(alloc),
-        fields: HeaderMap::new(alloc),
+        date: LocalDate::of(0),
+        fields: HeadFields::new(alloc),
         folder: ByteText::new(alloc),
     }
 }
@@ -62,22 +64,17 @@ fn write_main(main: &mut Main) -> Result<(), OutOfMemory> {
     main.target.extend(b"http://H.x:1/q?a=1")?;
     main.host.extend(b"h.x")?;
     main.server_name.extend(b"s.x")?;
-    main.date.extend(b"Thursday, 01-Jan-1970 00:00:00 GMT")?;
     main.folder.extend(b"/etc/ngx")
 }
 
-fn add_field(alloc: Global, fields: &mut HeaderMap, name: &[u8], value: &[u8]) -> Result<(), Fail> {
-    let name = HeaderName::from_bytes(alloc, name)?;
-    fields.append(name, HeaderValue::from_bytes(alloc, value)?)?;
-    Ok(())
-}
-
-fn add_fields(alloc: Global, fields: &mut HeaderMap) -> Result<(), Fail> {
-    add_field(alloc, fields, b"x-a", b"1")?;
-    add_field(alloc, fields, b"cookie", b"a=1;  B=2 ; c=3")?;
-    add_field(alloc, fields, b"x-a", b"2")?;
-    add_field(alloc, fields, b"cookie", b"d=4")?;
-    add_field(alloc, fields, b"content-type", b"text/plain")
+/// The fields of a head.
+fn some_fields(alloc: Global) -> Result<HeadFields, Fail> {
+    let bytes =
+        b"GET / HTTP/1.0\r\nx-a: 1\r\ncookie: a=1;  B=2 ; c=3\r\nX-A: 2\r\ncookie: d=4\r\nContent-Type: text/plain\r\n\r\n";
+    match read_head(alloc, bytes)? {
+        HeadStep::Head { head, .. } => Ok(head.fields.copy(alloc)?),
+        _ => Err("no head")?,
+    }
 }
 
 fn write_request(request: &mut Request) -> Result<(), OutOfMemory> {
@@ -105,7 +102,7 @@ fn put_variables(vars: &mut VarTable) -> Result<(), OutOfMemory> {
 
 fn fill(alloc: Global, world: &mut World) -> Result<(), Fail> {
     write_main(&mut world.main)?;
-    add_fields(alloc, &mut world.main.fields)?;
+    world.main.fields = some_fields(alloc)?;
     write_request(&mut world.request)?;
     world.request.place = Some(alias(alloc)?);
     put_variables(&mut world.vars)?;

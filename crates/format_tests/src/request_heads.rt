@@ -114,7 +114,14 @@ fn a_head_has_its_parts(rt: HostRuntime) -> Result<(), Fail> {
     assert_eq!(rt; found.version, Version::V11);
     assert!(rt; matches!(found.method, Method::Other(_)));
     assert!(rt; !found.keep);
-    assert_eq!(rt; found.fields.to_map(rt.alloc())?.len(), 3);
+    assert_eq!(rt;
+        found.fields.first(b"content-LENGTH"),
+        Some(b"0012".as_slice())
+    );
+    let mut values = found.fields.values(b"connection");
+    assert_eq!(rt; values.next(), Some(b"a, CLOSE".as_slice()));
+    assert!(rt; values.next().is_none());
+    assert!(rt; found.fields.first(b"x-a").is_none());
     // RFC 9112, section 9.3: which connections persist.
     all_keep(
         &rt,

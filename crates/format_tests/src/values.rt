@@ -5,9 +5,9 @@ use byte_text::{ByteQueue, ByteText, ByteTexts};
 use file_path::path_of;
 use file_tree::Node;
 use file_type::{TypeEntry, Types, extension};
-use http_header::HeaderMap;
 use http_types::{Addr, Method, Version};
-use ngx_variables::{EvalFault, Groups, Main, Place, Request, Role, Value, VarTable};
+use ngx_variables::{EvalFault, Groups, LocalDate, Main, Place, Request, Role, Value, VarTable};
+use req_head::HeadFields;
 use static_content::{Content, decide, refusal_of};
 use std::alloc::Global;
 use std::net::{IpAddr, Ipv4Addr};
@@ -203,8 +203,8 @@ fn main_request(alloc: Global) -> Result<Main, Fail> {
         peer: end,
         moment: 0,
         tree: 0,
-        date: text(alloc, b"Thursday, 01-Jan-1970 00:00:00 GMT")?,
-        fields: HeaderMap::new(alloc),
+        date: LocalDate::of(0),
+        fields: HeadFields::new(alloc),
         folder: text(alloc, b"/etc//ngx")?,
     })
 }

@@ -1,5 +1,5 @@
 -- Requests that start.
-use Rattle.std.proofs.Common.{◌≡◌, ◌≤◌, arith, ◌&&◌, ◌||◌, ℕ, Bool, true, false, cond, List, [], ◌++◌, length-drop, drop, Option, None, Some, refl, sym, ap, ◌∙◌, subst}
+use Rattle.std.proofs.Common.{◌≡◌, ◌≤◌, arith, ◌||◌, ℕ, Bool, true, false, cond, List, [], length-drop, drop, Option, None, Some, refl, sym, ap, subst}
 use Rattle.std.specs.Prelude.{is_some, not, length}
 use Rattle.body_frame.specs.Outcome.{Short}
 use Rattle.body_frame.specs.State.{body_of}

@@ -1,11 +1,10 @@
 -- A request is opened.
-use Rattle.std.proofs.Common.{◌≡◌, ℕ, Bool, true, false, cond, List, [], ◌∷◌, ◌++◌, Option, None, Some, option_map, refl, sym, ap, ◌∙◌, subst, Bor}
+use Rattle.std.proofs.Common.{◌≡◌, ℕ, Bool, true, false, cond, List, [], ◌∷◌, ◌++◌, Option, None, Some, refl, sym, ap, ◌∙◌, subst}
 use Rattle.std.proofs.lemmas.List.{append-nil}
 use Rattle.std.specs.Prelude.{not}
 use Rattle.file_tree.specs.Tree.{Tree, Trees}
 use Rattle.ngx_outside.specs.Views.{Start, Log}
 use Rattle.req_head.specs.declared.head.Head.{Head as RequestHead}
-use Rattle.site_model.specs.declared.site.Server.{Server}
 use Rattle.site_views.specs.Views.{ServerView}
 use Rattle.site_views.specs.Values.{Values}
 use Rattle.site_whole.specs.Whole.{whole, server_whole}
@@ -39,10 +38,10 @@ by_stage : (x : Serves) (number length : ℕ) (flow : Flow) (stage : Stage) (tre
     rest_in x (Some (record { ask = flow.ask; stage = stage })) trees
     ≡ flow_rest (world_at x number length) x.patterns x.served.site (Some (record { ask = flow.ask; stage = stage })) trees
 by_stage x number length flow (Asked request wait) trees by =
-    ap (λ n. flow_rest (world_at x n request.length) x.patterns x.served.site (Some (record { ask = flow.ask; stage = Asked request wait })) trees) by.0
+    ap (λ n. flow_rest (world_at x n request.value.length) x.patterns x.served.site (Some (record { ask = flow.ask; stage = Asked request wait })) trees) by.0
     ∙ ap (λ l. flow_rest (world_at x number l) x.patterns x.served.site (Some (record { ask = flow.ask; stage = Asked request wait })) trees) by.1
 by_stage x number length flow (Told request wait node) trees by =
-    ap (λ n. flow_rest (world_at x n request.length) x.patterns x.served.site (Some (record { ask = flow.ask; stage = Told request wait node })) trees) by.0
+    ap (λ n. flow_rest (world_at x n request.value.length) x.patterns x.served.site (Some (record { ask = flow.ask; stage = Told request wait node })) trees) by.0
     ∙ ap (λ l. flow_rest (world_at x number l) x.patterns x.served.site (Some (record { ask = flow.ask; stage = Told request wait node })) trees) by.1
 by_stage x number length flow (Reading sending left) trees by = refl
 by_stage x number length flow (Came sending left placed) trees by = refl
@@ -67,26 +66,26 @@ begins_whole : (w : World) (tree : Tree) (t : Terms) (main : Main) (request : Re
 unfolding act_rest finished main_reply main_came main_script served subs
 begins_whole w tree t main request = refl
 
-main_is : (x : Serves) (g : Ground) (number : ℕ) (m : Meeting) (k : ℕ) (head : Bor RequestHead) → g.site.now ≡ x.served.site → g.server.now ≡ raw_server x.served number →
+main_is : (x : Serves) (g : Ground) (number : ℕ) (m : Meeting) (k : ℕ) (head : RequestHead) → g.site.now ≡ x.served.site → g.server.now ≡ raw_server x.served number →
     main_at g (record { head = head; local = m.local; peer = m.peer; moment = m.moment; tree = m.tree; before = k })
-    ≡ main_of (service_in x m.local m.peer) (start_in m) (server_numbered x.patterns x.served number) head.now
+    ≡ main_of (service_in x m.local m.peer) (start_in m) (server_numbered x.patterns x.served number) head
 unfolding main_at main_of server_whole whole
 main_is x g number m k head s v = rw s (rw v refl)
 
-opening_is : (x : Serves) (g : Ground) (number : ℕ) (m : Meeting) (k : ℕ) (head : Bor RequestHead) (tree : Tree) → g.site.now ≡ x.served.site → g.server.now ≡ raw_server x.served number → g.length ≡ stated_length head.now.body →
+opening_is : (x : Serves) (g : Ground) (number : ℕ) (m : Meeting) (k : ℕ) (head : RequestHead) (tree : Tree) → g.site.now ≡ x.served.site → g.server.now ≡ raw_server x.served number → g.length ≡ stated_length head.body →
     (let o : Opening = record { head = head; local = m.local; peer = m.peer; moment = m.moment; tree = m.tree; before = k } in
-    opened_rest (world_in x.patterns g shipped) tree (terms_at o) (main_at g o) (request_of (server_whole (patterns_seen x.patterns) g.site.now g.server.now) head.now))
+    opened_rest (world_in x.patterns g shipped) tree (terms_at o) (main_at g o) (request_of (server_whole (patterns_seen x.patterns) g.site.now g.server.now) head))
     ≡ (let service = service_in x m.local m.peer in
     let server = server_numbered x.patterns x.served number in
-    opened_rest (world_of service server head.now) tree (terms_of k (start_in m) head.now) (main_of service (start_in m) server head.now) (request_of server head.now))
+    opened_rest (world_of service server head) tree (terms_of k (start_in m) head) (main_of service (start_in m) server head) (request_of server head))
 unfolding terms_of world_of
 opening_is x g number m k head tree s v l =
     let o : Opening = record { head = head; local = m.local; peer = m.peer; moment = m.moment; tree = m.tree; before = k } in
     let server = server_numbered x.patterns x.served number in
-    ap (λ w. opened_rest w tree (terms_at o) (main_at g o) (request_of (server_whole (patterns_seen x.patterns) g.site.now g.server.now) head.now)) (ground_world x g number (stated_length head.now.body) s v l)
-    ∙ (ap (λ main. opened_rest (world_at x number (stated_length head.now.body)) tree (terms_at o) main (request_of (server_whole (patterns_seen x.patterns) g.site.now g.server.now) head.now)) (main_is x g number m k head s v)
-    ∙ (ap (λ site. opened_rest (world_at x number (stated_length head.now.body)) tree (terms_at o) (main_of (service_in x m.local m.peer) (start_in m) server head.now) (request_of (server_whole (patterns_seen x.patterns) site g.server.now) head.now)) s
-    ∙ ap (λ own. opened_rest (world_at x number (stated_length head.now.body)) tree (terms_at o) (main_of (service_in x m.local m.peer) (start_in m) server head.now) (request_of (server_whole (patterns_seen x.patterns) x.served.site own) head.now)) v))
+    ap (λ w. opened_rest w tree (terms_at o) (main_at g o) (request_of (server_whole (patterns_seen x.patterns) g.site.now g.server.now) head)) (ground_world x g number (stated_length head.body) s v l)
+    ∙ (ap (λ main. opened_rest (world_at x number (stated_length head.body)) tree (terms_at o) main (request_of (server_whole (patterns_seen x.patterns) g.site.now g.server.now) head)) (main_is x g number m k head s v)
+    ∙ (ap (λ site. opened_rest (world_at x number (stated_length head.body)) tree (terms_at o) (main_of (service_in x m.local m.peer) (start_in m) server head) (request_of (server_whole (patterns_seen x.patterns) site g.server.now) head)) s
+    ∙ ap (λ own. opened_rest (world_at x number (stated_length head.body)) tree (terms_at o) (main_of (service_in x m.local m.peer) (start_in m) server head) (request_of (server_whole (patterns_seen x.patterns) x.served.site own) head)) v))
 
 answered_by : (service : Service) (trees : Trees) (k : ℕ) (start : Start) (head : RequestHead) (server : ServerView) → server_for service head ≡ Some server →
     opened_rest (world_of service server head) (trees start.tree) (terms_of k start head) (main_of service start server head) (request_of server head)
@@ -118,20 +117,20 @@ from_follows x trees m k head flow' out out' closing log level before after eb e
 }
 
 -- by a server
-pub opened_by : (x : Serves) (trees : Trees) (m : Meeting) (k : ℕ) (head : Bor RequestHead) (g : Ground) (number : ℕ) (flow' : Option Flow) (out out' : List ℕ) (closing : Bool) (log : Option Log) (level : Option ℕ) →
-    g.site.now ≡ x.served.site → g.server.now ≡ raw_server x.served number → g.length ≡ stated_length head.now.body →
-    Some (server_numbered x.patterns x.served number) ≡ server_for (service_in x m.local m.peer) head.now → IsServedBy number g.length flow' →
+pub opened_by : (x : Serves) (trees : Trees) (m : Meeting) (k : ℕ) (head : RequestHead) (g : Ground) (number : ℕ) (flow' : Option Flow) (out out' : List ℕ) (closing : Bool) (log : Option Log) (level : Option ℕ) →
+    g.site.now ≡ x.served.site → g.server.now ≡ raw_server x.served number → g.length ≡ stated_length head.body →
+    Some (server_numbered x.patterns x.served number) ≡ server_for (service_in x m.local m.peer) head → IsServedBy number g.length flow' →
     (let o : Opening = record { head = head; local = m.local; peer = m.peer; moment = m.moment; tree = m.tree; before = k } in
     let w = world_in x.patterns g shipped in
-    Follows g.site.now (opened_rest w (trees m.tree) (terms_at o) (main_at g o) (request_of (server_whole (patterns_seen x.patterns) g.site.now g.server.now) head.now)) (flow_rest w x.patterns g.site.now flow' trees) out out' false closing log level) →
-    Opened x trees m k head.now flow' out out' closing log level
+    Follows g.site.now (opened_rest w (trees m.tree) (terms_at o) (main_at g o) (request_of (server_whole (patterns_seen x.patterns) g.site.now g.server.now) head)) (flow_rest w x.patterns g.site.now flow' trees) out out' false closing log level) →
+    Opened x trees m k head flow' out out' closing log level
 opened_by x trees m k head g number flow' out out' closing log level s v l c by f =
     let o : Opening = record { head = head; local = m.local; peer = m.peer; moment = m.moment; tree = m.tree; before = k } in
     let w : World = world_in x.patterns g shipped in
-    let before : Rest = opened_rest w (trees m.tree) (terms_at o) (main_at g o) (request_of (server_whole (patterns_seen x.patterns) g.site.now g.server.now) head.now) in
+    let before : Rest = opened_rest w (trees m.tree) (terms_at o) (main_at g o) (request_of (server_whole (patterns_seen x.patterns) g.site.now g.server.now) head) in
     let after : Rest = flow_rest w x.patterns g.site.now flow' trees in
-    from_follows x trees m k head.now flow' out out' closing log level before after
-    (opening_is x g number m k head (trees m.tree) s v l ∙ answered_by (service_in x m.local m.peer) trees k (start_in m) head.now (server_numbered x.patterns x.served number) (sym c))
+    from_follows x trees m k head flow' out out' closing log level before after
+    (opening_is x g number m k head (trees m.tree) s v l ∙ answered_by (service_in x m.local m.peer) trees k (start_in m) head (server_numbered x.patterns x.served number) (sym c))
     (ap (λ w. flow_rest w x.patterns g.site.now flow' trees) (ground_world x g number g.length s v refl)
     ∙ (ap (λ site. flow_rest (world_at x number g.length) x.patterns site flow' trees) s ∙ sym (rest_by x number g.length flow' trees by)))
     (subst (λ site. Follows site before after out out' false closing log level) s f)

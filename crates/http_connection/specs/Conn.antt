@@ -14,7 +14,7 @@ use Rattle.http_types.specs.declared.words.Addr.{Addr}
 use Rattle.answers_meaning.specs.Asking.{Service}
 use Rattle.answers_meaning.specs.Answers.{Answer, then_closes, responses, bytes_in, logs_in, close_in, heavy_in}
 use Rattle.request_flow.specs.declared.flow.Flow.{Flow}
-use Rattle.request_flow.specs.Flows.{may_run, jobs_of, shown_of, flow_left, tree_asked, kept_most, asking_most}
+use Rattle.request_flow.specs.Flows.{may_run, jobs_of, shown_of, flow_left, tree_asked, kept_most}
 use Rattle.request_flow.specs.Rests.{Rest, closes_after}
 use Rattle.request_flow.specs.Openings.{service_of}
 use Rattle.ngx_pattern.specs.Pattern.{Pattern as SetPattern}

@@ -1,5 +1,5 @@
 -- What connections are served over, and what is still to come of the response in flight on one.
-use Rattle.std.specs.Prelude.{ℕ, Bool, ◌||◌, nat_lt, List, Option, None, Some, option_map, if◌then◌else◌}
+use Rattle.std.specs.Prelude.{ℕ, Bool, nat_lt, List, Option, None, Some, option_map}
 use Rattle.file_tree.specs.Tree.{Trees}
 use Rattle.http_types.specs.declared.words.Addr.{Addr}
 use Rattle.ngx_pattern.specs.Pattern.{Pattern as SetPattern}

@@ -23,6 +23,12 @@ begins (Head head size) = true
 begins (Bad code no_body) = true
 begins More = false
 
+-- they begin a request
+abbrev pub is_head : HeadStep → Bool
+is_head (Head head size) = true
+is_head (Bad code no_body) = false
+is_head More = false
+
 -- a further request may start, once nothing of a body is to be dropped
 abbrev pub starts : Option BodyState → HeadStep → Bool
 starts None next = begins next

@@ -1,237 +1,42 @@
 // One connection.
-ghost use Rattle.std.specs.Prelude.{◌≡◌, ◌≤◌, ◌<◌, ◌+◌, ◌-◌, ◌++◌, ◌∷◌, ◌^◌, ◌⊎◌, ◌||◌, true, false, not, [], ℕ, length, take, drop, is_some, OnOk, OnErr, IfOk, vec_len, vec_capacity, map, Some, None};
-ghost use Rattle.ngx_outside.specs.Views.{Start, start_of, log_of};
+ghost use Rattle.std.specs.Prelude.{◌≡◌, ◌≤◌, ◌<◌, ◌+◌, ◌-◌, ◌++◌, ◌∷◌, ◌^◌, ◌⊎◌, ◌||◌, true, false, [], ℕ, length, is_some, IfOk, Some, None};
+ghost use Rattle.ngx_outside.specs.Views.{Start};
 ghost use Rattle.req_head.specs.Step.{head_step};
-ghost use Rattle.file_tree.specs.Tree.{Trees};
-ghost use Rattle.ngx_outside.specs.declared.event.Entry.{Entry as Logged};
-ghost use Rattle.request_flow.specs.Flows.{flow_fits, flow_left, asking_most, tree_asked};
-ghost use Rattle.request_flow.specs.Rests.{logged_by};
-ghost use Rattle.http_connection.specs.Rests.{Serves, service_in, rest_in, values_at};
-ghost use Rattle.http_connection.specs.Steps.{begins as head_begins, starts, rest_of, start_in, RanOne, logged_in, IsLogged};
-ghost use Rattle.http_connection.specs.Times.{LevelFor};
+ghost use Rattle.request_flow.specs.Flows.{flow_fits};
+ghost use Rattle.http_connection.specs.Rests.{Serves, service_in};
+ghost use Rattle.http_connection.specs.Steps.{starts, rest_of, logged_in, IsLogged};
 ghost use Rattle.body_frame.specs.Outcome.{Short};
 
-use crate::body::{drop_body, drop_rest};
-use crate::open::{Meeting, open, refuse};
-use crate::sending::{begun, front, is_fresh, is_in_flight, is_pending, sending};
-use crate::slot::{forget, put};
-use crate::times::{
-    Awaited, NO_PACE, Times, awaited_of, due, head_wait_at, least_due, marked, own_level,
-    pace_after,
-};
+use crate::input::begins;
+use crate::sending::{front, is_fresh, is_in_flight, is_pending};
+use crate::slot::put;
+use crate::times::{Awaited, NO_PACE, Times, awaited_of, due, head_wait_at, least_due};
 use body_frame::BodyState;
 use byte_text::{ByteQueue, OutOfMemory};
-use file_tree::{Ask, JobAnswer, is_fitting};
+use file_tree::Ask;
 use http_types::Addr;
-use ngx_outside::{Entry, StepAnswer, StopCause};
-use req_head::{HeadStep, head_stays, may_decide, read_head, refusal_stays, size_fits};
-use request_flow::{
-    Flow, Onward, Workspace, answered, length_of, may_run, run_on, server_of, waits, written,
-};
+use ngx_outside::{Entry, StopCause};
+use req_head::{HeadStep, read_head};
+use request_flow::{Flow, may_run, waits, written};
 use served_site::ServedSite;
 use std::alloc::Global;
-
-fn begins(next: &HeadStep) -> bool
-    ensures { result ≡ head_begins next.now }
-{
-    match next {
-        HeadStep::Head { .. } => true,
-        HeadStep::Bad { .. } => true,
-        HeadStep::More => false,
-    }
-}
-
-// Bytes arrive after those that are held; what they begin is looked at anew where that may have changed.
-fn take_in(
-    alloc: Global,
-    held: &mut ByteQueue,
-    next: &mut HeadStep,
-    bytes: &[u8],
-) -> Result<(), OutOfMemory>
-    requires { next.old ≡ head_step held.old }
-    ensures held { OnOk result (held.new ≡ held.old ++ bytes.now) }
-    ensures next { OnOk result (next.new ≡ head_step held.new) }
-{
-    head_stays();
-    refusal_stays();
-    let known = held.len();
-    held.append(bytes)?;
-    if begins(next) {
-        return Ok(());
-    }
-    if may_decide(held.front(), known) {
-        put(next, read_head(alloc, held.front())?);
-    }
-    Ok(())
-}
-
-fn first_bytes(bytes: &[u8], count: usize) -> &[u8]
-    requires { count ≤ length bytes.now }
-    ensures { result.now ≡ take count bytes.now }
-{
-    &bytes[..count]
-}
-
-fn last_bytes(bytes: &[u8], count: usize) -> &[u8]
-    requires { count ≤ length bytes.now }
-    ensures { result.now ≡ drop count bytes.now }
-{
-    &bytes[count..]
-}
-
-// The bytes after the first ones.
-fn behind(held: &ByteQueue, size: usize) -> &[u8]
-    requires { size ≤ length held.now }
-    ensures { result.now ≡ drop size held.now }
-{
-    &held.front()[size..]
-}
-
-// Room for one request more in the journal.
-fn make_room(journal: &mut Vec<Entry>) -> Result<(), OutOfMemory>
-    ensures items { journal.new.items ≡ journal.old.items }
-    ensures count { vec_len journal.new ≡ vec_len journal.old }
-    ensures room { OnOk result (vec_len journal.new < vec_capacity journal.new) }
-{
-    journal.reserve(1)?;
-    Ok(())
-}
-
-// A request is written into the journal, which has room for it.
-fn enter(journal: &mut Vec<Entry>, moment: u64, tree: u64, log: Option<(u16, u64)>)
-    requires { vec_len journal.old < vec_capacity journal.old }
-    ensures { (entry : Logged) × (start_of entry ≡ record { moment = moment; tree = tree }) ×
-        (log_of entry ≡ log) × (journal.new.items ≡ journal.old.items ++ entry ∷ []) }
-{
-    match journal.push(Entry { moment, tree, log }) {
-        Ok(()) => {}
-        Err(_) => unreachable!(),
-    }
-}
-
-// The last request that was started, which is in flight, is logged where it is over.
-fn finish(journal: &mut Vec<Entry>, log: Option<(u16, u64)>)
-    requires { IsLogged true journal.old.items }
-    ensures starts { map start_of journal.new.items ≡ map start_of journal.old.items }
-    ensures count { vec_len journal.new ≡ vec_len journal.old }
-    ensures logged { IsLogged (not (is_some log)) journal.new.items }
-    ensures log { logged_in journal.new.items ≡ logged_in journal.old.items ++ logged_by log }
-{
-    if log.is_none() || journal.is_empty() {
-        return;
-    }
-    let last = journal.len() - 1;
-    let entry = journal[last];
-    journal[last] = Entry {
-        moment: entry.moment,
-        tree: entry.tree,
-        log,
-    };
-}
-
-// What becomes of a request after whose body the input is broken or not.
-fn with_broken(onward: Onward, broken: bool) -> Onward
-    ensures { result ≡ record onward { closing = onward.closing || broken } }
-{
-    Onward {
-        closing: onward.closing || broken,
-        flow: onward.flow,
-        log: onward.log,
-        level: onward.level,
-    }
-}
-
-// Starts a request: what is answered at once is put after what is kept for the peer, the request is written into the journal,
-// and what is held after it is looked at.
-fn run_one(
-    space: &mut Workspace,
-    served: &ServedSite,
-    meeting: Meeting,
-    held: &mut ByteQueue,
-    next: &mut HeadStep,
-    body: &mut Option<BodyState>,
-    out: &mut ByteQueue,
-    journal: &mut Vec<Entry>,
-) -> Result<Onward, OutOfMemory>
-    requires looked { next.old ≡ head_step held.old }
-    requires begins { head_begins next.old ≡ true }
-    requires unsent { out.old ≡ [] }
-    ensures ran { (trees : Trees) → let x : Serves = record {
-      patterns = space.old.patterns;
-      served = served.now;
-    } in
-        IfOk result (λ o. RanOne x (service_in x meeting.local meeting.peer) trees
-        (start_in meeting) (vec_len journal.old) next.old held.old held.new body.new o.flow out.old
-        out.new o.closing o.log) }
-    ensures level { let x : Serves = record {
-      patterns = space.old.patterns;
-      served = served.now;
-    } in
-        IfOk result (λ o. LevelFor (service_in x meeting.local meeting.peer)
-        (start_in meeting) next.old
-        (λ trees. (rest_in x o.flow trees).values) (values_at served.now o.level)) }
-    ensures looked { OnOk result (next.new ≡ head_step held.new) }
-    ensures journal { IfOk result (λ o. (entry : Logged) ×
-        (start_of entry ≡ start_in meeting) ×
-        (log_of entry ≡ o.log) × (journal.new.items ≡ journal.old.items ++ entry ∷ [])) }
-    ensures kept { OnErr result (journal.new.items ≡ journal.old.items) }
-    ensures over { IfOk result (λ o. is_some o.log ≡ not (is_some o.flow)) }
-    ensures fits { IfOk result (λ o. flow_fits o.flow (length out.new) ≡ true) }
-    ensures lowers { IfOk result (λ o. length out.new + flow_left o.flow
-        (length out.new) < asking_most) }
-    ensures asked { IfOk result (λ o. tree_asked o.flow ≤ meeting.tree) }
-    ensures patterns { space.new.patterns ≡ space.old.patterns }
-{
-    match next {
-        HeadStep::Head { head, size } => {
-            size_fits();
-            make_room(journal)?;
-            let dropped = drop_body(BodyState::new(head.body), behind(held, *size));
-            let size = *size + dropped.used;
-            let following = read_head(space.alloc, behind(held, size))?;
-            match open(space, served, out, head, journal.len() as u64, meeting) {
-                Ok(opened) => {
-                    let onward = with_broken(opened, dropped.broken);
-                    enter(journal, meeting.moment, meeting.tree, onward.log);
-                    held.used(size);
-                    put(next, following);
-                    *body = dropped.body;
-                    Ok(onward)
-                }
-                Err(OutOfMemory) => {
-                    forget(following);
-                    Err(OutOfMemory)
-                }
-            }
-        }
-        HeadStep::Bad { code, no_body } => {
-            make_room(journal)?;
-            let level = own_level(served, meeting.local);
-            let onward = refuse(space, out, *code, meeting.moment, *no_body, level)?;
-            enter(journal, meeting.moment, meeting.tree, onward.log);
-            *body = None;
-            Ok(onward)
-        }
-        HeadStep::More => unreachable!(),
-    }
-}
 
 /// One connection: the bytes that are held and what they begin, the request in flight, the bytes that are kept for the
 /// peer, the journal of its requests, and how long it waits.
 #[derive(Drop)]
 pub struct Conn {
-    local: Addr,
-    peer: Addr,
-    held: ByteQueue,
-    flow: Option<Flow>,
-    out: ByteQueue,
-    journal: Vec<Entry>,
-    next: HeadStep,
-    body: Option<BodyState>,
-    closing: bool,
-    ended: bool,
-    cause: Option<StopCause>,
-    times: Times,
+    pub(crate) local: Addr,
+    pub(crate) peer: Addr,
+    pub(crate) held: ByteQueue,
+    pub(crate) flow: Option<Flow>,
+    pub(crate) out: ByteQueue,
+    pub(crate) journal: Vec<Entry>,
+    pub(crate) next: HeadStep,
+    pub(crate) body: Option<BodyState>,
+    pub(crate) closing: bool,
+    pub(crate) ended: bool,
+    pub(crate) cause: Option<StopCause>,
+    pub(crate) times: Times,
     ghost looked: { is_some cause ≡ false → next ≡ head_step held },
     ghost dropped: { is_some cause ≡ true → out ≡ [] },
     ghost quit: { is_some cause ≡ true → flow ≡ None },
@@ -345,13 +150,13 @@ impl Conn {
     }
 
     // Whether no byte is held after a request that came to its end.
-    fn is_between(&self) -> bool
+    pub(crate) fn is_between(&self) -> bool
         ensures { result ≡ between self.now }
     {
         !is_fresh(&self.journal) && self.held.is_empty() && !is_in_flight(&self.flow, &self.out)
     }
 
-    fn is_stopped(&self) -> bool
+    pub(crate) fn is_stopped(&self) -> bool
         ensures { result ≡ is_some self.now.cause }
     {
         self.cause.is_some()
@@ -370,7 +175,7 @@ impl Conn {
     }
 
     // Whether the bytes that are held begin a request, once nothing of a body is to be dropped.
-    fn starts(&self) -> bool
+    pub(crate) fn starts(&self) -> bool
         ensures { result ≡ starts self.now.body self.now.next }
     {
         match self.body {
@@ -380,7 +185,7 @@ impl Conn {
     }
 
     // Whether a further request may start, where none is in flight that seeks a file.
-    fn may_start(&self) -> bool
+    pub(crate) fn may_start(&self) -> bool
         ensures { result ≡ starts_at (is_some self.now.cause) self.now.closing self.now.out
             self.now.body self.now.next }
     {
@@ -468,7 +273,7 @@ impl Conn {
     }
 
     // It is stopped: what is unsent is dropped.
-    fn stop(&mut self, cause: StopCause)
+    pub(crate) fn stop(&mut self, cause: StopCause)
         ensures cause { self.new.cause ≡ Some cause }
         ensures flow { self.new.flow ≡ None }
         ensures out { self.new.out ≡ [] }
@@ -479,262 +284,5 @@ impl Conn {
         put(&mut self.flow, None);
         self.out.clear();
         self.cause = Some(cause);
-    }
-
-    /// Bytes arrived: it takes as many as there is room for.
-    pub fn arrived(&mut self, alloc: Global, moment: u64, bytes: &[u8]) -> StepAnswer
-        ensures steps { (x : Serves) (now : Start) (conn : ℕ) →
-            StepsConn x now (Arrived conn bytes.entry) result self.old self.new }
-        ensures times { (x : Serves) (now : Start) (conn : ℕ) → now.moment ≡ moment →
-            TimesConn x now (Arrived conn bytes.entry) result self.old self.new }
-    {
-        let Some(room) = self.room() else {
-            return StepAnswer::Skipped;
-        };
-        if bytes.is_empty() {
-            return StepAnswer::Skipped;
-        }
-        let taken = bytes.len().min(room);
-        let bytes = first_bytes(bytes, taken);
-        let dropped = drop_rest(self.body, bytes);
-        let is_between = self.is_between();
-        match take_in(
-            alloc,
-            &mut self.held,
-            &mut self.next,
-            last_bytes(bytes, dropped.used),
-        ) {
-            Ok(()) => {
-                self.body = dropped.body;
-                self.closing = dropped.broken;
-                self.times.mark = begun(self.times.mark, moment, is_between, &self.held);
-                StepAnswer::Done { taken }
-            }
-            Err(OutOfMemory) => {
-                self.body = None;
-                put(&mut self.flow, None);
-                self.out.clear();
-                self.held.clear();
-                self.cause = Some(StopCause::Memory);
-                StepAnswer::OutOfMemory
-            }
-        }
-    }
-
-    /// The peer sends no more.
-    pub fn input_ended(&mut self) -> StepAnswer
-        ensures steps { (x : Serves) (now : Start) (conn : ℕ) →
-            StepsConn x now (Ended conn) result self.old self.new }
-        ensures times { (x : Serves) (now : Start) (conn : ℕ) →
-            TimesConn x now (Ended conn) result self.old self.new }
-    {
-        match self.room() {
-            None => StepAnswer::Skipped,
-            Some(_) => {
-                self.ended = true;
-                StepAnswer::Done { taken: 0 }
-            }
-        }
-    }
-
-    /// The first pending bytes were written.
-    pub fn wrote(&mut self, moment: u64, count: usize) -> StepAnswer
-        ensures steps { (x : Serves) (now : Start) (conn : ℕ) →
-            StepsConn x now (Wrote conn count) result self.old self.new }
-        ensures times { (x : Serves) (now : Start) (conn : ℕ) → now.moment ≡ moment →
-            TimesConn x now (Wrote conn count) result self.old self.new }
-    {
-        if count == 0 || count > self.pending().len() {
-            return StepAnswer::Skipped;
-        }
-        let flow = written(self.flow.take(), count);
-        put(&mut self.flow, flow);
-        self.out.used(count);
-        self.times.mark = moment;
-        StepAnswer::Done { taken: 0 }
-    }
-
-    /// A node's job is answered: the only one is the main request's.
-    pub fn file_done(&mut self, moment: u64, node: u32, answer: JobAnswer) -> StepAnswer
-        ensures steps { (x : Serves) (now : Start) (conn : ℕ) →
-            StepsConn x now (FileDone conn node answer.entry) result self.old self.new }
-        ensures times { (x : Serves) (now : Start) (conn : ℕ) → now.moment ≡ moment →
-            TimesConn x now (FileDone conn node answer.entry) result self.old self.new }
-    {
-        match self.ask(node) {
-            Some(ask) => {
-                if !is_fitting(ask, answer) {
-                    return StepAnswer::Skipped;
-                }
-            }
-            None => return StepAnswer::Skipped,
-        }
-        let before = sending(&self.flow, &self.out);
-        let Some(flow) = self.flow.take() else {
-            return StepAnswer::Skipped;
-        };
-        match answered(flow, &mut self.out, answer) {
-            Ok(flow) => {
-                put(&mut self.flow, Some(flow));
-                let after = sending(&self.flow, &self.out);
-                self.times.mark = marked(self.times.mark, moment, before, after);
-                StepAnswer::Done { taken: 0 }
-            }
-            Err(OutOfMemory) => {
-                put(&mut self.flow, None);
-                self.out.clear();
-                self.cause = Some(StopCause::Memory);
-                StepAnswer::OutOfMemory
-            }
-        }
-    }
-
-    /// A node's job failed.
-    pub fn job_failed(&mut self, node: u32) -> StepAnswer
-        ensures steps { (x : Serves) (now : Start) (conn : ℕ) →
-            StepsConn x now (JobFailed conn node) result self.old self.new }
-        ensures times { (x : Serves) (now : Start) (conn : ℕ) →
-            TimesConn x now (JobFailed conn node) result self.old self.new }
-    {
-        if self.ask(node).is_none() {
-            return StepAnswer::Skipped;
-        }
-        self.stop(StopCause::FileFault);
-        StepAnswer::Done { taken: 0 }
-    }
-
-    /// Its link failed.
-    pub fn link_failed(&mut self) -> StepAnswer
-        ensures steps { (x : Serves) (now : Start) (conn : ℕ) →
-            StepsConn x now (LinkFailed conn) result self.old self.new }
-        ensures times { (x : Serves) (now : Start) (conn : ℕ) →
-            TimesConn x now (LinkFailed conn) result self.old self.new }
-    {
-        if self.is_stopped() {
-            return StepAnswer::Skipped;
-        }
-        self.stop(StopCause::LinkFault);
-        StepAnswer::Done { taken: 0 }
-    }
-
-    // The request in flight runs on.
-    fn goes_on(&mut self, space: &mut Workspace, served: &ServedSite, moment: u64) -> StepAnswer
-        requires some { is_some self.old.flow ≡ true }
-        requires ready { ready_at (is_some self.old.cause) self.old.flow self.old.closing
-            self.old.out self.old.body self.old.next ≡ true }
-        ensures steps { (now : Start) (conn : ℕ) →
-            StepsConn (record { patterns = space.old.patterns; served = served.now }) now
-            (Run conn 0) result self.old self.new }
-        ensures times { (now : Start) (conn : ℕ) → now.moment ≡ moment →
-            TimesConn (record { patterns = space.old.patterns; served = served.now }) now
-            (Run conn 0) result self.old self.new }
-        ensures patterns { space.new.patterns ≡ space.old.patterns }
-    {
-        let before = sending(&self.flow, &self.out);
-        let Some(flow) = self.flow.take() else {
-            unreachable!()
-        };
-        let ground = served.ground(server_of(&flow.stage), length_of(&flow.stage));
-        match run_on(space, &ground, flow, &mut self.out, self.closing) {
-            Ok(onward) => {
-                finish(&mut self.journal, onward.log);
-                put(&mut self.flow, onward.flow);
-                self.closing = onward.closing;
-                let after = sending(&self.flow, &self.out);
-                self.times.mark = marked(self.times.mark, moment, before, after);
-                self.times.pace = pace_after(served, onward.level, self.times.pace);
-                StepAnswer::Done { taken: 0 }
-            }
-            Err(OutOfMemory) => {
-                put(&mut self.flow, None);
-                self.out.clear();
-                self.cause = Some(StopCause::Memory);
-                StepAnswer::OutOfMemory
-            }
-        }
-    }
-
-    // A request starts.
-    fn starts_one(
-        &mut self,
-        space: &mut Workspace,
-        served: &ServedSite,
-        moment: u64,
-        tree: u64,
-    ) -> StepAnswer
-        requires none { self.old.flow ≡ None }
-        requires ready { starts_at (is_some self.old.cause) self.old.closing self.old.out
-            self.old.body self.old.next ≡ true }
-        ensures steps { (conn : ℕ) →
-            StepsConn (record { patterns = space.old.patterns; served = served.now })
-            (record { moment = moment; tree = tree }) (Run conn 0) result self.old self.new }
-        ensures times { (conn : ℕ) →
-            TimesConn (record { patterns = space.old.patterns; served = served.now })
-            (record { moment = moment; tree = tree }) (Run conn 0) result self.old self.new }
-        ensures patterns { space.new.patterns ≡ space.old.patterns }
-    {
-        head_stays();
-        refusal_stays();
-        size_fits();
-        let before = sending(&self.flow, &self.out);
-        match run_one(
-            space,
-            served,
-            Meeting {
-                local: self.local,
-                peer: self.peer,
-                moment,
-                tree,
-            },
-            &mut self.held,
-            &mut self.next,
-            &mut self.body,
-            &mut self.out,
-            &mut self.journal,
-        ) {
-            Ok(onward) => {
-                put(&mut self.flow, onward.flow);
-                self.closing = onward.closing;
-                let after = sending(&self.flow, &self.out);
-                self.times.mark = marked(self.times.mark, moment, before, after);
-                self.times.pace = pace_after(served, onward.level, self.times.pace);
-                StepAnswer::Done { taken: 0 }
-            }
-            Err(OutOfMemory) => {
-                self.body = None;
-                put(&mut self.flow, None);
-                self.out.clear();
-                self.held.clear();
-                self.cause = Some(StopCause::Memory);
-                StepAnswer::OutOfMemory
-            }
-        }
-    }
-
-    /// A node runs: the only one is the main request's, which starts, or goes on.
-    pub fn runs(
-        &mut self,
-        space: &mut Workspace,
-        served: &ServedSite,
-        moment: u64,
-        tree: u64,
-        node: u32,
-    ) -> StepAnswer
-        ensures steps { (conn : ℕ) →
-            StepsConn (record { patterns = space.old.patterns; served = served.now })
-            (record { moment = moment; tree = tree }) (Run conn node) result self.old self.new }
-        ensures times { (conn : ℕ) →
-            TimesConn (record { patterns = space.old.patterns; served = served.now })
-            (record { moment = moment; tree = tree }) (Run conn node) result self.old self.new }
-        ensures patterns { space.new.patterns ≡ space.old.patterns }
-    {
-        if node != 0 || !self.is_ready() {
-            return StepAnswer::Skipped;
-        }
-        if self.flow.is_some() {
-            self.goes_on(space, served, moment)
-        } else {
-            self.starts_one(space, served, moment, tree)
-        }
     }
 }

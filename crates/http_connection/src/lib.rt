@@ -3,10 +3,14 @@
 
 mod body;
 mod conn;
+mod events;
+mod input;
+mod journal;
 mod law;
 mod open;
 mod sending;
 mod slot;
+mod start;
 mod times;
 mod wants;
 

@@ -9,6 +9,7 @@ ghost use Rattle.request_flow.specs.Flows.{flow_fits, flow_left, asking_most, tr
 ghost use Rattle.http_connection.specs.Rests.{Serves};
 ghost use Rattle.http_connection.specs.Steps.{Opened, Refuses};
 
+use crate::slot::forget;
 use byte_text::{ByteQueue, OutOfMemory};
 use http_types::{Addr, BodyKind, Method};
 use req_head::Head;
@@ -80,14 +81,14 @@ pub(crate) fn open(
     space: &mut Workspace,
     served: &ServedSite,
     out: &mut ByteQueue,
-    head: &Head,
+    head: Head,
     before: u64,
     meeting: Meeting,
 ) -> Result<Onward, OutOfMemory>
     requires { out.old ≡ [] }
     ensures opens { (trees : Trees) → IfOk result
         (λ o. Opened (record { patterns = space.old.patterns; served = served.now })
-        trees meeting before head.now o.flow out.old out.new o.closing o.log o.level) }
+        trees meeting before head o.flow out.old out.new o.closing o.log o.level) }
     ensures over { IfOk result (λ o. is_some o.log ≡ not (is_some o.flow)) }
     ensures fits { IfOk result (λ o. flow_fits o.flow (length out.new) ≡ true) }
     ensures lowers { IfOk result (λ o. length out.new + flow_left o.flow
@@ -108,6 +109,10 @@ pub(crate) fn open(
             };
             Ok(start(space, &ground, number, opening, out)?)
         }
-        None => Ok(refuse(space, out, 404, meeting.moment, is_head(&head.method), None)?),
+        None => {
+            let no_body = is_head(&head.method);
+            forget(head);
+            Ok(refuse(space, out, 404, meeting.moment, no_body, None)?)
+        }
     }
 }

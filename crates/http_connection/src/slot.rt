@@ -2,6 +2,8 @@
 // parts is one step.
 ghost use Rattle.std.specs.Prelude.{◌≡◌};
 
+use std::mem::replace;
+
 /// Puts a value in place of another.
 pub(crate) fn put<T: Drop>(slot: &mut T, value: T)
     ensures { slot.new ≡ value }
@@ -11,3 +13,11 @@ pub(crate) fn put<T: Drop>(slot: &mut T, value: T)
 
 /// Gives up a value.
 pub(crate) fn forget<T: Drop>(value: T) {}
+
+/// Takes a value out, and leaves another in its place.
+pub(crate) fn take<T: Drop>(slot: &mut T, other: T) -> T
+    ensures taken { result ≡ slot.old }
+    ensures left { slot.new ≡ other }
+{
+    replace(slot, other)
+}

@@ -7,7 +7,6 @@ ghost use Rattle.report_text.specs.Report.{run_text, report_of};
 ghost use Rattle.report_text.specs.Lines.{ended};
 ghost use Rattle.report_text.specs.Faults.{conf_fault_line};
 ghost use Rattle.site_whole.specs.Whole.{whole};
-ghost use Rattle.conf_inherit.specs.Pools.{IsUnreturned};
 ghost use Rattle.ngx_cli.specs.Sites.{OnFault};
 ghost use Rattle.ngx_cli.specs.Running.{main_path as path_of_main, Describe, report_in, Ran, Replays};
 
@@ -53,7 +52,6 @@ fn main_path(confs: &[Conf]) -> &[u8]
 // The site that a script's configurations describe.
 fn site_of(alloc: Global, confs: &Confs) -> Result<Site, ExpandError>
     ensures ok { IfOk result (λ site. Describe confs.now (Ok (whole [] site))) }
-    ensures unreturned { IfOk result (λ site. IsUnreturned site) }
     ensures fault { IfErr result (λ e. OnFault e
         (λ fault at. Describe confs.now (Err (fault, at)))) }
 {
@@ -126,7 +124,6 @@ fn run(
     events: &[EventLine],
     out: &mut ByteText,
 ) -> Result<(), OutOfMemory>
-    requires { IsUnreturned site }
     ensures { OnOk result ((text : List ℕ) × (out.new ≡ out.old ++ text) ×
         Ran site tree.now events.now text) }
 {

@@ -1,8 +1,7 @@
 // The site of a configuration.
-ghost use Rattle.std.specs.Prelude.{◌≡◌, true, slice_index_or, [], IfOk};
+ghost use Rattle.std.specs.Prelude.{◌≡◌, true, slice_index_or, []};
 ghost use Rattle.ngx_outside.specs.Records.{Adds};
 ghost use Rattle.ready_loop.specs.Seen.{Grown};
-ghost use Rattle.conf_inherit.specs.Pools.{IsUnreturned};
 ghost use Rattle.conf_include.specs.Listings.{Names, IsNaming};
 ghost use Rattle.ngx_cli.specs.Sites.{Describes, FailsIf, Reading, site_at as site_found};
 
@@ -40,7 +39,6 @@ fn site_read<F: Files>(
         IsNaming ((F.seen files.old).trees (F.seen files.old).newest) names →
         Describes result (site_found purpose
         ((F.seen files.old).trees (F.seen files.old).newest) names path.now) }
-    ensures unreturned { IfOk result (λ site. IsUnreturned site) }
     ensures cause { FailsIf result (F.seen files.old).faults (F.seen files.new).faults }
     ensures versions { Adds (F.seen files.old).newest (F.seen files.old).versions
         (F.seen files.new).versions }
@@ -80,7 +78,6 @@ pub fn site_at<F: Files>(
         IsNaming ((F.seen files.old).trees (F.seen files.old).newest) names →
         Describes result (site_found purpose
         ((F.seen files.old).trees (F.seen files.old).newest) names path.now) }
-    ensures unreturned { IfOk result (λ site. IsUnreturned site) }
     ensures cause { FailsIf result (F.seen files.old).faults (F.seen files.new).faults }
     ensures reading { Reading (F.seen files.old) (F.seen files.new) }
 {

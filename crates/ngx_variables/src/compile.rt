@@ -250,6 +250,6 @@ impl Value {
             pieces.push(step.piece)?;
             rest = rest_of(rest, step.size);
         }
-        Ok(Value::from_pieces(pieces))
+        Ok(Value::shared(alloc, pieces)?)
     }
 }

@@ -130,8 +130,8 @@ fn append_variable(
         Variable::ServerName => out.extend(main.server_name.as_slice())?,
         Variable::Scheme => out.extend(b"http")?,
         Variable::Https => {}
-        Variable::DateGmt => out.extend(main.date.as_slice())?,
-        Variable::DateLocal => out.extend(main.date.as_slice())?,
+        Variable::DateGmt => main.date.append_to(out)?,
+        Variable::DateLocal => main.date.append_to(out)?,
     }
     Ok(())
 }

@@ -7,34 +7,31 @@ ghost use Rattle.ngx_variables.specs.Texts.{first_field, joined_fields};
 
 use crate::argument::cookie_in;
 use byte_text::{ByteText, OutOfMemory};
-use http_header::HeaderMap;
+use req_head::HeadFields;
 
 /// The first field of a name, or empty.
 #[tactic(auto, unfolding(crate::specs::Texts::first_field))]
-pub(crate) fn first_field<'a>(fields: &'a HeaderMap, name: &[u8]) -> &'a [u8]
+pub(crate) fn first_field<'a>(fields: &'a HeadFields, name: &[u8]) -> &'a [u8]
     ensures { result.now ≡ first_field fields.now (lowercase name.now) }
 {
-    match fields.get(name) {
-        Some(value) => value.as_bytes(),
-        None => &[],
-    }
+    fields.first(name).unwrap_or(b"")
 }
 
 /// Writes all fields of a name, with `, ` between them.
 #[tactic(auto, unfolding(crate::specs::Texts::joined_fields, crate::specs::Texts::behind_comma))]
 pub(crate) fn append_fields(
-    fields: &HeaderMap,
+    fields: &HeadFields,
     name: &[u8],
     out: &mut ByteText,
 ) -> Result<(), OutOfMemory>
     ensures { OnOk result (out.new ≡ out.old ++ joined_fields (get_all fields.now (lowercase name.now))) }
 {
-    let mut values = fields.get_all(name).iter();
+    let mut values = fields.values(name);
     if let Some(first) = values.next() {
-        out.extend(first.as_bytes())?;
+        out.extend(first)?;
         while let Some(value) = values.next() {
             out.extend(b", ")?;
-            out.extend(value.as_bytes())?;
+            out.extend(value)?;
         }
     }
     Ok(())
@@ -42,12 +39,12 @@ pub(crate) fn append_fields(
 
 /// The value of a cookie, in the first of the fields that has it.
 #[tactic(auto, unfolding(crate::specs::Pairs::cookie))]
-pub(crate) fn cookie<'a>(fields: &'a HeaderMap, name: &[u8]) -> Option<&'a [u8]>
+pub(crate) fn cookie<'a>(fields: &'a HeadFields, name: &[u8]) -> Option<&'a [u8]>
     ensures { option_map (λ value. value.now) result ≡ cookie name.now (get_all fields.now (codes "cookie")) }
 {
-    let mut values = fields.get_all(b"cookie".as_slice()).iter();
+    let mut values = fields.values(b"cookie");
     while let Some(field) = values.next() {
-        if let Some(value) = cookie_in(name, field.as_bytes()) {
+        if let Some(value) = cookie_in(name, field) {
             return Some(value);
         }
     }

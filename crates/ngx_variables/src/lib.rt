@@ -4,6 +4,7 @@
 
 mod argument;
 mod compile;
+mod date;
 mod eval;
 mod fault;
 mod field;
@@ -15,6 +16,7 @@ mod table;
 mod value;
 mod variable;
 
+pub use date::LocalDate;
 pub use fault::{EvalFault, ValueFault};
 pub use joining::joined;
 pub use laws::{builtin_is_not_set, settles_behind_value, value_settles};

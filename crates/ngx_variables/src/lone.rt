@@ -44,8 +44,8 @@ fn held_variable<'a>(variable: Variable, main: &'a Main, request: &'a Request) -
         Variable::ServerName => Some(main.server_name.as_slice()),
         Variable::Scheme => Some(b"http"),
         Variable::Https => Some(&[]),
-        Variable::DateGmt => Some(main.date.as_slice()),
-        Variable::DateLocal => Some(main.date.as_slice()),
+        Variable::DateGmt => None,
+        Variable::DateLocal => None,
     }
 }
 

@@ -2,10 +2,11 @@
 ghost use Rattle.std.specs.Prelude.{◌≡◌, ℕ, ◌+◌, ◌-◌, ◌<◌, ◌≤◌, List, [], ◌∷◌, ◌++◌, length, OnOk, OnErr};
 ghost use Rattle.ngx_variables.specs.Words.{method_name};
 
+use crate::date::LocalDate;
 use crate::value::Value;
 use byte_text::{ByteText, OutOfMemory};
-use http_header::HeaderMap;
 use http_types::{Addr, Method, Version};
+use req_head::HeadFields;
 use std::alloc::Global;
 use std::marker::Model;
 
@@ -115,8 +116,8 @@ pub struct Main {
     /// The number of the tree of files from which the request is answered.
     pub tree: u64,
     /// The moment as a text of the default format.
-    pub date: ByteText,
-    pub fields: HeaderMap,
+    pub date: LocalDate,
+    pub fields: HeadFields,
     /// The folder at which relative paths start.
     pub folder: ByteText,
 }

@@ -5,6 +5,7 @@ use crate::variable::Variable;
 use byte_text::{ByteText, OutOfMemory};
 use std::alloc::Global;
 use std::marker::Model;
+use std::rc::Rc;
 
 /// A piece of a text with variables.
 #[derive(Drop)]
@@ -26,19 +27,27 @@ pub enum Piece {
 }
 
 /// A text with variables, read once and evaluated for each request. Contracts see it as the list of its pieces. In what
-/// `compile` reads no two literals are neighbours, and none is empty.
+/// `compile` reads no two literals are neighbours, and none is empty; a copy of that shares the pieces.
 #[derive(Drop)]
 pub struct Value {
-    pieces: Vec<Piece>,
+    pieces: Pieces,
+}
+
+/// The pieces of a value, its own or shared with its copies.
+#[derive(Drop)]
+enum Pieces {
+    Own(Vec<Piece>),
+    Shared(Rc<Vec<Piece>>),
 }
 
 impl Model for Value {
     ghost use Rattle.std.specs.Prelude.{List};
     ghost use Rattle.ngx_variables.specs.declared.value.Piece.{Piece};
+    ghost use Rattle.ngx_variables.specs.Shared.{pieces_in};
 
     ghost Value = { List Piece };
 
-    ghost view = { λ v. v.pieces.items };
+    ghost view = { λ v. pieces_in v.pieces };
 }
 
 impl Piece {
@@ -64,29 +73,64 @@ fn copied(alloc: Global, text: &ByteText) -> Result<ByteText, OutOfMemory>
     ByteText::from_slice(alloc, text.as_slice())
 }
 
+/// Copies of pieces, one by one.
+fn copies(alloc: Global, pieces: &[Piece]) -> Result<Vec<Piece>, OutOfMemory>
+    ensures { IfOk result (λ copies. copies.items ≡ pieces.now) }
+{
+    let mut all = Vec::new(alloc);
+    for piece in pieces {
+        all.push(piece.copy(alloc)?)?;
+    }
+    Ok(all)
+}
+
+/// The same pieces once more, without a copy of them.
+fn again(shared: &Rc<Vec<Piece>>) -> Result<Rc<Vec<Piece>>, OutOfMemory>
+    ensures { IfOk result (λ other. other.value.items ≡ shared.now.value.items) }
+{
+    let other = shared.clone()?;
+    Ok(other)
+}
+
 impl Value {
     /// Takes the pieces over, with no copy.
     pub fn from_pieces(pieces: Vec<Piece>) -> Self
         ensures { result ≡ pieces.items }
     {
-        Value { pieces }
+        Value {
+            pieces: Pieces::Own(pieces),
+        }
     }
 
-    /// The same value once more.
+    /// Takes the pieces over for values that share them.
+    pub(crate) fn shared(alloc: Global, pieces: Vec<Piece>) -> Result<Value, OutOfMemory>
+        ensures { IfOk result (λ value. value ≡ pieces.items) }
+    {
+        let shared = Rc::new(alloc, pieces)?;
+        Ok(Value {
+            pieces: Pieces::Shared(shared),
+        })
+    }
+
+    /// The same value once more. What `compile` read takes no memory for it.
     pub fn copy(&self, alloc: Global) -> Result<Value, OutOfMemory>
         ensures { IfOk result (λ copy. copy ≡ self.now) }
     {
-        let mut pieces = Vec::new(alloc);
-        for piece in &self.pieces {
-            pieces.push(piece.copy(alloc)?)?;
+        match &self.pieces {
+            Pieces::Own(pieces) => Ok(Value::from_pieces(copies(alloc, pieces.as_slice())?)),
+            Pieces::Shared(shared) => Ok(Value {
+                pieces: Pieces::Shared(again(shared)?),
+            }),
         }
-        Ok(Value { pieces })
     }
 
     /// The pieces, in their order.
     pub fn pieces(&self) -> &[Piece]
         ensures { result.now ≡ self.now }
     {
-        self.pieces.as_slice()
+        match &self.pieces {
+            Pieces::Own(pieces) => pieces.as_slice(),
+            Pieces::Shared(shared) => shared.as_ref().as_slice(),
+        }
     }
 }

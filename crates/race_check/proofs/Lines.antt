@@ -1,17 +1,15 @@
 -- Lines added one after another.
-use Rattle.std.proofs.Common.{◌≡◌, ℕ, zero, suc, ◌+◌, ◌<◌, ◌≤◌, Bool, true, false, List, [], ◌∷◌, ◌++◌, Option, None, Some, option_map, unwrap_or, slice_get, get_or, length, drop, map, flat_map, refl, ap, sym, ◌∙◌, subst, append_assoc, arith, if◌then◌else◌}
+use Rattle.std.proofs.Common.{◌≡◌, ℕ, zero, suc, ◌+◌, ◌<◌, ◌≤◌, Bool, true, false, List, [], ◌∷◌, ◌++◌, Option, None, Some, option_map, unwrap_or, slice_get, get_or, length, drop, map, flat_map, refl, ap, sym, ◌∙◌, append_assoc, arith, if◌then◌else◌}
 use Rattle.std.proofs.lemmas.List.{append-nil}
 use Rattle.source_lines.specs.declared.line.Line.{Line}
 use Rattle.source_lines.specs.declared.line.LevelLines.{LevelLines}
-use Rattle.site_model.specs.declared.site.Return.{Return}
 use Rattle.site_model.specs.declared.site.Site.{Site}
 use Rattle.site_model.specs.declared.site.Level.{Level}
 use Rattle.site_model.specs.declared.values.IndexNames.{IndexNames}
 use Rattle.site_views.specs.Values.{Values, IndexName}
 use Rattle.site_views.specs.Rewrites.{Directive, Program}
-use Rattle.site_whole.specs.Whole.{default_index, index_seen, index_at, returned_first}
+use Rattle.site_whole.specs.Whole.{default_index, index_seen, index_at}
 use Rattle.race_meaning.specs.Reads.{in_text}
-use Rattle.race_meaning.specs.Conflicts.{sets_it}
 use Rattle.race_check.specs.Places.{lines_of, keep_if, program_lines, value_reads}
 
 -- the first of a list, and the first of its lines
@@ -90,22 +88,12 @@ get_some [] n x h e = absurd (omega (arith, h))
 get_some (y ∷ ys) zero x h e = ap Some (sym e)
 get_some (y ∷ ys) (suc n) x h e = get_some ys n x (omega (arith, h)) e
 
--- ---- where nothing is stated, and the line of a level's `return`
+-- ---- where nothing is stated
 
 pub default_reads_none : (name : List ℕ) (lines : List Line) → lines_of (λ (i : IndexName). in_text name i.text) default_index lines ≡ []
 unfolding default_index in_text
 default_reads_none name [] = refl
 default_reads_none name (l ∷ ls) = refl
-
-no_line : {A : Type 0} (test : A → Bool) (items : List A) → lines_of test items [] ≡ []
-no_line test [] = refl
-no_line test (a ∷ items) = refl
-
-pub after_short : (test : Directive → Bool) (returned : Option Return) (program : Program) (lines : List Line) (r : Return) → returned ≡ Some r → length lines < 1
-    → lines_of test (returned_first returned ++ program) lines ≡ lines_of test (returned_first returned) lines ++ lines_of test program []
-after_short test None program [] r is short = refl
-after_short test (Some s) program [] r is short = sym (no_line test program)
-after_short test returned program (l ∷ ls) r is short = absurd (omega (arith, short))
 
 pub no_index : (site : Site) (number : Option ℕ) (name : List ℕ) (lines out : List Line) → number ≡ None → out ≡ out ++ lines_of (λ (i : IndexName). in_text name i.text) (index_at site number) lines
 no_index site number name lines out is =
@@ -121,35 +109,11 @@ no_names site number n name lines out is none =
 
 -- ---- programs
 
-pub program_read : {X : Type 0} (test : Directive → Bool) (returned : Option Return) (seen : List X → Program) (steps slice : List X) → slice ≡ steps
-    → (whole lines rest : List Line) (old middle new : List Line) → lines ≡ whole → middle ≡ old ++ lines_of test (returned_first returned) lines
-    → lines_of test (returned_first returned ++ seen steps) lines ≡ lines_of test (returned_first returned) lines ++ lines_of test (seen steps) rest
-    → new ≡ middle ++ lines_of test (seen slice) rest
-    → new ≡ old ++ lines_of test (returned_first returned ++ seen steps) whole
-program_read test returned seen steps slice s whole lines rest old middle new l m parted n =
-    n
-    ∙ ap (λ x. middle ++ lines_of test (seen x) rest) s
-    ∙ ap (λ x. x ++ lines_of test (seen steps) rest) m
-    ∙ append_assoc old (lines_of test (returned_first returned) lines) (lines_of test (seen steps) rest)
-    ∙ ap (λ x. old ++ x) (sym parted)
-    ∙ ap (λ x. old ++ lines_of test (returned_first returned ++ seen steps) x) l
-
-sets_none : (name : List ℕ) (returned : Option Return) (lines : List Line) → lines_of (sets_it name) (returned_first returned) lines ≡ []
-sets_none name None lines = refl
-sets_none name (Some r) [] = refl
-sets_none name (Some r) (l ∷ ls) = refl
-
-pub program_set : {X : Type 0} (name : List ℕ) (returned : Option Return) (seen : List X → Program) (steps slice : List X) → slice ≡ steps
-    → (whole lines rest : List Line) (old new : List Line) → lines ≡ whole
-    → lines_of (sets_it name) (returned_first returned ++ seen steps) lines ≡ lines_of (sets_it name) (returned_first returned) lines ++ lines_of (sets_it name) (seen steps) rest
-    → new ≡ old ++ lines_of (sets_it name) (seen slice) rest
-    → new ≡ old ++ lines_of (sets_it name) (returned_first returned ++ seen steps) whole
-program_set name returned seen steps slice s whole lines rest old new l parted n =
-    n
-    ∙ ap (λ x. old ++ lines_of (sets_it name) (seen x) rest) s
-    ∙ ap (λ x. old ++ (x ++ lines_of (sets_it name) (seen steps) rest)) (sym (sets_none name returned lines))
-    ∙ ap (λ x. old ++ x) (sym parted)
-    ∙ ap (λ x. old ++ lines_of (sets_it name) (returned_first returned ++ seen steps) x) l
+pub program_lines_by : {X : Type 0} (test : Directive → Bool) (seen : List X → Program) (steps slice : List X) → slice ≡ steps
+    → (whole lines old new : List Line) → lines ≡ whole → new ≡ old ++ lines_of test (seen slice) lines
+    → new ≡ old ++ lines_of test (seen steps) whole
+program_lines_by test seen steps slice s whole lines old new l n =
+    n ∙ ap (λ x. old ++ lines_of test (seen x) lines) s ∙ ap (λ x. old ++ lines_of test (seen steps) x) l
 
 -- ---- a level of the table, or none
 

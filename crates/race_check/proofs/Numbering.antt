@@ -1,19 +1,17 @@
 -- The levels of a server by their numbers are those that its meaning sees.
-use Rattle.std.proofs.Common.{◌≡◌, ℕ, nat_lt, Bool, true, false, List, [], ◌∷◌, ◌++◌, map, flat_map, Option, None, Some, refl, ap, sym, ◌∙◌, if◌then◌else◌}
+use Rattle.std.proofs.Common.{◌≡◌, ℕ, nat_lt, Bool, true, false, List, [], ◌∷◌, ◌++◌, map, flat_map, None, Some, refl, ap, sym, ◌∙◌, if◌then◌else◌}
 use Rattle.std.proofs.lemmas.List.{append_assoc, map-append}
 use Rattle.site_model.specs.Levels.{raw_level}
 use Rattle.site_model.specs.declared.program.RewriteStep.{RewriteStep}
 use Rattle.site_model.specs.declared.program.RewriteStep.TheVariants as steps
-use Rattle.site_model.specs.declared.site.Return.{Return}
 use Rattle.site_model.specs.declared.site.Location.{Location as CodeLocation}
 use Rattle.site_model.specs.declared.site.NamedLocation.{NamedLocation}
 use Rattle.site_model.specs.declared.site.Server.{Server}
 use Rattle.site_model.specs.declared.site.Site.{Site}
 use Rattle.site_views.specs.Pattern.{Pattern}
 use Rattle.site_views.specs.Values.{Values}
-use Rattle.site_views.specs.Rewrites.{Program}
 use Rattle.site_views.specs.Views.{LevelView, NamedView}
-use Rattle.site_whole.specs.Whole.{values_seen, step_seen, returned_first, level_whole, Nested, inside, outside, nested, locations_whole, named_whole, server_whole}
+use Rattle.site_whole.specs.Whole.{values_seen, step_seen, level_whole, Nested, inside, outside, nested, locations_whole, named_whole, server_whole}
 use Rattle.site_whole.specs.Whole.Nested.{NoneLeft, Nest}
 use Rattle.race_meaning.specs.Levels.{location_levels, inner_levels, levels, block_values, level_values, all_values}
 use Rattle.race_check.specs.Numbers.{level_numbers, block_number, numbers_in, value_numbers}
@@ -93,16 +91,10 @@ module _ (patterns : List Pattern) (site : Site) where
       ∙ ap (λ x. x ++ map values_at (flat_map block_number ss)) (block_seen s)
       ∙ ap (λ x. block_values (step_seen patterns site s) ++ x) (blocks_seen ss)
 
-  returned_blocks : (r : Option Return) (p : Program) → flat_map block_values (returned_first r ++ p) ≡ flat_map block_values p
-  returned_blocks None p = refl
-  returned_blocks (Some r) p = refl
-
   values_in : (number : ℕ) → map values_at (numbers_in site number) ≡ level_values (level_whole patterns site number)
   unfolding level_values level_whole
   values_in number =
-      ap (λ x. values_at number ∷ x)
-      (blocks_seen (raw_level site number).program
-      ∙ sym (returned_blocks (raw_level site number).returned (map (step_seen patterns site) (raw_level site number).program)))
+      ap (λ x. values_at number ∷ x) (blocks_seen (raw_level site number).program)
 
   values_of_all : (numbers : List ℕ) → map values_at (value_numbers site numbers) ≡ flat_map level_values (map (level_whole patterns site) numbers)
   values_of_all [] = refl

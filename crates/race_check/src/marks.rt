@@ -116,9 +116,6 @@ pub fn first_sets(alloc: Global, level: &Level) -> Result<NameSet, OutOfMemory>
         ≡ begins_with_set name (program_seen patterns site level.now)) }
 {
     let mut names = NameSet::new(alloc);
-    if level.returned.is_some() {
-        return Ok(names);
-    }
     add_first_sets(&mut names, level.program.as_slice())?;
     Ok(names)
 }

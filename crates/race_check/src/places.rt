@@ -1,19 +1,18 @@
 // The lines where a variable is set and read.
-ghost use Rattle.std.specs.Prelude.{◌≡◌, ◌++◌, ℕ, Bool, List, map, flat_map, OnOk, IfOk, Some};
+ghost use Rattle.std.specs.Prelude.{◌≡◌, ◌++◌, ℕ, List, map, flat_map, OnOk, IfOk, Some};
 ghost use Rattle.ngx_variables.specs.Paths.{text_of};
 ghost use Rattle.site_views.specs.Pattern.{Pattern};
 ghost use Rattle.site_views.specs.Values.{IndexName as NameView, PageRule as RuleView, Text};
-ghost use Rattle.site_views.specs.Rewrites.{Directive, Program as Directives};
 ghost use Rattle.site_model.specs.declared.site.Site.{Site as SiteRow};
-ghost use Rattle.site_whole.specs.Whole.{index_seen, page_seen, auth_set_seen, step_seen, index_at, returned_first, program_seen, values_seen};
+ghost use Rattle.site_whole.specs.Whole.{index_seen, page_seen, auth_set_seen, step_seen, index_at, program_seen, values_seen};
 ghost use Rattle.race_meaning.specs.Reads.{in_text as text_has, in_target as target_has, in_directive};
 ghost use Rattle.race_meaning.specs.Conflicts.{sets_it as set_by};
 ghost use Rattle.race_check.specs.Places.{line_list, lines_of, keep_if, value_reads, program_lines, reads_of_values, reads_of_program, sets_of_program, all_reads, all_sets};
 
-use crate::looks::{in_some, in_step, in_target, in_text, in_tries, sets_it};
+use crate::looks::{in_step, in_target, in_text, in_tries, sets_it};
 use crate::values::{auth_sets_of, place_text, rules_of};
 use byte_text::OutOfMemory;
-use site_model::{AuthSet, IndexName, Level, PageRule, Return, RewriteStep, Site};
+use site_model::{AuthSet, IndexName, Level, PageRule, RewriteStep, Site};
 use source_lines::{LevelLines, Line};
 use std::alloc::Global;
 
@@ -188,45 +187,6 @@ fn push_setting_steps(
     Ok(())
 }
 
-/// The lines of a program without that of the level's `return`, which comes first.
-fn after_returned<'a>(returned: &Option<Return>, lines: &'a [Line]) -> &'a [Line]
-    ensures { (test : Directive → Bool) (program : Directives)
-        → lines_of test (returned_first returned.now ++ program) lines.now
-        ≡ lines_of test (returned_first returned.now) lines.now
-        ++ lines_of test program result.now }
-{
-    match returned {
-        Some(_) => match lines {
-            [] => &[],
-            [_, rest @ ..] => rest,
-        },
-        None => lines,
-    }
-}
-
-/// Adds the line of a level's `return` that reads a variable.
-#[tactic(auto, unfolding(race_meaning::specs::Reads::in_directive))]
-fn push_returned(
-    out: &mut Vec<Line>,
-    name: &[u8],
-    returned: &Option<Return>,
-    lines: &[Line],
-) -> Result<(), OutOfMemory>
-    ensures { OnOk result (out.new.items ≡ out.old.items
-        ++ lines_of (in_directive name.now) (returned_first returned.now) lines.now) }
-{
-    match returned {
-        Some(returned) => match lines {
-            [] => Ok(()),
-            [line, ..] => {
-                push_if(out, in_some(name, &returned.text), Some(*line))?;
-                Ok(())
-            }
-        },
-        None => Ok(()),
-    }
-}
-
 /// Adds the lines of a level's program that read a variable.
 fn push_program_reads(
     out: &mut Vec<Line>,
@@ -239,10 +199,12 @@ fn push_program_reads(
         ++ program_lines (in_directive name.now) (program_seen patterns site level.now)
         (Some lines.now)) }
 {
-    let lines = lines.program.as_slice();
-    push_returned(out, name, &level.returned, lines)?;
-    let rest = after_returned(&level.returned, lines);
-    push_reading_steps(out, name, level.program.as_slice(), rest)?;
+    push_reading_steps(
+        out,
+        name,
+        level.program.as_slice(),
+        lines.program.as_slice(),
+    )?;
     Ok(())
 }
 
@@ -258,8 +220,12 @@ fn push_program_sets(
         ++ program_lines (set_by name.now) (program_seen patterns site level.now)
         (Some lines.now)) }
 {
-    let rest = after_returned(&level.returned, lines.program.as_slice());
-    push_setting_steps(out, name, level.program.as_slice(), rest)?;
+    push_setting_steps(
+        out,
+        name,
+        level.program.as_slice(),
+        lines.program.as_slice(),
+    )?;
     Ok(())
 }
 

@@ -1,15 +1,15 @@
 // Which variables texts and programs read before they set them.
-ghost use Rattle.std.specs.Prelude.{◌≡◌, ◌||◌, ◌&&◌, not, max, ℕ, ◌-◌, List, false, map, OnOk, IfOk};
+ghost use Rattle.std.specs.Prelude.{◌≡◌, ◌||◌, ◌&&◌, not, max, ℕ, ◌-◌, List, false, map, OnOk};
 ghost use Rattle.site_views.specs.Pattern.{Pattern};
 ghost use Rattle.site_model.specs.declared.site.Site.{Site as SiteRow};
-ghost use Rattle.site_whole.specs.Whole.{step_seen, test_seen, program_seen, returned_first};
+ghost use Rattle.site_whole.specs.Whole.{step_seen, test_seen, program_seen};
 ghost use Rattle.race_meaning.specs.Reads.{is_piece, in_text, in_some, in_test, in_directive, settled_after as after_directive, block_after as block_behind, is_private_in};
 ghost use Rattle.race_check.specs.Names.{has as has_name, Notes, is_file_test};
 
 use crate::names::NameSet;
 use byte_text::OutOfMemory;
 use ngx_variables::{Piece, Value};
-use site_model::{Level, Return, RewriteStep, Test};
+use site_model::{Level, RewriteStep, Test};
 use std::alloc::Global;
 
 /// Notes the variable of a piece, unless it is settled.
@@ -184,26 +184,6 @@ fn forget(settled: &mut NameSet, alloc: Global, test: &Test)
     }
 }
 
-fn note_returned(
-    exposed: &mut NameSet,
-    alloc: Global,
-    returned: &Option<Return>,
-) -> Result<(), OutOfMemory>
-    ensures { OnOk result ((name : List ℕ)
-        → has_name exposed.new name
-        ≡ (not (is_private_in name false 0 (returned_first returned.now))
-        || has_name exposed.old name)) }
-{
-    match returned {
-        Some(returned) => {
-            let settled = NameSet::new(alloc);
-            note_some(exposed, &settled, &returned.text)?;
-            Ok(())
-        }
-        None => Ok(()),
-    }
-}
-
 fn note_steps(
     exposed: &mut NameSet,
     alloc: Global,
@@ -231,7 +211,6 @@ pub fn note_program(exposed: &mut NameSet, alloc: Global, level: &Level) -> Resu
         ≡ (not (is_private_in name false 0 (program_seen patterns site level.now))
         || has_name exposed.old name)) }
 {
-    note_returned(exposed, alloc, &level.returned)?;
     note_steps(exposed, alloc, level.program.as_slice())?;
     Ok(())
 }

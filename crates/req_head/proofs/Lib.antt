@@ -5,7 +5,7 @@ pub mod LongLemmas
 pub mod MeaningLemmas
 pub mod ScanLemmas
 pub mod StepLemmas
-pub mod FieldMaps
+pub mod NamedLemmas
 pub mod Taken
 pub mod CodeLemmas
 pub mod MadeLemmas

@@ -1,100 +1,19 @@
-// The fields of a head, as they were sent and as a map.
+// The fields of a head, as they were sent.
 
-ghost use Rattle.std.specs.Prelude.{◌≡◌, ℕ, ◌+◌, ◌<◌, ◌≤◌, List, [], length, map, IfOk, OnOk, All};
-ghost use Rattle.httparse.specs.Spans.{IsHeaderWithin, IsWithin, header_bytes, span_bytes};
+ghost use Rattle.std.specs.Prelude.{◌≡◌, ◌≤◌, [], length, map, IfOk, All, option_map};
+ghost use Rattle.httparse.specs.Spans.{IsHeaderWithin, header_bytes};
 ghost use Rattle.http_header.specs.Token.{lowercase};
-ghost use Rattle.http_header.specs.FieldName.{IsFieldName};
-ghost use Rattle.http_header.specs.FieldValue.{plain_value, IsFieldValue};
-ghost use Rattle.http_header.specs.HeaderMap.{append, value_count};
-ghost use Rattle.req_head.specs.Fields.{with_field, with_fields, IsTaken};
+ghost use Rattle.http_header.specs.HeaderMap.{get, get_all};
+ghost use Rattle.req_head.specs.Fields.{with_fields, IsTaken};
 
+use crate::values::FieldValues;
 use byte_text::OutOfMemory;
-use bytes::Bytes;
-use http_header::{HeaderMap, HeaderMapError, HeaderName, HeaderNameError, HeaderValue};
-use httparse::spans::{HeaderSpan, Span};
+use httparse::spans::HeaderSpan;
 use std::alloc::{AllocError, Global};
 use std::marker::Model;
 
-fn name_of(alloc: Global, bytes: &[u8]) -> Result<HeaderName, OutOfMemory>
-    requires { IsFieldName bytes.now }
-    ensures { IfOk result (λ name. name ≡ lowercase bytes.now) }
-{
-    match HeaderName::from_bytes(alloc, bytes) {
-        Ok(name) => Ok(name),
-        Err(HeaderNameError::Invalid) => unreachable!(),
-        Err(HeaderNameError::OutOfMemory) => Err(OutOfMemory),
-    }
-}
-
-/// The value that a span shows, as a part of the shared text.
-fn value_of(text: &Bytes, span: Span) -> Result<HeaderValue, OutOfMemory>
-    requires within { IsWithin (length text.now) span }
-    requires taken { IsFieldValue (span_bytes text.now span) }
-    ensures { IfOk result (λ value. value ≡ plain_value (span_bytes text.now span)) }
-{
-    let bytes = text.slice(span.start..span.end)?;
-    Ok(HeaderValue::from_known_valid(bytes))
-}
-
-fn add(map: &mut HeaderMap, name: HeaderName, value: HeaderValue) -> Result<(), OutOfMemory>
-    requires names { length map.old ≤ 100 }
-    requires values { value_count map.old ≤ 100 }
-    ensures { OnOk result (map.new ≡ append map.old name value) }
-{
-    match map.append(name, value) {
-        Ok(_) => Ok(()),
-        Err(HeaderMapError::MaxSizeReached) => unreachable!(),
-        Err(HeaderMapError::OutOfMemory) => Err(OutOfMemory),
-    }
-}
-
-/// Adds the field that a span shows.
-fn add_span(
-    alloc: Global,
-    text: &Bytes,
-    span: &HeaderSpan,
-    fields: &mut HeaderMap,
-) -> Result<(), OutOfMemory>
-    requires within { IsHeaderWithin (length text.now) span.now }
-    requires taken { IsTaken (header_bytes text.now span.now) }
-    requires names { length fields.old ≤ 100 }
-    requires values { value_count fields.old ≤ 100 }
-    ensures { OnOk result (fields.new ≡ with_field fields.old (header_bytes text.now span.now)) }
-{
-    let name = name_of(alloc, span.name.of(text.as_slice()))?;
-    let value = value_of(text, span.value)?;
-    add(fields, name, value)?;
-    Ok(())
-}
-
-/// A map with room for so many fields.
-fn map_for(alloc: Global, count: usize) -> Result<HeaderMap, OutOfMemory>
-    requires { count ≤ 64 }
-    ensures { IfOk result (λ m. m ≡ []) }
-{
-    match HeaderMap::with_capacity(alloc, count) {
-        Ok(map) => Ok(map),
-        Err(HeaderMapError::MaxSizeReached) => unreachable!(),
-        Err(HeaderMapError::OutOfMemory) => Err(OutOfMemory),
-    }
-}
-
-/// The fields that the spans show.
-fn fields_in(alloc: Global, text: &Bytes, spans: &[HeaderSpan]) -> Result<HeaderMap, OutOfMemory>
-    requires few { length spans.now ≤ 64 }
-    requires within { All (IsHeaderWithin (length text.now)) spans.now }
-    requires taken { All (λ s. IsTaken (header_bytes text.now s)) spans.now }
-    ensures { IfOk result (λ m. m ≡ with_fields [] (map (header_bytes text.now) spans.now)) }
-{
-    let mut fields = map_for(alloc, spans.len())?;
-    for span in spans {
-        add_span(alloc, text, span, &mut fields)?;
-    }
-    Ok(fields)
-}
-
 /// The fields of a head, as they were sent: its bytes, and where each field is among them. A contract sees them as the map of
-/// these fields, which is made only for who asks for it.
+/// these fields: each name in lower case, with its values in their order, without the white space around them.
 #[derive(Drop)]
 pub struct HeadFields {
     text: Vec<u8>,
@@ -125,12 +44,29 @@ fn copy_spans(alloc: Global, spans: &[HeaderSpan]) -> Result<Vec<HeaderSpan>, Al
 }
 
 impl HeadFields {
-    ghost use Rattle.std.specs.Prelude.{◌≡◌, ◌≤◌, [], length, map, IfOk, All};
+    ghost use Rattle.std.specs.Prelude.{◌≡◌, ◌≤◌, [], length, map, IfOk, All, option_map};
     ghost use Rattle.httparse.specs.Spans.{IsHeaderWithin, header_bytes};
+    ghost use Rattle.http_header.specs.Token.{lowercase};
+    ghost use Rattle.http_header.specs.HeaderMap.{get, get_all};
     ghost use Rattle.req_head.specs.Fields.{with_fields, IsTaken};
 
+    /// No fields. It takes no memory.
+    #[tactic(auto, unfolding(crate::specs::Fields::with_fields))]
+    pub fn new(alloc: Global) -> Self
+        ensures { result ≡ [] }
+    {
+        HeadFields {
+            text: Vec::new(alloc),
+            spans: Vec::new(alloc),
+        }
+    }
+
     /// The fields that the spans show.
-    pub(crate) fn new(alloc: Global, text: &[u8], spans: &[HeaderSpan]) -> Result<Self, OutOfMemory>
+    pub(crate) fn of_spans(
+        alloc: Global,
+        text: &[u8],
+        spans: &[HeaderSpan],
+    ) -> Result<Self, OutOfMemory>
         requires few { length spans.now ≤ 64 }
         requires within { All (IsHeaderWithin (length text.now)) spans.now }
         requires taken { All (λ s. IsTaken (header_bytes text.now s)) spans.now }
@@ -141,17 +77,31 @@ impl HeadFields {
         Ok(HeadFields { text, spans })
     }
 
-    /// The map of the fields: each name in lower case, with its values in their order, without the white space around them.
-    /// The values share one copy of the head.
+    /// The same fields once more.
     ///
     /// # Errors
     ///
     /// Want of memory alone.
-    pub fn to_map(&self, alloc: Global) -> Result<HeaderMap, OutOfMemory>
-        ensures { IfOk result (λ m. m ≡ self.now) }
+    pub fn copy(&self, alloc: Global) -> Result<Self, OutOfMemory>
+        ensures { IfOk result (λ copy. copy ≡ self.now) }
     {
-        let shared = Bytes::copy_from_slice(alloc, self.text.as_slice())?;
-        let fields = fields_in(alloc, &shared, self.spans.as_slice())?;
-        Ok(fields)
+        let text = Vec::from_slice(alloc, self.text.as_slice())?;
+        let spans = copy_spans(alloc, self.spans.as_slice())?;
+        Ok(HeadFields { text, spans })
+    }
+
+    /// The values of the fields that have the name, in any case, in their order.
+    pub fn values<'f, 'n>(&'f self, name: &'n [u8]) -> FieldValues<'f, 'n>
+        ensures { result ≡ get_all self.now (lowercase name.now) }
+    {
+        FieldValues::new(self.text.as_slice(), self.spans.as_slice(), name)
+    }
+
+    /// The value of the first field that has the name, in any case.
+    pub fn first(&self, name: &[u8]) -> Option<&[u8]>
+        ensures { option_map (λ b. b.now) result
+            ≡ option_map (λ v. v.bytes) (get self.now (lowercase name.now)) }
+    {
+        self.values(name).next()
     }
 }

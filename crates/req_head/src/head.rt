@@ -125,7 +125,7 @@ fn test_head(
         }),
         None => {
             let method = spans.method.of(text);
-            let fields = HeadFields::new(alloc, &text[..spans.len], shown)?;
+            let fields = HeadFields::of_spans(alloc, &text[..spans.len], shown)?;
             let head = make_head(alloc, method, target, spans.version, known, fields)?;
             Ok(HeadStep::Head {
                 head,

@@ -1,9 +1,9 @@
 -- Jobs are answered, and the blocks of a file are placed.
-use Rattle.std.proofs.Common.{◌≡◌, ℕ, ◌+◌, ◌-◌, ◌≤◌, min, Bool, true, false, not, ◌&&◌, cond, eqb, List, [], ◌∷◌, ◌++◌, length, take, drop, None, Some, refl, sym, ap, ◌∙◌, subst, append_assoc, length-drop, arith, Bor}
+use Rattle.std.proofs.Common.{◌≡◌, ℕ, ◌+◌, ◌-◌, ◌≤◌, min, Bool, true, false, ◌&&◌, eqb, List, ◌++◌, length, take, drop, None, Some, refl, sym, ap, ◌∙◌, subst, append_assoc, length-drop, arith, Bor}
 use Rattle.std.specs.Prelude.{nat_le}
-use Rattle.std.proofs.lemmas.List.{append-nil, drop-drop}
+use Rattle.std.proofs.lemmas.List.{drop-drop}
 use Rattle.std.proofs.lemmas.Bool.Decides.{nat_tests}
-use Rattle.file_tree.specs.Tree.{Item, AFile, AFolder, ALocked, Nothing, Trees, HoldsBytes, IsFrom, is_fitting, node_of, text_of, tree_of}
+use Rattle.file_tree.specs.Tree.{Item, AFile, AFolder, ALocked, Nothing, Trees, HoldsBytes, IsFrom, is_fitting, node_of, text_of}
 use Rattle.file_tree.specs.declared.job.Node.{Node}
 use Rattle.file_tree.specs.declared.job.Node.TheVariants as node
 use Rattle.file_tree.specs.declared.job.Ask.{Ask}
@@ -15,13 +15,12 @@ use Rattle.site_model.specs.declared.site.Site.{Site}
 use Rattle.request_meaning.specs.Serving.{World}
 use Rattle.request_phases.specs.declared.state.Wait.{Wait}
 use Rattle.request_flow.specs.declared.blocks.Sending.{Sending}
-use Rattle.request_flow.specs.declared.flow.InPhases.{InPhases}
 use Rattle.request_flow.specs.declared.flow.Stage.{Stage}
 use Rattle.request_flow.specs.declared.flow.Stage.TheVariants.{Asked, Told, Reading, Came}
 use Rattle.request_flow.specs.declared.flow.Flow.{Flow}
 use Rattle.request_flow.specs.Padded.{padded}
 use Rattle.request_flow.specs.Rests.{Rest, no_rest, closes_after, Follows}
-use Rattle.request_flow.specs.Flows.{told_item, file_rest, told_rest, flow_rest, item_asked, stage_fits, is_block, is_stat, placed_most, block_most, file_length}
+use Rattle.request_flow.specs.Flows.{told_item, file_rest, told_rest, flow_rest, item_asked, stage_fits, is_block, placed_most, block_most, file_length}
 use Rattle.request_flow.proofs.Padding.{padded_length, padded_split, padded_within, padded_whole, padded_none}
 
 abbrev flow_at : Ask → Stage → Flow
@@ -58,13 +57,13 @@ told_text node.Locked item = sym (padded_none (text_of item))
 told_text node.Missing item = sym (padded_none (text_of item))
 
 module _ (w : World) (patterns : List SetPattern) (site : Site) (trees : Trees) where
-  pub asked_follows : (job : Ask) (stage : Stage) (request : InPhases) (wait : Wait) (node : Node) (given : JobAnswer) (out : List ℕ) (closing : Bool) →
+  pub asked_follows : (job : Ask) (stage : Stage) (request : _) (wait : Wait) (node : Node) (given : JobAnswer) (out : List ℕ) (closing : Bool) →
       stage ≡ Asked request wait → given ≡ answer.Stat node → IsFrom trees job given →
       Follows site (flow_rest w patterns site (Some (flow_at job stage)) trees) (flow_rest w patterns site (Some (flow_at job (Told request wait node))) trees) out out closing closing None None
   asked_follows (ask.Stat path of) stage request wait node given out closing es eg from =
       let same = told_same (trees of path) node (subst (λ a. IsFrom trees (ask.Stat path of) a) eg from) in
       same_follows site _ _ out closing
-      (ap (told_rest w patterns site (trees of) request wait) same ∙ sym (ap (λ s. flow_rest w patterns site (Some (flow_at (ask.Stat path of) s)) trees) es))
+      (ap (told_rest w patterns site (trees of) request.value wait) same ∙ sym (ap (λ s. flow_rest w patterns site (Some (flow_at (ask.Stat path of) s)) trees) es))
   asked_follows (ask.Read path start count of) stage request wait node given out closing es eg from =
       absurd (subst (λ a. IsFrom trees (ask.Read path start count of) a) eg from)
 

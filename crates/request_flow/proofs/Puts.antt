@@ -19,9 +19,9 @@ use Rattle.site_model.specs.declared.site.Site.{Site}
 use Rattle.site_views.specs.Values.{Values}
 use Rattle.site_whole.specs.Whole.{values_seen}
 use Rattle.request_meaning.specs.Serving.{World, Answer, Asked, Standing, Prepared, Body as MeantBody}
-use Rattle.request_meaning.specs.Serving.Body.{NoBody, Plain, Filtered}
-use Rattle.request_meaning.specs.Answering.{sent, page, page_to, moved, closed, answer_with, prepared, page_answer, closed_answer}
-use Rattle.request_meaning.specs.Responses.{response, reply_head, content_sent, keeps, stays_by, framing, is_chunked, may_stay, framed_body}
+use Rattle.request_meaning.specs.Serving.Body.{NoBody}
+use Rattle.request_meaning.specs.Answering.{sent, page, page_to, moved, answer_with, page_answer, closed_answer}
+use Rattle.request_meaning.specs.Responses.{response, reply_head, content_sent, keeps, stays_by, framing, may_stay, framed_body}
 use Rattle.family_meaning.specs.Flight.{stays_after}
 use Rattle.request_meaning.specs.Answering.{facts_of}
 use Rattle.request_meaning.specs.Laws.{shipped}
@@ -35,7 +35,6 @@ use Rattle.request_reply.specs.Replies.{IsReply, IsUnfiltered, body_seen, FitsFi
 use Rattle.request_reply.specs.declared.reply.Body.{Body}
 use Rattle.request_reply.specs.declared.reply.Body.TheVariants as bodies
 use Rattle.request_reply.specs.declared.reply.Reply.{Reply}
-use Rattle.request_flow.specs.declared.blocks.Sending.{Sending}
 use Rattle.request_flow.specs.declared.flow.Terms.{Terms}
 use Rattle.request_flow.specs.declared.steps.FileAt.{FileAt}
 use Rattle.request_flow.specs.declared.steps.Known.{Known}
@@ -43,7 +42,7 @@ use Rattle.request_flow.specs.declared.steps.Known.TheVariants.{Nothing, Told}
 use Rattle.request_flow.specs.Openings.{terms_seen}
 use Rattle.request_flow.specs.Padded.{padded}
 use Rattle.request_flow.proofs.Padding.{padded_length}
-use Rattle.request_flow.specs.Rests.{Rest, no_rest, closes_after, Follows}
+use Rattle.request_flow.specs.Rests.{Rest, no_rest, Follows}
 use Rattle.request_flow.specs.Flows.{file_rest}
 use Rattle.request_flow.specs.Sents.{head_seen, sent_now, content_now, put_now, stays_seen, is_unfiltered, is_file, sends_file, file_known, known_bytes, known_len, with_length, plain_bytes, prepared_rest}
 

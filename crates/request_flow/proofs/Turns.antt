@@ -1,16 +1,15 @@
 -- What is still to come, act by act.
-use Rattle.std.proofs.Common.{◌≡◌, ℕ, List, [], ◌∷◌, ◌++◌, length, Some, cond, refl, sym, ap, ◌∙◌, subst}
+use Rattle.std.proofs.Common.{◌≡◌, ℕ, List, [], refl, sym, ap, ◌∙◌, subst}
 use Rattle.std.proofs.lemmas.List.{append-nil}
 use Rattle.acts.specs.Vars.{Vars, look, set}
 use Rattle.acts.specs.Act.{Done, Get, Put, Stat, Call, Write, Inner, ◌>>=◌, ◌>>◌, settled, settled_then}
 use Rattle.acts.proofs.ActLaws.{settles_in_turn, settled_stays}
 use Rattle.file_tree.specs.Tree.{Tree, Item}
-use Rattle.request_meaning.specs.Serving.{World, Serving, Child, Reply, Answer, Prepared, Body}
-use Rattle.request_meaning.specs.Serving.Body.{NoBody, Plain, Filtered}
+use Rattle.request_meaning.specs.Serving.{World, Serving, Child, Answer, Prepared}
+use Rattle.request_meaning.specs.Serving.Body.{NoBody, Plain}
 use Rattle.request_meaning.specs.Bodies.{written}
 use Rattle.request_meaning.specs.Counts.{subs_in}
 use Rattle.request_meaning.specs.Replies.{Came, run, reply, most_depth}
-use Rattle.request_meaning.specs.Responses.{response}
 use Rattle.family_meaning.specs.Flight.{Terms}
 use Rattle.family_meaning.specs.Left.{act_subs}
 use Rattle.family_meaning.proofs.Exacts.{settled_run}
@@ -18,7 +17,7 @@ use Rattle.request_reply.specs.Replies.{body_seen}
 use Rattle.request_reply.specs.declared.reply.Body.{Body as CodeBody}
 use Rattle.request_reply.specs.declared.reply.Body.TheVariants as bodies
 use Rattle.request_flow.specs.Rests.{Rest, finished, came_rest, act_rest}
-use Rattle.request_flow.specs.Sents.{prepared_rest, plain_bytes}
+use Rattle.request_flow.specs.Sents.{prepared_rest}
 
 -- an act and what follows it settles as what the act settled as, and what follows
 in_turn : {A B : Type 0} (m n : Serving A) (k : A → Serving B) (old new : Vars) → settled m old ≡ (n, new) → settled (m >>= k) old ≡ settled (n >>= k) new

@@ -1,6 +1,6 @@
 -- A request in flight: what is still to come of its response, and how far it is.
 use Rattle.std.specs.Prelude.{◌≡◌, ℕ, ◌+◌, ◌-◌, ◌*◌, ◌^◌, ◌==◌, min, nat_le, nat_lt, Bool, true, false, not, ◌&&◌, List, [], ◌∷◌, length, drop, Option, None, Some, if◌then◌else◌}
-use Rattle.file_tree.specs.Tree.{Item, AFile, AFolder, ALocked, Nothing, Tree, Trees, node_of, text_of, tree_of}
+use Rattle.file_tree.specs.Tree.{Item, AFile, AFolder, ALocked, Nothing, Tree, Trees, text_of, tree_of}
 use Rattle.file_tree.specs.declared.job.Node.{Node}
 use Rattle.file_tree.specs.declared.job.Node.TheVariants as node
 use Rattle.file_tree.specs.declared.job.Ask.{Ask}
@@ -49,9 +49,9 @@ told_rest w patterns site tree request wait item =
 
 abbrev pub stage_rest : World → List SetPattern → Site → Tree → Stage → Item → Rest
 stage_rest w patterns site tree (Asked request wait) item =
-    told_rest w patterns site tree request wait item
+    told_rest w patterns site tree request.value wait item
 stage_rest w patterns site tree (Told request wait node) item =
-    told_rest w patterns site tree request wait (told_item node item)
+    told_rest w patterns site tree request.value wait (told_item node item)
 stage_rest w patterns site tree (Reading sending left) item = file_rest sending left item
 stage_rest w patterns site tree (Came sending left placed) item = file_rest sending left item
 
@@ -174,8 +174,8 @@ unfoldable pub asking_most : ℕ
 asking_most = flow_most + 2 ^ 33 + 2
 
 abbrev pub stage_left : Stage → (size : ℕ) → ℕ
-stage_left (Asked request wait) size = flow_most + 2 * request.questions + 2
-stage_left (Told request wait node) size = flow_most + 2 * request.questions + 1
+stage_left (Asked request wait) size = flow_most + 2 * request.value.questions + 2
+stage_left (Told request wait node) size = flow_most + 2 * request.value.questions + 1
 stage_left (Reading sending left) size = 8 * left + 2
 stage_left (Came sending left placed) size =
     (size - placed) + (8 * left + (if left == 0 then 1 else 3))
@@ -201,22 +201,22 @@ file_length node.Missing = 0
 -- the number of the server that answers it, and the length that its head states of its own body, which matter as long as it is
 -- within its phases
 abbrev pub stage_server : Stage → ℕ
-stage_server (Asked request wait) = request.server
-stage_server (Told request wait node) = request.server
+stage_server (Asked request wait) = request.value.server
+stage_server (Told request wait node) = request.value.server
 stage_server (Reading sending left) = 0
 stage_server (Came sending left placed) = 0
 
 abbrev pub stage_length : Stage → ℕ
-stage_length (Asked request wait) = request.length
-stage_length (Told request wait node) = request.length
+stage_length (Asked request wait) = request.value.length
+stage_length (Told request wait node) = request.value.length
 stage_length (Reading sending left) = 0
 stage_length (Came sending left placed) = 0
 
 -- it is served so
 abbrev pub StageBy : (server length : ℕ) → Stage → Type 0
-StageBy server length (Asked request wait) = (request.server ≡ server) × (request.length ≡ length)
+StageBy server length (Asked request wait) = (request.value.server ≡ server) × (request.value.length ≡ length)
 StageBy server length (Told request wait node) =
-    (request.server ≡ server) × (request.length ≡ length)
+    (request.value.server ≡ server) × (request.value.length ≡ length)
 StageBy server length (Reading sending left) = Unit {0}
 StageBy server length (Came sending left placed) = Unit {0}
 

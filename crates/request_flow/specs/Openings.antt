@@ -1,19 +1,22 @@
 -- What a main request starts with, as the recursive meaning has it.
-use Rattle.std.specs.Prelude.{ℕ, List, Option, None, Some}
+use Rattle.std.specs.Prelude.{ℕ, List, None, false}
 use Rattle.http_types.specs.declared.words.Addr.{Addr}
-use Rattle.http_moment.specs.Shown.{shown_text}
+use Rattle.http_moment.specs.Shown.{shown_text, default_format}
 use Rattle.ngx_outside.specs.Views.{Start}
 use Rattle.ngx_pattern.specs.Pattern.{Pattern as SetPattern}
 use Rattle.ngx_variables.specs.declared.request.Main.{Main}
+use Rattle.ngx_variables.specs.declared.request.Request.{Request}
+use Rattle.ngx_variables.specs.declared.request.Role.TheVariants as roles
 use Rattle.pattern_search.specs.Found.{patterns_seen, found}
 use Rattle.site_model.specs.declared.site.Site.{Site}
 use Rattle.site_whole.specs.Whole.{whole}
-use Rattle.request_meaning.specs.Documents.{default_format}
 use Rattle.request_meaning.specs.Laws.{shipped}
 use Rattle.request_meaning.specs.Serving.{is_head}
 use Rattle.family_meaning.specs.Flight.{Terms}
 use Rattle.answers_meaning.specs.Asking.{Service, received}
 use Rattle.request_phases.specs.declared.ground.Ground.{Ground}
+use Rattle.request_phases.specs.declared.state.Phases.{Phases}
+use Rattle.request_flow.specs.declared.asked.Made.{Made}
 use Rattle.request_flow.specs.declared.asked.Opening.{Opening}
 use Rattle.request_flow.specs.declared.flow.Terms.{Terms as CodeTerms}
 
@@ -35,20 +38,50 @@ start_at o = record { moment = o.moment; tree = o.tree }
 unfoldable pub main_at : Ground → Opening → Main
 main_at g o =
     record {
-      received = received o.head.now;
-      method = o.head.now.method;
-      version = o.head.now.version;
-      target = o.head.now.target;
-      host = o.head.now.host;
+      received = received o.head;
+      method = o.head.method;
+      version = o.head.version;
+      target = o.head.target;
+      host = o.head.host;
       server_name = g.server.now.first_name;
       local = o.local;
       peer = o.peer;
       moment = o.moment;
       tree = o.tree;
       date = shown_text o.moment default_format;
-      fields = o.head.now.fields;
+      fields = o.head.fields;
       folder = g.site.now.folder;
     }
+
+-- the phases of a main request, before they begin: ten changes are left
+abbrev pub phases_at : (level : ℕ) → Main → Request → Phases
+phases_at level main request =
+    record {
+      main = main;
+      at = record { request = request; level = level; inside = false; seeks = false };
+      changes = 10;
+      error = None;
+      closes = false;
+      role = roles.Main;
+    }
+
+-- with what was made anew for it
+abbrev pub phases_with : (level : ℕ) → Made → Opening → Phases
+phases_with level made o = phases_at level (record {
+  received = made.received;
+  method = o.head.method;
+  version = o.head.version;
+  target = o.head.target;
+  host = o.head.host;
+  server_name = made.server_name;
+  local = o.local;
+  peer = o.peer;
+  moment = o.moment;
+  tree = o.tree;
+  date = shown_text o.moment default_format;
+  fields = o.head.fields;
+  folder = made.folder;
+}) made.request
 
 -- what a response is asked with
 abbrev pub terms_seen : CodeTerms → Terms
@@ -64,8 +97,8 @@ abbrev pub terms_at : Opening → Terms
 terms_at o =
     record {
       moment = o.moment;
-      version = o.head.now.version;
-      no_body = is_head o.head.now.method;
+      version = o.head.version;
+      no_body = is_head o.head.method;
       before = o.before;
-      head_keeps = o.head.now.keep;
+      head_keeps = o.head.keep;
     }

@@ -1,5 +1,5 @@
 -- What is still to come of the response to a request that asks for no subrequest.
-use Rattle.std.specs.Prelude.{◌≡◌, ℕ, Bool, true, false, List, [], ◌∷◌, ◌++◌, length, Option, None, Some, if◌then◌else◌}
+use Rattle.std.specs.Prelude.{◌≡◌, ℕ, Bool, true, List, [], ◌∷◌, ◌++◌, Option, None, Some, if◌then◌else◌}
 use Rattle.acts.specs.Vars.{Vars}
 use Rattle.acts.specs.Act.{Done, ◌>>=◌, ◌>>◌}
 use Rattle.file_tree.specs.Tree.{Tree}
@@ -10,8 +10,7 @@ use Rattle.site_model.specs.Levels.{raw_level}
 use Rattle.site_model.specs.declared.site.Site.{Site}
 use Rattle.site_views.specs.Values.{Values}
 use Rattle.site_whole.specs.Whole.{values_seen}
-use Rattle.request_meaning.specs.Serving.{World, Serving, Answer, Body, Prepared}
-use Rattle.request_meaning.specs.Serving.Body.{NoBody, Plain, Filtered}
+use Rattle.request_meaning.specs.Serving.{World, Serving, Answer, Prepared}
 use Rattle.request_meaning.specs.Bodies.{written}
 use Rattle.request_meaning.specs.Phases.{rounds}
 use Rattle.request_meaning.specs.Replies.{Came, run, reply, reply_with, most_depth, most_changes, outside}

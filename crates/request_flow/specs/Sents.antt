@@ -1,5 +1,5 @@
 -- What is sent for a reply.
-use Rattle.std.specs.Prelude.{ℕ, ◌+◌, ◌-◌, ◌==◌, ◌&&◌, ◌||◌, nat_lt, Bool, true, false, not, List, [], ◌++◌, length, Option, None, Some, is_none, option_map, if◌then◌else◌}
+use Rattle.std.specs.Prelude.{ℕ, ◌+◌, ◌==◌, ◌&&◌, ◌||◌, nat_lt, Bool, true, false, not, List, [], ◌++◌, Option, None, Some, is_none, option_map, if◌then◌else◌}
 use Rattle.acts.specs.Vars.{Vars}
 use Rattle.error_page.specs.Page.{page_of}
 use Rattle.file_tree.specs.Tree.{Tree, Trees, text_of, tree_of}

@@ -2,29 +2,26 @@
 ghost use Rattle.std.specs.Prelude.{◌≡◌, IfOk, List, ℕ};
 ghost use Rattle.ngx_pattern.specs.Pattern.{Pattern as SetPattern};
 ghost use Rattle.ngx_variables.specs.Words.{protocol_name as name_of_version};
-ghost use Rattle.http_moment.specs.Shown.{shown_text};
 ghost use Rattle.pattern_search.specs.Found.{patterns_seen};
-ghost use Rattle.request_meaning.specs.Documents.{default_format as format_of_dates};
 ghost use Rattle.site_whole.specs.Whole.{server_whole};
 ghost use Rattle.answers_meaning.specs.Asking.{received as received_line, target_of as target_meant, request_of};
-ghost use Rattle.request_flow.specs.Openings.{main_at};
+ghost use Rattle.request_flow.specs.Openings.{main_at, phases_at, phases_with};
 
 use byte_text::{ByteText, OutOfMemory};
-use http_header::HeaderMap;
-use http_moment::{DEFAULT_FORMAT, shown};
 use http_types::{Addr, Method, Version};
-use ngx_variables::{Groups, Main, Request, Role, method_name};
-use req_head::{Head, HeadFields};
-use request_phases::Ground;
+use ngx_variables::{Groups, LocalDate, Main, Request, Role, method_name};
+use req_head::Head;
+use request_phases::{Ground, Phases};
+use rewrite_code::Progress;
 use site_model::Server;
 use std::alloc::Global;
 use uri_text::{UriFault, normal};
 
 /// What a main request starts with: its head, the two ends of its connection, the moment in seconds since 1970, the number of
 /// the tree of files from which it is answered, and how many requests came before it on the connection.
-#[derive(Clone, Copy)]
-pub struct Opening<'a> {
-    pub head: &'a Head,
+#[derive(Drop)]
+pub struct Opening {
+    pub head: Head,
     pub local: Addr,
     pub peer: Addr,
     pub moment: u64,
@@ -48,7 +45,15 @@ fn protocol_name(version: Version) -> &'static [u8]
 fn received(alloc: Global, head: &Head) -> Result<ByteText, OutOfMemory>
     ensures { IfOk result (λ line. line ≡ received_line head.now) }
 {
-    let mut line = ByteText::from_slice(alloc, method_name(&head.method))?;
+    let method = method_name(&head.method);
+    let mut line = ByteText::new(alloc);
+    line.reserve(
+        method
+            .len()
+            .saturating_add(head.target.len())
+            .saturating_add(10),
+    )?;
+    line.extend(method)?;
     line.push(b' ')?;
     line.extend(head.target.as_slice())?;
     line.push(b' ')?;
@@ -56,62 +61,11 @@ fn received(alloc: Global, head: &Head) -> Result<ByteText, OutOfMemory>
     Ok(line)
 }
 
-/// A moment in the default format of dates.
-#[tactic(auto, unfolding(request_meaning::specs::Documents::default_format))]
-fn date_text(alloc: Global, moment: u64) -> Result<ByteText, OutOfMemory>
-    ensures { IfOk result (λ date. date ≡ shown_text moment format_of_dates) }
-{
-    let mut date = ByteText::new(alloc);
-    shown(DEFAULT_FORMAT, moment, &mut date)?;
-    Ok(date)
-}
-
 pub(crate) fn copy_method(method: &Method) -> Result<Method, OutOfMemory>
     ensures { IfOk result (λ copy. copy ≡ method.now) }
 {
     let copy = method.clone()?;
     Ok(copy)
-}
-
-fn map_of(alloc: Global, fields: &HeadFields) -> Result<HeaderMap, OutOfMemory>
-    ensures { IfOk result (λ map. map ≡ fields.now) }
-{
-    let map = fields.to_map(alloc)?;
-    Ok(map)
-}
-
-/// What the variables of a main request mean.
-pub(crate) fn main_of(
-    alloc: Global,
-    ground: &Ground<'_>,
-    opening: Opening<'_>,
-) -> Result<Main, OutOfMemory>
-    ensures { IfOk result (λ main. main ≡ main_at ground.now opening.entry) }
-{
-    let head = opening.head;
-    let received = received(alloc, head)?;
-    let method = copy_method(&head.method)?;
-    let target = ByteText::from_slice(alloc, head.target.as_slice())?;
-    let host = ByteText::from_slice(alloc, head.host.as_slice())?;
-    let server_name = ByteText::from_slice(alloc, ground.server.first_name.as_slice())?;
-    let date = date_text(alloc, opening.moment)?;
-    let fields = map_of(alloc, &head.fields)?;
-    let folder = ByteText::from_slice(alloc, ground.site.folder.as_slice())?;
-    Ok(Main {
-        received,
-        method,
-        version: head.version,
-        target,
-        host,
-        server_name,
-        local: opening.local,
-        peer: opening.peer,
-        moment: opening.moment,
-        tree: opening.tree,
-        date,
-        fields,
-        folder,
-    })
 }
 
 /// The path and the arguments of a head's target.
@@ -138,11 +92,7 @@ fn target_of(alloc: Global, server: &Server, head: &Head) -> Result<Target, OutO
 
 /// The main request, before any level holds for it.
 #[tactic(auto, unfolding(answers_meaning::specs::Asking::request_of))]
-pub(crate) fn request_for(
-    alloc: Global,
-    server: &Server,
-    head: &Head,
-) -> Result<Request, OutOfMemory>
+fn request_for(alloc: Global, server: &Server, head: &Head) -> Result<Request, OutOfMemory>
     ensures { (patterns : List SetPattern) (site : _) → IfOk result (λ request. request
         ≡ request_of (server_whole (patterns_seen patterns) site server.now) head.now) }
 {
@@ -156,4 +106,87 @@ pub(crate) fn request_for(
         place: None,
         role: Role::Main,
     })
+}
+
+/// What of a main request is made anew: the request line, texts of the site, and the request.
+#[derive(Drop)]
+struct Made {
+    received: ByteText,
+    server_name: ByteText,
+    folder: ByteText,
+    request: Request,
+}
+
+fn make(alloc: Global, ground: &Ground<'_>, head: &Head) -> Result<Made, OutOfMemory>
+    ensures received { IfOk result (λ made. made.received ≡ received_line head.now) }
+    ensures name { IfOk result (λ made. made.server_name ≡ ground.now.server.now.first_name) }
+    ensures folder { IfOk result (λ made. made.folder ≡ ground.now.site.now.folder) }
+    ensures request { (patterns : List SetPattern) (site : _) → IfOk result (λ made. made.request
+        ≡ request_of (server_whole (patterns_seen patterns) site ground.now.server.now) head.now) }
+{
+    let received = received(alloc, head)?;
+    let server_name = ByteText::from_slice(alloc, ground.server.first_name.as_slice())?;
+    let folder = ByteText::from_slice(alloc, ground.site.folder.as_slice())?;
+    let request = request_for(alloc, ground.server, head)?;
+    Ok(Made {
+        received,
+        server_name,
+        folder,
+        request,
+    })
+}
+
+/// The phases of a main request, before they begin.
+fn assembled(level: u32, made: Made, opening: Opening) -> Phases
+    ensures { result ≡ phases_with level made opening }
+{
+    let head = opening.head;
+    let main = Main {
+        received: made.received,
+        method: head.method,
+        version: head.version,
+        target: head.target,
+        host: head.host,
+        server_name: made.server_name,
+        local: opening.local,
+        peer: opening.peer,
+        moment: opening.moment,
+        tree: opening.tree,
+        date: LocalDate::of(opening.moment),
+        fields: head.fields,
+        folder: made.folder,
+    };
+    Phases {
+        main,
+        at: Progress {
+            request: made.request,
+            level,
+            inside: false,
+            seeks: false,
+        },
+        changes: 10,
+        error: None,
+        closes: false,
+        role: Role::Main,
+    }
+}
+
+/// The phases of a main request, before they begin: what its variables mean, and the request, for which no level holds yet.
+pub(crate) fn phases_of(
+    alloc: Global,
+    ground: &Ground<'_>,
+    opening: Opening,
+) -> Result<Phases, OutOfMemory>
+    ensures { (patterns : List SetPattern) (site : _) → IfOk result (λ phases. phases
+        ≡ phases_at ground.now.server.now.level (main_at ground.now opening)
+        (request_of (server_whole (patterns_seen patterns) site ground.now.server.now)
+        opening.head)) }
+{
+    match make(alloc, ground, &opening.head) {
+        Ok(made) => Ok(assembled(ground.server.level, made, opening)),
+        Err(OutOfMemory) => {
+            drop(opening);
+            Err(OutOfMemory)
+        }
+    }
 }

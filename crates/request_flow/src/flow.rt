@@ -46,12 +46,12 @@ pub struct InPhases {
 pub enum Stage {
     /// The files are asked what is at a path.
     Asked {
-        request: InPhases,
+        request: Box<InPhases>,
         wait: Wait,
     },
     /// They told it.
     Told {
-        request: InPhases,
+        request: Box<InPhases>,
         wait: Wait,
         node: Node,
     },

@@ -37,7 +37,7 @@ fn length_of(node: Node) -> u64
 #[derive(Drop)]
 struct Heard {
     ask: Ask,
-    request: InPhases,
+    request: Box<InPhases>,
     wait: Wait,
     node: Node,
 }
@@ -62,49 +62,32 @@ fn run_told(
     ensures over { IfOk result (λ o. is_some o.log ≡ not (is_some o.flow)) }
     ensures fits { IfOk result (λ o. flow_fits o.flow (length out.new) ≡ true) }
     ensures lowers { IfOk result (λ o. length out.new + flow_left o.flow (length out.new)
-        < flow_most + 2 * heard.request.questions + 1) }
-    ensures by { IfOk result (λ o. IsServedBy heard.request.server heard.request.length o.flow) }
+        < flow_most + 2 * heard.request.value.questions + 1) }
+    ensures by { IfOk result (λ o. IsServedBy heard.request.value.server heard.request.value.length o.flow) }
     ensures asked { IfOk result (λ o. tree_asked o.flow ≤ tree_of heard.ask) }
     ensures closes { IfOk result (λ o. closing ≡ true → o.closing ≡ true) }
     ensures kept { space.new.patterns ≡ space.old.patterns }
 {
     let Heard {
         ask,
-        request,
+        mut request,
         wait,
         node,
     } = heard;
-    let InPhases {
-        mut phases,
-        mut vars,
-        terms,
-        server,
-        length,
-        questions,
-    } = request;
     let alloc = space.alloc;
-    let step = resume(
-        alloc,
-        ground,
-        wait,
-        node,
-        &mut space.patterns,
-        &mut phases,
-        &mut vars,
-    )?;
-    let request = InPhases {
-        phases,
-        vars,
-        terms,
-        server,
-        length,
-        questions,
-    };
-    let known = Known::Told(FileAt {
-        ask,
-        len: length_of(node),
-    });
-    Ok(go_on(space, ground, request, step, known, out, closing)?)
+    let inside = &mut *request;
+    let (phases, vars) = (&mut inside.phases, &mut inside.vars);
+    match resume(alloc, ground, wait, node, &mut space.patterns, phases, vars) {
+        Ok(step) => {
+            let len = length_of(node);
+            let known = Known::Told(FileAt { ask, len });
+            Ok(go_on(space, ground, request, step, known, out, closing)?)
+        }
+        Err(OutOfMemory) => {
+            drop(request);
+            Err(OutOfMemory)
+        }
+    }
 }
 
 /// A block of its file came: as many of its bytes are placed as there is room for. Once all are, the next block is asked, or

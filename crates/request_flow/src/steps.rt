@@ -1,5 +1,5 @@
 // A request starts, and goes on from step to step of its phases.
-ghost use Rattle.std.specs.Prelude.{◌≡◌, ◌≤◌, ◌<◌, ◌+◌, ◌*◌, ◌||◌, not, [], List, ℕ, true, false, length, is_some, IfOk, None, Some};
+ghost use Rattle.std.specs.Prelude.{◌≡◌, ◌≤◌, ◌<◌, ◌+◌, ◌-◌, ◌*◌, ◌||◌, not, [], List, ℕ, true, false, length, is_some, IfOk, None, Some};
 ghost use Rattle.file_tree.specs.Tree.{Trees, tree_of};
 ghost use Rattle.ngx_pattern.specs.Pattern.{Pattern as SetPattern};
 ghost use Rattle.pattern_search.specs.Found.{patterns_seen};
@@ -8,7 +8,7 @@ ghost use Rattle.answers_meaning.specs.Asking.{request_of};
 ghost use Rattle.request_meaning.specs.Laws.{shipped};
 ghost use Rattle.request_meaning.specs.Serving.{is_head as is_head_method};
 ghost use Rattle.request_phases.specs.Rounds.{IsGround, world_in};
-ghost use Rattle.request_phases.specs.declared.state.Step.TheVariants.{Answers as ToAnswer};
+ghost use Rattle.request_phases.specs.declared.state.Step.TheVariants.{Answers as ToAnswer, Asks as ToAsk};
 ghost use Rattle.request_flow.specs.Openings.{main_at, terms_at, terms_seen};
 ghost use Rattle.site_model.specs.declared.site.Site.{Site as SiteRow};
 ghost use Rattle.request_meaning.specs.Serving.{World};
@@ -16,17 +16,16 @@ ghost use Rattle.request_flow.specs.Flows.{flow_rest, file_rest, item_asked, flo
 ghost use Rattle.request_flow.specs.Rests.{Follows, opened_rest};
 ghost use Rattle.request_flow.specs.Sents.{known_bytes, known_tree, known_len, with_length as told_length, step_rest, is_unfiltered as acts_on_none, sends_file, file_known};
 
-use crate::asked::{Opening, main_of, request_for};
+use crate::asked::{Opening, phases_of};
 use crate::blocks::{Sending, next_block};
 use crate::flow::{Flow, InPhases, Onward, Stage, Terms};
 use crate::reply::{Workspace, put_reply, stays};
-use byte_text::{ByteQueue, OutOfMemory};
+use byte_text::{ByteQueue, ByteText, OutOfMemory};
 use file_tree::Ask;
 use http_types::Method;
-use ngx_variables::{Role, VarTable};
-use request_phases::{Ground, Outcome, Phases, Step, begin};
+use ngx_variables::VarTable;
+use request_phases::{Ground, Outcome, Step, Wait, begin};
 use request_reply::{Body, Reply, reply_of};
-use rewrite_code::Progress;
 use site_model::Level;
 
 /// What a job told of its path, and how many bytes of it are a file's.
@@ -175,7 +174,7 @@ fn reading(number: u32, status: u16, file: FileAt, closing: bool) -> Onward
 fn answer(
     space: &mut Workspace,
     ground: &Ground<'_>,
-    request: InPhases,
+    request: &InPhases,
     outcome: Outcome,
     known: Known,
     out: &mut ByteQueue,
@@ -186,7 +185,7 @@ fn answer(
         let w = world_in patterns ground.now shipped in
         let site = ground.now.site.now in
         IfOk result (λ o. Follows site
-        (step_rest w patterns site (trees (known_tree known)) request (ToAnswer outcome)
+        (step_rest w patterns site (trees (known_tree known)) request.now (ToAnswer outcome)
         (known_bytes known trees))
         (flow_rest w patterns site o.flow trees) out.old out.new closing o.closing o.log o.level) }
     ensures over { IfOk result (λ o. is_some o.log ≡ not (is_some o.flow)) }
@@ -217,12 +216,59 @@ fn answer(
     }
 }
 
+/// A request with one question less.
+fn spent(request: Box<InPhases>) -> Box<InPhases>
+    requires { 0 < request.value.questions }
+    ensures { result.value ≡ record request.value { questions = request.value.questions - 1 } }
+{
+    let mut request = request;
+    request.questions -= 1;
+    request
+}
+
+/// A request that asks the files what is at a path.
+fn asks(
+    request: Box<InPhases>,
+    wait: Wait,
+    path: ByteText,
+    known: Known,
+    closing: bool,
+) -> Result<Onward, OutOfMemory>
+    ensures goes { (w : World) (patterns : List SetPattern) (site : SiteRow) (trees : Trees)
+        (out : List ℕ) → IfOk result (λ o. Follows site
+        (step_rest w patterns site (trees (known_tree known)) request.value (ToAsk wait path)
+        (known_bytes known trees))
+        (flow_rest w patterns site o.flow trees) out out closing o.closing o.log o.level) }
+    ensures over { IfOk result (λ o. is_some o.log ≡ not (is_some o.flow)) }
+    ensures fits { (size : ℕ) → size ≡ 0 → IfOk result (λ o. flow_fits o.flow size ≡ true) }
+    ensures lowers { (size : ℕ) → size ≡ 0 → IfOk result (λ o. size + flow_left o.flow size
+        < flow_most + 2 * request.value.questions + 1) }
+    ensures by { IfOk result (λ o. IsServedBy request.value.server request.value.length o.flow) }
+    ensures asked { IfOk result (λ o. tree_asked o.flow ≤ known_tree known) }
+    ensures closes { IfOk result (λ o. closing ≡ true → o.closing ≡ true) }
+{
+    if request.questions == 0 {
+        return Err(OutOfMemory);
+    }
+    let request = spent(request);
+    let of = tree_in(&known);
+    Ok(Onward {
+        flow: Some(Flow {
+            ask: Ask::Stat { path, of },
+            stage: Stage::Asked { request, wait },
+        }),
+        closing,
+        log: None,
+        level: None,
+    })
+}
+
 /// Goes on with a request by a step of its phases: a question is asked, or the response is put. Subrequests aren't served yet:
 /// there is no memory for them.
 pub(crate) fn go_on(
     space: &mut Workspace,
     ground: &Ground<'_>,
-    request: InPhases,
+    request: Box<InPhases>,
     step: Step,
     known: Known,
     out: &mut ByteQueue,
@@ -233,43 +279,71 @@ pub(crate) fn go_on(
         let w = world_in patterns ground.now shipped in
         let site = ground.now.site.now in
         IfOk result (λ o. Follows site
-        (step_rest w patterns site (trees (known_tree known)) request step
+        (step_rest w patterns site (trees (known_tree known)) request.value step
         (known_bytes known trees))
         (flow_rest w patterns site o.flow trees) out.old out.new closing o.closing o.log o.level) }
+    ensures over { IfOk result (λ o. is_some o.log ≡ not (is_some o.flow)) }
+    ensures fits { IfOk result (λ o. flow_fits o.flow (length out.new) ≡ true) }
+    ensures lowers { IfOk result (λ o. length out.new + flow_left o.flow (length out.new)
+        < flow_most + 2 * request.value.questions + 1) }
+    ensures by { IfOk result (λ o. IsServedBy request.value.server request.value.length o.flow) }
+    ensures asked { IfOk result (λ o. tree_asked o.flow ≤ known_tree known) }
+    ensures closes { IfOk result (λ o. closing ≡ true → o.closing ≡ true) }
+    ensures kept { space.new.patterns ≡ space.old.patterns }
+{
+    match step {
+        Step::Asks { wait, path } => Ok(asks(request, wait, path, known, closing)?),
+        Step::Calls(_) => {
+            drop(request);
+            Err(OutOfMemory)
+        }
+        Step::Answers(outcome) => {
+            let onward = answer(space, ground, &*request, outcome, known, out, closing);
+            drop(request);
+            Ok(onward?)
+        }
+    }
+}
+
+/// Goes on with a request that has just begun its phases: one that is answered at once never takes memory of its own.
+fn began(
+    space: &mut Workspace,
+    ground: &Ground<'_>,
+    request: InPhases,
+    step: Step,
+    known: Known,
+    out: &mut ByteQueue,
+) -> Result<Onward, OutOfMemory>
+    requires { out.old ≡ [] }
+    ensures goes { (patterns : List SetPattern) (trees : Trees) →
+        let w = world_in patterns ground.now shipped in
+        let site = ground.now.site.now in
+        IfOk result (λ o. Follows site
+        (step_rest w patterns site (trees (known_tree known)) request step
+        (known_bytes known trees))
+        (flow_rest w patterns site o.flow trees) out.old out.new false o.closing o.log o.level) }
     ensures over { IfOk result (λ o. is_some o.log ≡ not (is_some o.flow)) }
     ensures fits { IfOk result (λ o. flow_fits o.flow (length out.new) ≡ true) }
     ensures lowers { IfOk result (λ o. length out.new + flow_left o.flow (length out.new)
         < flow_most + 2 * request.questions + 1) }
     ensures by { IfOk result (λ o. IsServedBy request.server request.length o.flow) }
     ensures asked { IfOk result (λ o. tree_asked o.flow ≤ known_tree known) }
-    ensures closes { IfOk result (λ o. closing ≡ true → o.closing ≡ true) }
     ensures kept { space.new.patterns ≡ space.old.patterns }
 {
     match step {
         Step::Asks { wait, path } => {
-            if request.questions == 0 {
-                return Err(OutOfMemory);
-            }
-            let ask = Ask::Stat {
-                path,
-                of: tree_in(&known),
-            };
-            let request = InPhases {
-                questions: request.questions - 1,
-                ..request
-            };
-            Ok(Onward {
-                flow: Some(Flow {
-                    ask,
-                    stage: Stage::Asked { request, wait },
-                }),
-                closing,
-                log: None,
-                level: None,
-            })
+            let request = Box::new(space.alloc, request)?;
+            Ok(asks(request, wait, path, known, false)?)
         }
-        Step::Calls(_) => Err(OutOfMemory),
-        Step::Answers(outcome) => Ok(answer(space, ground, request, outcome, known, out, closing)?),
+        Step::Calls(_) => {
+            drop(request);
+            Err(OutOfMemory)
+        }
+        Step::Answers(outcome) => {
+            let onward = answer(space, ground, &request, outcome, known, out, false);
+            drop(request);
+            Ok(onward?)
+        }
     }
 }
 
@@ -284,8 +358,8 @@ fn is_head(method: &Method) -> bool
     }
 }
 
-fn terms_of(opening: Opening<'_>) -> Terms
-    ensures { terms_seen result ≡ terms_at opening.entry }
+fn terms_of(opening: &Opening) -> Terms
+    ensures { terms_seen result ≡ terms_at opening.now }
 {
     Terms {
         moment: opening.moment,
@@ -305,7 +379,7 @@ pub fn start(
     space: &mut Workspace,
     ground: &Ground<'_>,
     server: u32,
-    opening: Opening<'_>,
+    opening: Opening,
     out: &mut ByteQueue,
 ) -> Result<Onward, OutOfMemory>
     requires ground { IsGround ground.now }
@@ -314,10 +388,10 @@ pub fn start(
         let w = world_in space.old.patterns ground.now shipped in
         let site = ground.now.site.now in
         IfOk result (λ o. Follows site
-        (opened_rest w (trees opening.entry.tree) (terms_at opening.entry)
-        (main_at ground.now opening.entry) (request_of
+        (opened_rest w (trees opening.tree) (terms_at opening)
+        (main_at ground.now opening) (request_of
         (server_whole (patterns_seen space.old.patterns) site ground.now.server.now)
-        opening.entry.head.now))
+        opening.head))
         (flow_rest w space.old.patterns site o.flow trees) out.old out.new false o.closing o.log
         o.level) }
     ensures over { IfOk result (λ o. is_some o.log ≡ not (is_some o.flow)) }
@@ -325,35 +399,33 @@ pub fn start(
     ensures lowers { IfOk result (λ o. length out.new + flow_left o.flow (length out.new)
         < asking_most) }
     ensures by { IfOk result (λ o. IsServedBy server ground.now.length o.flow) }
-    ensures asked { IfOk result (λ o. tree_asked o.flow ≤ opening.entry.tree) }
+    ensures asked { IfOk result (λ o. tree_asked o.flow ≤ opening.tree) }
     ensures kept { space.new.patterns ≡ space.old.patterns }
 {
     let alloc = space.alloc;
-    let main = main_of(alloc, ground, opening)?;
-    let request = request_for(alloc, ground.server, opening.head)?;
-    let mut phases = Phases {
-        main,
-        at: Progress {
-            request,
-            level: ground.server.level,
-            inside: false,
-            seeks: false,
-        },
-        changes: 10,
-        error: None,
-        closes: false,
-        role: Role::Main,
-    };
-    let mut vars = VarTable::new(alloc);
-    let step = begin(alloc, ground, &mut space.patterns, &mut phases, &mut vars)?;
-    let request = InPhases {
+    let known = Known::Nothing { of: opening.tree };
+    let terms = terms_of(&opening);
+    let phases = phases_of(alloc, ground, opening)?;
+    let mut request = InPhases {
         phases,
-        vars,
-        terms: terms_of(opening),
+        vars: VarTable::new(alloc),
+        terms,
         server,
         length: ground.length,
         questions: u32::MAX,
     };
-    let known = Known::Nothing { of: opening.tree };
-    Ok(go_on(space, ground, request, step, known, out, false)?)
+    let patterns = &mut space.patterns;
+    match begin(
+        alloc,
+        ground,
+        patterns,
+        &mut request.phases,
+        &mut request.vars,
+    ) {
+        Ok(step) => Ok(began(space, ground, request, step, known, out)?),
+        Err(OutOfMemory) => {
+            drop(request);
+            Err(OutOfMemory)
+        }
+    }
 }

@@ -5,7 +5,7 @@ use Rattle.std.specs.List.{list_any, before_first, after_first, ends_with, start
 use Rattle.std.specs.Char.{is_ascii_alphanumeric}
 use Rattle.acts.specs.Vars.{Vars, look}
 use Rattle.acts.specs.Act.{Done, Get, ◌>>=◌, ◌>>◌}
-use Rattle.http_moment.specs.Shown.{shown_text}
+use Rattle.http_moment.specs.Shown.{shown_text, default_format}
 use Rattle.ngx_variables.specs.declared.request.Main.{Main}
 use Rattle.ngx_variables.specs.declared.request.Request.{Request}
 use Rattle.ngx_variables.specs.declared.value.Piece.{Piece}
@@ -45,9 +45,6 @@ pub record Doc : Type 0 where
 
 unfoldable pub default_message : List ℕ
 default_message = codes "[an error occurred while processing the directive]"
-
-unfoldable pub default_format : List ℕ
-default_format = codes "%A, %d-%b-%Y %H:%M:%S %Z"
 
 -- how a document begins
 unfoldable pub begun : Main → Request → Values → (left : ℕ) → Vars → Doc

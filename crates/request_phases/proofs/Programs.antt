@@ -1,5 +1,5 @@
 -- Programs and the search of a location, as far as they come.
-use Rattle.std.proofs.Common.{◌≡◌, ℕ, Bool, true, false, not, ◌&&◌, cond, nat_le, List, [], ◌++◌, map, drop, Option, None, Some, refl, sym, ◌∙◌, ap, subst}
+use Rattle.std.proofs.Common.{◌≡◌, ℕ, Bool, true, false, not, ◌&&◌, cond, nat_le, List, [], drop, Option, None, Some, refl, sym, ◌∙◌, ap, subst}
 use Rattle.acts.specs.Vars.{Vars}
 use Rattle.acts.specs.Act.{Done, ◌>>=◌, settled}
 use Rattle.ngx_pattern.specs.Pattern.{Pattern as SetPattern}
@@ -10,7 +10,7 @@ use Rattle.site_model.specs.declared.site.Site.{Site}
 use Rattle.site_views.specs.Values.{Values}
 use Rattle.site_views.specs.Rewrites.{Program}
 use Rattle.site_views.specs.Search.{Found, search, named}
-use Rattle.site_whole.specs.Whole.{values_seen, level_whole, returned_first, step_seen, server_whole}
+use Rattle.site_whole.specs.Whole.{values_seen, level_whole, server_whole}
 use Rattle.request_meaning.specs.Serving.{World, Serving, Asked, Standing}
 use Rattle.request_meaning.specs.Serving.From.{Start, Find, Named}
 use Rattle.request_meaning.specs.Rewriting.{Passed, program_run, in_level, with_groups}
@@ -158,11 +158,6 @@ refused_by w site number at next l len r e m same judged =
     let v = values_seen site (raw_level site number) in
     judged w v same (ap (λ (l : Level). l.internal) (sym e)) (ap (λ (l : Level). l.body_most) (sym e)) ∙ ap (λ (p : Progress). refused_in w v p.request p.inside) m
 
-program_is : (patterns : List SetPattern) (site : Site) (level : ℕ) → (raw_level site level).returned ≡ None →
-    (level_whole (patterns_seen patterns) site level).program ≡ program_of patterns site (raw_level site level).program
-unfolding level_whole
-program_is patterns site level e = ap (λ r. returned_first r ++ map (step_seen (patterns_seen patterns) site) (raw_level site level).program) e
-
 module _ (w : World) (a : Asked) (patterns : List SetPattern) (site : Site) (bytes : List ℕ) where
   turned_away : (b c : Bool) (s : Standing) (values : Values) (k : Serving Decided) (code : ℕ) → ◌≡◌ {A = Option ℕ} (Some code) (cond b (Some 404) (cond c (Some 413) None)) →
       cond b (Done (decided (in_level values s) (Fails 404))) (cond c (Done (decided (in_level values s) (Fails 413))) k) ≡ Done (decided (in_level values s) (Fails code))
@@ -197,18 +192,17 @@ module _ (w : World) (a : Asked) (patterns : List SetPattern) (site : Site) (byt
   location_refuses vars number at code e = level_refuses vars number at (in_location w a (level_whole (patterns_seen patterns) site number) (standing_seen site at)) code e
 
   -- a location's program is run in its level
-  location_runs : (number : ℕ) (at : Progress) → (raw_level site number).returned ≡ None →
+  location_runs : (number : ℕ) (at : Progress) →
       in_location w a (level_whole (patterns_seen patterns) site number) (standing_seen site at) ≡ run_in w a patterns site number (moved_into site number at) false
   unfolding in_location run_in level_whole values_seen
-  location_runs number at e =
-      ap (λ (p : Program). program_run w a.main p (in_level (values_seen site (raw_level site number)) (standing_seen site at)) >>= λ r. after_program false r (follows w a false)) (program_is patterns site number e)
+  location_runs number at = refl
 
-  pub location_admits : {x : Serving Decided × Vars} (vars : Vars) (number : ℕ) (at : Progress) → (raw_level site number).returned ≡ None → None ≡ refused_in w (values_seen site (raw_level site number)) at.request at.inside →
+  pub location_admits : {x : Serving Decided × Vars} (vars : Vars) (number : ℕ) (at : Progress) → None ≡ refused_in w (values_seen site (raw_level site number)) at.request at.inside →
       settled (run_in w a patterns site number (moved_into site number at) false) vars ≡ x → settled (entered_at w a patterns site number at) vars ≡ x
   unfolding entered_at level_whole
-  location_admits vars number at u e h =
+  location_admits vars number at e h =
       level_admits vars number at (in_location w a (level_whole (patterns_seen patterns) site number) (standing_seen site at)) e
-      ∙ (ap (λ m. settled m vars) (location_runs number at u) ∙ h)
+      ∙ (ap (λ m. settled m vars) (location_runs number at) ∙ h)
 
   module _ (server : Server) (is : w.server ≡ server_whole (patterns_seen patterns) site server) where
     abbrev own : ℕ
@@ -232,20 +226,20 @@ module _ (w : World) (a : Asked) (patterns : List SetPattern) (site : Site) (byt
         ap (λ v. settled (entered w a v (standing_seen site at) (access a (in_level v (standing_seen site at)))) vars) server_values
         ∙ (level_admits vars own at (access a (in_level (values_seen site (raw_level site own)) (standing_seen site at))) e ∙ h)
 
-    server_program : (raw_level site own).returned ≡ None → w.server.level.program ≡ program_of patterns site (raw_level site own).program
-    unfolding server_whole
-    server_program u = ap (λ s. s.level.program) is ∙ program_is patterns site own u
+    server_program : w.server.level.program ≡ program_of patterns site (raw_level site own).program
+    unfolding server_whole level_whole
+    server_program = ap (λ s. s.level.program) is
 
     abbrev begun : Progress → Asked
     begun at = record a { request = at.request; inside = at.inside }
 
-    pub begins : {x : Serving Decided × Vars} (vars : Vars) (at : Progress) → (raw_level site own).returned ≡ None →
+    pub begins : {x : Serving Decided × Vars} (vars : Vars) (at : Progress) →
         settled (run_in w (begun at) patterns site own (moved_into site own at) true) vars ≡ x →
         settled (phases_from w (begun at) Start) vars ≡ x
     unfolding phases_from run_in values_seen
-    begins vars at u h =
+    begins vars at h =
         ap (λ v. settled (program_run w a.main w.server.level.program (standing (begun at) v) >>= λ r. after_program true r (follows w (begun at) true)) vars) server_values
-        ∙ (ap (λ (p : Program). settled (program_run w a.main p (standing (begun at) (values_seen site (raw_level site own))) >>= λ r. after_program true r (follows w (begun at) true)) vars) (server_program u) ∙ h)
+        ∙ (ap (λ (p : Program). settled (program_run w a.main p (standing (begun at) (values_seen site (raw_level site own))) >>= λ r. after_program true r (follows w (begun at) true)) vars) server_program ∙ h)
 
     pub seeks_again : {x : Serving Decided × Vars} (vars : Vars) (at : Progress) →
         settled (find_config w (begun at) (standing_seen site (moved_into site own at))) vars ≡ x →
@@ -258,14 +252,13 @@ module _ (w : World) (a : Asked) (patterns : List SetPattern) (site : Site) (byt
     unfolding phases_from values_seen settled
     named_nowhere vars at name e = ap (λ l. settled (at_named w (begun at) (standing_seen site at).values l) vars) (sym e)
 
-    pub named_there : {x : Serving Decided × Vars} (vars : Vars) (at : Progress) (name : List ℕ) (number : ℕ) → (raw_level site number).returned ≡ None →
+    pub named_there : {x : Serving Decided × Vars} (vars : Vars) (at : Progress) (name : List ℕ) (number : ℕ) →
         Some (level_whole (patterns_seen patterns) site number) ≡ named w.server name →
         settled (run_in w (begun at) patterns site number (moved_into site number at) false) vars ≡ x →
         settled (phases_from w (begun at) (Named (standing_seen site at).values name)) vars ≡ x
     unfolding phases_from in_location run_in level_whole values_seen
-    named_there vars at name number u e h =
-        ap (λ l. settled (at_named w (begun at) (standing_seen site at).values l) vars) (sym e)
-        ∙ (ap (λ (p : Program). settled (program_run w a.main p (in_level (values_seen site (raw_level site number)) (standing_seen site at)) >>= λ r. after_program false r (follows w (begun at) false)) vars) (program_is patterns site number u) ∙ h)
+    named_there vars at name number e h =
+        ap (λ l. settled (at_named w (begun at) (standing_seen site at).values l) vars) (sym e) ∙ h
 
 -- ---- the search of a location
 

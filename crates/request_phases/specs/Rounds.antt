@@ -50,12 +50,10 @@ abbrev pub world_in : List SetPattern → Ground → List Member → World
 world_in patterns g members =
     record { server = server_whole (patterns_seen patterns) g.site.now g.server.now; finds = found; members = members; length = g.length }
 
--- The locations are the server's, the names of `index` are those that hold where none are stated, and a level's program has
--- its `return` in it.
+-- The locations are the server's, and the names of `index` are those that hold where none are stated.
 pub record IsGround (g : Ground) : Type 0 where
   pub located : AreOf g.locations.now g.server.now
   pub indexed : map index_seen g.index.now ≡ default_index
-  pub unreturned : (number : ℕ) → (raw_level g.site.now number).returned ≡ None
 
 -- ---- where a request is
 

@@ -10,10 +10,10 @@ ghost use Rattle.request_meaning.specs.Serving.{is_main_role, is_head as is_head
 ghost use Rattle.request_meaning.specs.Answering.{shown_status as status_shown, is_unmodified as unmodified, has_no_body as sends_no_body, shown_date as date_shown, is_closing as closes_for, since_date as date_since, same_date as dates_same, first_bytes as bytes_first};
 ghost use Rattle.request_phases.specs.Rounds.{handled_seen};
 
-use http_header::HeaderMap;
 use http_moment::read_date;
 use http_types::Method;
 use ngx_variables::{Main, Request, Role};
+use req_head::HeadFields;
 use request_phases::Handled;
 use site_model::Shown;
 
@@ -87,13 +87,10 @@ pub(crate) fn shown_status(error: Option<Handled>, own: u16) -> u16
 }
 
 /// The first field of a name.
-fn first_field<'a>(fields: &'a HeaderMap, name: &[u8]) -> Option<&'a [u8]>
+fn first_field<'a>(fields: &'a HeadFields, name: &[u8]) -> Option<&'a [u8]>
     ensures { option_map (λ b. b.now) result ≡ bytes_first (get fields.now (lowercase name.now)) }
 {
-    match fields.get(name) {
-        Some(value) => Some(value.as_bytes()),
-        None => None,
-    }
+    fields.first(name)
 }
 
 /// The date that a text names, if there is one.

@@ -2,10 +2,10 @@
 use byte_text::ByteText;
 use file_tree::Node;
 use file_type::Types;
-use http_header::HeaderMap;
 use http_types::{Addr, Method, Version};
 use ngx_pattern::{CrateMaker, PatternSet};
-use ngx_variables::{Groups, Main, Piece, Place, Request, Role, Value, VarTable};
+use ngx_variables::{Groups, LocalDate, Main, Piece, Place, Request, Role, Value, VarTable};
+use req_head::HeadFields;
 use rewrite_code::{Ending, Progress, RunStep, resume, run};
 use site_model::{FileTest, Flag, Level, Program, RewriteStep, Site, Test};
 use std::alloc::Global;
@@ -97,7 +97,6 @@ fn level(alloc: Global) -> Result<Level, Fail> {
         types: 0,
         requests: 1000,
         idle: 75_000,
-        returned: None,
         index: None,
         tries: None,
         internal: false,
@@ -157,8 +156,8 @@ pub fn main_request(alloc: Global) -> Result<Main, Fail> {
         peer: end,
         moment: 0,
         tree: 0,
-        date: ByteText::new(alloc),
-        fields: HeaderMap::new(alloc),
+        date: LocalDate::of(0),
+        fields: HeadFields::new(alloc),
         folder: text(alloc, b"/")?,
     })
 }

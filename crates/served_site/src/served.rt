@@ -1,9 +1,8 @@
 // A site with what finds its servers and locations.
-ghost use Rattle.std.specs.Prelude.{◌≡◌, ℕ, None, map, IfOk};
+ghost use Rattle.std.specs.Prelude.{◌≡◌, map, IfOk};
 ghost use Rattle.std.specs.List.{AllZip};
 ghost use Rattle.location_search.specs.Served.{AreOf};
 ghost use Rattle.std.proofs.Props.{props};
-ghost use Rattle.site_model.specs.Levels.{raw_level};
 ghost use Rattle.site_whole.specs.Whole.{index_seen, default_index as index_html};
 ghost use Rattle.server_choice.specs.Listening.{AreOf as AreOfSite};
 ghost use Rattle.served_site.specs.Each.{AreOfEach};
@@ -31,7 +30,6 @@ pub struct ServedSite {
     ghost chosen: { AreOfSite servers site } by { Prim.hlevel (servers_prop, props) },
     ghost located: { AreOfEach locations.items spare_locations site.servers.items spare } by { Prim.hlevel (each_prop, props) },
     ghost indexed: { map index_seen index.items ≡ index_html },
-    ghost unreturned: { (number : ℕ) → (raw_level site number).returned ≡ None },
 }
 
 /// A server that listens nowhere, and answers for the level with this number.
@@ -62,7 +60,6 @@ fn locations_of(alloc: Global, servers: &[Server]) -> Result<Vec<Locations>, Out
 
 impl ServedSite {
     ghost use Rattle.std.specs.Prelude.{◌≡◌, ℕ, List, None, IfOk, option_map};
-    ghost use Rattle.site_model.specs.Levels.{raw_level};
     ghost use Rattle.ngx_pattern.specs.Pattern.{Pattern as SetPattern};
     ghost use Rattle.site_views.specs.Choice.{server_of, default_server};
     ghost use Rattle.pattern_search.specs.Found.{patterns_seen, found as found_in};
@@ -71,9 +68,8 @@ impl ServedSite {
     ghost use Rattle.request_phases.specs.Rounds.{IsGround};
     ghost use Rattle.served_site.specs.Served.{raw_server, raw_locations, server_numbered};
 
-    /// A site that is to be served, of which no level has a `return` beside its rewrite program.
+    /// A site that is to be served.
     pub fn new(alloc: Global, site: Site) -> Result<Self, OutOfMemory>
-        requires { (number : ℕ) → (raw_level site number).returned ≡ None }
         ensures { IfOk result (λ served. served.site ≡ site) }
     {
         let servers = Servers::new(alloc, &site)?;

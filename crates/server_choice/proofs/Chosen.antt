@@ -9,7 +9,7 @@ use Rattle.site_model.specs.declared.site.ServerName.{ServerName as CodeName}
 use Rattle.site_model.specs.declared.site.ServerName.TheVariants as names
 use Rattle.site_model.specs.declared.site.Server.{Server}
 use Rattle.site_model.specs.declared.site.Site.{Site}
-use Rattle.site_model.specs.Search as of_model
+use Rattle.site_model.specs.Listens as of_model
 use Rattle.site_views.specs.Pattern.{Pattern}
 use Rattle.site_views.specs.Views.{ServerView, ServerName, ListenView}
 use Rattle.site_views.specs.Choice.{or_else, same_ip, is_exactly, listens_at, is_default, is_host, ending_size, beginning_size, is_like, has_name, size_at, longest_name, greatest, choice}

@@ -1,2 +1,2 @@
 pub mod Levels
-pub mod Search
+pub mod Listens

@@ -1,9 +1,8 @@
-//! The site that a configuration describes: its servers, the values that hold in their levels, and how a level is found.
+//! The site that a configuration describes: its servers, the values that hold in their levels, and what the numbers of its levels stand for.
 #![tactic(auto)]
 
 mod listen;
 mod program;
-mod search;
 mod site;
 mod values;
 

@@ -25,8 +25,6 @@ pub struct Level {
     pub requests: u32,
     /// How long a connection is kept open behind a response, in milliseconds (`keepalive_timeout`); 0 closes it.
     pub idle: u64,
-    /// What is returned in this level alone: it isn't inherited.
-    pub returned: Option<Return>,
     /// The number of its list of index names (`index`), `index.html` alone without one.
     pub index: Option<u32>,
     /// The names that are tried before it answers (`try_files`), which no level inherits.
@@ -62,7 +60,7 @@ pub struct Level {
     pub before: Option<ByteText>,
     pub after: Option<ByteText>,
     pub addition_types: Option<u32>,
-    /// Its own rewrite program.
+    /// Its own rewrite program, with what the level returns.
     pub program: Program,
 }
 
@@ -130,8 +128,7 @@ pub struct Rules {
 }
 
 /// A site: its servers in the order of the text, and the levels and the lists of media types that they name by number, so
-/// that levels which inherit a list share it. Contracts see what the numbers stand for (`seen`); a number that is none of
-/// the lists' stands for `outside` or `plain`.
+/// that levels which inherit a list share it. A number that is none of the lists' stands for `outside` or `plain`.
 #[derive(Drop)]
 pub struct Site {
     /// The folder at which relative paths start: that of the main file.
@@ -153,10 +150,8 @@ pub struct Site {
 }
 
 impl Site {
-    ghost use Rattle.std.specs.Prelude.{◌≡◌, option_map};
-    ghost use Rattle.site_model.specs.Levels.{types_at, raw_level, level_at};
-    ghost use Rattle.site_model.specs.Search.{server_for, level_for};
-    ghost use Rattle.site_model.specs.Levels.{seen, server_seen};
+    ghost use Rattle.std.specs.Prelude.{◌≡◌};
+    ghost use Rattle.site_model.specs.Levels.{types_at, raw_level};
 
     /// The media types with a number.
     #[tactic(auto, unfolding(crate::specs::Levels::types_at))]

@@ -1,7 +1,6 @@
 // Serves a site over links.
-ghost use Rattle.std.specs.Prelude.{◌≡◌, ◌≤◌, ℕ, true, None, IfOk, OnOk, Ok};
+ghost use Rattle.std.specs.Prelude.{◌≡◌, ◌≤◌, true, IfOk, OnOk, Ok};
 ghost use Rattle.ngx_outside.specs.Causes.{Rose};
-ghost use Rattle.site_model.specs.Levels.{raw_level};
 ghost use Rattle.site_service.specs.Serving.{AreNew, Outside, Serving};
 
 use crate::ends::addresses;
@@ -14,8 +13,7 @@ use served_site::ServedSite;
 use site_model::Site;
 use std::alloc::Global;
 
-/// Serves a site over new links, on each of its addresses once, for that many turns. It has no patterns, and none of its levels has a
-/// `return` beside its rewrite program.
+/// Serves a site over new links, on each of its addresses once, for that many turns. It has no patterns.
 pub fn serve_site<F: Files, L: Links, C: Clock>(
     alloc: Global,
     site: Site,
@@ -25,7 +23,6 @@ pub fn serve_site<F: Files, L: Links, C: Clock>(
     turns: u64,
 ) -> Result<Ending, OutOfMemory>
     requires links { AreNew (L.seen links.old) }
-    requires unreturned { (number : ℕ) → (raw_level site number).returned ≡ None }
     ensures serving { IfOk result (λ e. Serving site turns e (record {
       files = F.seen files.old;
       files' = F.seen files.new;

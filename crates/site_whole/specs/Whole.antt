@@ -1,10 +1,10 @@
 -- A site as the recursive meaning sees it: what the numbers of its levels, lists and patterns mean.
-use Rattle.std.specs.Prelude.{ℕ, nat_lt, false, List, [], ◌∷◌, ◌++◌, map, codes, Option, None, Some, option_map, slice_get, unwrap_or, if◌then◌else◌}
+use Rattle.std.specs.Prelude.{ℕ, nat_lt, false, List, [], ◌∷◌, map, codes, Option, None, Some, option_map, slice_get, unwrap_or, if◌then◌else◌}
 use Rattle.http_types.specs.declared.words.Addr.{Addr}
 use Rattle.access_rules.specs.declared.rule.Rule.{Rule}
 use Rattle.ngx_variables.specs.declared.value.Piece.TheVariants.{Literal}
 use Rattle.site_model.specs.Levels.{types_at, raw_level}
-use Rattle.site_model.specs.Search.{listens_exactly}
+use Rattle.site_model.specs.Listens.{listens_exactly}
 use Rattle.site_model.specs.declared.program.RewriteStep.{RewriteStep}
 use Rattle.site_model.specs.declared.program.RewriteStep.TheVariants as steps
 use Rattle.site_model.specs.declared.program.Test.{Test as CodeTest}
@@ -27,7 +27,6 @@ use Rattle.site_model.specs.declared.values.PageRules.{PageRules}
 use Rattle.site_model.specs.declared.values.MediaTypes.{MediaTypes as CodeMediaTypes}
 use Rattle.site_model.specs.declared.values.AuthSet.{AuthSet}
 use Rattle.site_model.specs.declared.values.AuthSets.{AuthSets}
-use Rattle.site_model.specs.declared.site.Return.{Return as CodeReturn}
 use Rattle.site_model.specs.declared.site.Rules.{Rules}
 use Rattle.site_model.specs.declared.site.Level.{Level}
 use Rattle.site_model.specs.declared.site.LocationKind.{LocationKind}
@@ -181,13 +180,8 @@ step_seen patterns site (steps.Rewrite pattern to is_url flag) = Rewrite (patter
 step_seen patterns site (steps.Return code text) = Return code text
 step_seen patterns site steps.Stop = Stop
 
--- the `return` of a level, which stands apart until programs are served
-abbrev pub returned_first : Option CodeReturn → Program
-returned_first None = []
-returned_first (Some r) = Return r.code r.text ∷ []
-
 abbrev pub program_seen : List Pattern → Site → Level → Program
-program_seen patterns site l = returned_first l.returned ++ map (step_seen patterns site) l.program
+program_seen patterns site l = map (step_seen patterns site) l.program
 
 unfoldable pub level_whole : List Pattern → Site → ℕ → LevelView
 level_whole patterns site number =

@@ -14,4 +14,4 @@ returns-in_err-suit-clause-fault c =
 
 pub returns-clause-ok : goal.returns-clause-ok
 returns-clause-ok c =
-    built-ok c.args.purpose c.args.folder.now c.args.directives.now _ _ c.in_ok-check.ensures.ok c.in_ok-suit.ensures c.http_in.ensures c.in_ok-site.ensures.seen
+    built-ok c.args.purpose c.args.folder.now c.args.directives.now _ _ c.in_ok-check.ensures.ok c.in_ok-suit.ensures c.http_in.ensures c.in_ok-site.ensures

@@ -4,8 +4,7 @@ use Rattle.site_model.specs.declared.site.Site.{Site}
 use Rattle.conf_block.specs.Forest.{forest_of}
 use Rattle.conf_inherit.specs.Values.{Values, stated, over}
 use Rattle.conf_inherit.specs.Pools.{FitsLists, values_by}
-use Rattle.site_model.specs.declared.site.Level.{Level}
-use Rattle.conf_inherit.proofs.SiteLaws.{all-here, unreturned-site}
+use Rattle.conf_inherit.proofs.SiteLaws.{all-here}
 use Rattle.conf_inherit.proofs.BuiltLaws.{site-shown}
 use Rattle.conf_inherit.proofs.site.site_of.Goals as goal
 
@@ -15,8 +14,8 @@ inner-requires c = record {
   lists = subst (FitsLists c.in_ok-pool.pool.shelf) (sym c.defaults.ensures.lists) c.in_ok-pool.ensures.lists;
 }
 
-pub returns-clause-seen : goal.returns-clause-seen
-returns-clause-seen c =
+pub returns : goal.returns
+returns c =
     let site : Site = record {
       folder = c.in_ok-from_slice.field-0;
       servers = c.in_ok-servers.servers;
@@ -33,20 +32,3 @@ returns-clause-seen c =
     site-shown site c.args.folder.now (forest_of c.args.http.now) (values_by c.in_ok-values.values) c.in_ok-from_slice.ensures
     (c.in_ok-values.ensures.values ∙ ap (over (stated (Some []) (forest_of c.args.http.now))) c.defaults.ensures.values)
     (c.in_ok-servers.ensures site ((λ n x h. h), all-here c.servers_of.new.pool.shelf))
-
-pub returns-clause-unreturned : goal.returns-clause-unreturned
-returns-clause-unreturned c =
-    let site : Site = record {
-      folder = c.in_ok-from_slice.field-0;
-      servers = c.in_ok-servers.servers;
-      levels = c.servers_of.new.pool.levels;
-      types = c.servers_of.new.pool.shelf.types;
-      outside = c.in_ok-level_of.field-0;
-      plain = c.in_ok-types_of.field-0;
-      indexes = c.servers_of.new.pool.shelf.indexes;
-      pages = c.servers_of.new.pool.shelf.pages;
-      rules = c.servers_of.new.pool.shelf.rules;
-      auth_sets = c.servers_of.new.pool.shelf.auth_sets;
-      media = c.servers_of.new.pool.shelf.media;
-    } in
-    unreturned-site site c.servers_of.new.pool.unreturned (ap (λ (l : Level). l.returned) c.in_ok-level_of.ensures.values)

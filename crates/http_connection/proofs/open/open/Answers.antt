@@ -1,4 +1,4 @@
-use Rattle.std.proofs.Common.{◌≡◌, None, Some, option_map, refl, sym, ap, ◌∙◌, subst, arith}
+use Rattle.std.proofs.Common.{option_map, refl, sym, ap, ◌∙◌, subst, arith}
 use Rattle.std.specs.Prelude.{is_some, not}
 use Rattle.pattern_search.specs.Found.{patterns_seen, found}
 use Rattle.site_views.specs.Choice.{server_of}
@@ -11,7 +11,7 @@ use Rattle.request_flow.specs.Openings.{main_at, terms_at}
 use Rattle.request_flow.specs.Flows.{flow_rest, tree_asked}
 use Rattle.request_flow.specs.Rests.{Follows, opened_rest}
 use Rattle.served_site.specs.Served.{server_numbered}
-use Rattle.http_connection.specs.Rests.{Serves, service_in}
+use Rattle.http_connection.specs.Rests.{Serves}
 use Rattle.http_connection.specs.Steps.{Refuses, start_in}
 use Rattle.http_connection.proofs.Opens.{opened_by, opened_nowhere}
 use Rattle.http_connection.proofs.open.open.Goals as goal
@@ -29,7 +29,7 @@ returns-in_ok-start-in-Some-clause-opens c = λ trees.
     (sym (ap (option_map (server_numbered x.patterns x.served)) c.in-Some.is) ∙ (c.choose.ensures.chosen ∙ ap (server_of found (whole (patterns_seen x.patterns) x.served.site).servers m.local) c.as_slice.ensures))
     c.in_ok-start-in-Some.ensures.by
     (subst (λ ps. (let w = world_in ps g shipped in
-    Follows g.site.now (opened_rest w (trees m.tree) (terms_at opening) (main_at g opening) (request_of (server_whole (patterns_seen ps) g.site.now g.server.now) c.args.head.now)) (flow_rest w ps g.site.now o.flow trees) c.args.out.now c.start.new.out _ o.closing o.log o.level)) c.choose.ensures.kept
+    Follows g.site.now (opened_rest w (trees m.tree) (terms_at opening) (main_at g opening) (request_of (server_whole (patterns_seen ps) g.site.now g.server.now) c.args.head)) (flow_rest w ps g.site.now o.flow trees) c.args.out.now c.start.new.out _ o.closing o.log o.level)) c.choose.ensures.kept
     (c.in_ok-start-in-Some.ensures.goes trees))
 
 pub returns-in_ok-refuse-in-None-clause-opens : goal.returns-in_ok-refuse-in-None-clause-opens
@@ -38,9 +38,9 @@ returns-in_ok-refuse-in-None-clause-opens c = λ trees.
     let x : Serves = record { patterns = c.args.space.now.patterns; served = c.args.served.now } in
     let m = c.args.meeting in
     let o = c.in_ok-refuse-in-None.field-0 in
-    opened_nowhere x trees m c.args.before c.args.head.now o.flow c.args.out.now c.refuse.new.out o.closing o.log o.level c.in_ok-refuse-in-None.ensures.level
+    opened_nowhere x trees m c.args.before c.args.head o.flow c.args.out.now c.refuse.new.out o.closing o.log o.level c.in_ok-refuse-in-None.ensures.level
     (sym (ap (option_map (server_numbered x.patterns x.served)) c.in-None.is) ∙ (c.choose.ensures.chosen ∙ ap (server_of found (whole (patterns_seen x.patterns) x.served.site).servers m.local) c.as_slice.ensures))
-    (subst (λ b. Refuses 404 (start_in m) b o.flow c.args.out.now c.refuse.new.out o.closing o.log) c.is_head.ensures (c.in_ok-refuse-in-None.ensures.refuses (start_in m) refl))
+    (subst (λ b. Refuses 404 (start_in m) b o.flow c.args.out.now c.refuse.new.out o.closing o.log) c.is_head-no_body.ensures (c.in_ok-refuse-in-None.ensures.refuses (start_in m) refl))
 
 pub returns-in_ok-refuse-in-None-clause-over : goal.returns-in_ok-refuse-in-None-clause-over
 returns-in_ok-refuse-in-None-clause-over c =

@@ -1,18 +1,11 @@
-use Rattle.std.proofs.Common.{◌≡◌, ℕ, ◌<◌, List, ◌++◌, map, flat_map, None, Some, Option, length, drop, refl, ap, sym, ◌∙◌, arith}
+use Rattle.std.proofs.Common.{◌<◌, map, flat_map, length, drop, ap, sym, ◌∙◌, arith}
 use Rattle.site_model.specs.Levels.{raw_level}
 use Rattle.site_whole.specs.Whole.{program_seen, step_seen}
-use Rattle.site_model.specs.declared.site.Return.{Return}
-use Rattle.site_views.specs.Rewrites.{Program}
-use Rattle.site_whole.specs.Whole.{returned_first}
 use Rattle.race_meaning.specs.Named.{set_text}
 use Rattle.race_check.specs.Texts.{known, told}
 use Rattle.race_check.proofs.Lists.{number_at, all_over}
 use Rattle.race_check.proofs.Telling.{told_step, told_over}
 use Rattle.race_check.proofs.marks.set_texts.Goals as goal
-
-no_set : (name : List ℕ) (r : Option Return) (p : Program) → flat_map (set_text name) (returned_first r ++ p) ≡ flat_map (set_text name) p
-no_set name None p = refl
-no_set name (Some r) p = refl
 
 pub loop-number-preserved : goal.loop-number-preserved
 loop-number-preserved c = λ patterns name.
@@ -22,8 +15,7 @@ loop-number-preserved c = λ patterns name.
     let inside : i < length xs = omega arith in
     told_step (λ n. flat_map (set_text name) (program_seen patterns site (raw_level site n))) xs i _ (number_at xs i inside) (known c.loop-number.texts name) (known c.add_steps.new.self name)
     (c.in_ok-add_steps.ensures patterns site name
-    ∙ ap (λ p. told (known c.loop-number.texts name) (flat_map (set_text name) (map (step_seen patterns site) p))) (c.as_slice.ensures ∙ ap (λ l. l.program) c.level.ensures)
-    ∙ ap (told (known c.loop-number.texts name)) (sym (no_set name (raw_level site _).returned _)))
+    ∙ ap (λ p. told (known c.loop-number.texts name) (flat_map (set_text name) (map (step_seen patterns site) p))) (c.as_slice.ensures ∙ ap (λ l. l.program) c.level.ensures))
     ∙ c.loop-number.invariant patterns name
 
 pub returns : goal.returns

@@ -6,8 +6,8 @@ use Rattle.req_head.proofs.Taken.{taken}
 use Rattle.req_head.proofs.MadeLemmas.{refused_is, passed_is, spans_within, fields_within, map_known}
 use Rattle.req_head.proofs.head.test_head.Goals as goal
 
-pub new-requires-clause-taken : goal.new-requires-clause-taken
-new-requires-clause-taken c =
+pub of_spans-requires-clause-taken : goal.of_spans-requires-clause-taken
+of_spans-requires-clause-taken c =
     let text = c.args.text.now in
     let len = c.args.spans.now.len in
     let shown = take c.args.spans.now.headers c.args.slots.now in

@@ -1,9 +1,10 @@
-use Rattle.std.proofs.Common.{◌≡◌, refl, sym, ap, ◌∙◌, Some, ℕ, List}
+use Rattle.std.proofs.Common.{refl, sym, ap, ◌∙◌, ℕ, List}
 use Rattle.file_tree.specs.Tree.{text_of, tree_of}
 use Rattle.request_meaning.specs.Laws.{shipped}
 use Rattle.request_meaning.specs.Serving.{Serving, Prepared}
 use Rattle.request_phases.specs.Rounds.{world_in, phases_told, phases_left}
 use Rattle.request_flow.specs.Flows.{told_item, item_asked}
+use Rattle.request_flow.specs.declared.flow.InPhases.{InPhases}
 use Rattle.request_flow.specs.Openings.{terms_seen}
 use Rattle.request_flow.specs.Padded.{padded}
 use Rattle.request_flow.specs.Rests.{act_rest}
@@ -12,22 +13,23 @@ use Rattle.request_flow.proofs.Puts.{moved_follows}
 use Rattle.request_flow.proofs.Turns.{act_settles}
 use Rattle.request_flow.proofs.run.run_told.Goals as goal
 
-pub returns-clause-goes : goal.returns-clause-goes
-returns-clause-goes c = λ trees.
+pub returns-in_ok-go_on-in-Ok-clause-goes : goal.returns-in_ok-go_on-in-Ok-clause-goes
+returns-in_ok-go_on-in-Ok-clause-goes c = λ trees.
     let g = c.args.ground.now in
     let site = g.site.now in
     let patterns = c.args.space.now.patterns in
     let w = world_in patterns g shipped in
     let h = c.args.heard in
-    let r = h.request in
+    let q = c.deref_mut-inside.result.now in
     let tree = trees (tree_of h.ask) in
     let item = told_item h.node (item_asked trees h.ask) in
-    let step = c.in_ok-step.step in
+    let step = c.in-Ok.step in
     let left : List ℕ → Serving Prepared = λ bytes. phases_left w patterns site bytes c.resume.new.phases step in
-    let o = c.in_ok-go_on.field-0 in
+    let o = c.in_ok-go_on-in-Ok.field-0 in
     moved_follows site _ _ _ _ c.args.out.now c.go_on.new.out c.args.closing _ _ _ _ _ _
-    (act_settles w tree (terms_seen r.terms) (phases_told w patterns site r.phases h.wait item) (left (text_of item)) r.vars c.resume.new.vars (c.in_ok-step.ensures.does item (told_node h.node (item_asked trees h.ask)) shipped)
-    ∙ ap (λ b. act_rest w tree (terms_seen r.terms) (left b) c.resume.new.vars)
-    (told_text h.node (item_asked trees h.ask) ∙ ap (λ n. padded n (text_of (item_asked trees h.ask))) (sym c.length_of.ensures)))
+    (ap (λ (q : InPhases). act_rest w tree (terms_seen q.terms) (phases_told w patterns site q.phases h.wait item) q.vars) (sym c.deref_mut-inside.ensures.value)
+    ∙ (act_settles w tree (terms_seen q.terms) (phases_told w patterns site q.phases h.wait item) (left (text_of item)) q.vars c.resume.new.vars (c.in-Ok.ensures.does item (told_node h.node (item_asked trees h.ask)) shipped)
+    ∙ ap (λ b. act_rest w tree (terms_seen q.terms) (left b) c.resume.new.vars)
+    (told_text h.node (item_asked trees h.ask) ∙ ap (λ n. padded n (text_of (item_asked trees h.ask))) (sym c.length_of-len.ensures))))
     refl refl refl refl
-    (c.in_ok-go_on.ensures.goes patterns trees)
+    (c.in_ok-go_on-in-Ok.ensures.goes patterns trees)

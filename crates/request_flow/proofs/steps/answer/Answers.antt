@@ -1,4 +1,4 @@
-use Rattle.std.proofs.Common.{◌≡◌, ℕ, List, [], length, None, Some, true, false, refl, sym, ap, ◌∙◌, subst, cond, arith}
+use Rattle.std.proofs.Common.{ℕ, List, [], length, sym, ap, ◌∙◌, cond, arith}
 use Rattle.file_tree.specs.Tree.{text_of}
 use Rattle.request_meaning.specs.Laws.{shipped}
 use Rattle.rewrite_code.specs.Places.{standing_seen}
@@ -7,7 +7,7 @@ use Rattle.request_reply.specs.Replies.{body_seen}
 use Rattle.request_flow.specs.declared.flow.Onward.{Onward}
 use Rattle.request_flow.specs.Flows.{flow_rest, item_asked}
 use Rattle.request_flow.specs.Openings.{terms_seen}
-use Rattle.request_flow.specs.Sents.{known_bytes, known_tree, plain_bytes, sent_now, file_known, sends_file}
+use Rattle.request_flow.specs.Sents.{known_bytes, known_tree, plain_bytes, sent_now, file_known}
 use Rattle.request_flow.proofs.Padding.{padded_length}
 use Rattle.request_flow.proofs.Puts as puts
 use Rattle.request_flow.proofs.Turns.{done_rest}
@@ -18,35 +18,35 @@ returns-in-None-clause-goes c = λ patterns trees.
     let g = c.args.ground.now in
     let site = g.site.now in
     let w = world_in patterns g shipped in
-    let p = c.args.request.phases in
+    let p = c.args.request.now.phases in
     let s = standing_seen site p.at in
     let known = c.args.known in
     let bytes = known_bytes known trees in
-    let t = c.args.request.terms in
+    let t = c.args.request.now.terms in
     let reply = c.in_ok-reply.reply in
     let made = prepared_as w (asked_in p) s bytes c.args.outcome in
     let is = puts.replied patterns g p c.level-level.result.now known trees c.length_in.result c.args.outcome c.with_length-outcome.result reply c.level-level.ensures
     (sym c.is_unfiltered.ensures ∙ c.if-not-is_unfiltered.false) c.length_in.ensures c.with_length-outcome.ensures c.in_ok-reply.ensures in
     puts.moved_follows site _ _ _ _ c.args.out.now c.put_reply.new.out c.args.closing _ _ _ _ _ _
-    (done_rest w (trees (known_tree known)) (terms_seen t) made bytes reply.body c.args.request.vars is.body)
+    (done_rest w (trees (known_tree known)) (terms_seen t) made bytes reply.body c.args.request.now.vars is.body)
     (ap (λ (o : Onward). flow_rest w patterns site o.flow trees) c.over.ensures.is) (ap (λ (o : Onward). o.closing) c.over.ensures.is)
     (ap (λ (o : Onward). o.log) c.over.ensures.is) (ap (λ (o : Onward). o.level) c.over.ensures.is)
-    (puts.over_follows site p.at.level t c.level-level.result.now reply bytes made c.args.request.vars is c.level-level.ensures
+    (puts.over_follows site p.at.level t c.level-level.result.now reply bytes made c.args.request.now.vars is c.level-level.ensures
     (puts.values_are w (asked_in p) s bytes c.args.outcome)
     c.args.out.now c.put_reply.new.out c.args.closing c.closes-closing.result c.stays-keep.result c.in_ok-size.size c.stays-keep.ensures c.closes-closing.ensures c.in_ok-size.ensures.put c.in_ok-size.ensures.size
     (puts.no_file t reply made known trees is (puts.gone_bare w (asked_in p) s bytes c.args.outcome)
     (ap (λ b. file_known b known) (sym c.sends_file.ensures) ∙ (sym c.file_if-file.ensures ∙ c.in-None.is))))
 
-pub returns-clause-goes : goal.returns-clause-goes
-returns-clause-goes c = λ patterns trees.
+pub returns-in-Some-clause-goes : goal.returns-in-Some-clause-goes
+returns-in-Some-clause-goes c = λ patterns trees.
     let g = c.args.ground.now in
     let site = g.site.now in
     let w = world_in patterns g shipped in
-    let p = c.args.request.phases in
+    let p = c.args.request.now.phases in
     let s = standing_seen site p.at in
     let known = c.args.known in
     let bytes = known_bytes known trees in
-    let t = c.args.request.terms in
+    let t = c.args.request.now.terms in
     let reply = c.in_ok-reply.reply in
     let made = prepared_as w (asked_in p) s bytes c.args.outcome in
     let file = c.in-Some.file in
@@ -56,19 +56,19 @@ returns-clause-goes c = λ patterns trees.
     let item = item_asked trees file.ask in
     let text = ap plain_bytes (sym is.body) ∙ (ap (λ b. plain_bytes (body_seen bytes b)) sent.is ∙ ap (λ k. known_bytes k trees) sent.told) in
     puts.moved_follows site _ _ _ _ c.args.out.now c.put_reply.new.out c.args.closing _ _ _ _ _ _
-    (done_rest w (trees (known_tree known)) (terms_seen t) made bytes reply.body c.args.request.vars is.body)
+    (done_rest w (trees (known_tree known)) (terms_seen t) made bytes reply.body c.args.request.now.vars is.body)
     (c.reading.ensures.rest w patterns site trees) c.reading.ensures.others.0 c.reading.ensures.others.1 c.reading.ensures.others.2
-    (puts.file_follows site p.at.level t c.level-level.result.now reply bytes made c.args.request.vars is c.level-level.ensures
+    (puts.file_follows site p.at.level t c.level-level.result.now reply bytes made c.args.request.now.vars is c.level-level.ensures
     (puts.values_are w (asked_in p) s bytes c.args.outcome)
     c.args.out.now c.put_reply.new.out c.args.closing c.closes-closing.result c.stays-keep.result c.in_ok-size.size c.stays-keep.ensures c.closes-closing.ensures c.in_ok-size.ensures.put c.in_ok-size.ensures.size
     file.len item sent.sent (sym is.gone ∙ sent.there)
     (ap (λ b. cond t.no_body [] (sent_now b)) sent.is ∙ ap (λ n. cond {A = List ℕ} n [] []) sent.sent) text (ap length text ∙ padded_length file.len (text_of item)))
 
-pub returns-clause-asked : goal.returns-clause-asked
-returns-clause-asked c =
+pub returns-in-Some-clause-asked : goal.returns-in-Some-clause-asked
+returns-in-Some-clause-asked c =
     let known = c.args.known in
     let file = c.in-Some.file in
-    let sent = puts.file_sent c.args.request.terms c.in_ok-reply.reply known file (ap (λ b. file_known b known) (sym c.sends_file.ensures) ∙ (sym c.file_if-file.ensures ∙ c.in-Some.is)) in
+    let sent = puts.file_sent c.args.request.now.terms c.in_ok-reply.reply known file (ap (λ b. file_known b known) (sym c.sends_file.ensures) ∙ (sym c.file_if-file.ensures ∙ c.in-Some.is)) in
     let told = ap known_tree sent.told in
     let asked = c.reading.ensures.asked in
     omega (arith, told, asked)

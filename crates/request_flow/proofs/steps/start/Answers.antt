@@ -1,42 +1,42 @@
-use Rattle.std.proofs.Common.{◌≡◌, [], refl, sym, ap, ◌∙◌, Some, arith}
-use Rattle.acts.specs.Act.{settled}
+use Rattle.std.proofs.Common.{false, [], sym, ap, ◌∙◌, subst, arith}
 use Rattle.pattern_search.specs.Found.{patterns_seen}
 use Rattle.site_whole.specs.Whole.{server_whole}
 use Rattle.answers_meaning.specs.Asking.{request_of}
 use Rattle.request_meaning.specs.Laws.{shipped}
 use Rattle.request_meaning.specs.Phases.{rounds}
-use Rattle.request_meaning.specs.Replies.{most_changes, outside}
-use Rattle.request_phases.specs.Rounds.{world_in, phases_left}
-use Rattle.request_flow.specs.Flows.{asking_most}
-use Rattle.request_flow.specs.Openings.{main_at, terms_at, terms_seen}
-use Rattle.request_flow.specs.Rests.{act_rest, opened_rest}
-use Rattle.request_flow.proofs.Puts.{moved_follows}
+use Rattle.request_meaning.specs.Replies.{outside}
+use Rattle.request_meaning.specs.Serving.From.{Start}
+use Rattle.request_phases.specs.Rounds.{world_in, phases_left, asked_from}
+use Rattle.request_phases.specs.declared.state.Phases.{Phases}
+use Rattle.request_flow.specs.Flows.{flow_rest, asking_most}
+use Rattle.request_flow.specs.Openings.{main_at, terms_seen}
+use Rattle.request_flow.specs.Rests.{Follows, act_rest, opened_rest}
 use Rattle.request_flow.proofs.Turns.{act_settles}
 use Rattle.request_flow.proofs.steps.start.Goals as goal
 
-pub returns-clause-goes : goal.returns-clause-goes
-returns-clause-goes c = λ trees.
+pub returns-in_ok-began-in-Ok-clause-goes : goal.returns-in_ok-began-in-Ok-clause-goes
+returns-in_ok-began-in-Ok-clause-goes c = λ trees.
     let g = c.args.ground.now in
     let site = g.site.now in
     let patterns = c.args.space.now.patterns in
     let w = world_in patterns g shipped in
     let opening = c.args.opening in
     let tree = trees opening.tree in
-    let main = c.in_ok-main.main in
-    let request = c.in_ok-request.request in
-    let vars = c.new-vars.result in
-    let t = terms_seen c.terms_of.result in
-    moved_follows site _ _ _ _ c.args.out.now c.go_on.new.out _ _ _ _ _ _ _
-    (ap (λ u. opened_rest w tree u (main_at g opening) (request_of (server_whole (patterns_seen patterns) site g.server.now) opening.head.now)) (sym c.terms_of.ensures)
-    ∙ (ap (λ m. opened_rest w tree t m (request_of (server_whole (patterns_seen patterns) site g.server.now) opening.head.now)) (sym c.in_ok-main.ensures)
-    ∙ (ap (λ r. opened_rest w tree t main r) (sym (c.in_ok-request.ensures patterns site))
-    ∙ (ap (λ v. act_rest w tree t (rounds w most_changes (outside main request)) v) (sym c.new-vars.ensures)
-    ∙ act_settles w tree t (rounds w most_changes (outside main request)) (phases_left w patterns site [] c.begin.new.phases c.in_ok-step.step) vars c.begin.new.vars (c.in_ok-step.ensures.does [] shipped)))))
-    refl refl refl refl
-    (c.in_ok-go_on.ensures.goes patterns trees)
+    let main = main_at g opening in
+    let request = request_of (server_whole (patterns_seen patterns) site g.server.now) opening.head in
+    let p = c.in_ok-phases.phases in
+    let vars = c.new.result in
+    let t = terms_seen c.terms_of-terms.result in
+    let o = c.in_ok-began-in-Ok.field-0 in
+    subst (λ b. Follows site b (flow_rest w patterns site o.flow trees) c.args.out.now c.began.new.out false o.closing o.log o.level) (sym
+    (ap (λ u. opened_rest w tree u main request) (sym c.terms_of-terms.ensures)
+    ∙ (ap (λ v. act_rest w tree t (rounds w 10 (outside main request)) v) (sym c.new.ensures)
+    ∙ (ap (λ (p : Phases). act_rest w tree t (rounds w p.changes (asked_from p Start)) vars) (sym (c.in_ok-phases.ensures patterns site))
+    ∙ act_settles w tree t (rounds w p.changes (asked_from p Start)) (phases_left w patterns site [] c.begin.new.phases c.in-Ok.step) vars c.begin.new.vars (c.in-Ok.ensures.does [] shipped)))))
+    (c.in_ok-began-in-Ok.ensures.goes patterns trees)
 
-pub returns-clause-lowers : goal.returns-clause-lowers
+pub returns-in_ok-began-in-Ok-clause-lowers : goal.returns-in_ok-began-in-Ok-clause-lowers
 unfolding asking_most
-returns-clause-lowers c =
-    let lower = c.in_ok-go_on.ensures.lowers in
+returns-in_ok-began-in-Ok-clause-lowers c =
+    let lower = c.in_ok-began-in-Ok.ensures.lowers in
     omega (arith, lower)

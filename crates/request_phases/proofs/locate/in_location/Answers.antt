@@ -25,6 +25,6 @@ returns-clause-does c = λ bytes members a.
     let site = c.args.ground.now.site.now in
     let vars = c.args.vars.now in
     let at = c.args.at.now in
-    programs.location_admits w b c.args.patterns.now site bytes vars c.args.number at (c.requires.unreturned c.args.number) (sym c.in_default.is ∙ programs.refused_by w site c.args.number at c.enter.new.at c.level.result.now c.args.ground.now.length c.refusal.result c.level.ensures c.in_ok-enter.ensures refl c.refusal.ensures)
+    programs.location_admits w b c.args.patterns.now site bytes vars c.args.number at (sym c.in_default.is ∙ programs.refused_by w site c.args.number at c.enter.new.at c.level.result.now c.args.ground.now.length c.refusal.result c.level.ensures c.in_ok-enter.ensures refl c.refusal.ensures)
     (ap (λ p. settled (run_in w b c.args.patterns.now site c.args.number p false) vars) (sym c.in_ok-enter.ensures)
     ∙ c.in_ok-run_location.ensures.does bytes members a)

@@ -32,7 +32,7 @@ returns-in_ok-run_location-in-Some-clause-does c = λ bytes members a.
     let vars = c.args.vars.now in
     let at = c.args.at.now in
     let b : Asked = record a { main = c.args.main.now; request = at.request; inside = at.inside } in
-    programs.named_there w b ps site bytes g.server.now refl vars at c.args.name.now c.in-Some.level (c.requires.unreturned c.in-Some.level)
+    programs.named_there w b ps site bytes g.server.now refl vars at c.args.name.now c.in-Some.level
     (ap (option_map (level_whole (patterns_seen ps) site)) (sym c.in-Some.is) ∙ c.named.ensures g.server.now c.requires.located site (patterns_seen ps))
     (ap (λ p. settled (run_in w b ps site c.in-Some.level p false) vars) (sym c.in_ok-enter-in-Some.ensures)
     ∙ c.in_ok-run_location-in-Some.ensures.does bytes members b)

@@ -18,7 +18,7 @@ returns-in_ok-run_server-in-Start-clause-does c = λ bytes members a.
     let at = c.args.at.now in
     let b : Asked = record a { main = c.args.main.now; request = at.request; inside = at.inside } in
     ap (λ from. settled (phases_from w b (from_seen site at from)) vars) c.in-Start.is
-    ∙ programs.begins w b ps site bytes g.server.now refl vars at (c.requires.unreturned g.server.now.level)
+    ∙ programs.begins w b ps site bytes g.server.now refl vars at
     (ap (λ p. settled (run_in w b ps site g.server.now.level p true) vars) (sym c.in_ok-enter-in-Start.ensures)
     ∙ c.in_ok-run_server-in-Start.ensures.does bytes members b)
 

@@ -1,5 +1,5 @@
 use Rattle.std.proofs.Common.{rules}
-use Rattle.conf_inherit.proofs.SiteLaws.{keeps-pushed, pushed-there, unreturned-either}
+use Rattle.conf_inherit.proofs.SiteLaws.{keeps-pushed, pushed-there}
 use Rattle.conf_inherit.proofs.pool.Pool.add_level.Goals as goal
 
 pub returns-clause-there : goal.returns-clause-there
@@ -7,6 +7,3 @@ returns-clause-there c = pushed-there c.args.self.now.levels.items c.push.new.se
 
 pub returns-clause-levels : goal.returns-clause-levels
 returns-clause-levels c = keeps-pushed c.args.self.now.levels.items c.push.new.self.items c.args.level c.in_ok-push.ensures.items
-
-pub invariant_of-self : goal.invariant_of-self
-invariant_of-self c = record { unreturned = unreturned-either c.args.self.now.levels.items c.push.new.self.items c.args.level _ c.push.ensures.items c.args.self.now.unreturned c.requires }

@@ -7,9 +7,9 @@ use Rattle.request_flow.specs.Flows.{tree_asked, asking_most, flow_left, flow_fi
 use Rattle.http_connection.specs.Rests.{Serves, service_in, rest_in, values_at}
 use Rattle.http_connection.specs.Times.{LevelFor}
 use Rattle.http_connection.specs.Steps.{RanOne, IsLogged}
-use Rattle.http_connection.specs.Conn.{view_at, starts_at, ready_at, left_at, weight, PaceRan}
+use Rattle.http_connection.specs.Conn.{view_at, starts_at, ready_at, left_at, PaceRan}
 use Rattle.http_connection.proofs.Begins.{ran_few, ran_drained, ran_unended}
-use Rattle.http_connection.proofs.Moves.{starts_if, node_ready, ran_over, ran_went, ran_left, entered_logged, work, lighter}
+use Rattle.http_connection.proofs.Moves.{starts_if, node_ready, ran_over, ran_went, ran_left, entered_logged, lighter}
 use Rattle.http_connection.proofs.Timed.{ran_until, marks_by}
 use Rattle.http_connection.proofs.conn.Conn.starts_one.Goals as goal
 

@@ -6,4 +6,4 @@ use Rattle.ngx_variables.proofs.value.Value.compile.Goals as goal
 pub returns-clause-ok : goal.returns-clause-ok
 returns-clause-ok c =
     let none : length c.loop-rest.rest.now ≡ 0 = grind (arith, nat_tests) in
-    tokens.all_read c.loop-rest.pieces.items c.args.text.now c.loop-rest.rest.now c.loop-rest.invariant none ∙ ap Ok (sym c.from_pieces.ensures)
+    tokens.all_read c.loop-rest.pieces.items c.args.text.now c.loop-rest.rest.now c.loop-rest.invariant none ∙ ap Ok (sym c.in_ok-shared.ensures)

@@ -10,5 +10,4 @@ invariant_of-result c = record {
   located = zip_each AreOf c.in_ok-locations.locations.items c.args.site.servers.items c.in_ok-spare_locations.spare_locations c.nowhere-spare.result
       (subst (λ ys. AllZip AreOf c.in_ok-locations.locations.items ys) c.as_slice.ensures.value c.in_ok-locations.ensures) c.in_ok-spare_locations.ensures;
   indexed = c.in_ok-index.ensures;
-  unreturned = c.requires;
 }

@@ -1,0 +1,66 @@
+// The bytes that a connection holds.
+ghost use Rattle.std.specs.Prelude.{◌≡◌, ◌≤◌, ◌<◌, ◌+◌, ◌-◌, ◌++◌, ◌∷◌, ◌^◌, ◌⊎◌, ◌||◌, true, false, [], length, take, drop, OnOk};
+ghost use Rattle.req_head.specs.Step.{head_step};
+ghost use Rattle.http_connection.specs.Steps.{begins as head_begins};
+
+use crate::sending::front;
+use crate::slot::{put, take};
+use byte_text::{ByteQueue, OutOfMemory};
+use req_head::{Head, HeadStep, head_stays, may_decide, read_head, refusal_stays};
+use std::alloc::Global;
+
+pub(crate) fn begins(next: &HeadStep) -> bool
+    ensures { result ≡ head_begins next.now }
+{
+    match next {
+        HeadStep::Head { .. } => true,
+        HeadStep::Bad { .. } => true,
+        HeadStep::More => false,
+    }
+}
+
+// Bytes arrive after those that are held; what they begin is looked at anew where that may have changed.
+pub(crate) fn take_in(
+    alloc: Global,
+    held: &mut ByteQueue,
+    next: &mut HeadStep,
+    bytes: &[u8],
+) -> Result<(), OutOfMemory>
+    requires { next.old ≡ head_step held.old }
+    ensures held { OnOk result (held.new ≡ held.old ++ bytes.now) }
+    ensures next { OnOk result (next.new ≡ head_step held.new) }
+{
+    head_stays();
+    refusal_stays();
+    let known = held.len();
+    held.append(bytes)?;
+    if begins(next) {
+        return Ok(());
+    }
+    if may_decide(held.front(), known) {
+        put(next, read_head(alloc, held.front())?);
+    }
+    Ok(())
+}
+
+pub(crate) fn first_bytes(bytes: &[u8], count: usize) -> &[u8]
+    requires { count ≤ length bytes.now }
+    ensures { result.now ≡ take count bytes.now }
+{
+    &bytes[..count]
+}
+
+pub(crate) fn last_bytes(bytes: &[u8], count: usize) -> &[u8]
+    requires { count ≤ length bytes.now }
+    ensures { result.now ≡ drop count bytes.now }
+{
+    &bytes[count..]
+}
+
+// The bytes after the first ones.
+pub(crate) fn behind(held: &ByteQueue, size: usize) -> &[u8]
+    requires { size ≤ length held.now }
+    ensures { result.now ≡ drop size held.now }
+{
+    &held.front()[size..]
+}

@@ -1,0 +1,125 @@
+// A request starts.
+ghost use Rattle.std.specs.Prelude.{◌≡◌, ◌≤◌, ◌<◌, ◌+◌, ◌-◌, ◌++◌, ◌∷◌, ◌^◌, ◌⊎◌, ◌||◌, true, not, [], ℕ, length, take, is_some, OnOk, OnErr, IfOk, vec_len, None};
+ghost use Rattle.ngx_outside.specs.Views.{start_of, log_of};
+ghost use Rattle.req_head.specs.Step.{head_step};
+ghost use Rattle.file_tree.specs.Tree.{Trees};
+ghost use Rattle.ngx_outside.specs.declared.event.Entry.{Entry as Logged};
+ghost use Rattle.request_flow.specs.Flows.{flow_fits, flow_left, asking_most, tree_asked};
+ghost use Rattle.http_connection.specs.Rests.{Serves, service_in, rest_in, values_at};
+ghost use Rattle.req_head.specs.declared.head.Head.{Head as RequestHead};
+ghost use Rattle.req_head.specs.declared.head.HeadStep.TheVariants.{Head as AtHead};
+ghost use Rattle.http_connection.specs.Steps.{is_head as is_head_step, begins as head_begins, start_in, RanOne};
+ghost use Rattle.http_connection.specs.Times.{LevelFor};
+
+use crate::body::drop_body;
+use crate::input::{begins, behind};
+use crate::journal::{enter, make_room};
+use crate::open::{Meeting, open, refuse};
+use crate::slot::{forget, put, take};
+use crate::times::own_level;
+use body_frame::BodyState;
+use byte_text::{ByteQueue, OutOfMemory};
+use ngx_outside::Entry;
+use req_head::{Head, HeadStep, read_head, size_fits};
+use request_flow::{Onward, Workspace, answered, written};
+use served_site::ServedSite;
+
+// What becomes of a request after whose body the input is broken or not.
+fn with_broken(onward: Onward, broken: bool) -> Onward
+    ensures { result ≡ record onward { closing = onward.closing || broken } }
+{
+    Onward {
+        closing: onward.closing || broken,
+        flow: onward.flow,
+        log: onward.log,
+        level: onward.level,
+    }
+}
+
+// Takes out the head with which a request begins.
+fn take_head(next: &mut HeadStep) -> Head
+    requires { is_head_step next.old ≡ true }
+    ensures { (head : RequestHead) (size : ℕ) → next.old ≡ AtHead head size → result ≡ head }
+{
+    match take(next, HeadStep::More) {
+        HeadStep::Head { head, size: _ } => head,
+        HeadStep::Bad { .. } => unreachable!(),
+        HeadStep::More => unreachable!(),
+    }
+}
+
+// Starts a request: what is answered at once is put after what is kept for the peer, the request is written into the journal,
+// and what is held after it is looked at.
+pub(crate) fn run_one(
+    space: &mut Workspace,
+    served: &ServedSite,
+    meeting: Meeting,
+    held: &mut ByteQueue,
+    next: &mut HeadStep,
+    body: &mut Option<BodyState>,
+    out: &mut ByteQueue,
+    journal: &mut Vec<Entry>,
+) -> Result<Onward, OutOfMemory>
+    requires looked { next.old ≡ head_step held.old }
+    requires begins { head_begins next.old ≡ true }
+    requires unsent { out.old ≡ [] }
+    ensures ran { (trees : Trees) → let x : Serves = record {
+      patterns = space.old.patterns;
+      served = served.now;
+    } in
+        IfOk result (λ o. RanOne x (service_in x meeting.local meeting.peer) trees
+        (start_in meeting) (vec_len journal.old) next.old held.old held.new body.new o.flow out.old
+        out.new o.closing o.log) }
+    ensures level { let x : Serves = record {
+      patterns = space.old.patterns;
+      served = served.now;
+    } in
+        IfOk result (λ o. LevelFor (service_in x meeting.local meeting.peer)
+        (start_in meeting) next.old
+        (λ trees. (rest_in x o.flow trees).values) (values_at served.now o.level)) }
+    ensures looked { OnOk result (next.new ≡ head_step held.new) }
+    ensures journal { IfOk result (λ o. (entry : Logged) ×
+        (start_of entry ≡ start_in meeting) ×
+        (log_of entry ≡ o.log) × (journal.new.items ≡ journal.old.items ++ entry ∷ [])) }
+    ensures kept { OnErr result (journal.new.items ≡ journal.old.items) }
+    ensures over { IfOk result (λ o. is_some o.log ≡ not (is_some o.flow)) }
+    ensures fits { IfOk result (λ o. flow_fits o.flow (length out.new) ≡ true) }
+    ensures lowers { IfOk result (λ o. length out.new + flow_left o.flow
+        (length out.new) < asking_most) }
+    ensures asked { IfOk result (λ o. tree_asked o.flow ≤ meeting.tree) }
+    ensures patterns { space.new.patterns ≡ space.old.patterns }
+{
+    match next {
+        HeadStep::Head { head, size } => {
+            size_fits();
+            make_room(journal)?;
+            let dropped = drop_body(BodyState::new(head.body), behind(held, *size));
+            let size = *size + dropped.used;
+            let following = read_head(space.alloc, behind(held, size))?;
+            let head = take_head(next);
+            match open(space, served, out, head, journal.len() as u64, meeting) {
+                Ok(opened) => {
+                    let onward = with_broken(opened, dropped.broken);
+                    enter(journal, meeting.moment, meeting.tree, onward.log);
+                    held.used(size);
+                    put(next, following);
+                    *body = dropped.body;
+                    Ok(onward)
+                }
+                Err(OutOfMemory) => {
+                    forget(following);
+                    Err(OutOfMemory)
+                }
+            }
+        }
+        HeadStep::Bad { code, no_body } => {
+            make_room(journal)?;
+            let level = own_level(served, meeting.local);
+            let onward = refuse(space, out, *code, meeting.moment, *no_body, level)?;
+            enter(journal, meeting.moment, meeting.tree, onward.log);
+            *body = None;
+            Ok(onward)
+        }
+        HeadStep::More => unreachable!(),
+    }
+}

@@ -1,0 +1,22 @@
+use Rattle.std.proofs.Common.{sym, ap, ◌∙◌}
+use Rattle.file_tree.specs.Tree.{Item}
+use Rattle.request_phases.specs.Rounds.{phases_told}
+use Rattle.request_flow.specs.declared.flow.InPhases.{InPhases}
+use Rattle.request_flow.specs.Flows.{told_rest}
+use Rattle.request_flow.specs.Openings.{terms_seen}
+use Rattle.request_flow.specs.Rests.{act_rest}
+use Rattle.request_flow.specs.Sents.{known_tree}
+use Rattle.request_flow.proofs.Pieces.{same_follows}
+use Rattle.request_flow.proofs.Turns.{asks_rest}
+use Rattle.request_flow.proofs.steps.asks.Goals as goal
+
+pub returns-clause-goes : goal.returns-clause-goes
+returns-clause-goes c = λ w patterns site trees out.
+    let r = c.args.request.value in
+    let known = c.args.known in
+    let path = c.args.path in
+    let told = λ (item : Item). phases_told w patterns site r.phases c.args.wait item in
+    same_follows site _ _ out c.args.closing
+    (ap (λ (r : InPhases). told_rest w patterns site (trees c.tree_in-of.result) r c.args.wait (trees c.tree_in-of.result path)) c.spent-request.ensures
+    ∙ (ap (λ of. act_rest w (trees of) (terms_seen r.terms) (told (trees of path)) r.vars) c.tree_in-of.ensures
+    ∙ sym (asks_rest w (trees (known_tree known)) (terms_seen r.terms) path told r.vars)))
