@@ -9,7 +9,10 @@ use Rattle.conf_text.specs.declared.fault.ConfError.TheVariants as error
 use Rattle.http_types.specs.declared.words.Addr.{Addr}
 use Rattle.conf_block.specs.declared.role.Content.{Content}
 use Rattle.conf_block.specs.Forest.{Forest, End, Branch, forest_of}
-use Rattle.conf_check.specs.Gives.{◌>>=◌, ◌>>◌, sound, faulty, Fails}
+use Rattle.conf_check.specs.declared.error.ReadError.{ReadError}
+use Rattle.conf_check.specs.declared.error.ReadError.TheVariants as reads
+use Rattle.conf_check.specs.Gives.{◌>>=◌, ◌>>◌, sound, faulty, Fails, FailsBy}
+use Rattle.conf_check.specs.Patterns.{pattern_fault}
 use Rattle.conf_block.specs.Roles.{content_inside}
 use Rattle.std.specs.BTreeSet.{BTreeSet}
 use Rattle.conf_check.specs.Ends.{Key, has_end}
@@ -44,9 +47,30 @@ bind-err : {A B : Type 0} (r : Result A ConfFault) (fault : ConfFault) (f : A �
 unfolding ◌>>=◌
 bind-err r fault f e = ap (λ r. r >>= f) e
 
-pub fails-bind : {A B : Type 0} (e : ConfError) (r : Result A ConfFault) (f : A → Result B ConfFault) → Fails e r → Fails e (r >>= f)
-fails-bind (error.Fault fault) r f h = bind-err r fault f h
-fails-bind error.OutOfMemory r f h = tt
+-- and so where a maker may refuse patterns
+
+pub reads-then : {A B : Type 0} (R : Type 0) (e : ReadError) (r : Result A ConfFault) (next : Result B ConfFault) → FailsBy R e r → FailsBy R e (r >> next)
+reads-then R (reads.Fault f) r next h = then-err r f next h
+reads-then R (reads.TooBig f) r next h = h
+reads-then R reads.OutOfMemory r next h = tt
+
+pub reads-same : {A : Type 0} (R : Type 0) (e : ReadError) (r s : Result A ConfFault) → r ≡ s → FailsBy R e r → FailsBy R e s
+reads-same R e r s same h = subst (FailsBy R e) same h
+
+pub reads-bind : {A B : Type 0} (R : Type 0) (e : ReadError) (r : Result A ConfFault) (f : A → Result B ConfFault) → FailsBy R e r → FailsBy R e (r >>= f)
+reads-bind R (reads.Fault fault) r f h = bind-err r fault f h
+reads-bind R (reads.TooBig fault) r f h = h
+reads-bind R reads.OutOfMemory r f h = tt
+
+pub reads-alone : {A : Type 0} (R : Type 0) (e : ReadError) (r : Result A ConfFault) → FailsBy ⊥ e r → FailsBy R e r
+reads-alone R (reads.Fault f) r h = h
+reads-alone R (reads.TooBig f) r h = absurd h.0
+reads-alone R reads.OutOfMemory r h = tt
+
+pub reads-weaker : {A : Type 0} (R S : Type 0) (e : ReadError) (r : Result A ConfFault) → (R → S) → FailsBy R e r → FailsBy S e r
+reads-weaker R S (reads.Fault f) r weaker h = h
+reads-weaker R S (reads.TooBig f) r weaker h = (weaker h.0, h.1)
+reads-weaker R S reads.OutOfMemory r weaker h = tt
 
 -- the same addresses
 pub same_ends : (ends others : Addr → Bool) → ((q : Addr) → ends q ≡ others q) → ends ≡ others
@@ -60,10 +84,13 @@ Ends = Addr → Bool
 abbrev Names : Type 0
 Names = List ℕ → Bool
 
--- what is asked for behind a directive that has no fault of its own
-abbrev behind : (known : Names) (marked : Ends) (here : Content) (earlier : List Directive) (d : Directive) (block beside : Forest) → Result Ends ConfFault
-behind known marked here earlier d block beside =
+-- what is asked for behind a directive that has no fault of its own, and behind one whose patterns have none
+abbrev after : (known : Names) (marked : Ends) (here : Content) (earlier : List Directive) (d : Directive) (block beside : Forest) → Result Ends ConfFault
+after known marked here earlier d block beside =
     checked known (with_end (default_by here d) marked) (content_inside here d) [] block >>= (λ inner. checked known inner here (earlier ++ d ∷ []) beside)
+
+abbrev behind : (known : Names) (marked : Ends) (here : Content) (earlier : List Directive) (d : Directive) (block beside : Forest) → Result Ends ConfFault
+behind known marked here earlier d block beside = faulty d (pattern_fault known here d) >> after known marked here earlier d block beside
 
 checked-step : (known : Names) (marked : Ends) (here : Content) (earlier : List Directive) (d : Directive) (block beside : Forest)
     → checked known marked here earlier (Branch d block beside) ≡ (faulty d (fault_in known marked here earlier d) >> behind known marked here earlier d block beside)
@@ -110,40 +137,54 @@ whole {known} {first} {marked} {here} {names} {addrs} {locations} {d} {kind} {bl
     ∙ sym (checked-step known marked here earlier d (forest_of block) (forest_of beside)) ∙ sym (ap (checked known marked here earlier) at.forest) ∙ at.standing.same
 
 pub standing-fail : {known : Names} {first marked : Ends} {here : Content} {names : List (List ℕ)} {addrs : BTreeSet Key} {locations : LocationSet} {d : Directive} {kind : Option FaultKind} {block beside rest level : List Directive}
-    → (error : ConfError) → (at : At known first marked here names addrs locations d kind block beside rest level) → Fails error (faulty d kind) → Fails error (checked known first here [] (forest_of level))
-standing-fail {known} {first} {marked} {here} {names} {addrs} {locations} {d} {kind} {block} {beside} {rest} {level} error at h =
+    → (R : Type 0) (error : ReadError) → (at : At known first marked here names addrs locations d kind block beside rest level) → FailsBy R error (faulty d kind) → FailsBy R error (checked known first here [] (forest_of level))
+standing-fail {known} {first} {marked} {here} {names} {addrs} {locations} {d} {kind} {block} {beside} {rest} {level} R error at h =
     let next = behind known marked here at.standing.earlier d (forest_of block) (forest_of beside) in
-    fails-same error (faulty d kind >> next) (checked known first here [] (forest_of level)) (whole at) (fails-then error (faulty d kind) next h)
+    reads-same R error (faulty d kind >> next) (checked known first here [] (forest_of level)) (whole at) (reads-then R error (faulty d kind) next h)
 
--- where the directive has no fault of its own, its block decides, and then what follows
-own-passed : {known : Names} {first marked : Ends} {here : Content} {names : List (List ℕ)} {addrs : BTreeSet Key} {locations : LocationSet} {d : Directive} {kind : Option FaultKind} {block beside rest level : List Directive}
+-- where the directive has no fault of its own, its patterns decide
+own-right : {known : Names} {first marked : Ends} {here : Content} {names : List (List ℕ)} {addrs : BTreeSet Key} {locations : LocationSet} {d : Directive} {kind : Option FaultKind} {block beside rest level : List Directive}
     → (at : At known first marked here names addrs locations d kind block beside rest level) → faulty d kind ≡ sound
+    → behind known marked here at.standing.earlier d (forest_of block) (forest_of beside) ≡ checked known first here [] (forest_of level)
+own-right {known} {first} {marked} {here} {names} {addrs} {locations} {d} {kind} {block} {beside} {rest} {level} at h =
+    sym (then-ok (faulty d kind) tt (behind known marked here at.standing.earlier d (forest_of block) (forest_of beside)) h) ∙ whole at
+
+pub standing-flawed : {known : Names} {first marked : Ends} {here : Content} {names : List (List ℕ)} {addrs : BTreeSet Key} {locations : LocationSet} {d : Directive} {kind : Option FaultKind} {block beside rest level : List Directive}
+    → (R : Type 0) (error : ReadError) → (at : At known first marked here names addrs locations d kind block beside rest level) → faulty d kind ≡ sound
+    → FailsBy R error (faulty d (pattern_fault known here d)) → FailsBy R error (checked known first here [] (forest_of level))
+standing-flawed {known} {first} {marked} {here} {names} {addrs} {locations} {d} {kind} {block} {beside} {rest} {level} R error at h f =
+    let next = after known marked here at.standing.earlier d (forest_of block) (forest_of beside) in
+    reads-same R error (faulty d (pattern_fault known here d) >> next) (checked known first here [] (forest_of level)) (own-right at h) (reads-then R error (faulty d (pattern_fault known here d)) next f)
+
+-- then its block decides, and then what follows
+own-passed : {known : Names} {first marked : Ends} {here : Content} {names : List (List ℕ)} {addrs : BTreeSet Key} {locations : LocationSet} {d : Directive} {kind : Option FaultKind} {block beside rest level : List Directive}
+    → (at : At known first marked here names addrs locations d kind block beside rest level) → faulty d kind ≡ sound → faulty d (pattern_fault known here d) ≡ sound
     → (then : Ends) → (addr : Option Addr) → addr ≡ default_by here d → ((q : Addr) → then q ≡ with_end addr marked q) → (content : Content) → content ≡ content_inside here d
     → (checked known then content [] (forest_of block) >>= (λ inner. checked known inner here (at.standing.earlier ++ d ∷ []) (forest_of beside))) ≡ checked known first here [] (forest_of level)
-own-passed {known} {first} {marked} {here} {names} {addrs} {locations} {d} {kind} {block} {beside} {rest} {level} at h then addr a t content w =
+own-passed {known} {first} {marked} {here} {names} {addrs} {locations} {d} {kind} {block} {beside} {rest} {level} at h p then addr a t content w =
     let next : Ends → Content → Result Ends ConfFault = λ ends content. checked known ends content [] (forest_of block) >>= (λ inner. checked known inner here (at.standing.earlier ++ d ∷ []) (forest_of beside)) in
     let ends : then ≡ with_end (default_by here d) marked = same_ends then (with_end addr marked) t ∙ ap (λ o. with_end o marked) a in
     ap (λ ends. next ends content) ends ∙ ap (next (with_end (default_by here d) marked)) w
-    ∙ sym (then-ok (faulty d kind) tt (next (with_end (default_by here d) marked) (content_inside here d)) h) ∙ whole at
+    ∙ sym (then-ok (faulty d (pattern_fault known here d)) tt (next (with_end (default_by here d) marked) (content_inside here d)) p) ∙ own-right at h
 
 pub standing-inner : {known : Names} {first marked : Ends} {here : Content} {names : List (List ℕ)} {addrs : BTreeSet Key} {locations : LocationSet} {d : Directive} {kind : Option FaultKind} {block beside rest level : List Directive}
-    → (error : ConfError) → (at : At known first marked here names addrs locations d kind block beside rest level) → faulty d kind ≡ sound
+    → (R : Type 0) (error : ReadError) → (at : At known first marked here names addrs locations d kind block beside rest level) → faulty d kind ≡ sound → faulty d (pattern_fault known here d) ≡ sound
     → (then : Ends) → (addr : Option Addr) → addr ≡ default_by here d → ((q : Addr) → then q ≡ with_end addr marked q) → (content : Content) → content ≡ content_inside here d
-    → Fails error (checked known then content [] (forest_of block)) → Fails error (checked known first here [] (forest_of level))
-standing-inner {known} {first} {marked} {here} {names} {addrs} {locations} {d} {kind} {block} {beside} {rest} {level} error at h then addr a t content w f =
+    → FailsBy R error (checked known then content [] (forest_of block)) → FailsBy R error (checked known first here [] (forest_of level))
+standing-inner {known} {first} {marked} {here} {names} {addrs} {locations} {d} {kind} {block} {beside} {rest} {level} R error at h p then addr a t content w f =
     let next : Ends → Result Ends ConfFault = λ inner. checked known inner here (at.standing.earlier ++ d ∷ []) (forest_of beside) in
-    fails-same error (checked known then content [] (forest_of block) >>= next) (checked known first here [] (forest_of level)) (own-passed at h then addr a t content w)
-    (fails-bind error (checked known then content [] (forest_of block)) next f)
+    reads-same R error (checked known then content [] (forest_of block) >>= next) (checked known first here [] (forest_of level)) (own-passed at h p then addr a t content w)
+    (reads-bind R error (checked known then content [] (forest_of block)) next f)
 
 pub standing-more : {known : Names} {first marked : Ends} {here : Content} {names : List (List ℕ)} {addrs : BTreeSet Key} {locations : LocationSet} {d : Directive} {kind : Option FaultKind} {block beside rest level : List Directive}
-    → (at : At known first marked here names addrs locations d kind block beside rest level) → faulty d kind ≡ sound
+    → (at : At known first marked here names addrs locations d kind block beside rest level) → faulty d kind ≡ sound → faulty d (pattern_fault known here d) ≡ sound
     → (then : Ends) → (addr : Option Addr) → addr ≡ default_by here d → ((q : Addr) → then q ≡ with_end addr marked q) → (content : Content) → content ≡ content_inside here d
     → (inner : Ends) → checked known then content [] (forest_of block) ≡ Ok inner
     → (names' : List (List ℕ)) (addrs' : BTreeSet Key) (locations' : LocationSet)
     → ((earlier : List Directive) → Remembers names addrs locations earlier → Remembers names' addrs' locations' (earlier ++ d ∷ []))
     → Standing known first inner here names' addrs' locations' beside level
-standing-more {known} {first} {marked} {here} {names} {addrs} {locations} {d} {kind} {block} {beside} {rest} {level} at h then addr a t content w inner b names' addrs' locations' add = record {
+standing-more {known} {first} {marked} {here} {names} {addrs} {locations} {d} {kind} {block} {beside} {rest} {level} at h p then addr a t content w inner b names' addrs' locations' add = record {
   earlier = at.standing.earlier ++ d ∷ [];
   kept = add at.standing.earlier at.standing.kept;
-  same = sym (bind-ok (checked known then content [] (forest_of block)) inner (λ inner. checked known inner here (at.standing.earlier ++ d ∷ []) (forest_of beside)) b) ∙ own-passed at h then addr a t content w;
+  same = sym (bind-ok (checked known then content [] (forest_of block)) inner (λ inner. checked known inner here (at.standing.earlier ++ d ∷ []) (forest_of beside)) b) ∙ own-passed at h p then addr a t content w;
 }

@@ -5,3 +5,4 @@ pub mod CheckLaws
 pub mod ServedLaws
 pub mod NamesLaws
 pub mod FaultlessLaws
+pub mod PatternLaws

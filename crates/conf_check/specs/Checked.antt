@@ -15,6 +15,7 @@ use Rattle.conf_table.specs.declared.role.Role.TheVariants as roles
 use Rattle.conf_block.specs.Roles.{role_of, content_inside, are_directives}
 use Rattle.conf_check.specs.Ends.{with_end}
 use Rattle.conf_check.specs.Faults.{own_fault}
+use Rattle.conf_check.specs.Patterns.{pattern_fault}
 
 -- a line of `types` has a type and its extensions, and no block
 abbrev pub is_type_line : Directive → Bool
@@ -38,11 +39,12 @@ abbrev pub default_by : Content → Directive → Option Addr
 default_by here d = if are_directives here then default_with (role_of d.name) d else None
 
 -- The directives of a level that stands here, behind these of the same level, and those in their blocks, in text order: each
--- has no fault of its own. `marked` are the addresses that have a default server before, and what is answered are those
+-- has no fault of its own, and then none of its patterns. `marked` are the addresses that have a default server before, and what is answered are those
 -- that have one then.
 unfoldable pub checked : (known : List ℕ → Bool) → (marked : Addr → Bool) → Content → (earlier : List Directive) → Forest → Result (Addr → Bool) ConfFault
 checked known marked here earlier End = Ok marked
 checked known marked here earlier (Branch d block beside) = do
   faulty d (fault_in known marked here earlier d)
+  faulty d (pattern_fault known here d)
   inner ← checked known (with_end (default_by here d) marked) (content_inside here d) [] block
   checked known inner here (earlier ++ d ∷ []) beside

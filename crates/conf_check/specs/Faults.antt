@@ -1,5 +1,5 @@
 -- The faults of a directive alone, in the order in which they are looked for.
-use Rattle.std.specs.Prelude.{ℕ, List, [], ◌∷◌, length, Bool, true, false, not, ◌&&◌, ◌||◌, nat_le, Option, None, Some, bytes_eq, codes, if◌then◌else◌}
+use Rattle.std.specs.Prelude.{ℕ, List, [], ◌∷◌, length, Bool, true, false, not, ◌&&◌, ◌||◌, nat_le, Option, None, Some, is_some, bytes_eq, codes, if◌then◌else◌}
 use Rattle.std.specs.List.{list_any}
 use Rattle.conf_text.specs.declared.directive.Directive.{Directive}
 use Rattle.conf_text.specs.declared.fault.FaultKind.{FaultKind}
@@ -18,6 +18,7 @@ use Rattle.conf_values.specs.Variables.{variable_in}
 use Rattle.conf_values.specs.Listening.{listened_by, has_known_parameters, is_marked}
 use Rattle.conf_values.specs.Texts.{is_text, is_folder_text}
 use Rattle.conf_values.specs.Returning.{is_return}
+use Rattle.rewrite_compile.specs.Conditions.{condition_of}
 use Rattle.conf_block.specs.Roles.{role_of, place_of}
 use Rattle.conf_check.specs.Ends.{same_addr}
 use Rattle.conf_block.specs.Listening.{listens_of}
@@ -89,6 +90,7 @@ value_fault known marked roles.Alias earlier d = unless (first_word (is_folder_t
 value_fault known marked (roles.Setting setting) earlier d = unless (are_values setting d.args)
 value_fault known marked (roles.Listing listing) earlier d = unless (are_listed known listing d.args)
 value_fault known marked roles.Set earlier d = set_fault known d.args
+value_fault known marked roles.If earlier d = unless (is_some (condition_of known d.args))
 value_fault known marked _ earlier d = None
 
 -- `root` and `alias` don't stand beside each other

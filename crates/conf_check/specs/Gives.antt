@@ -5,6 +5,9 @@ use Rattle.conf_text.specs.declared.fault.FaultKind.{FaultKind}
 use Rattle.conf_text.specs.declared.fault.ConfFault.{ConfFault}
 use Rattle.conf_text.specs.declared.fault.ConfError.{ConfError}
 use Rattle.conf_text.specs.declared.fault.ConfError.TheVariants as error
+use Rattle.conf_text.specs.declared.fault.FaultKind.TheVariants.{PatternTooBig}
+use Rattle.conf_check.specs.declared.error.ReadError.{ReadError}
+use Rattle.conf_check.specs.declared.error.ReadError.TheVariants as reads
 
 -- the first fault, or the value of what follows
 infixl 10 ◌>>=◌
@@ -30,11 +33,6 @@ unfoldable pub faulty : Directive → Option FaultKind → Result (Unit {0}) Con
 faulty d None = sound
 faulty d (Some kind) = Err (fault_of d kind)
 
--- an error is this fault, or want of memory
-abbrev pub IsError : ConfFault → ConfError → Type 0
-IsError fault (error.Fault f) = f ≡ fault
-IsError fault error.OutOfMemory = ⊤
-
 -- what was returned, seen by view, is what the definition gives, unless memory ran out
 abbrev pub Fails : {Y : Type 0} → ConfError → Result Y ConfFault → Type 0
 Fails (error.Fault f) meant = meant ≡ Err f
@@ -43,3 +41,17 @@ Fails error.OutOfMemory meant = ⊤
 abbrev pub Gives : {X Y : Type 0} → (X → Y) → Result X ConfError → Result Y ConfFault → Type 0
 Gives view (Ok x) meant = meant ≡ Ok (view x)
 Gives view (Err e) meant = Fails e meant
+
+-- and so where a maker of patterns may refuse some
+abbrev pub FailsBy : {Y : Type 0} → (refused : Type 0) → ReadError → Result Y ConfFault → Type 0
+FailsBy refused (reads.Fault f) meant = meant ≡ Err f
+FailsBy refused (reads.TooBig f) meant = refused × (f.kind ≡ PatternTooBig)
+FailsBy refused reads.OutOfMemory meant = ⊤
+
+abbrev pub Reads : {X Y : Type 0} → (refused : Type 0) → (X → Y) → Result X ReadError → Result Y ConfFault → Type 0
+Reads refused view (Ok x) meant = meant ≡ Ok (view x)
+Reads refused view (Err e) meant = FailsBy refused e meant
+
+-- and so where no maker does
+abbrev pub ReadsAlone : {X Y : Type 0} → (X → Y) → Result X ReadError → Result Y ConfFault → Type 0
+ReadsAlone view result meant = Reads ⊥ view result meant

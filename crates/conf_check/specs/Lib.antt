@@ -4,6 +4,7 @@ pub mod Keys
 pub mod LocationSet
 pub mod Names
 pub mod Faults
+pub mod Patterns
 pub mod Before
 pub mod Checked
 pub mod Served

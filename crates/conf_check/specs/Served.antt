@@ -1,25 +1,16 @@
 -- What is served today.
-use Rattle.std.specs.Prelude.{ℕ, List, Bool, true, false, not, ◌||◌, ◌&&◌, Option, None, Some, is_some, bytes_eq, codes, Result, if◌then◌else◌}
-use Rattle.std.specs.List.{list_any}
+use Rattle.std.specs.Prelude.{ℕ, List, Bool, true, false, not, ◌||◌, ◌&&◌, Option, None, Some, bytes_eq, codes, Result, if◌then◌else◌}
 use Rattle.conf_text.specs.declared.directive.Directive.{Directive}
 use Rattle.conf_text.specs.declared.fault.FaultKind.{FaultKind}
 use Rattle.conf_text.specs.declared.fault.FaultKind.TheVariants.{NotServed}
 use Rattle.conf_text.specs.declared.fault.ConfFault.{ConfFault}
 use Rattle.conf_table.specs.declared.rule.Feature.{Feature}
-use Rattle.conf_table.specs.declared.rule.Feature.TheVariants.{Core, Matching, Content as Contents, Access, Deadlines}
+use Rattle.conf_table.specs.declared.rule.Feature.TheVariants.{Core, Matching, Content as Contents, Access, Deadlines, Rewriting}
 use Rattle.conf_table.specs.declared.rule.DirectiveRule.{DirectiveRule}
-use Rattle.conf_table.specs.declared.role.Role.{Role}
-use Rattle.conf_table.specs.declared.role.Role.TheVariants as roles
-use Rattle.conf_table.specs.declared.role.Listing.TheVariants.{ServerName}
 use Rattle.conf_table.specs.Table.{entry_of}
-use Rattle.conf_values.specs.declared.returned.Form.{Form}
-use Rattle.conf_values.specs.declared.returned.Form.TheVariants.{Wrong, Later, Answer}
-use Rattle.conf_values.specs.Words.{begins_with}
-use Rattle.conf_values.specs.Returning.{form_of}
 use Rattle.conf_block.specs.declared.role.Content.{Content}
 use Rattle.conf_block.specs.Forest.{Forest, End, Branch}
-use Rattle.conf_block.specs.Roles.{role_of, content_inside, are_directives}
-use Rattle.conf_block.specs.Locations.{key_of}
+use Rattle.conf_block.specs.Roles.{content_inside, are_directives}
 use Rattle.conf_check.specs.Gives.{sound, faulty, ◌>>◌}
 
 -- The features that this server has: a directive of another has no effect yet.
@@ -29,6 +20,7 @@ has_feature Matching = true
 has_feature Contents = true
 has_feature Access = true
 has_feature Deadlines = true
+has_feature Rewriting = true
 has_feature _ = false
 
 -- a directive by whose feature it is served
@@ -40,26 +32,9 @@ served_by (Some rule) = has_feature rule.served_by
 abbrev pub asks : List ℕ → Bool
 asks name = bytes_eq name (codes "auth_request") || bytes_eq name (codes "auth_request_set")
 
-abbrev pub is_answered : Form → Bool
-is_answered Wrong = false
-is_answered Later = false
-is_answered (Answer code) = true
-
--- a location is found by a text, and not by a regular expression
-abbrev pub has_text : List (List ℕ) → Bool
-has_text args = is_some (key_of args)
-
--- The forms of directives that are served: locations that are found by a text, names of servers that are no regular expressions
--- (those begin with `~`), and `return` with a code that doesn't redirect; of all others each form.
-abbrev pub has_form : Role → List (List ℕ) → Bool
-has_form roles.Location args = has_text args
-has_form (roles.Listing ServerName) args = not (list_any (begins_with 126) args)
-has_form roles.Return args = is_answered (form_of args)
-has_form _ args = true
-
 -- each line of `types`, and each directive that has an effect, or needs none
 abbrev pub is_served : Content → Directive → Bool
-is_served here d = not (are_directives here) || (served_by (entry_of d.name) && not (asks d.name) && has_form (role_of d.name) d.args)
+is_served here d = not (are_directives here) || (served_by (entry_of d.name) && not (asks d.name))
 
 -- one that isn't served is refused, by a fault of its own: its name is known
 abbrev pub refusal : Bool → Option FaultKind

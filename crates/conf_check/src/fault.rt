@@ -2,7 +2,11 @@
 ghost use Rattle.std.specs.Prelude.{◌≡◌, ℕ, List, Some, not, ◌&&◌, ◌||◌, map, IfOk};
 ghost use Rattle.conf_text.specs.declared.directive.Directive.{Directive as Line};
 ghost use Rattle.conf_table.specs.Table.{entry_of};
-ghost use Rattle.conf_check.specs.Gives.{IsError, fault_of, faulty, Gives};
+ghost use Rattle.std.specs.Prelude.{Option, is_some};
+ghost use Rattle.rewrite_compile.specs.Conditions.{condition_of};
+ghost use Rattle.rewrite_compile.specs.Readings.{if_by};
+ghost use Rattle.rewrite_compile.specs.declared.raw.RawCondition.{RawCondition};
+ghost use Rattle.conf_check.specs.Gives.{fault_of, faulty, Gives, ReadsAlone};
 ghost use Rattle.std.specs.List.{list_any};
 ghost use Rattle.http_types.specs.declared.words.Addr.{Addr as End};
 ghost use Rattle.conf_values.specs.TextSet.{holds};
@@ -19,6 +23,7 @@ ghost use Rattle.conf_check.specs.Before.{Remembers};
 
 use crate::before::Before;
 use crate::ends::Ends;
+use crate::error::ReadError;
 use byte_text::{ByteText, OutOfMemory};
 use conf_block::{Content, has_modifier, is_misplaced, key_of, place_of, role_of};
 use conf_table::{DirectiveRule, Role, entry};
@@ -29,21 +34,23 @@ use conf_values::{
 };
 use http_types::Addr;
 use ngx_variables::is_builtin;
+use rewrite_compile::{Reading, if_reading};
 use std::alloc::Global;
 
 /// A fault of this kind of the directive.
-fn fault_of(alloc: Global, directive: &Directive, kind: FaultKind) -> ConfError
-    ensures { IsError (fault_of directive.now kind) result }
+pub fn fault_of(
+    alloc: Global,
+    directive: &Directive,
+    kind: FaultKind,
+) -> Result<ConfFault, OutOfMemory>
+    ensures { IfOk result (λ fault. fault ≡ fault_of directive.now kind) }
 {
-    match ByteText::from_slice(alloc, directive.name.as_slice()) {
-        Ok(name) => ConfError::Fault(ConfFault {
-            kind,
-            file: directive.file,
-            line: directive.line,
-            word: Some(name),
-        }),
-        Err(_error) => ConfError::OutOfMemory,
-    }
+    Ok(ConfFault {
+        kind,
+        file: directive.file,
+        line: directive.line,
+        word: Some(ByteText::from_slice(alloc, directive.name.as_slice())?),
+    })
 }
 
 /// The fault of this kind, if there is one.
@@ -57,7 +64,24 @@ pub fn faulty(
 {
     match kind {
         None => Ok(()),
-        Some(kind) => Err(fault_of(alloc, directive, kind)),
+        Some(kind) => match fault_of(alloc, directive, kind) {
+            Ok(fault) => Err(ConfError::Fault(fault)),
+            Err(OutOfMemory) => Err(ConfError::OutOfMemory),
+        },
+    }
+}
+
+/// The same, of what may also fail by a maker of patterns.
+#[tactic(auto, unfolding(crate::specs::Gives::faulty))]
+pub fn wrong(alloc: Global, directive: &Directive, kind: Option<FaultKind>) -> Result<(), ReadError>
+    ensures { ReadsAlone (λ x. x) result (faulty directive.now kind) }
+{
+    match kind {
+        None => Ok(()),
+        Some(kind) => match fault_of(alloc, directive, kind) {
+            Ok(fault) => Err(ReadError::Fault(fault)),
+            Err(OutOfMemory) => Err(ReadError::OutOfMemory),
+        },
     }
 }
 
@@ -204,6 +228,23 @@ fn set_fault(
     }
 }
 
+fn is_step(reading: &Reading) -> bool
+    ensures { (condition : Option RawCondition) → reading.now ≡ if_by condition → result ≡ is_some condition }
+{
+    match reading {
+        Reading::Step(_) => true,
+        Reading::Wrong(_) => false,
+    }
+}
+
+/// Whether words are the condition of an `if`.
+fn is_condition(alloc: Global, known: &TextSet, words: &[ByteText]) -> Result<bool, OutOfMemory>
+    ensures { IfOk result (λ r. r ≡ is_some (condition_of (holds known.now.keys) words.now)) }
+{
+    let reading = if_reading(alloc, known, words)?;
+    Ok(is_step(&reading))
+}
+
 /// The names of the variables that are set, and the addresses that have a default server.
 #[derive(Clone, Copy)]
 pub struct Around<'a> {
@@ -231,6 +272,7 @@ fn value_fault(
         Role::Setting(setting) => Ok(unless(are_values(setting, words))),
         Role::Listing(listing) => Ok(unless(are_listed(alloc, around.known, listing, words)?)),
         Role::Set => set_fault(alloc, around.known, words),
+        Role::If => Ok(unless(is_condition(alloc, around.known, words)?)),
         _ => Ok(None),
     }
 }

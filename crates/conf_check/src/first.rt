@@ -1,13 +1,14 @@
 // The first fault of a configuration.
-ghost use Rattle.std.specs.Prelude.{◌≡◌, Err, OnOk, IfOk, IfErr};
-ghost use Rattle.conf_text.specs.Reading.{OnFault};
+ghost use Rattle.std.specs.Prelude.{◌≡◌, IfOk};
 ghost use Rattle.conf_values.specs.TextSet.{holds};
+ghost use Rattle.ngx_pattern.specs.Makers.{Rose};
 ghost use Rattle.conf_block.specs.Forest.{forest_of};
-ghost use Rattle.conf_check.specs.Gives.{sound, Gives};
+ghost use Rattle.conf_check.specs.Gives.{Gives, Reads, ReadsAlone};
 ghost use Rattle.conf_check.specs.Names.{is_set_in};
 ghost use Rattle.conf_check.specs.Faultless.{some_server, no_fault, all_served, faultless};
 
 use crate::ends::Ends;
+use crate::error::ReadError;
 use crate::levels::check_level;
 use crate::names::add_names;
 use crate::served::check_served;
@@ -16,16 +17,17 @@ use conf_block::{Content, has_named, http_in};
 use conf_table::Place;
 use conf_text::{ConfError, ConfFault, Directive, FaultKind};
 use conf_values::TextSet;
+use ngx_pattern::PatternMaker;
 use std::alloc::Global;
 
 /// A server stands in `http`.
-fn some_server(http: &[Directive]) -> Result<(), ConfError>
-    ensures { Gives (λ x. x) result (some_server (forest_of http.now)) }
+fn some_server(http: &[Directive]) -> Result<(), ReadError>
+    ensures { ReadsAlone (λ x. x) result (some_server (forest_of http.now)) }
 {
     if has_named(http, b"server") {
         return Ok(());
     }
-    Err(ConfError::Fault(ConfFault {
+    Err(ReadError::Fault(ConfFault {
         kind: FaultKind::NoServer,
         file: 0,
         line: 1,
@@ -34,7 +36,7 @@ fn some_server(http: &[Directive]) -> Result<(), ConfError>
 }
 
 /// The names of the variables that some directive sets.
-fn names_in(alloc: Global, directives: &[Directive]) -> Result<TextSet, OutOfMemory>
+pub fn names_in(alloc: Global, directives: &[Directive]) -> Result<TextSet, OutOfMemory>
     ensures { IfOk result (λ names. holds names.keys ≡ is_set_in (Content.Directives Place.Top) (forest_of directives.now)) }
 {
     let mut names = TextSet::new(alloc);
@@ -48,13 +50,19 @@ fn names_in(alloc: Global, directives: &[Directive]) -> Result<TextSet, OutOfMem
 }
 
 /// The first fault of the directives alone, in the order of the text.
-fn check_all(alloc: Global, directives: &[Directive]) -> Result<(), ConfError>
-    ensures { Gives (λ x. x) result (no_fault (forest_of directives.now)) }
+fn check_all<M: PatternMaker>(
+    alloc: Global,
+    maker: &mut M,
+    directives: &[Directive],
+) -> Result<(), ReadError>
+    ensures { Reads (Rose (M.refusals maker.old) (M.refusals maker.new)) (λ x. x) result
+        (no_fault (forest_of directives.now)) }
 {
     let known = names_in(alloc, directives)?;
     let mut marked = Ends::new(alloc);
     check_level(
         alloc,
+        maker,
         &known,
         &mut marked,
         Content::Directives(Place::Top),
@@ -84,13 +92,18 @@ pub fn check_effects(alloc: Global, directives: &[Directive]) -> Result<(), Conf
 /// # Errors
 ///
 /// `Fault` for the first fault in the order of the text, where at one directive come an unknown name, a place where it
-/// may not stand, a wrong number of words or a block, a second one where one alone may stand, and a wrong value; then
-/// `NoServer`, at the beginning of the main file. And `OutOfMemory`.
-pub fn check(alloc: Global, directives: &[Directive]) -> Result<(), ConfError>
-    ensures ok { OnOk result (faultless directives.now ≡ sound) }
-    ensures fault { IfErr result (λ e. OnFault e (λ fault. faultless directives.now ≡ Err fault)) }
+/// may not stand, a wrong number of words or a block, a second one where one alone may stand, a wrong value, and a pattern that is
+/// none; then `NoServer`, at the beginning of the main file. `TooBig` for a pattern that the maker refused, where there was no fault
+/// before it. And `OutOfMemory`.
+pub fn check<M: PatternMaker>(
+    alloc: Global,
+    maker: &mut M,
+    directives: &[Directive],
+) -> Result<(), ReadError>
+    ensures { Reads (Rose (M.refusals maker.old) (M.refusals maker.new)) (λ x. x) result
+        (faultless directives.now) }
 {
-    check_all(alloc, directives)?;
+    check_all(alloc, maker, directives)?;
     some_server(http_in(directives))?;
     Ok(())
 }

@@ -1,8 +1,9 @@
 // The first fault of directives, in text order.
-ghost use Rattle.std.specs.Prelude.{◌≡◌, List, [], map, IfOk};
+ghost use Rattle.std.specs.Prelude.{◌≡◌, List, [], map, IfOk, OnOk};
 ghost use Rattle.conf_text.specs.declared.directive.Directive.{Directive as Line};
 ghost use Rattle.conf_block.specs.Forest.{forest_of};
-ghost use Rattle.conf_check.specs.Gives.{Gives};
+ghost use Rattle.ngx_pattern.specs.Makers.{Rose};
+ghost use Rattle.conf_check.specs.Gives.{Reads};
 ghost use Rattle.conf_check.specs.Before.{Remembers};
 ghost use Rattle.conf_check.specs.Checked.{line_fault, fault_in, default_with, default_by, checked};
 ghost use Rattle.conf_check.specs.Ends.{has_end};
@@ -10,13 +11,16 @@ ghost use Rattle.conf_values.specs.TextSet.{holds};
 
 use crate::before::Before;
 use crate::ends::Ends;
-use crate::fault::{Around, faulty, own_fault};
+use crate::error::ReadError;
+use crate::fault::{Around, own_fault, wrong};
+use crate::patterns::check_patterns;
 use byte_text::OutOfMemory;
 use conf_block::{Content, are_directives, content_inside, first_branch, role_of};
 use conf_table::Role;
-use conf_text::{ConfError, Directive, FaultKind};
+use conf_text::{Directive, FaultKind};
 use conf_values::{TextSet, is_marked, listened_by};
 use http_types::Addr;
+use ngx_pattern::PatternMaker;
 use std::alloc::Global;
 
 /// What is wrong with a line of `types`.
@@ -77,16 +81,20 @@ fn default_by(here: Content, directive: &Directive) -> Option<Addr>
     }
 }
 
-/// The directives of a level that stands here, and those in their blocks; `marked` are the addresses that have a default
+/// The directives of a level that stands here, and those in their blocks, with their patterns; `marked` are the addresses that have a default
 /// server.
-pub fn check_level(
+pub fn check_level<M: PatternMaker>(
     alloc: Global,
+    maker: &mut M,
     known: &TextSet,
     marked: &mut Ends,
     here: Content,
     level: &[Directive],
-) -> Result<(), ConfError>
-    ensures { Gives (λ x. has_end marked.new.keys) result (checked (holds known.now.keys) (has_end marked.old.keys) here [] (forest_of level.now)) }
+) -> Result<(), ReadError>
+    ensures reads { Reads (Rose (M.refusals maker.old) (M.refusals maker.new))
+        (λ x. has_end marked.new.keys) result
+        (checked (holds known.now.keys) (has_end marked.old.keys) here [] (forest_of level.now)) }
+    ensures spared { OnOk result (M.refusals maker.new ≡ M.refusals maker.old) }
 {
     let mut before = Before::new(alloc);
     let mut rest = level;
@@ -97,10 +105,12 @@ pub fn check_level(
             marked: &*marked,
         };
         let kind = fault_in(alloc, around, here, &before, directive)?;
-        faulty(alloc, directive, kind)?;
+        wrong(alloc, directive, kind)?;
+        check_patterns(alloc, maker, known, here, directive)?;
         marked.add_any(default_by(here, directive))?;
         check_level(
             alloc,
+            maker,
             known,
             marked,
             content_inside(here, directive),

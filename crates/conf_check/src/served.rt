@@ -1,19 +1,14 @@
 // What is served today.
 ghost use Rattle.std.specs.Prelude.{◌≡◌};
-ghost use Rattle.std.specs.List.{list_any};
 ghost use Rattle.conf_table.specs.Table.{entry_of};
-ghost use Rattle.conf_values.specs.Words.{begins_with};
-ghost use Rattle.conf_values.specs.Returning.{form_of as form};
 ghost use Rattle.conf_block.specs.Forest.{forest_of};
 ghost use Rattle.conf_check.specs.Gives.{Gives};
-ghost use Rattle.conf_check.specs.Served.{has_feature, served_by, asks, is_answered, has_text, has_form, is_served, refusal, served};
+ghost use Rattle.conf_check.specs.Served.{has_feature, served_by, asks, is_served, refusal, served};
 
 use crate::fault::faulty;
-use byte_text::ByteText;
-use conf_block::{Content, are_directives, content_inside, first_branch, key_of, role_of};
-use conf_table::{Feature, Listing, Role, entry};
+use conf_block::{Content, are_directives, content_inside, first_branch};
+use conf_table::{Feature, entry};
 use conf_text::{ConfError, Directive, FaultKind};
-use conf_values::{Form, begins_with, form_of};
 use std::alloc::Global;
 
 /// The features that this server has.
@@ -22,7 +17,7 @@ fn has_feature(feature: Feature) -> bool
 {
     match feature {
         Feature::Core | Feature::Matching | Feature::Content => true,
-        Feature::Access | Feature::Deadlines => true,
+        Feature::Access | Feature::Deadlines | Feature::Rewriting => true,
         _ => false,
     }
 }
@@ -44,53 +39,12 @@ fn is_featured(name: &[u8]) -> bool
     }
 }
 
-/// Whether a location of these words is found by a text.
-fn has_text(words: &[ByteText]) -> bool
-    ensures { result ≡ has_text words.now }
-{
-    key_of(words).is_some()
-}
-
-/// Whether one of these names is a regular expression.
-fn has_pattern(names: &[ByteText]) -> bool
-    ensures { result ≡ list_any (begins_with 126) names.now }
-{
-    for name in names {
-        if begins_with(name.as_slice(), b'~') {
-            return true;
-        }
-    }
-    false
-}
-
-fn is_answered(words: &[ByteText]) -> bool
-    ensures { result ≡ is_answered (form words.now) }
-{
-    match form_of(words) {
-        Form::Answer(_) => true,
-        Form::Wrong | Form::Later => false,
-    }
-}
-
-/// Whether the words of a directive are of a form that is served.
-fn has_form(role: Role, words: &[ByteText]) -> bool
-    ensures { result ≡ has_form role words.now }
-{
-    match role {
-        Role::Location => has_text(words),
-        Role::Listing(Listing::ServerName) => !has_pattern(words),
-        Role::Return => is_answered(words),
-        _ => true,
-    }
-}
-
 /// Whether a directive that stands here is served.
 fn is_served(here: Content, directive: &Directive) -> bool
     ensures { result ≡ is_served here directive.now }
 {
     let name = directive.name.as_slice();
-    !are_directives(here)
-        || (is_featured(name) && !asks(name) && has_form(role_of(name), directive.args.as_slice()))
+    !are_directives(here) || (is_featured(name) && !asks(name))
 }
 
 /// A directive that isn't served is refused as such, and not as one of an unknown name.

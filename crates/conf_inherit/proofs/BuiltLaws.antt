@@ -1,27 +1,26 @@
 -- A site is read, or the first fault.
-use Rattle.std.proofs.Common.{◌≡◌, ℕ, List, [], map, Some, Result, Ok, Err, refl, sym, ap, ◌∙◌}
+use Rattle.std.proofs.Common.{◌≡◌, ℕ, Bool, List, [], map, Some, Result, Ok, Err, refl, sym, ap, ◌∙◌}
 use Rattle.std.specs.Prelude.{codes}
 use Rattle.conf_text.specs.declared.directive.Directive.{Directive}
 use Rattle.conf_text.specs.declared.fault.ConfFault.{ConfFault}
-use Rattle.conf_text.specs.declared.fault.ConfError.{ConfError}
-use Rattle.conf_text.specs.declared.fault.ConfError.TheVariants as error
-use Rattle.conf_text.specs.Reading.{OnFault}
+use Rattle.conf_check.specs.declared.error.ReadError.{ReadError}
+use Rattle.conf_check.specs.declared.error.ReadError.TheVariants as reads
 use Rattle.site_model.specs.declared.site.Server.{Server}
-use Rattle.site_model.specs.declared.site.Site.{Site}
+use Rattle.conf_inherit.specs.declared.site.Built.{Built}
 use Rattle.site_views.specs.Views.{SiteView}
-use Rattle.site_whole.specs.Whole.{level_whole, named_whole, name_seen, listen_seen, server_whole, whole}
+use Rattle.site_whole.specs.Whole.{name_seen, listen_seen, server_whole, whole}
 use Rattle.conf_block.specs.Forest.{Forest, forest_of, roots}
 use Rattle.conf_block.specs.Listening.{listens_of, or_default}
 use Rattle.conf_block.specs.Blocks.{blocks_of, http_in}
-use Rattle.conf_check.specs.Gives.{◌>>◌, sound, Fails}
+use Rattle.conf_check.specs.Gives.{◌>>◌, sound, FailsBy}
 use Rattle.conf_check.specs.Faultless.{faultless}
 use Rattle.conf_inherit.specs.declared.site.Purpose.{Purpose}
 use Rattle.conf_lists.specs.Hosts.{names_in, or_empty, first_shown, marked_in}
-use Rattle.conf_inherit.specs.Values.{Values, word_in, stated, over, defaults, level_of}
-use Rattle.conf_inherit.specs.Pools.{list_seen}
-use Rattle.conf_inherit.specs.Built.{locations_in, named_in, server_with, server_in, site_of, suits, built}
+use Rattle.conf_inherit.specs.Values.{Values, word_in, stated, over, defaults, server_level}
+use Rattle.conf_inherit.specs.Pools.{list_seen, patterns_in, level_built, named_built, server_built, site_built}
+use Rattle.conf_inherit.specs.Built.{locations_in, named_in, server_with, server_in, site_of, suits, set_in, built}
 
-built-step : (purpose : Purpose) (folder : List ℕ) (ds : List Directive) → built purpose folder ds ≡ (faultless ds >> (suits purpose ds >> Ok (site_of folder (http_in (forest_of ds)))))
+built-step : (purpose : Purpose) (folder : List ℕ) (ds : List Directive) → built purpose folder ds ≡ (faultless ds >> (suits purpose ds >> Ok (site_of (set_in ds) folder (http_in (forest_of ds)))))
 unfolding built
 built-step purpose folder ds = refl
 
@@ -33,29 +32,31 @@ faulty : {A : Type 0} (r : Result (Unit {0}) ConfFault) (next : Result A ConfFau
 unfolding ◌>>◌
 faulty r next fault e = ap (λ r. r >> next) e
 
-pub built-faulty : (e : ConfError) (purpose : Purpose) (folder : List ℕ) (ds : List Directive) → OnFault e (λ fault. faultless ds ≡ Err fault) → OnFault e (λ fault. built purpose folder ds ≡ Err fault)
-built-faulty (error.Fault f) purpose folder ds h = built-step purpose folder ds ∙ faulty (faultless ds) (suits purpose ds >> Ok (site_of folder (http_in (forest_of ds)))) f h
-built-faulty error.OutOfMemory purpose folder ds h = tt
+pub built-faulty : (R : Type 0) (e : ReadError) (purpose : Purpose) (folder : List ℕ) (ds : List Directive) → FailsBy R e (faultless ds) → FailsBy R e (built purpose folder ds)
+built-faulty R (reads.Fault f) purpose folder ds h = built-step purpose folder ds ∙ faulty (faultless ds) (suits purpose ds >> Ok (site_of (set_in ds) folder (http_in (forest_of ds)))) f h
+built-faulty R (reads.TooBig f) purpose folder ds h = h
+built-faulty R reads.OutOfMemory purpose folder ds h = tt
 
-pub built-unsuited : (e : ConfError) (purpose : Purpose) (folder : List ℕ) (ds : List Directive) → faultless ds ≡ sound → Fails e (suits purpose ds) → OnFault e (λ fault. built purpose folder ds ≡ Err fault)
-built-unsuited (error.Fault f) purpose folder ds a h =
-    let site : Result SiteView ConfFault = Ok (site_of folder (http_in (forest_of ds))) in
+pub built-unsuited : (R : Type 0) (e : ReadError) (purpose : Purpose) (folder : List ℕ) (ds : List Directive) → faultless ds ≡ sound → FailsBy ⊥ e (suits purpose ds) → FailsBy R e (built purpose folder ds)
+built-unsuited R (reads.Fault f) purpose folder ds a h =
+    let site : Result SiteView ConfFault = Ok (site_of (set_in ds) folder (http_in (forest_of ds))) in
     built-step purpose folder ds ∙ after (faultless ds) (suits purpose ds >> site) a ∙ faulty (suits purpose ds) site f h
-built-unsuited error.OutOfMemory purpose folder ds a h = tt
+built-unsuited R (reads.TooBig f) purpose folder ds a h = absurd h.0
+built-unsuited R reads.OutOfMemory purpose folder ds a h = tt
 
-pub built-ok : (purpose : Purpose) (folder : List ℕ) (ds http : List Directive) (site : SiteView) → faultless ds ≡ sound → suits purpose ds ≡ sound
-    → forest_of http ≡ http_in (forest_of ds) → site ≡ site_of folder (forest_of http) → built purpose folder ds ≡ Ok site
-built-ok purpose folder ds http site a s i e =
-    let meant : Result SiteView ConfFault = Ok (site_of folder (http_in (forest_of ds))) in
+pub built-ok : (purpose : Purpose) (folder : List ℕ) (ds http : List Directive) (known : List ℕ → Bool) (site : SiteView) → faultless ds ≡ sound → suits purpose ds ≡ sound
+    → known ≡ set_in ds → forest_of http ≡ http_in (forest_of ds) → site ≡ site_of known folder (forest_of http) → built purpose folder ds ≡ Ok site
+built-ok purpose folder ds http known site a s k i e =
+    let meant : Result SiteView ConfFault = Ok (site_of (set_in ds) folder (http_in (forest_of ds))) in
     built-step purpose folder ds ∙ after (faultless ds) (suits purpose ds >> meant) a ∙ after (suits purpose ds) meant s
-    ∙ ap (λ f. Ok (site_of folder f)) (sym i) ∙ ap Ok (sym e)
+    ∙ ap (λ k. Ok (site_of k folder (http_in (forest_of ds)))) (sym k) ∙ ap (λ f. Ok (site_of known folder f)) (sym i) ∙ ap Ok (sym e)
 
-pub server-shown : (site : Site) (s : Server) (body : Forest) (v : Values) → s.listens ≡ or_default (listens_of (roots body)) → s.defaults ≡ marked_in (roots body)
-    → map (name_seen []) s.names.items ≡ or_empty (names_in (blocks_of (codes "server_name") body)) → s.first_name ≡ first_shown (word_in (codes "server_name") body)
-    → level_whole [] site s.level ≡ level_of v body → list_seen site s.locations.items ≡ locations_in v body → map (named_whole [] site) s.named.items ≡ named_in v body
-    → s.merge ≡ v.settings.merge → s.visible ≡ v.visible → server_whole [] site s ≡ server_with v body
+pub server-shown : (known : List ℕ → Bool) (b : Built) (s : Server) (body : Forest) (v : Values) → s.listens ≡ or_default (listens_of (roots body)) → s.defaults ≡ marked_in (roots body)
+    → map (name_seen (patterns_in b)) s.names.items ≡ or_empty (names_in (blocks_of (codes "server_name") body)) → s.first_name ≡ first_shown (word_in (codes "server_name") body)
+    → level_built b s.level ≡ server_level known v body → list_seen b s.locations.items ≡ locations_in known v body → map (named_built b) s.named.items ≡ named_in known v body
+    → s.merge ≡ v.settings.merge → s.visible ≡ v.visible → server_built b s ≡ server_with known v body
 unfolding server_whole
-server-shown site s body v a d n f l ls ns m x = λ i. record {
+server-shown known b s body v a d n f l ls ns m x = λ i. record {
   listens = map (listen_seen (d i)) (a i);
   names = n i;
   first_name = f i;
@@ -66,7 +67,7 @@ server-shown site s body v a d n f l ls ns m x = λ i. record {
   visible = x i;
 }
 
-pub site-shown : (site : Site) (folder : List ℕ) (http : Forest) (v : Values) → site.folder ≡ folder → v ≡ over (stated (Some []) http) defaults
-    → map (server_whole [] site) site.servers.items ≡ map (server_in v) (blocks_of (codes "server") http) → whole [] site ≡ site_of folder http
+pub site-shown : (known : List ℕ → Bool) (b : Built) (folder : List ℕ) (http : Forest) (v : Values) → b.site.folder ≡ folder → v ≡ over (stated (Some []) http) defaults
+    → map (server_built b) b.site.servers.items ≡ map (server_in known v) (blocks_of (codes "server") http) → site_built b ≡ site_of known folder http
 unfolding site_of whole
-site-shown site folder http v f e s = λ i. record { folder = f i; servers = (s ∙ ap (λ v. map (server_in v) (blocks_of (codes "server") http)) e) i }
+site-shown known b folder http v f e s = λ i. record { folder = f i; servers = (s ∙ ap (λ v. map (server_in known v) (blocks_of (codes "server") http)) e) i }

@@ -1,6 +1,9 @@
 pub mod EntriesLaws
 pub mod NestLaws
 pub mod SiteLaws
+pub mod ProgramLaws
+pub mod LevelLaws
+pub mod NameLaws
 pub mod ShareLaws
 pub mod InheritLaws
 pub mod BuiltLaws

@@ -2,12 +2,12 @@
 use Rattle.std.proofs.Common.{◌≡◌, ℕ, ◌+◌, ◌≤◌, nat_lt, true, false, List, [], ◌∷◌, ◌++◌, cond, refl, ap, ◌∙◌, arith}
 use Rattle.std.proofs.lemmas.Bool.Decides.{nat_tests}
 use Rattle.site_model.specs.declared.site.Location.{Location as CodeLocation}
-use Rattle.site_model.specs.declared.site.Site.{Site}
+use Rattle.conf_inherit.specs.declared.site.Built.{Built}
 use Rattle.site_views.specs.Views.{LocationView, Locations}
 use Rattle.site_views.specs.Views.Locations.{NoMore, Location}
-use Rattle.site_whole.specs.Whole.{Nested, inside, outside, nested, location_whole, locations_whole}
+use Rattle.site_whole.specs.Whole.{Nested, inside, outside, nested, locations_whole}
 use Rattle.site_whole.specs.Whole.Nested.{NoneLeft, Nest}
-use Rattle.conf_inherit.specs.Pools.{follow, list_seen, AreDeep}
+use Rattle.conf_inherit.specs.Pools.{follow, list_seen, AreDeep, patterns_in, location_built}
 
 -- ---- one list after another
 
@@ -97,25 +97,25 @@ nested-with l inner h =
 
 -- ---- what they are seen as
 
-whole-after : (site : Site) (f g : Nested) → locations_whole [] site (after f g) ≡ follow (locations_whole [] site f) (locations_whole [] site g)
+whole-after : (b : Built) (f g : Nested) → locations_whole (patterns_in b) b.site (after f g) ≡ follow (locations_whole (patterns_in b) b.site f) (locations_whole (patterns_in b) b.site g)
 unfolding locations_whole after follow
-whole-after site NoneLeft g = refl
-whole-after site (Nest l inner later) g = ap (Location (location_whole [] site l) (locations_whole [] site inner)) (whole-after site later g)
+whole-after b NoneLeft g = refl
+whole-after b (Nest l inner later) g = ap (Location (location_built b l) (locations_whole (patterns_in b) b.site inner)) (whole-after b later g)
 
-whole-nest : (site : Site) (l : CodeLocation) (f : Nested) → locations_whole [] site (Nest l f NoneLeft) ≡ Location (location_whole [] site l) (locations_whole [] site f) NoMore
+whole-nest : (b : Built) (l : CodeLocation) (f : Nested) → locations_whole (patterns_in b) b.site (Nest l f NoneLeft) ≡ Location (location_built b l) (locations_whole (patterns_in b) b.site f) NoMore
 unfolding locations_whole
-whole-nest site l f = refl
+whole-nest b l f = refl
 
-pub seen-none : (site : Site) → list_seen site [] ≡ NoMore
+pub seen-none : (b : Built) → list_seen b [] ≡ NoMore
 unfolding locations_whole nested
-seen-none site = refl
+seen-none b = refl
 
-pub seen-more : (site : Site) (d : ℕ) (xs : List CodeLocation) (l : CodeLocation) (inner : List CodeLocation) → AreDeep d xs → l.depth ≡ d → AreDeep (d + 1) inner
-    → list_seen site (xs ++ l ∷ inner) ≡ follow (list_seen site xs) (Location (location_whole [] site l) (list_seen site inner) NoMore)
-seen-more site d xs l inner h e k =
+pub seen-more : (b : Built) (d : ℕ) (xs : List CodeLocation) (l : CodeLocation) (inner : List CodeLocation) → AreDeep d xs → l.depth ≡ d → AreDeep (d + 1) inner
+    → list_seen b (xs ++ l ∷ inner) ≡ follow (list_seen b xs) (Location (location_built b l) (list_seen b inner) NoMore)
+seen-more b d xs l inner h e k =
     let within : AreDeep (l.depth + 1) inner = rw e k in
-    ap (locations_whole [] site) (nested-after d xs l inner h (omega (arith, e)) ∙ ap (after (nested xs)) (nested-with l inner within))
-    ∙ whole-after site (nested xs) (Nest l (nested inner) NoneLeft) ∙ ap (follow (list_seen site xs)) (whole-nest site l (nested inner))
+    ap (locations_whole (patterns_in b) b.site) (nested-after d xs l inner h (omega (arith, e)) ∙ ap (after (nested xs)) (nested-with l inner within))
+    ∙ whole-after b (nested xs) (Nest l (nested inner) NoneLeft) ∙ ap (follow (list_seen b xs)) (whole-nest b l (nested inner))
 
 pub follow-none : (a : Locations) → follow a NoMore ≡ a
 unfolding follow
@@ -135,10 +135,10 @@ follow-one : (a inner others : Locations) (here : LocationView) → follow (foll
 unfolding follow
 follow-one a inner others here = follow-then a (Location here inner NoMore) others
 
-pub seen-one : (site : Site) (d : ℕ) (xs : List CodeLocation) (l : CodeLocation) (inner : List CodeLocation) (others : Locations) → AreDeep d xs → l.depth ≡ d → AreDeep (d + 1) inner
-    → follow (list_seen site (xs ++ l ∷ inner)) others ≡ follow (list_seen site xs) (Location (location_whole [] site l) (list_seen site inner) others)
-seen-one site d xs l inner others h e k =
-    ap (λ a. follow a others) (seen-more site d xs l inner h e k) ∙ follow-one (list_seen site xs) (list_seen site inner) others (location_whole [] site l)
+pub seen-one : (b : Built) (d : ℕ) (xs : List CodeLocation) (l : CodeLocation) (inner : List CodeLocation) (others : Locations) → AreDeep d xs → l.depth ≡ d → AreDeep (d + 1) inner
+    → follow (list_seen b (xs ++ l ∷ inner)) others ≡ follow (list_seen b xs) (Location (location_built b l) (list_seen b inner) others)
+seen-one b d xs l inner others h e k =
+    ap (λ a. follow a others) (seen-more b d xs l inner h e k) ∙ follow-one (list_seen b xs) (list_seen b inner) others (location_built b l)
 
 -- ---- depths
 

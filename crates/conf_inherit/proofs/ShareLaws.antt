@@ -118,12 +118,13 @@ module _ (level : List Directive) (old new : Shelf) (between : List MediaTypes) 
         (stands-later no_media no_media media_seen old.media.items between outer.addition_types (lists_by outer).addition_types (placed-kept no_media no_media (λ l. l.ssi_types) media_seen has_types old.media.items between level outer.ssi_types s.ssi_types ssi placed.ssi_types) fits.addition_types);
   }
 
-  pub shared-kept : new.types ≡ old.types → KeepsAll old new
-  shared-kept same = record {
+  pub shared-kept : new.types ≡ old.types → new.patterns ≡ old.patterns → KeepsAll old new
+  shared-kept same also = record {
     types = keeps-same old.types.items new.types.items (ap (λ ts. ts.items) same);
     indexes = placed-kept default_index [] (λ l. l.index) index_names has_items old.indexes.items new.indexes.items level outer.index s.index index placed.index;
     pages = placed-kept [] [] (λ l. l.pages) page_rules has_items old.pages.items new.pages.items level outer.pages s.pages pages placed.pages;
     rules = placed-kept [] [] (λ l. l.rules) rules_in has_items old.rules.items new.rules.items level outer.rules s.rules rules placed.rules;
     auth_sets = placed-kept [] [] (λ l. l.auth_sets) sets_in has_items old.auth_sets.items new.auth_sets.items level outer.auth_sets s.auth_sets sets placed.auth_sets;
     media = keeps-then old.media.items between new.media.items (placed-kept no_media no_media (λ l. l.ssi_types) media_seen has_types old.media.items between level outer.ssi_types s.ssi_types ssi placed.ssi_types) (placed-kept no_media no_media (λ l. l.addition_types) media_seen has_types between new.media.items level outer.addition_types s.addition_types addition placed.addition_types);
+    patterns = keeps-same old.patterns new.patterns also;
   }

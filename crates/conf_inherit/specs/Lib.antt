@@ -1,3 +1,4 @@
+pub mod Programs
 pub mod Values
 pub mod Pools
 pub mod Laws

@@ -1,15 +1,20 @@
 -- How levels and lists are kept under numbers while a site is built.
-use Rattle.std.specs.Prelude.{◌≡◌, ℕ, ◌≤◌, Bool, true, false, List, [], ◌∷◌, ◌++◌, map, Option, None, Some, option_map, unwrap_or, codes, slice_get}
+use Rattle.std.specs.Prelude.{◌≡◌, ℕ, ◌+◌, ◌≤◌, Bool, true, false, List, [], ◌∷◌, ◌++◌, map, Option, None, Some, option_map, unwrap_or, codes, slice_get, length}
 use Rattle.file_type.specs.declared.types.TypeEntry.{TypeEntry}
 use Rattle.ngx_variables.specs.declared.request.Place.{Place}
 use Rattle.ngx_variables.specs.declared.request.Place.TheVariants as places
-use Rattle.site_model.specs.declared.site.Return.{Return}
 use Rattle.site_model.specs.declared.program.RewriteStep.{RewriteStep}
-use Rattle.site_model.specs.declared.program.RewriteStep.TheVariants as steps
 use Rattle.site_model.specs.declared.site.Level.{Level}
-use Rattle.site_model.specs.declared.site.Site.{Site}
+use Rattle.conf_inherit.specs.declared.site.Built.{Built}
 use Rattle.site_model.specs.declared.site.Location.{Location as CodeLocation}
-use Rattle.site_views.specs.Views.{Locations}
+use Rattle.site_model.specs.declared.site.NamedLocation.{NamedLocation}
+use Rattle.site_model.specs.declared.site.Server.{Server}
+use Rattle.site_model.specs.declared.site.ServerName.{ServerName as CodeName}
+use Rattle.site_model.specs.Levels.{raw_level}
+use Rattle.site_views.specs.Pattern.{Pattern}
+use Rattle.site_views.specs.Views.{LevelView, LocationView, Locations, NamedView, ServerName, ServerView, SiteView}
+use Rattle.ngx_pattern.specs.Pattern.{Pattern as SetPattern}
+use Rattle.pattern_search.specs.Found.{patterns_seen}
 use Rattle.site_views.specs.Views.Locations.{NoMore, Location}
 use Rattle.access_rules.specs.declared.rule.Rule.{Rule}
 use Rattle.site_model.specs.declared.site.Rules.{Rules}
@@ -17,8 +22,8 @@ use Rattle.site_model.specs.declared.values.IndexNames.{IndexNames}
 use Rattle.site_model.specs.declared.values.PageRules.{PageRules}
 use Rattle.site_model.specs.declared.values.AuthSets.{AuthSets}
 use Rattle.site_model.specs.declared.values.Tries.{Tries}
-use Rattle.site_views.specs.Values.{Text, IndexName, PageRule}
-use Rattle.site_whole.specs.Whole.{nested, locations_whole, index_seen, page_seen, auth_set_seen, media_seen, default_index, no_media}
+use Rattle.site_views.specs.Values.{Text, IndexName, PageRule, Values as AllValues}
+use Rattle.site_whole.specs.Whole.{nested, values_seen, level_whole, location_whole, locations_whole, named_whole, name_seen, server_whole, whole, index_seen, page_seen, auth_set_seen, media_seen, default_index, no_media}
 use Rattle.conf_text.specs.declared.directive.Directive.{Directive}
 use Rattle.conf_values.specs.Texts.{pieces_of}
 use Rattle.std.specs.Borrow.{Bor}
@@ -32,7 +37,9 @@ use Rattle.conf_lists.specs.Words.{variables_in}
 use Rattle.conf_lists.specs.Lists.{Lists, stated_lists}
 use Rattle.conf_block.specs.Forest.{forest_of, roots}
 use Rattle.conf_block.specs.Blocks.{blocks_of}
-use Rattle.conf_inherit.specs.Values.{Values, default_entries, all_entries}
+use Rattle.conf_block.specs.Forest.{Forest}
+use Rattle.conf_inherit.specs.Programs.{AllAt}
+use Rattle.conf_inherit.specs.Values.{Values, default_entries, all_entries, values_within}
 
 abbrev pub place_by : PlaceText → Place
 place_by (Root text) = places.Root (pieces_of text.now)
@@ -87,18 +94,13 @@ none_shared = record {
   addition_types = None;
 }
 
--- the rewrite program of a level that answers this, if anything
-abbrev pub steps_of : Option Return → List RewriteStep
-steps_of None = []
-steps_of (Some r) = steps.Return r.code r.text ∷ []
-
 abbrev pub number_of : Option Listed → Option ℕ
 number_of s = option_map (λ (s : Listed). s.number) s
 
 -- a level with these values, whose media types and lists have these numbers
 abbrev pub level_by : Values → (types : ℕ) → Shared → (internal : Bool) → Option Tries
-    → Option Return → Level
-level_by v types lists internal tries returned = record {
+    → List RewriteStep → Level
+level_by v types lists internal tries program = record {
   place = v.place;
   types = types;
   requests = v.settings.requests;
@@ -126,7 +128,7 @@ level_by v types lists internal tries returned = record {
   before = v.before;
   after = v.after;
   addition_types = number_of lists.addition_types;
-  program = steps_of returned;
+  program = program;
 }
 
 -- what has a number keeps it
@@ -141,20 +143,46 @@ pub record KeepsAll (old new : Shelf) : Type 0 where
   pub rules : Keeps old.rules.items new.rules.items
   pub auth_sets : Keeps old.auth_sets.items new.auth_sets.items
   pub media : Keeps old.media.items new.media.items
+  pub patterns : Keeps old.patterns new.patterns
 
-abbrev pub shelf_of : Site → Shelf
-shelf_of site = record {
-  types = site.types;
-  indexes = site.indexes;
-  pages = site.pages;
-  rules = site.rules;
-  auth_sets = site.auth_sets;
-  media = site.media;
+abbrev pub shelf_of : Built → Shelf
+shelf_of b = record {
+  types = b.site.types;
+  indexes = b.site.indexes;
+  pages = b.site.pages;
+  rules = b.site.rules;
+  auth_sets = b.site.auth_sets;
+  media = b.site.media;
+  patterns = b.patterns;
 }
 
--- these levels and lists are those of the site, which may have more
-abbrev pub Holds : List Level → Shelf → Site → Type 0
-Holds levels shelf site = Keeps levels site.levels.items × KeepsAll shelf (shelf_of site)
+-- these levels and lists are those of what is built, which may have more
+abbrev pub Holds : List Level → Shelf → Built → Type 0
+Holds levels shelf b = Keeps levels b.site.levels.items × KeepsAll shelf (shelf_of b)
+
+-- ---- what is built, as its meaning sees it
+
+abbrev pub patterns_in : Built → List Pattern
+patterns_in b = patterns_seen b.patterns
+
+abbrev pub level_built : Built → ℕ → LevelView
+level_built b n = level_whole (patterns_in b) b.site n
+
+-- the values of the level with a number
+abbrev pub values_built : Built → ℕ → AllValues
+values_built b n = values_seen b.site (raw_level b.site n)
+
+abbrev pub location_built : Built → CodeLocation → LocationView
+location_built b l = location_whole (patterns_in b) b.site l
+
+abbrev pub named_built : Built → NamedLocation → NamedView
+named_built b n = named_whole (patterns_in b) b.site n
+
+abbrev pub server_built : Built → Server → ServerView
+server_built b s = server_whole (patterns_in b) b.site s
+
+abbrev pub site_built : Built → SiteView
+site_built b = whole (patterns_in b) b.site
 
 -- what a number stands for in a list: `default` without one, and `none` where it is no item's
 abbrev pub listed_in : {A B : Type 0} → (default none : B) → (A → B) → List A → Option ℕ → B
@@ -220,8 +248,8 @@ follow NoMore others = others
 follow (Location here inner later) others = Location here inner (follow later others)
 
 -- what a list of locations is seen as
-abbrev pub list_seen : Site → List CodeLocation → Locations
-list_seen site ls = locations_whole [] site (nested ls)
+abbrev pub list_seen : Built → List CodeLocation → Locations
+list_seen b ls = locations_whole (patterns_in b) b.site (nested ls)
 
 -- none of them is less deep
 abbrev pub AreDeep : ℕ → List CodeLocation → Type 0
@@ -238,4 +266,20 @@ pub record Added (outer : Values) (depth : ℕ) (first last : List Level)
   pub deep : AreDeep depth added
   pub levels_kept : Keeps first last
   pub shelf_kept : KeepsAll first_shelf last_shelf
-  pub same : (site : Site) → Holds last last_shelf site → follow (list_seen site added) left ≡ all
+  pub same : (b : Built) → Holds last last_shelf b → follow (list_seen b added) left ≡ all
+
+-- names were added that are these, whatever patterns the set has behind its own
+pub record AreNamed (old new : List SetPattern) (before after : List CodeName)
+    (names : List ServerName) : Type 0 where
+  pub kept : Keeps old new
+  pub seen : (all : List SetPattern) → Keeps new all →
+      map (name_seen (patterns_seen all)) after ≡ map (name_seen (patterns_seen all)) before ++ names
+
+-- the levels of blocks were added, each under the next number
+pub record BlocksAdded (v : Values) (old new : List Level) (old_shelf new_shelf : Shelf)
+    (blocks : List Forest) : Type 0 where
+  pub levels_kept : Keeps old new
+  pub shelf_kept : KeepsAll old_shelf new_shelf
+  pub count : length new ≡ length old + length blocks
+  pub same : (b : Built) → Holds new new_shelf b →
+      AllAt (values_built b) (length old) (map (values_within v) blocks)

@@ -5,10 +5,7 @@ use Rattle.file_type.specs.Types.{TypeList}
 use Rattle.file_type.specs.declared.types.TypeEntry.{TypeEntry}
 use Rattle.ngx_variables.specs.declared.request.Place.{Place}
 use Rattle.ngx_variables.specs.declared.request.Place.TheVariants.{Root, Rest, Whole}
-use Rattle.site_model.specs.declared.site.Return.{Return}
 use Rattle.site_views.specs.Values.{Values as AllValues, Tries, MediaTypes}
-use Rattle.site_views.specs.Rewrites.{Program}
-use Rattle.site_views.specs.Rewrites.Directive.{Return as Returns}
 use Rattle.site_views.specs.Views.{LevelView}
 use Rattle.site_whole.specs.Whole.{default_index, no_media}
 use Rattle.conf_text.specs.declared.directive.Directive.{Directive}
@@ -17,12 +14,13 @@ use Rattle.conf_table.specs.declared.role.Role.TheVariants as roles
 use Rattle.conf_values.specs.declared.settings.Settings.{Settings}
 use Rattle.conf_values.specs.Settings.{default_settings, with_words}
 use Rattle.conf_values.specs.Texts.{pieces_of}
-use Rattle.conf_values.specs.Returning.{form_of, return_by}
 use Rattle.conf_lists.specs.Words.{tries_of, variables_in}
 use Rattle.conf_lists.specs.Lists.{Lists, stated_lists}
 use Rattle.conf_block.specs.Forest.{Forest, roots}
 use Rattle.conf_block.specs.Roles.{role_of}
 use Rattle.conf_block.specs.Blocks.{Block, blocks_of, block_of}
+use Rattle.rewrite_compile.specs.Programs.{parts_of}
+use Rattle.conf_inherit.specs.Programs.{program_of, blocks_in}
 
 abbrev pub first_word : List (List ℕ) → Option (List ℕ)
 first_word [] = None
@@ -199,11 +197,6 @@ defaults = record {
   visible = None;
 }
 
--- what the first `return` of a level answers
-unfoldable pub returned_in : Forest → Option Return
-returned_in level = option_and_then (λ b. return_by (form_of b.head.args) b.head.args)
-    (block_of (codes "return") level)
-
 -- a level is asked from inside alone
 abbrev pub internal_in : Forest → Bool
 internal_in level = is_some (block_of (codes "internal") level)
@@ -244,15 +237,24 @@ all_values v internal tries = record {
   addition_types = v.lists.addition_types;
 }
 
--- the rewrite program of a level that answers this, if anything
-abbrev pub program_by : Option Return → Program
-program_by None = []
-program_by (Some r) = Returns r.code r.text ∷ []
+-- the values of a level with this block
+abbrev pub values_in : Values → Forest → AllValues
+values_in v block = all_values v (internal_in block) (tries_in block)
 
-abbrev pub level_with : Values → (internal : Bool) → Option Tries → Option Return → LevelView
-level_with v internal tries returned =
-    record { values = all_values v internal tries; program = program_by returned }
+-- those of the block of an `if` in a location with these values
+abbrev pub values_within : Values → Forest → AllValues
+values_within v block = values_in (over (stated (Some []) block) v) block
 
--- the level of a block in which these values hold
-abbrev pub level_of : Values → Forest → LevelView
-level_of v level = level_with v (internal_in level) (tries_in level) (returned_in level)
+-- a server's level, in whose program blocks of `if`s are no levels
+abbrev pub server_level : (known : List ℕ → Bool) → Values → Forest → LevelView
+server_level known v block = record {
+  values = values_in v block;
+  program = program_of None (parts_of known block);
+}
+
+-- the level of a location with this block, where these names are those of the variables that are set
+abbrev pub level_of : (known : List ℕ → Bool) → Values → Forest → LevelView
+level_of known v block = record {
+  values = values_in v block;
+  program = program_of (Some (map (values_within v) (blocks_in known block))) (parts_of known block);
+}

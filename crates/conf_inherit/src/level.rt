@@ -4,17 +4,17 @@ ghost use Rattle.site_whole.specs.Whole.{tries_seen};
 ghost use Rattle.conf_block.specs.Forest.{forest_of, roots};
 ghost use Rattle.conf_lists.specs.Words.{variables_in};
 ghost use Rattle.conf_lists.specs.Lists.{stated_lists};
-ghost use Rattle.conf_inherit.specs.Values.{word_in, entries_in, alias_place, place_in, with_role, with_directive, settings_in, auth_by, added_by, visible_in, either, lists_over, stated, over, defaults, internal_in, tries_in, returned_in};
-ghost use Rattle.conf_inherit.specs.Pools.{place_by, entries_by, lists_by, values_by, none_shared, steps_of, number_of, level_by};
+ghost use Rattle.conf_inherit.specs.Values.{word_in, entries_in, alias_place, place_in, with_role, with_directive, settings_in, auth_by, added_by, visible_in, either, lists_over, stated, over, defaults, internal_in, tries_in};
+ghost use Rattle.conf_inherit.specs.Pools.{place_by, entries_by, lists_by, values_by, none_shared, number_of, level_by};
 
 use byte_text::{ByteText, OutOfMemory};
 use conf_block::{first_branch, has_named, next_named, role_of};
 use conf_lists::tries_of;
 use conf_table::Role;
 use conf_text::Directive;
-use conf_values::{Settings, return_by, value_of};
+use conf_values::{Settings, value_of};
 use ngx_variables::Place;
-use site_model::{Level, Program, Return, RewriteStep, Tries};
+use site_model::{Level, Program, Tries};
 use std::alloc::Global;
 
 /// The first word of the first directive of this name.
@@ -299,17 +299,6 @@ fn place_of(alloc: Global, place: PlaceText<'_>) -> Result<Place, OutOfMemory>
     }
 }
 
-/// What the first `return` of a level answers.
-#[tactic(auto, unfolding(crate::specs::Values::returned_in))]
-fn returned_in(alloc: Global, level: &[Directive]) -> Result<Option<Return>, OutOfMemory>
-    ensures { IfOk result (λ r. r ≡ returned_in (forest_of level.now)) }
-{
-    match next_named(level, b"return") {
-        None => Ok(None),
-        Some(branch) => return_by(alloc, branch.directive.args.as_slice()),
-    }
-}
-
 /// The names that a level tries.
 fn tries_in(alloc: Global, level: &[Directive]) -> Result<Option<Tries>, OutOfMemory>
     ensures { IfOk result
@@ -342,35 +331,21 @@ fn number_of(listed: Option<Listed<'_>>) -> Option<u32>
     }
 }
 
-/// The rewrite program of a level that answers this, if anything.
-fn program_of(alloc: Global, returned: Option<Return>) -> Result<Program, OutOfMemory>
-    ensures { IfOk result (λ p. p ≡ steps_of returned) }
-{
-    let mut program = Program::new(alloc);
-    match returned {
-        None => Ok(program),
-        Some(Return { code, text }) => {
-            program.push(RewriteStep::Return { code, text })?;
-            Ok(program)
-        }
-    }
-}
-
-/// A level with these values, and with what it alone states: what it returns is its rewrite program.
+/// A level with these values, with what it alone states, and with this rewrite program.
 pub fn level_of(
     alloc: Global,
     values: Inherited<'_>,
     level: &[Directive],
+    program: Program,
 ) -> Result<Level, OutOfMemory>
     ensures values { IfOk result (λ l. l ≡ level_by
         (values_by values.entry) values.entry.types values.entry.lists
-        (internal_in (forest_of level.now)) l.tries (returned_in (forest_of level.now))) }
+        (internal_in (forest_of level.now)) l.tries program) }
     ensures tries { IfOk result (λ l. option_map tries_seen l.tries ≡ tries_in
         (forest_of level.now)) }
 {
     let settings = values.settings;
     let lists = values.lists;
-    let returned = returned_in(alloc, level)?;
     Ok(Level {
         place: place_of(alloc, values.place)?,
         types: values.types,
@@ -399,6 +374,6 @@ pub fn level_of(
         before: copied(alloc, values.before)?,
         after: copied(alloc, values.after)?,
         addition_types: number_of(lists.addition_types),
-        program: program_of(alloc, returned)?,
+        program,
     })
 }

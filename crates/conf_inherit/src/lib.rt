@@ -4,10 +4,11 @@
 mod entries;
 mod laws;
 mod level;
+mod names;
 mod pool;
 mod shared;
 mod shelf;
 mod site;
 
 pub use laws::{the_last_holds, what_is_around_holds, what_is_stated_holds};
-pub use site::{Purpose, build};
+pub use site::{Built, Purpose, build};

@@ -1,5 +1,5 @@
 // The levels and the lists of a site, under numbers.
-ghost use Rattle.std.specs.Prelude.{◌≡◌, Some, slice_get, option_map, IfOk};
+ghost use Rattle.std.specs.Prelude.{◌≡◌, ◌+◌, length, Some, slice_get, option_map, IfOk};
 ghost use Rattle.conf_block.specs.Forest.{forest_of};
 ghost use Rattle.conf_inherit.specs.Values.{stated, over, defaults as default_values};
 ghost use Rattle.conf_inherit.specs.Pools.{Keeps, KeepsAll, Fits, none_shared, FitsLists, values_by};
@@ -12,6 +12,7 @@ use byte_text::OutOfMemory;
 use conf_block::has_named;
 use conf_text::Directive;
 use file_type::Types;
+use ngx_pattern::PatternSet;
 use site_model::Level;
 use std::alloc::Global;
 
@@ -38,6 +39,7 @@ impl Pool {
             rules: Vec::new(alloc),
             auth_sets: Vec::new(alloc),
             media: Vec::new(alloc),
+            patterns: PatternSet::new(alloc),
         };
         let levels = Vec::new(alloc);
         Ok(Pool { levels, shelf })
@@ -46,6 +48,9 @@ impl Pool {
     /// Keeps a level, and gives its number.
     pub fn add_level(&mut self, level: Level) -> Result<u32, OutOfMemory>
         ensures there { IfOk result (λ n. slice_get self.new.levels.items n ≡ Some level) }
+        ensures number { IfOk result (λ n. n ≡ length self.old.levels.items) }
+        ensures count { IfOk result (λ n.
+            length self.new.levels.items ≡ length self.old.levels.items + 1) }
         ensures levels { IfOk result (λ n. Keeps self.old.levels.items self.new.levels.items) }
         ensures shelf { IfOk result (λ n. self.new.shelf ≡ self.old.shelf) }
     {

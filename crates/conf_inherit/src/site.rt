@@ -1,28 +1,49 @@
 // The site that directives describe.
-ghost use Rattle.std.specs.Prelude.{◌≡◌, ◌+◌, [], map, option_map, codes, Ok, Err, bytes_eq, IfOk, IfErr};
-ghost use Rattle.conf_text.specs.Reading.{OnFault};
-ghost use Rattle.site_model.specs.declared.site.Site.{Site as Whole};
+ghost use Rattle.std.specs.Prelude.{◌≡◌, ◌≤◌, ◌+◌, ◌++◌, ◌∷◌, [], ℕ, Bool, List, map, flat_map, length, option_map, codes, if◌then◌else◌, IfOk, OnOk};
+ghost use Rattle.conf_inherit.specs.declared.site.Built.{Built as Whole};
+ghost use Rattle.ngx_pattern.specs.Makers.{Rose};
+ghost use Rattle.ngx_pattern.specs.Pattern.{Pattern as SetPattern};
+ghost use Rattle.pattern_search.specs.Found.{patterns_seen};
 ghost use Rattle.site_views.specs.Views.Locations.{NoMore};
-ghost use Rattle.site_whole.specs.Whole.{level_whole, location_whole, named_whole, server_whole, whole};
+ghost use Rattle.site_whole.specs.Whole.{matching_by};
+ghost use Rattle.conf_values.specs.TextSet.{holds};
 ghost use Rattle.conf_block.specs.Forest.{forest_of};
 ghost use Rattle.conf_block.specs.Blocks.{blocks_of};
-ghost use Rattle.conf_check.specs.Gives.{Gives};
+ghost use Rattle.conf_block.specs.Locations.{text_in};
+ghost use Rattle.rewrite_compile.specs.Readings.{reading_by};
+ghost use Rattle.rewrite_compile.specs.Programs.{parts_of, patterns_at, steps_from};
+ghost use Rattle.conf_check.specs.Gives.{Reads, ReadsAlone};
 ghost use Rattle.conf_lists.specs.Words.{variables_in as variables_meant};
-ghost use Rattle.conf_inherit.specs.Values.{level_of as level_meant};
-ghost use Rattle.conf_inherit.specs.Pools.{Keeps, KeepsAll, Holds, Fits, Added, list_seen, values_by};
-ghost use Rattle.conf_inherit.specs.Built.{kind_of, inner_values, location_with, locations_in as locations_meant, named_with, named_in as named_meant, server_with, server_in, site_of, suits, built};
+ghost use Rattle.conf_inherit.specs.Programs.{leads, blocks_in};
+ghost use Rattle.conf_inherit.specs.Values.{server_level, level_of as level_meant};
+ghost use Rattle.conf_inherit.specs.Pools.{Keeps, KeepsAll, Holds, Fits, Added, BlocksAdded, list_seen, values_by, level_built, location_built, named_built, server_built, site_built};
+ghost use Rattle.conf_inherit.specs.Built.{plain_kind, matching_of, inner_values, location_with, locations_in as locations_meant, named_with, named_in as named_meant, server_with, server_in, site_of, suits, built};
 
 use crate::entries::types_of;
 use crate::level::{Inherited, defaults, level_of, word_in};
+use crate::names::{keep_pattern, names_of};
 use crate::pool::Pool;
+use crate::shared::next_number;
 use crate::shelf::Shelf;
 use byte_text::{ByteText, ByteTexts, OutOfMemory};
-use conf_block::{Branch, alias_prefix, http_in, listens_of, next_location, next_named, text_in};
-use conf_check::{check, check_effects};
-use conf_lists::{defaults_of, first_shown, names_of, variables_in};
+use conf_block::{
+    Branch, alias_prefix, first_branch, http_in, listens_of, next_location, next_named, text_in,
+};
+use conf_check::{ReadError, check, check_effects, names_in, regex_case};
+use conf_lists::{defaults_of, first_shown, variables_in};
 use conf_text::{ConfError, Directive};
-use site_model::{Location, LocationKind, NamedLocation, Server, Site};
+use conf_values::TextSet;
+use ngx_pattern::{PatternMaker, PatternSet};
+use rewrite_compile::{Compiled, RawStep, Reading, compile, reading_by};
+use site_model::{Location, LocationKind, NamedLocation, Program, Server, Site};
 use std::alloc::Global;
+
+/// A site, and the set of the patterns that it names by number.
+#[derive(Drop)]
+pub struct Built {
+    pub site: Site,
+    pub patterns: PatternSet,
+}
 
 /// What a site is built for.
 #[derive(Clone, Copy, Debug, PartialEq, Eq)]
@@ -33,28 +54,153 @@ pub enum Purpose {
     Serving,
 }
 
-/// Keeps the level of a block in which these values hold, and gives its number.
-fn add_level(
+/// Whether the block of what this says has a part in a rewrite program.
+fn has_block(reading: &Option<Reading>) -> bool
+    ensures { result ≡ leads reading.now }
+{
+    match reading {
+        Some(Reading::Step(RawStep::If(_))) => true,
+        Some(_) => false,
+        None => false,
+    }
+}
+
+/// Whether a directive is an `if`, whose block has a part in a rewrite program.
+fn is_block(alloc: Global, known: &TextSet, directive: &Directive) -> Result<bool, OutOfMemory>
+    ensures { IfOk result (λ so. so ≡ leads
+        (reading_by (holds known.now.keys) directive.now.name directive.now.args)) }
+{
+    let name = directive.name.as_slice();
+    let reading = reading_by(alloc, known, name, directive.args.as_slice())?;
+    Ok(has_block(&reading))
+}
+
+/// The block of an `if`, and nothing of another directive.
+#[tactic(auto, unfolding(crate::specs::Programs::blocks_in, conf_block::specs::Forest::forest_of))]
+fn block_if(is_if: bool, block: &[Directive]) -> &[Directive]
+    ensures blocks { (known : List ℕ → Bool) → blocks_in known (forest_of result.now)
+        ≡ (if is_if then blocks_in known (forest_of block.now) else []) }
+    ensures len { length result.now ≤ length block.now }
+{
+    if is_if { block } else { &[] }
+}
+
+/// Keeps the level of the block of an `if` in a location in which these values hold.
+fn add_block<'a>(
     alloc: Global,
+    pool: &mut Pool,
+    values: Inherited<'a>,
+    is_if: bool,
+    block: &'a [Directive],
+) -> Result<(), OutOfMemory>
+    requires { Fits pool.old.shelf values }
+    ensures { IfOk result (λ u. BlocksAdded
+        (values_by values.entry) pool.old.levels.items pool.new.levels.items pool.old.shelf
+        pool.new.shelf (if is_if then forest_of block.now ∷ [] else [])) }
+{
+    if !is_if {
+        return Ok(());
+    }
+    let inner = pool.inner(alloc, Some(b""), block, values)?;
+    let made = level_of(alloc, inner, block, Program::new(alloc))?;
+    let _number = pool.add_level(made)?;
+    Ok(())
+}
+
+/// Keeps the levels of the blocks of `if`s in a location in which these values hold, each under the next number.
+fn add_blocks<'a>(
+    alloc: Global,
+    known: &TextSet,
+    pool: &mut Pool,
+    values: Inherited<'a>,
+    level: &'a [Directive],
+) -> Result<(), OutOfMemory>
+    requires { Fits pool.old.shelf values }
+    ensures { IfOk result (λ u. BlocksAdded
+        (values_by values.entry) pool.old.levels.items pool.new.levels.items pool.old.shelf
+        pool.new.shelf (blocks_in (holds known.now.keys) (forest_of level.now))) }
+{
+    let mut rest = level;
+    while let Some(branch) = first_branch(rest) {
+        let is_if = is_block(alloc, known, branch.directive)?;
+        add_block(alloc, pool, values, is_if, branch.block)?;
+        add_blocks(alloc, known, pool, values, block_if(is_if, branch.block))?;
+        rest = branch.beside;
+    }
+    Ok(())
+}
+
+/// The rewrite program of a level, where the blocks of its `if`s are levels of their own from this number on.
+fn program_of<M: PatternMaker>(
+    alloc: Global,
+    maker: &mut M,
+    known: &TextSet,
+    patterns: &mut PatternSet,
+    level: &[Directive],
+    first_block: Option<u32>,
+) -> Result<Program, OutOfMemory>
+    ensures program { let parts = parts_of (holds known.now.keys) (forest_of level.now) in
+        IfOk result (λ program. program ≡ steps_from (length patterns.old) first_block parts) }
+    ensures patterns { let parts = parts_of (holds known.now.keys) (forest_of level.now) in
+        OnOk result (patterns.new ≡ patterns.old ++ flat_map patterns_at parts) }
+{
+    match compile(alloc, known, maker, patterns, level, first_block) {
+        Ok(Compiled { program, .. }) => Ok(program),
+        Err(_error) => Err(OutOfMemory),
+    }
+}
+
+/// Keeps the level of a server in which these values hold, and gives its number.
+fn add_own<M: PatternMaker>(
+    alloc: Global,
+    maker: &mut M,
+    known: &TextSet,
     pool: &mut Pool,
     values: Inherited<'_>,
     block: &[Directive],
 ) -> Result<u32, OutOfMemory>
     requires { Fits pool.old.shelf values }
-    ensures seen { IfOk result (λ n. (site : Whole)
-        → Holds pool.new.levels.items pool.new.shelf site
-        → level_whole [] site n ≡ level_meant (values_by values.entry) (forest_of block.now)) }
+    ensures seen { IfOk result (λ n. (b : Whole)
+        → Holds pool.new.levels.items pool.new.shelf b
+        → level_built b n ≡ server_level
+        (holds known.now.keys) (values_by values.entry) (forest_of block.now)) }
     ensures levels { IfOk result (λ n. Keeps pool.old.levels.items pool.new.levels.items) }
-    ensures shelf { IfOk result (λ n. pool.new.shelf ≡ pool.old.shelf) }
+    ensures shelf { IfOk result (λ n. KeepsAll pool.old.shelf pool.new.shelf) }
 {
-    let number = pool.add_level(level_of(alloc, values, block)?)?;
+    let program = program_of(alloc, maker, known, &mut pool.shelf.patterns, block, None)?;
+    let number = pool.add_level(level_of(alloc, values, block, program)?)?;
     Ok(number)
 }
 
-/// How a location of these words is matched.
-#[tactic(auto, unfolding(crate::specs::Built::kind_of))]
-fn kind_of(words: &[ByteText]) -> LocationKind
-    ensures { result ≡ kind_of words.now }
+/// Keeps the level of a location in which these values hold, with those of the blocks in its program, and gives its number.
+fn add_level<'a, M: PatternMaker>(
+    alloc: Global,
+    maker: &mut M,
+    known: &TextSet,
+    pool: &mut Pool,
+    values: Inherited<'a>,
+    block: &'a [Directive],
+) -> Result<u32, OutOfMemory>
+    requires { Fits pool.old.shelf values }
+    ensures seen { IfOk result (λ n. (b : Whole)
+        → Holds pool.new.levels.items pool.new.shelf b
+        → level_built b n ≡ level_meant
+        (holds known.now.keys) (values_by values.entry) (forest_of block.now)) }
+    ensures levels { IfOk result (λ n. Keeps pool.old.levels.items pool.new.levels.items) }
+    ensures shelf { IfOk result (λ n. KeepsAll pool.old.shelf pool.new.shelf) }
+{
+    let first = next_number(pool.levels.len() + 1)?;
+    let patterns = &mut pool.shelf.patterns;
+    let program = program_of(alloc, maker, known, patterns, block, Some(first))?;
+    let number = pool.add_level(level_of(alloc, values, block, program)?)?;
+    add_blocks(alloc, known, pool, values, block)?;
+    Ok(number)
+}
+
+/// How a location of these words is matched, where it is not by a pattern.
+#[tactic(auto, unfolding(crate::specs::Built::plain_kind))]
+fn plain_kind(words: &[ByteText]) -> LocationKind
+    ensures { result ≡ plain_kind words.now }
 {
     match words {
         [] => LocationKind::Prefix,
@@ -65,8 +211,6 @@ fn kind_of(words: &[ByteText]) -> LocationKind
                 LocationKind::Exactly
             } else if modifier == b"^~".as_slice() {
                 LocationKind::FirmPrefix
-            } else if modifier == b"~".as_slice() || modifier == b"~*".as_slice() {
-                LocationKind::Regex(0)
             } else {
                 LocationKind::Prefix
             }
@@ -74,32 +218,54 @@ fn kind_of(words: &[ByteText]) -> LocationKind
     }
 }
 
+/// How a location of these words is matched; a pattern is added to the set.
+fn kind_of<M: PatternMaker>(
+    maker: &mut M,
+    patterns: &mut PatternSet,
+    words: &[ByteText],
+) -> Result<LocationKind, OutOfMemory>
+    ensures seen { IfOk result (λ kind. (all : List SetPattern) → Keeps patterns.new all
+        → matching_by (patterns_seen all) (text_in words.now) kind ≡ matching_of words.now) }
+    ensures kept { IfOk result (λ kind. Keeps patterns.old patterns.new) }
+{
+    match regex_case(words) {
+        Some(nocase) => {
+            let number = keep_pattern(maker, patterns, text_in(words), nocase)?;
+            Ok(LocationKind::Regex(number))
+        }
+        None => Ok(plain_kind(words)),
+    }
+}
+
 /// A location at this depth, in which these values hold.
-fn location_of(
+fn location_of<'a, M: PatternMaker>(
     alloc: Global,
+    maker: &mut M,
+    known: &TextSet,
     pool: &mut Pool,
-    values: Inherited<'_>,
+    values: Inherited<'a>,
     depth: u32,
-    branch: Branch<'_>,
+    branch: Branch<'a>,
 ) -> Result<Location, OutOfMemory>
     requires { Fits pool.old.shelf values }
-    ensures seen { IfOk result (λ l. (site : Whole)
-        → Holds pool.new.levels.items pool.new.shelf site
-        → location_whole [] site l ≡ location_with
-        (values_by values.entry) branch.entry.directive.now
+    ensures seen { IfOk result (λ l. (b : Whole)
+        → Holds pool.new.levels.items pool.new.shelf b
+        → location_built b l ≡ location_with
+        (holds known.now.keys) (values_by values.entry) branch.entry.directive.now
         (forest_of branch.entry.block.now)) }
     ensures depth { IfOk result (λ l. l.depth ≡ depth) }
     ensures there { IfOk result (λ l. Fits pool.new.shelf values.entry) }
     ensures levels { IfOk result (λ l. Keeps pool.old.levels.items pool.new.levels.items) }
-    ensures shelf { IfOk result (λ l. pool.new.shelf ≡ pool.old.shelf) }
+    ensures shelf { IfOk result (λ l. KeepsAll pool.old.shelf pool.new.shelf) }
 {
     let words = branch.directive.args.as_slice();
-    let level = add_level(alloc, pool, values, branch.block)?;
+    let kind = kind_of(maker, &mut pool.shelf.patterns, words)?;
+    let level = add_level(alloc, maker, known, pool, values, branch.block)?;
     let text = ByteText::from_slice(alloc, text_in(words))?;
     Ok(Location {
         text,
         level,
-        kind: kind_of(words),
+        kind,
         depth,
     })
 }
@@ -115,8 +281,10 @@ fn depth_inside(depth: u32) -> Result<u32, OutOfMemory>
 }
 
 /// Adds the locations of a level that paths find, each with those in it after it.
-fn add_locations<'a>(
+fn add_locations<'a, M: PatternMaker>(
     alloc: Global,
+    maker: &mut M,
+    known: &TextSet,
     pool: &mut Pool,
     outer: Inherited<'a>,
     depth: u32,
@@ -128,31 +296,43 @@ fn add_locations<'a>(
         (values_by outer.entry) depth pool.old.levels.items pool.new.levels.items pool.old.shelf
         pool.new.shelf
         locations.old.items locations.new.items NoMore
-        (locations_meant (values_by outer.entry) (forest_of level.now))) }
+        (locations_meant (holds known.now.keys) (values_by outer.entry) (forest_of level.now))) }
 {
     let mut rest = level;
     while let Some(branch) = next_location(rest, false) {
         let prefix = alias_prefix(branch.directive.args.as_slice());
         let values = pool.inner(alloc, prefix, branch.block, outer)?;
-        locations.push(location_of(alloc, pool, values, depth, branch)?)?;
+        let location = location_of(alloc, maker, known, pool, values, depth, branch)?;
+        locations.push(location)?;
         let inside = depth_inside(depth)?;
-        add_locations(alloc, pool, values, inside, branch.block, locations)?;
+        add_locations(
+            alloc,
+            maker,
+            known,
+            pool,
+            values,
+            inside,
+            branch.block,
+            locations,
+        )?;
         rest = branch.beside;
     }
     Ok(())
 }
 
 /// A location `@name`, within these values.
-fn named_of<'a>(
+fn named_of<'a, M: PatternMaker>(
     alloc: Global,
+    maker: &mut M,
+    known: &TextSet,
     pool: &mut Pool,
     outer: Inherited<'a>,
     branch: Branch<'a>,
 ) -> Result<NamedLocation, OutOfMemory>
     requires { Fits pool.old.shelf outer }
-    ensures seen { IfOk result (λ n. (site : Whole)
-        → Holds pool.new.levels.items pool.new.shelf site
-        → named_whole [] site n ≡ named_with
+    ensures seen { IfOk result (λ n. (b : Whole)
+        → Holds pool.new.levels.items pool.new.shelf b
+        → named_built b n ≡ named_with (holds known.now.keys)
         (inner_values (values_by outer.entry) branch.entry.directive.now
         (forest_of branch.entry.block.now)) branch.entry.directive.now
         (forest_of branch.entry.block.now)) }
@@ -161,22 +341,24 @@ fn named_of<'a>(
 {
     let words = branch.directive.args.as_slice();
     let values = pool.inner(alloc, alias_prefix(words), branch.block, outer)?;
-    let level = add_level(alloc, pool, values, branch.block)?;
+    let level = add_level(alloc, maker, known, pool, values, branch.block)?;
     let name = ByteText::from_slice(alloc, text_in(words))?;
     Ok(NamedLocation { name, level })
 }
 
 /// The locations `@name` of a server, with its values.
-fn named_in<'a>(
+fn named_in<'a, M: PatternMaker>(
     alloc: Global,
+    maker: &mut M,
+    known: &TextSet,
     pool: &mut Pool,
     outer: Inherited<'a>,
     server: &'a [Directive],
 ) -> Result<Vec<NamedLocation>, OutOfMemory>
     requires { Fits pool.old.shelf outer }
-    ensures seen { IfOk result (λ ns. (site : Whole)
-        → Holds pool.new.levels.items pool.new.shelf site
-        → map (named_whole [] site) ns.items ≡ named_meant (values_by outer.entry)
+    ensures seen { IfOk result (λ ns. (b : Whole)
+        → Holds pool.new.levels.items pool.new.shelf b
+        → map (named_built b) ns.items ≡ named_meant (holds known.now.keys) (values_by outer.entry)
         (forest_of server.now)) }
     ensures levels { IfOk result (λ ns. Keeps pool.old.levels.items pool.new.levels.items) }
     ensures shelf { IfOk result (λ ns. KeepsAll pool.old.shelf pool.new.shelf) }
@@ -184,29 +366,31 @@ fn named_in<'a>(
     let mut named = Vec::new(alloc);
     let mut rest = server;
     while let Some(branch) = next_location(rest, true) {
-        named.push(named_of(alloc, pool, outer, branch)?)?;
+        named.push(named_of(alloc, maker, known, pool, outer, branch)?)?;
         rest = branch.beside;
     }
     Ok(named)
 }
 
 /// The locations of a server that paths find, with its values.
-fn locations_in<'a>(
+fn locations_in<'a, M: PatternMaker>(
     alloc: Global,
+    maker: &mut M,
+    known: &TextSet,
     pool: &mut Pool,
     outer: Inherited<'a>,
     server: &'a [Directive],
 ) -> Result<Vec<Location>, OutOfMemory>
     requires { Fits pool.old.shelf outer }
-    ensures seen { IfOk result (λ ls. (site : Whole)
-        → Holds pool.new.levels.items pool.new.shelf site
-        → list_seen site ls.items ≡ locations_meant (values_by outer.entry)
+    ensures seen { IfOk result (λ ls. (b : Whole)
+        → Holds pool.new.levels.items pool.new.shelf b
+        → list_seen b ls.items ≡ locations_meant (holds known.now.keys) (values_by outer.entry)
         (forest_of server.now)) }
     ensures levels { IfOk result (λ ls. Keeps pool.old.levels.items pool.new.levels.items) }
     ensures shelf { IfOk result (λ ls. KeepsAll pool.old.shelf pool.new.shelf) }
 {
     let mut locations = Vec::new(alloc);
-    add_locations(alloc, pool, outer, 0, server, &mut locations)?;
+    add_locations(alloc, maker, known, pool, outer, 0, server, &mut locations)?;
     Ok(locations)
 }
 
@@ -222,25 +406,28 @@ fn visible_of(alloc: Global, words: Option<&[ByteText]>) -> Result<Option<ByteTe
 }
 
 /// A server in which these values hold.
-fn server_of<'a>(
+fn server_of<'a, M: PatternMaker>(
     alloc: Global,
+    maker: &mut M,
+    known: &TextSet,
     pool: &mut Pool,
     values: Inherited<'a>,
     block: &'a [Directive],
 ) -> Result<Server, OutOfMemory>
     requires { Fits pool.old.shelf values }
-    ensures seen { IfOk result (λ s. (site : Whole)
-        → Holds pool.new.levels.items pool.new.shelf site
-        → server_whole [] site s ≡ server_with (values_by values.entry) (forest_of block.now)) }
+    ensures seen { IfOk result (λ s. (b : Whole)
+        → Holds pool.new.levels.items pool.new.shelf b
+        → server_built b s ≡ server_with
+        (holds known.now.keys) (values_by values.entry) (forest_of block.now)) }
     ensures levels { IfOk result (λ s. Keeps pool.old.levels.items pool.new.levels.items) }
     ensures shelf { IfOk result (λ s. KeepsAll pool.old.shelf pool.new.shelf) }
 {
     let listens = listens_of(alloc, block)?;
-    let level = add_level(alloc, pool, values, block)?;
-    let locations = locations_in(alloc, pool, values, block)?;
-    let named = named_in(alloc, pool, values, block)?;
+    let level = add_own(alloc, maker, known, pool, values, block)?;
+    let locations = locations_in(alloc, maker, known, pool, values, block)?;
+    let named = named_in(alloc, maker, known, pool, values, block)?;
     let defaults = defaults_of(alloc, block)?;
-    let names = names_of(alloc, block)?;
+    let names = names_of(alloc, maker, &mut pool.shelf.patterns, block)?;
     let first_name = ByteText::from_slice(alloc, first_shown(word_in(block, b"server_name")))?;
     let visible = visible_of(alloc, values.visible)?;
     Ok(Server {
@@ -257,22 +444,25 @@ fn server_of<'a>(
 }
 
 /// The servers in `http`, with its values.
-fn servers_of<'a>(
+fn servers_of<'a, M: PatternMaker>(
     alloc: Global,
+    maker: &mut M,
+    known: &TextSet,
     pool: &mut Pool,
     outer: Inherited<'a>,
     http: &'a [Directive],
 ) -> Result<Vec<Server>, OutOfMemory>
     requires { Fits pool.old.shelf outer }
-    ensures { IfOk result (λ ss. (site : Whole) → Holds pool.new.levels.items pool.new.shelf site
-        → map (server_whole [] site) ss.items ≡ map (server_in (values_by outer.entry))
+    ensures { IfOk result (λ ss. (b : Whole) → Holds pool.new.levels.items pool.new.shelf b
+        → map (server_built b) ss.items
+        ≡ map (server_in (holds known.now.keys) (values_by outer.entry))
         (blocks_of (codes "server") (forest_of http.now))) }
 {
     let mut servers = Vec::new(alloc);
     let mut rest = http;
     while let Some(branch) = next_named(rest, b"server") {
         let values = pool.inner(alloc, Some(b""), branch.block, outer)?;
-        servers.push(server_of(alloc, pool, values, branch.block)?)?;
+        servers.push(server_of(alloc, maker, known, pool, values, branch.block)?)?;
         rest = branch.beside;
     }
     Ok(servers)
@@ -280,13 +470,19 @@ fn servers_of<'a>(
 
 /// The site of these directives, which stand in `http`.
 #[tactic(auto, unfolding(crate::specs::Built::site_of))]
-fn site_of(alloc: Global, folder: &[u8], http: &[Directive]) -> Result<Site, OutOfMemory>
+fn site_of<M: PatternMaker>(
+    alloc: Global,
+    maker: &mut M,
+    known: &TextSet,
+    folder: &[u8],
+    http: &[Directive],
+) -> Result<Built, OutOfMemory>
     ensures { IfOk result
-        (λ site. whole [] site ≡ site_of folder.now (forest_of http.now)) }
+        (λ b. site_built b ≡ site_of (holds known.now.keys) folder.now (forest_of http.now)) }
 {
     let mut pool = Pool::new(alloc)?;
     let values = pool.inner(alloc, Some(b""), http, defaults())?;
-    let servers = servers_of(alloc, &mut pool, values, http)?;
+    let servers = servers_of(alloc, maker, known, &mut pool, values, http)?;
     let Pool { levels, shelf } = pool;
     let Shelf {
         types,
@@ -295,29 +491,35 @@ fn site_of(alloc: Global, folder: &[u8], http: &[Directive]) -> Result<Site, Out
         rules,
         auth_sets,
         media,
+        patterns,
     } = shelf;
-    Ok(Site {
+    let site = Site {
         folder: ByteText::from_slice(alloc, folder)?,
         servers,
         levels,
         types,
-        outside: level_of(alloc, defaults(), &[])?,
+        outside: level_of(alloc, defaults(), &[], Program::new(alloc))?,
         plain: types_of(alloc, defaults())?,
         indexes,
         pages,
         rules,
         auth_sets,
         media,
-    })
+    };
+    Ok(Built { site, patterns })
 }
 
 /// Whether directives suit their purpose.
-fn suit(alloc: Global, purpose: Purpose, directives: &[Directive]) -> Result<(), ConfError>
-    ensures { Gives (λ x. x) result (suits purpose directives.now) }
+fn suit(alloc: Global, purpose: Purpose, directives: &[Directive]) -> Result<(), ReadError>
+    ensures { ReadsAlone (λ x. x) result (suits purpose directives.now) }
 {
     match purpose {
         Purpose::Reading => Ok(()),
-        Purpose::Serving => check_effects(alloc, directives),
+        Purpose::Serving => match check_effects(alloc, directives) {
+            Ok(()) => Ok(()),
+            Err(ConfError::Fault(fault)) => Err(ReadError::Fault(fault)),
+            Err(ConfError::OutOfMemory) => Err(ReadError::OutOfMemory),
+        },
     }
 }
 
@@ -326,26 +528,27 @@ fn suit(alloc: Global, purpose: Purpose, directives: &[Directive]) -> Result<(),
 /// that at which relative paths start.
 ///
 /// The values of a level are those that its block states, over those of the blocks around it, over the defaults. Locations
-/// have their kinds and those in them, servers their names. What a level returns is its rewrite program; other steps of
-/// programs and patterns are not read yet.
+/// have their kinds and those in them, servers their names. A level has its own rewrite program; in a location the block of an `if`
+/// is a level of its own. Patterns are in the set that is built, made by this maker.
 ///
 /// # Errors
 ///
 /// `Fault` for the first fault, as `conf_check::check` finds it; of a site that is to be served then for the first directive
-/// that has no effect yet. And `OutOfMemory`.
-pub fn build(
+/// that has no effect yet. `TooBig` for a pattern that the maker refused. And `OutOfMemory`, also where the maker refuses a pattern that
+/// it made before.
+pub fn build<M: PatternMaker>(
     alloc: Global,
+    maker: &mut M,
     purpose: Purpose,
     folder: &[u8],
     directives: &[Directive],
-) -> Result<Site, ConfError>
-    ensures ok { IfOk result (λ site. built purpose folder.now directives.now ≡ Ok
-        (whole [] site)) }
-    ensures fault { IfErr result (λ e. OnFault e
-        (λ fault. built purpose folder.now directives.now ≡ Err fault)) }
+) -> Result<Built, ReadError>
+    ensures { Reads (Rose (M.refusals maker.old) (M.refusals maker.new)) site_built result
+        (built purpose folder.now directives.now) }
 {
-    check(alloc, directives)?;
+    check(alloc, maker, directives)?;
     suit(alloc, purpose, directives)?;
-    let site = site_of(alloc, folder, http_in(directives))?;
-    Ok(site)
+    let known = names_in(alloc, directives)?;
+    let built = site_of(alloc, maker, &known, folder, http_in(directives))?;
+    Ok(built)
 }

@@ -1,11 +1,10 @@
 -- The names of a server (https://nginx.org/en/docs/http/server_names.html), and the addresses whose default server it is.
-use Rattle.std.specs.Prelude.{ℕ, ◌-◌, List, [], ◌∷◌, ◌++◌, map, length, take, drop, nat_eq, codes, if◌then◌else◌, Option, None, Some}
+use Rattle.std.specs.Prelude.{ℕ, ◌-◌, true, List, [], ◌∷◌, ◌++◌, map, length, take, drop, nat_eq, codes, if◌then◌else◌, Option, None, Some}
 use Rattle.std.specs.List.{starts_with, ends_with}
 use Rattle.http_types.specs.declared.words.Addr.{Addr}
 use Rattle.ngx_variables.specs.Grammar.{lowercase}
 use Rattle.site_views.specs.Views.{ServerName}
 use Rattle.site_views.specs.Views.ServerName.{Whole, Ending, Beginning, WithSubdomains, Like}
-use Rattle.site_whole.specs.Whole.{pattern_at}
 use Rattle.conf_text.specs.declared.directive.Directive.{Directive}
 use Rattle.conf_values.specs.Words.{begins_with}
 use Rattle.conf_values.specs.Listening.{is_marked}
@@ -21,9 +20,9 @@ plain_name text =
     else (if ends_with nat_eq text (codes ".*") then Beginning (take (length text - 1) text)
     else (if begins_with 46 text then WithSubdomains text else Whole text))
 
--- A word of `server_name`. Patterns are not read yet: one is matched by none.
+-- A word of `server_name`: a pattern behind a `~`, in which letters match in either case, or a name.
 unfoldable pub name_of : List ℕ → ServerName
-name_of word = if begins_with 126 word then Like (pattern_at [] 0) else plain_name (lowercase word)
+name_of word = if begins_with 126 word then Like (record { text = drop 1 word; nocase = true }) else plain_name (lowercase word)
 
 -- the names of directives of this name, in the order of the text
 abbrev pub names_in : List Block → List ServerName

@@ -1,14 +1,14 @@
-// The names of a server, and the addresses whose default server it is.
-ghost use Rattle.std.specs.Prelude.{◌≡◌, ◌-◌, ◌≤◌, [], ◌∷◌, ◌++◌, map, length, take, codes, option_map, OnOk, IfOk};
-ghost use Rattle.site_views.specs.Views.ServerName.{Whole};
+// Names of a server, and the addresses whose default server it is.
+ghost use Rattle.std.specs.Prelude.{◌≡◌, ◌-◌, ◌≤◌, List, [], ◌++◌, length, take, option_map, OnOk, IfOk};
+ghost use Rattle.ngx_variables.specs.Grammar.{lowercase as lower};
+ghost use Rattle.site_views.specs.Pattern.{Pattern};
 ghost use Rattle.site_whole.specs.Whole.{name_seen};
 ghost use Rattle.conf_block.specs.Forest.{forest_of, roots};
-ghost use Rattle.conf_block.specs.Blocks.{blocks_of};
 ghost use Rattle.conf_block.specs.Listening.{in_front};
-ghost use Rattle.conf_lists.specs.Hosts.{plain_name, name_of, names_in, or_empty, shown, first_shown, marked_by, marked_in};
+ghost use Rattle.conf_lists.specs.Hosts.{plain_name, shown, first_shown, marked_by, marked_in};
 
 use byte_text::{ByteText, OutOfMemory};
-use conf_block::{address_by, first_branch, next_named, role_of};
+use conf_block::{address_by, first_branch, role_of};
 use conf_table::Role;
 use conf_text::Directive;
 use conf_values::{begins_with, is_marked, lowercase, rest_of};
@@ -24,10 +24,12 @@ fn before_last(text: &[u8]) -> &[u8]
     &text[..text.len() - 1]
 }
 
-/// A name in lower case.
-fn plain_name(alloc: Global, text: ByteText) -> Result<ServerName, OutOfMemory>
-    ensures { IfOk result (λ name. name_seen [] name ≡ plain_name text) }
+/// A name of a server that is no pattern (<https://nginx.org/en/docs/http/server_names.html>), in lower case.
+pub fn plain_name(alloc: Global, word: &[u8]) -> Result<ServerName, OutOfMemory>
+    ensures { IfOk result (λ name. (patterns : List Pattern)
+        → name_seen patterns name ≡ plain_name (lower word.now)) }
 {
+    let text = lowercase(alloc, word)?;
     let bytes = text.as_slice();
     if bytes.starts_with(b"*.") {
         return Ok(ServerName::Ending(ByteText::from_slice(alloc, rest_of(bytes))?));
@@ -39,66 +41,6 @@ fn plain_name(alloc: Global, text: ByteText) -> Result<ServerName, OutOfMemory>
         return Ok(ServerName::WithSubdomains(text));
     }
     Ok(ServerName::Whole(text))
-}
-
-/// A word of `server_name`; patterns are not read yet.
-#[tactic(auto, unfolding(crate::specs::Hosts::name_of))]
-fn name_of(alloc: Global, word: &[u8]) -> Result<ServerName, OutOfMemory>
-    ensures { IfOk result (λ name. name_seen [] name ≡ name_of word.now) }
-{
-    if begins_with(word, b'~') {
-        return Ok(ServerName::Like(0));
-    }
-    let name = plain_name(alloc, lowercase(alloc, word)?)?;
-    Ok(name)
-}
-
-fn push_name(alloc: Global, names: &mut Vec<ServerName>, word: &[u8]) -> Result<(), OutOfMemory>
-    ensures { OnOk result (map (name_seen []) names.new.items ≡ map (name_seen []) names.old.items
-        ++ name_of word.now ∷ []) }
-{
-    names.push(name_of(alloc, word)?)?;
-    Ok(())
-}
-
-fn push_names(
-    alloc: Global,
-    names: &mut Vec<ServerName>,
-    words: &[ByteText],
-) -> Result<(), OutOfMemory>
-    ensures { OnOk result (map (name_seen []) names.new.items ≡ map (name_seen []) names.old.items
-        ++ map name_of words.now) }
-{
-    for word in words {
-        push_name(alloc, names, word.as_slice())?;
-    }
-    Ok(())
-}
-
-/// The names that the `server_name` directives of a server state.
-fn stated_names(alloc: Global, server: &[Directive]) -> Result<Vec<ServerName>, OutOfMemory>
-    ensures { IfOk result (λ names. map (name_seen []) names.items ≡ names_in
-        (blocks_of (codes "server_name") (forest_of server.now))) }
-{
-    let mut names = Vec::new(alloc);
-    let mut rest = server;
-    while let Some(branch) = next_named(rest, b"server_name") {
-        push_names(alloc, &mut names, branch.directive.args.as_slice())?;
-        rest = branch.beside;
-    }
-    Ok(names)
-}
-
-/// The names of a server: the empty one where it states none (<https://nginx.org/en/docs/http/server_names.html>).
-pub fn names_of(alloc: Global, server: &[Directive]) -> Result<Vec<ServerName>, OutOfMemory>
-    ensures { IfOk result (λ names. map (name_seen []) names.items ≡ or_empty
-        (names_in (blocks_of (codes "server_name") (forest_of server.now)))) }
-{
-    let mut names = stated_names(alloc, server)?;
-    if names.is_empty() {
-        names.push(ServerName::Whole(ByteText::new(alloc)))?;
-    }
-    Ok(names)
 }
 
 fn shown(word: &[u8]) -> &[u8]

@@ -7,7 +7,7 @@ mod lists;
 mod stated;
 mod words;
 
-pub use hosts::{defaults_of, first_shown, names_of};
+pub use hosts::{defaults_of, first_shown, plain_name};
 pub use lists::LevelLists;
 pub use stated::stated_lists;
 pub use words::{tries_of, variables_in};

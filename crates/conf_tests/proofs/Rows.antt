@@ -1,14 +1,11 @@
 -- What words are as values of directives, row by row: each is computed by the check.
 use Rattle.std.specs.Prelude.{◌≡◌, [], ◌∷◌, true, false, None, Some, codes, refl}
-use Rattle.conf_table.specs.declared.role.Listing.TheVariants as listings
-use Rattle.conf_table.specs.declared.role.Role.TheVariants as roles
 use Rattle.conf_table.specs.declared.role.Setting.TheVariants as settings
 use Rattle.conf_table.specs.declared.role.Switch.TheVariants as switches
 use Rattle.conf_table.specs.declared.role.Time.TheVariants as times
 use Rattle.conf_values.specs.Numbers.{count_to, unit_of, digits_before, time_of, bytes_of, size_to}
 use Rattle.conf_values.specs.Settings.{switch_of, any_of, with_word, with_words, default_settings}
-use Rattle.conf_block.specs.Locations.{key_of}
-use Rattle.conf_check.specs.Served.{has_form}
+use Rattle.conf_check.specs.Patterns.{regex_case}
 
 size-1 : size_to 1099511627776 (codes "1024g") ≡ Some 1099511627776
 unfolding size_to digits_before bytes_of
@@ -58,30 +55,20 @@ setting-5 : with_words settings.SubrequestOutputBufferSize (codes "1K" ∷ []) d
 unfolding with_word size_to digits_before bytes_of
 setting-5 = refl
 
--- ---- the forms that are served
+-- ---- how locations are found by patterns
 
-form-1 : has_form roles.Location (codes "=" ∷ codes "/a" ∷ []) ≡ true
-unfolding key_of
-form-1 = refl
+regex-1 : regex_case (codes "~" ∷ codes "/a" ∷ []) ≡ Some false
+unfolding regex_case
+regex-1 = refl
 
-form-2 : has_form roles.Location (codes "^~" ∷ codes "/a" ∷ []) ≡ true
-unfolding key_of
-form-2 = refl
+regex-2 : regex_case (codes "~*" ∷ codes "/a" ∷ []) ≡ Some true
+unfolding regex_case
+regex-2 = refl
 
-form-3 : has_form roles.Location (codes "@a" ∷ []) ≡ true
-unfolding key_of
-form-3 = refl
+regex-3 : regex_case (codes "^~" ∷ codes "/a" ∷ []) ≡ None
+unfolding regex_case
+regex-3 = refl
 
-form-4 : has_form roles.Location (codes "~" ∷ codes "/a" ∷ []) ≡ false
-unfolding key_of
-form-4 = refl
-
-form-5 : has_form roles.Location (codes "~*" ∷ codes "/a" ∷ []) ≡ false
-unfolding key_of
-form-5 = refl
-
-form-6 : has_form (roles.Listing listings.ServerName) (codes "a" ∷ codes "*.b" ∷ []) ≡ true
-form-6 = refl
-
-form-7 : has_form (roles.Listing listings.ServerName) (codes "a" ∷ codes "~b" ∷ []) ≡ false
-form-7 = refl
+regex-4 : regex_case (codes "~" ∷ []) ≡ None
+unfolding regex_case
+regex-4 = refl

@@ -1,6 +1,7 @@
 use byte_text::{ByteText, OutOfMemory};
-use conf_check::{check, check_effects};
+use conf_check::{ReadError, check, check_effects};
 use conf_text::{ConfError, ConfFault, FaultKind, parse};
+use ngx_pattern::CrateMaker;
 use std::alloc::Global;
 use std::process::Abort;
 use std::test::Fail;
@@ -15,10 +16,17 @@ fn fault_of(read: Result<(), ConfError>) -> Result<Option<ConfFault>, OutOfMemor
 
 /// The first fault of a configuration, if there is one.
 fn first_fault(alloc: Global, text: &[u8]) -> Result<Option<ConfFault>, OutOfMemory> {
-    fault_of(match parse(alloc, 0, text) {
-        Ok(directives) => check(alloc, directives.as_slice()),
-        Err(error) => Err(error),
-    })
+    let directives = match parse(alloc, 0, text) {
+        Ok(directives) => directives,
+        Err(error) => return fault_of(Err(error)),
+    };
+    let mut maker = CrateMaker::new();
+    match check(alloc, &mut maker, directives.as_slice()) {
+        Ok(()) => Ok(None),
+        Err(ReadError::Fault(fault)) => Ok(Some(fault)),
+        Err(ReadError::TooBig(fault)) => Ok(Some(fault)),
+        Err(ReadError::OutOfMemory) => Err(OutOfMemory),
+    }
 }
 
 /// The first directive of a configuration that has no effect yet, if there is one.
@@ -113,25 +121,9 @@ fn what_has_no_effect_yet_is_told_so(rt: HostRuntime) -> Result<(), Fail> {
         rt.alloc(),
         &[
             (
-                b"http { root $A$b; server { set $a 1; auth_request_set $B 1; } }",
-                1,
-                b"set",
-            ),
-            (b"http { server { location ~ x { } } }", 1, b"location"),
-            (
-                b"http { server { location / {\nlocation ~* /a { } } } }",
+                b"http { root $A$b; server { set $a 1;\nauth_request_set $B 1; } }",
                 2,
-                b"location",
-            ),
-            (
-                b"http { server { return 200 a;\nreturn 302; } }",
-                2,
-                b"return",
-            ),
-            (
-                b"http { server { server_name a;\nserver_name b ~x; } }",
-                2,
-                b"server_name",
+                b"auth_request_set",
             ),
             (
                 b"http { keepalive_timeout 5;\nssi on; server { } }",
@@ -162,6 +154,8 @@ fn what_has_an_effect_is_served(rt: HostRuntime) -> Result<(), Fail> {
             b"http { client_max_body_size 5; recursive_error_pages on; error_page 404 =200 /e; server { index a; location /e { internal; try_files $uri =404; } } }",
             b"http { server { server_name a; } server { listen 80 default_server; server_name *.b c.* ''; merge_slashes off; } }",
             b"http { server { location ^~ /a { location /a/b { location = /a/b/c { } } } location = / { } location @d { } } }",
+            b"http { server { server_name b ~x; location ~ x { location ~* /a { } } return 302; } }",
+            b"http { server { set $a 1; rewrite ^ /b last; if ($a) { return 444; } location / { if ($a ~ b) { root c; break; } } } }",
         ],
     )
 }
@@ -176,9 +170,9 @@ fn directives_are_in_their_places(rt: HostRuntime) -> Result<(), Fail> {
             (b"server { }", 1, b"server"),
             (b"http {\nlocation / { } }", 2, b"location"),
             (b"events { http { } }", 1, b"http"),
-            (b"http { server { if (a) { root b; } } }", 1, b"root"),
+            (b"http { server { if ($uri) { root b; } } }", 1, b"root"),
             (
-                b"http { server { location / { if (a) { root b; index c; } } } }",
+                b"http { server { location / { if ($uri) { root b; index c; } } } }",
                 1,
                 b"index",
             ),

@@ -1,6 +1,8 @@
 use byte_text::{ByteText, OutOfMemory};
+use conf_check::ReadError;
 use conf_inherit::{Purpose, build};
 use conf_text::{ConfError, parse};
+use ngx_pattern::CrateMaker;
 use site_model::{Server, ServerName, Site};
 use std::alloc::Global;
 use std::process::Abort;
@@ -45,10 +47,16 @@ fn site_text(alloc: Global, site: &Site) -> Result<ByteText, OutOfMemory> {
 }
 
 /// The names of the servers of a configuration that is right.
-fn names_in(alloc: Global, text: &[u8]) -> Result<ByteText, ConfError> {
-    let directives = parse(alloc, 0, text)?;
-    let site = build(alloc, Purpose::Reading, b"/etc", directives.as_slice())?;
-    Ok(site_text(alloc, &site)?)
+fn names_in(alloc: Global, text: &[u8]) -> Result<ByteText, ReadError> {
+    let directives = match parse(alloc, 0, text) {
+        Ok(directives) => directives,
+        Err(ConfError::Fault(fault)) => return Err(ReadError::Fault(fault)),
+        Err(ConfError::OutOfMemory) => return Err(ReadError::OutOfMemory),
+    };
+    let mut maker = CrateMaker::new();
+    let purpose = Purpose::Reading;
+    let built = build(alloc, &mut maker, purpose, b"/etc", directives.as_slice())?;
+    Ok(site_text(alloc, &built.site)?)
 }
 
 fn are_named(rt: &impl Abort, alloc: Global, cases: &[(&[u8], &[u8])]) -> Result<(), Fail> {

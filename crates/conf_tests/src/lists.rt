@@ -1,6 +1,8 @@
 use byte_text::{ByteText, OutOfMemory};
+use conf_check::ReadError;
 use conf_inherit::{Purpose, build};
 use conf_text::{ConfError, parse};
+use ngx_pattern::CrateMaker;
 use ngx_variables::{Piece, Value};
 use site_model::{LastTry, Level, MediaTypes, Server, Site, Tries};
 use std::alloc::Global;
@@ -176,10 +178,16 @@ fn site_text(alloc: Global, site: &Site) -> Result<ByteText, OutOfMemory> {
 }
 
 /// The lists of the levels of a configuration that is right.
-fn lists_in(alloc: Global, text: &[u8]) -> Result<ByteText, ConfError> {
-    let directives = parse(alloc, 0, text)?;
-    let site = build(alloc, Purpose::Reading, b"/etc", directives.as_slice())?;
-    Ok(site_text(alloc, &site)?)
+fn lists_in(alloc: Global, text: &[u8]) -> Result<ByteText, ReadError> {
+    let directives = match parse(alloc, 0, text) {
+        Ok(directives) => directives,
+        Err(ConfError::Fault(fault)) => return Err(ReadError::Fault(fault)),
+        Err(ConfError::OutOfMemory) => return Err(ReadError::OutOfMemory),
+    };
+    let mut maker = CrateMaker::new();
+    let purpose = Purpose::Reading;
+    let built = build(alloc, &mut maker, purpose, b"/etc", directives.as_slice())?;
+    Ok(site_text(alloc, &built.site)?)
 }
 
 fn are_listed(rt: &impl Abort, alloc: Global, cases: &[(&[u8], &[u8])]) -> Result<(), Fail> {

@@ -1,7 +1,9 @@
 use byte_text::{ByteText, OutOfMemory};
+use conf_check::ReadError;
 use conf_inherit::{Purpose, build};
 use conf_text::{ConfError, parse};
 use file_type::Types;
+use ngx_pattern::CrateMaker;
 use ngx_variables::{Piece, Place, Value};
 use site_model::{RewriteStep, Site};
 use std::alloc::Global;
@@ -97,17 +99,18 @@ fn site_text(alloc: Global, site: &Site) -> Result<ByteText, OutOfMemory> {
 
 /// What a configuration is read as: its site, or the word of its first fault.
 fn read(alloc: Global, text: &[u8]) -> Result<ByteText, OutOfMemory> {
-    let site = match parse(alloc, 0, text) {
-        Ok(directives) => build(alloc, Purpose::Serving, b"/etc", directives.as_slice()),
-        Err(error) => Err(error),
+    let directives = match parse(alloc, 0, text) {
+        Ok(directives) => directives,
+        Err(ConfError::Fault(fault)) => return Ok(fault.word.unwrap_or(ByteText::new(alloc))),
+        Err(ConfError::OutOfMemory) => return Err(OutOfMemory),
     };
-    match site {
-        Ok(site) => site_text(alloc, &site),
-        Err(ConfError::Fault(fault)) => match fault.word {
-            None => Ok(ByteText::new(alloc)),
-            Some(word) => Ok(word),
-        },
-        Err(ConfError::OutOfMemory) => Err(OutOfMemory),
+    let mut maker = CrateMaker::new();
+    let purpose = Purpose::Serving;
+    match build(alloc, &mut maker, purpose, b"/etc", directives.as_slice()) {
+        Ok(built) => site_text(alloc, &built.site),
+        Err(ReadError::Fault(fault)) => Ok(fault.word.unwrap_or(ByteText::new(alloc))),
+        Err(ReadError::TooBig(fault)) => Ok(fault.word.unwrap_or(ByteText::new(alloc))),
+        Err(ReadError::OutOfMemory) => Err(OutOfMemory),
     }
 }
 
@@ -140,7 +143,7 @@ fn a_site_is_read(rt: HostRuntime) -> Result<(), Fail> {
             ),
             (
                 b"http { server { return 404; location / { return 200 'a $uri'; return 201; types { } keepalive_timeout 1500ms; } } }",
-                b"80 html text/html text/plain text/plain 1000 75000 404\n/ html text/plain text/plain text/plain 1000 1500 200:a $\n",
+                b"80 html text/html text/plain text/plain 1000 75000 404\n/ html text/plain text/plain text/plain 1000 1500 200:a $ 201\n",
             ),
             (
                 b"http { server { listen 80; location /b { } } keepalive_timeout 1h; server { listen 81; location /b { } location /a { } } }",
@@ -150,7 +153,7 @@ fn a_site_is_read(rt: HostRuntime) -> Result<(), Fail> {
                 b"http { root /w; server { location /a { alias b$uri/; } location /c { root d; } location /e { } } }",
                 b"80 /w text/html text/plain text/plain 1000 75000\n/a b$/</a text/html text/plain text/plain 1000 75000\n/c d text/html text/plain text/plain 1000 75000\n/e /w text/html text/plain text/plain 1000 75000\n",
             ),
-            (b"http { root a; server { set $b c; } }", b"set"),
+            (b"http { root a; server { ssi on; } }", b"ssi"),
         ],
     )
 }

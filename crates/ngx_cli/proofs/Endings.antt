@@ -13,8 +13,8 @@ use Rattle.ngx_cli.specs.Sites.{Describes as IsDescribed, FailsIf, Reading, site
 use Rattle.conf_text.specs.declared.fault.FaultKind.TheVariants.{ReadFault}
 use Rattle.report_text.specs.Lines.{ended}
 use Rattle.report_text.specs.Faults.{conf_fault_line}
-use Rattle.site_model.specs.declared.site.Site.{Site}
-use Rattle.site_whole.specs.Whole.{whole}
+use Rattle.conf_inherit.specs.declared.site.Built.{Built}
+use Rattle.conf_inherit.specs.Pools.{site_built}
 use Rattle.conf_inherit.specs.declared.site.Purpose.{Purpose}
 use Rattle.conf_inherit.specs.declared.site.Purpose.TheVariants as purposes
 use Rattle.site_service.specs.Serving.{Outside, Serving}
@@ -24,8 +24,8 @@ use Rattle.ngx_cli.specs.declared.status.Status.TheVariants as status
 use Rattle.ngx_cli.specs.Commands.{Output, Printed, CutShort, ComesTo, Describes, IsFaultLine, OfFault, OfFiles, IsCheckLine, OfSite, OfNoSite, ReplayEnds, CheckEnds, ServeEnds, PutsText, counts_of, served_status}
 
 -- a site was served
-pub served : (o : Outside) (out : Output) (path : List ℕ) (turns : ℕ) (e : Ending) (site : Site) (reading : FilesSeen) → Describes purposes.Serving o.files reading path (Ok (whole [] site)) →
-    Serving site turns e (record o { files = reading }) → Printed out [] → (e ≡ ending.Ended → o.links'.over ≡ true) → (e ≡ ending.ListenFault → Rose o.links.faults o.links'.faults) → (e ≡ ending.NextFault → Rose o.links.faults o.links'.faults) →
+pub served : (o : Outside) (out : Output) (path : List ℕ) (turns : ℕ) (e : Ending) (site : Built) (reading : FilesSeen) → Describes purposes.Serving o.files reading path (Ok (site_built site)) →
+    Serving site.patterns site.site turns e (record o { files = reading }) → Printed out [] → (e ≡ ending.Ended → o.links'.over ≡ true) → (e ≡ ending.ListenFault → Rose o.links.faults o.links'.faults) → (e ≡ ending.NextFault → Rose o.links.faults o.links'.faults) →
     ServeEnds o out path turns (served_status e)
 served o out path turns ending.Ended site reading d s p ends listen next = (ends refl, record { site = site; reading = reading; described = d; serving = s; printed = p })
 served o out path turns ending.TurnsUsed site reading d s p ends listen next = record { site = site; reading = reading; described = d; serving = s; printed = p }
@@ -83,8 +83,8 @@ pub is_fault_line : (purpose : Purpose) (files files' : FilesSeen) (path : List 
 is_fault_line purpose files files' path placed described = OfFault placed.fault placed.path described refl
 
 -- a file that couldn't be read
-pub is_files_line : (purpose : Purpose) (files files' : FilesSeen) (path : List ℕ) (e : ExpandError) (placed : PlacedFault) → e ≡ error.Failed placed → FailsIf {A = Site} (Err e) files.faults files'.faults →
+pub is_files_line : (purpose : Purpose) (files files' : FilesSeen) (path : List ℕ) (e : ExpandError) (placed : PlacedFault) → e ≡ error.Failed placed → FailsIf {A = Built} (Err e) files.faults files'.faults →
     IsFaultLine purpose files files' path (ended (conf_fault_line placed.path placed.fault))
 is_files_line purpose files files' path e placed is cause =
-    let c : FailsIf {A = Site} (Err (error.Failed placed)) files.faults files'.faults = subst (λ (x : ExpandError). FailsIf {A = Site} (Err x) files.faults files'.faults) is cause in
+    let c : FailsIf {A = Built} (Err (error.Failed placed)) files.faults files'.faults = subst (λ (x : ExpandError). FailsIf {A = Built} (Err x) files.faults files'.faults) is cause in
     OfFiles placed.fault placed.path c.0 c.1 refl

@@ -10,14 +10,14 @@ use Rattle.conf_text.specs.declared.fault.ConfFault.{ConfFault}
 use Rattle.conf_text.specs.declared.fault.FaultKind.TheVariants.{ReadFault}
 use Rattle.site_views.specs.Views.{Locations, ServerView, SiteView}
 use Rattle.site_views.specs.Views.Locations.{NoMore, Location}
-use Rattle.site_whole.specs.Whole.{whole}
+use Rattle.conf_inherit.specs.Pools.{site_built}
 use Rattle.conf_inherit.specs.declared.site.Purpose.{Purpose}
 use Rattle.conf_inherit.specs.declared.site.Purpose.TheVariants as purposes
 use Rattle.conf_include.specs.Listings.{Names, IsNaming}
 use Rattle.report_text.specs.Lines.{ended}
 use Rattle.report_text.specs.Faults.{conf_fault_line}
 use Rattle.report_text.specs.Counts.{counts_text}
-use Rattle.site_model.specs.declared.site.Site.{Site}
+use Rattle.conf_inherit.specs.declared.site.Built.{Built}
 use Rattle.ngx_cli.specs.declared.script.Outcome.{Outcome}
 use Rattle.ngx_cli.specs.declared.script.Outcome.TheVariants as outcome
 use Rattle.ngx_cli.specs.declared.status.Status.{Status}
@@ -156,14 +156,14 @@ counts_of site = counts_text (length site.servers) (min (locations_of site.serve
 -- The configuration at a path describes a site, and how many servers and locations it has was
 -- printed.
 pub record Counted (files files' : FilesSeen) (out : Output) (path : List ℕ) : Type 0 where
-  pub site : Site
-  pub described : Describes purposes.Reading files files' path (Ok (whole [] site))
-  pub printed : Printed out (counts_of (whole [] site))
+  pub site : Built
+  pub described : Describes purposes.Reading files files' path (Ok (site_built site))
+  pub printed : Printed out (counts_of (site_built site))
 
 -- what is to be printed of a check
 pub data IsCheckLine (files files' : FilesSeen) (path text : List ℕ) : Type 0 where
-  OfSite : (site : Site) → Describes purposes.Reading files files' path (Ok (whole [] site)) →
-      text ≡ counts_of (whole [] site) → IsCheckLine files files' path text
+  OfSite : (site : Built) → Describes purposes.Reading files files' path (Ok (site_built site)) →
+      text ≡ counts_of (site_built site) → IsCheckLine files files' path text
   OfNoSite : IsFaultLine purposes.Reading files files' path text →
       IsCheckLine files files' path text
 
@@ -180,10 +180,10 @@ CheckEnds files files' out path s = ⊥
 -- read, whatever they tell later. Nothing was printed.
 pub record Served (o : Outside) (out : Output) (path : List ℕ) (turns : ℕ)
     (e : Ending) : Type 0 where
-  pub site : Site
+  pub site : Built
   pub reading : FilesSeen
-  pub described : Describes purposes.Serving o.files reading path (Ok (whole [] site))
-  pub serving : Serving site turns e (record o { files = reading })
+  pub described : Describes purposes.Serving o.files reading path (Ok (site_built site))
+  pub serving : Serving site.patterns site.site turns e (record o { files = reading })
   pub printed : Printed out []
 
 -- When each status of serving comes: at 0 no notice will come any more; at 9 all turns were taken;

@@ -18,9 +18,9 @@ use Rattle.replay_run.specs.declared.lane.LinkEnds.{LinkEnds}
 use Rattle.conf_text.specs.declared.fault.ConfFault.{ConfFault}
 use Rattle.replay_confs.specs.Confs.{conf_tree}
 use Rattle.site_views.specs.Views.{SiteView}
-use Rattle.site_whole.specs.Whole.{whole}
+use Rattle.conf_inherit.specs.Pools.{site_built}
 use Rattle.conf_inherit.specs.declared.site.Purpose.TheVariants as purposes
-use Rattle.site_model.specs.declared.site.Site.{Site}
+use Rattle.conf_inherit.specs.declared.site.Built.{Built}
 use Rattle.answers_meaning.specs.Answers.{responses, logs_in, close_in, answers}
 use Rattle.request_flow.specs.Openings.{service_of}
 use Rattle.connection_core.specs.Core.{site_terms}
@@ -77,57 +77,57 @@ report_in s journals c = record {
 -- busy, with a further request some of the answers are still to be emitted or logged; one that is
 -- to be closed is idle, and one that is idle is to be closed exactly where the core was told that
 -- its input has ended, or where the answers close it.
-pub record Answered (site : Site) (told : Told) (v : ConnView) (lane : Lane)
+pub record Answered (site : Built) (told : Told) (v : ConnView) (lane : Lane)
     (sent : List ℕ) : Type 0 where
   pub ends : LinkEnds
   pub opened : lane.ends ≡ Some ends
   pub came : List ℕ
   pub arrived : sent ≡ came ++ lane.queue
   pub front : (trees : Trees) → Agree told.trees told.newest trees →
-      IsPrefixOf lane.went (answers (service_of [] site ends.local ends.peer) 0 trees came v.starts)
+      IsPrefixOf lane.went (answers (service_of site.patterns site.site ends.local ends.peer) 0 trees came v.starts)
   pub on : v.cause ≡ None → (trees : Trees) → Agree told.trees told.newest trees →
       (more : List ℕ) (later : List Start) →
-      answers (service_of [] site ends.local ends.peer) 0 trees (came ++ more)
+      answers (service_of site.patterns site.site ends.local ends.peer) 0 trees (came ++ more)
       (v.starts ++ later) ≡ lane.went ++ v.course.bytes trees more later
   pub whole : is_idle v ≡ true → (trees : Trees) → Agree told.trees told.newest trees →
       (later : List Start) →
-      answers (service_of [] site ends.local ends.peer) 0 trees came (v.starts ++ later) ≡ lane.went
+      answers (service_of site.patterns site.site ends.local ends.peer) 0 trees came (v.starts ++ later) ≡ lane.went
   pub closes : v.cause ≡ None → v.shut ≡ true → is_given lane.tail ≡ false → (trees : Trees) →
       Agree told.trees told.newest trees → (more : List ℕ) (later : List Start) →
-      answers (service_of [] site ends.local ends.peer) 0 trees (came ++ more)
+      answers (service_of site.patterns site.site ends.local ends.peer) 0 trees (came ++ more)
       (v.starts ++ later) ≡ lane.went
   pub logged : (trees : Trees) → Agree told.trees told.newest trees →
       Logged v.logs
-      (logs_in (responses (service_of [] site ends.local ends.peer) 0 trees came v.starts))
+      (logs_in (responses (service_of site.patterns site.site ends.local ends.peer) 0 trees came v.starts))
   pub all_logged : is_idle v ≡ true → (trees : Trees) → Agree told.trees told.newest trees →
       (later : List Start) →
       v.logs ≡ map (λ l. Some l)
-      (logs_in (responses (service_of [] site ends.local ends.peer) 0 trees came
+      (logs_in (responses (service_of site.patterns site.site ends.local ends.peer) 0 trees came
       (v.starts ++ later)))
   pub busy : v.cause ≡ None → is_idle v ≡ false → (trees : Trees) →
       Agree told.trees told.newest trees → (start : Start) (later : List Start) →
-      answers (service_of [] site ends.local ends.peer) 0 trees came
+      answers (service_of site.patterns site.site ends.local ends.peer) 0 trees came
       (v.starts ++ start ∷ later) ≡ lane.went →
       v.logs ≢ map (λ l. Some l)
-      (logs_in (responses (service_of [] site ends.local ends.peer) 0 trees came
+      (logs_in (responses (service_of site.patterns site.site ends.local ends.peer) 0 trees came
       (v.starts ++ start ∷ later)))
   pub rests : v.cause ≡ None → v.shut ≡ true → is_idle v ≡ true
   pub shuts : is_idle v ≡ true → (trees : Trees) → Agree told.trees told.newest trees →
       (later : List Start) →
       v.shut ≡ (is_given lane.tail || close_in
-      (responses (service_of [] site ends.local ends.peer) 0 trees came (v.starts ++ later)))
+      (responses (service_of site.patterns site.site ends.local ends.peer) 0 trees came (v.starts ++ later)))
 
 -- A run of a script's lines, over its tree, on a new core of a site, and the text that is printed
 -- of it: a report on each connection, by number, and the counts of the lines that were skipped and
 -- refused. The ends of each connection are those of a line that opens it.
-pub record Ran (site : Site) (tree : List TreeLine) (events : List EventLine)
+pub record Ran (site : Built) (tree : List TreeLine) (events : List EventLine)
     (text : List ℕ) : Type 0 where
   pub first : Stage
   pub last : Stage
   pub skipped : ℕ
   pub refused : ℕ
   pub begins : IsNew first
-  pub plays : Plays (site_terms [] site) events (told_first tree) first 0 0 last skipped refused
+  pub plays : Plays (site_terms site.patterns site.site) events (told_first tree) first 0 0 last skipped refused
   pub conns : List ℕ
   pub held : AreHeld conns last.view
   pub journals : ℕ → List Entry
@@ -142,8 +142,8 @@ pub record Ran (site : Site) (tree : List TreeLine) (events : List EventLine)
 
 -- a run on the site that a script's configurations describe
 pub record RanOn (script : Script) (text : List ℕ) : Type 0 where
-  pub site : Site
-  pub described : Describe script.confs (Ok (whole [] site))
+  pub site : Built
+  pub described : Describe script.confs (Ok (site_built site))
   pub ran : Ran site script.tree script.events text
 
 -- What a script's bytes come to, and what is printed: the first fault of the script; the first

@@ -15,8 +15,8 @@ use Rattle.conf_include.specs.Paths.{folder_of}
 use Rattle.conf_inherit.specs.Built.{built}
 use Rattle.conf_inherit.specs.declared.site.Purpose.{Purpose}
 use Rattle.site_views.specs.Views.{SiteView}
-use Rattle.site_whole.specs.Whole.{whole}
-use Rattle.site_model.specs.declared.site.Site.{Site}
+use Rattle.conf_inherit.specs.Pools.{site_built}
+use Rattle.conf_inherit.specs.declared.site.Built.{Built}
 
 -- a fault with the path of its file, which is one of these by its number
 abbrev pub placed_in : {A : Type 0} → List (List ℕ) → Result A ConfFault →
@@ -48,8 +48,8 @@ pub record Reading (files files' : FilesSeen) : Type 0 where
 
 -- A site is the one that is described, and a fault is the first one, unless the files failed or
 -- memory ran out.
-abbrev pub Describes : Result Site ExpandError → Result SiteView (ConfFault × List ℕ) → Type 0
-Describes (Ok site) outcome = outcome ≡ Ok (whole [] site)
+abbrev pub Describes : Result Built ExpandError → Result SiteView (ConfFault × List ℕ) → Type 0
+Describes (Ok b) outcome = outcome ≡ Ok (site_built b)
 Describes (Err (error.Fault placed)) outcome = outcome ≡ Err (placed.fault, placed.path)
 Describes (Err (error.Failed placed)) outcome = Unit {0}
 Describes (Err error.OutOfMemory) outcome = Unit {0}

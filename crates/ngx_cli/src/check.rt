@@ -1,6 +1,6 @@
 // The check of a configuration.
 ghost use Rattle.std.specs.Prelude.{◌≡◌, [], ◌++◌, ◌+◌, ◌-◌, ◌^◌, length, min, OnOk};
-ghost use Rattle.site_whole.specs.Whole.{whole};
+ghost use Rattle.conf_inherit.specs.Pools.{site_built};
 ghost use Rattle.ngx_cli.specs.Commands.{CheckEnds, PutsText, counts_of, locations_of as locations_counted};
 
 use crate::command::{put_fault, put_text};
@@ -8,10 +8,10 @@ use crate::site::site_at;
 use crate::status::Status;
 use byte_text::{ByteText, OutOfMemory};
 use conf_include::ExpandError;
-use conf_inherit::Purpose;
+use conf_inherit::{Built, Purpose};
 use ngx_outside::{Files, Sink};
 use report_text::counts_text;
-use site_model::{Server, Site};
+use site_model::Server;
 use std::alloc::Global;
 
 // How many locations a server has, as far as 64 bits count them.
@@ -23,29 +23,29 @@ fn locations_of(server: &Server) -> u64
 }
 
 // How many locations the servers of a site have, as far as 64 bits count them.
-fn locations_in(site: &Site) -> u64
-    ensures { result ≡ min (locations_counted (whole [] site.now).servers) (2 ^ 64 - 1) }
+fn locations_in(site: &Built) -> u64
+    ensures { result ≡ min (locations_counted (site_built site.now).servers) (2 ^ 64 - 1) }
 {
     let mut count: u64 = 0;
-    for server in site.servers.as_slice() {
+    for server in site.site.servers.as_slice() {
         count = count.saturating_add(locations_of(server));
     }
     count
 }
 
 // The line of a site's counts.
-fn counts_line(site: &Site, out: &mut ByteText) -> Result<(), OutOfMemory>
-    ensures { OnOk result (out.new ≡ out.old ++ counts_of (whole [] site.now)) }
+fn counts_line(site: &Built, out: &mut ByteText) -> Result<(), OutOfMemory>
+    ensures { OnOk result (out.new ≡ out.old ++ counts_of (site_built site.now)) }
 {
-    let servers = site.servers.as_slice();
+    let servers = site.site.servers.as_slice();
     counts_text(servers.len() as u64, locations_in(site), out)?;
     Ok(())
 }
 
 // Prints how many servers and locations a site has.
-fn put_counts<O: Sink>(alloc: Global, site: &Site, out: &mut O) -> Result<(), Status>
+fn put_counts<O: Sink>(alloc: Global, site: &Built, out: &mut O) -> Result<(), Status>
     ensures { PutsText (record { before = O.seen out.old; after = O.seen out.new })
-        (counts_of (whole [] site.now)) result }
+        (counts_of (site_built site.now)) result }
 {
     let mut text = ByteText::new(alloc);
     match counts_line(site, &mut text) {
@@ -65,7 +65,7 @@ pub(crate) fn run_check<F: Files, O: Sink>(
         (record { before = O.seen out.old; after = O.seen out.new }) path.now result }
 {
     match site_at(alloc, Purpose::Reading, files, path) {
-        Ok(site) => match put_counts(alloc, &site, out) {
+        Ok(built) => match put_counts(alloc, &built, out) {
             Ok(()) => Status::Done,
             Err(status) => status,
         },

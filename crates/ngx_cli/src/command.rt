@@ -88,7 +88,15 @@ fn run_site<F: Files, L: Links, C: Clock, O: Sink>(
     }) (record { before = O.seen out.old; after = O.seen out.new }) path.now turns result }
 {
     match site_at(alloc, Purpose::Serving, files, path) {
-        Ok(site) => match serve_site(alloc, site, files, links, clock, turns) {
+        Ok(built) => match serve_site(
+            alloc,
+            built.site,
+            built.patterns,
+            files,
+            links,
+            clock,
+            turns,
+        ) {
             Ok(ending) => served_status(ending),
             Err(OutOfMemory) => Status::OutOfMemory,
         },

@@ -6,26 +6,24 @@ ghost use Rattle.connection_core.specs.Core.{view_at, now_at, journal_at, conns_
 ghost use Rattle.report_text.specs.Report.{run_text, report_of};
 ghost use Rattle.report_text.specs.Lines.{ended};
 ghost use Rattle.report_text.specs.Faults.{conf_fault_line};
-ghost use Rattle.site_whole.specs.Whole.{whole};
+ghost use Rattle.conf_inherit.specs.Pools.{site_built};
 ghost use Rattle.ngx_cli.specs.Sites.{OnFault};
 ghost use Rattle.ngx_cli.specs.Running.{main_path as path_of_main, Describe, report_in, Ran, Replays};
 
 use crate::site::site_at;
 use byte_text::{ByteText, OutOfMemory};
 use conf_include::{ExpandError, PlacedFault};
-use conf_inherit::Purpose;
+use conf_inherit::{Built, Purpose};
 use connection_core::{Hub, cores_are_sound};
 use ngx_outside::{
     StopCause, all_is_logged_when_idle, all_is_sent_when_idle, all_is_sent_when_shut,
     shut_is_exact, tracks_begin,
 };
-use ngx_pattern::PatternSet;
 use replay_confs::ConfFiles;
 use replay_run::{Counts, Player, files_of, run_lines};
 use replay_text::{Conf, Confs, EventLine, ScriptError, ScriptFault, TreeLine, read};
 use report_text::{ConnReport, ConnState, conf_fault_text, conn_text, end_text, script_fault_text};
 use served_site::ServedSite;
-use site_model::Site;
 use std::alloc::Global;
 
 /// What a script came to.
@@ -50,8 +48,8 @@ fn main_path(confs: &[Conf]) -> &[u8]
 }
 
 // The site that a script's configurations describe.
-fn site_of(alloc: Global, confs: &Confs) -> Result<Site, ExpandError>
-    ensures ok { IfOk result (λ site. Describe confs.now (Ok (whole [] site))) }
+fn site_of(alloc: Global, confs: &Confs) -> Result<Built, ExpandError>
+    ensures ok { IfOk result (λ site. Describe confs.now (Ok (site_built site))) }
     ensures fault { IfErr result (λ e. OnFault e
         (λ fault at. Describe confs.now (Err (fault, at)))) }
 {
@@ -62,7 +60,7 @@ fn site_of(alloc: Global, confs: &Confs) -> Result<Site, ExpandError>
         &mut files,
         main_path(confs.as_slice()),
     ) {
-        Ok(site) => Ok(site),
+        Ok(built) => Ok(built),
         Err(error) => Err(error),
     }
 }
@@ -119,13 +117,13 @@ fn put_run(
 // Runs a script's lines, over its tree, on a new core, and prints the run.
 fn run(
     alloc: Global,
-    site: Site,
+    built: Built,
     tree: &[TreeLine],
     events: &[EventLine],
     out: &mut ByteText,
 ) -> Result<(), OutOfMemory>
     ensures { OnOk result ((text : List ℕ) × (out.new ≡ out.old ++ text) ×
-        Ran site tree.now events.now text) }
+        Ran built tree.now events.now text) }
 {
     tracks_begin();
     all_is_sent_when_idle();
@@ -133,8 +131,8 @@ fn run(
     shut_is_exact();
     all_is_logged_when_idle();
     cores_are_sound();
+    let Built { site, patterns } = built;
     let served = ServedSite::new(alloc, site)?;
-    let patterns = PatternSet::new(alloc);
     let mut hub = Hub::new(alloc, served, patterns);
     let mut player = Player::new(alloc);
     let mut files = files_of(alloc, tree)?;
@@ -167,10 +165,10 @@ pub fn replay(alloc: Global, bytes: &[u8], out: &mut ByteText) -> Result<Outcome
         Err(ScriptError::OutOfMemory) => return Err(OutOfMemory),
     };
     match site_of(alloc, &script.confs) {
-        Ok(site) => {
+        Ok(built) => {
             run(
                 alloc,
-                site,
+                built,
                 script.tree.as_slice(),
                 script.events.as_slice(),
                 out,

@@ -6,11 +6,11 @@ ghost use Rattle.conf_include.specs.Listings.{Names, IsNaming};
 ghost use Rattle.ngx_cli.specs.Sites.{Describes, FailsIf, Reading, site_at as site_found};
 
 use byte_text::{ByteText, ByteTexts};
+use conf_check::ReadError;
 use conf_include::{ExpandError, PlacedFault, expand, folder_of};
-use conf_inherit::{Purpose, build};
-use conf_text::ConfError;
+use conf_inherit::{Built, Purpose, build};
 use ngx_outside::Files;
-use site_model::Site;
+use ngx_pattern::CrateMaker;
 use std::alloc::Global;
 
 // The path of a number; no bytes where there is none.
@@ -33,7 +33,7 @@ fn site_read<F: Files>(
     purpose: Purpose,
     files: &mut F,
     path: &[u8],
-) -> Result<Site, ExpandError>
+) -> Result<Built, ExpandError>
     ensures exact { (F.seen files.old).tells ≡ true →
         (F.seen files.new).newest ≡ (F.seen files.old).newest → (names : Names) →
         IsNaming ((F.seen files.old).trees (F.seen files.old).newest) names →
@@ -49,13 +49,16 @@ fn site_read<F: Files>(
         Ok(read) => read,
         Err(error) => return Err(error),
     };
-    match build(alloc, purpose, folder_of(path), read.directives.as_slice()) {
-        Ok(site) => Ok(site),
-        Err(ConfError::Fault(fault)) => {
+    let mut maker = CrateMaker::new();
+    let directives = read.directives.as_slice();
+    match build(alloc, &mut maker, purpose, folder_of(path), directives) {
+        Ok(built) => Ok(built),
+        Err(ReadError::Fault(fault)) => {
             let path = path_at(alloc, read.paths, fault.file);
             Err(ExpandError::Fault(PlacedFault { fault, path }))
         }
-        Err(ConfError::OutOfMemory) => Err(ExpandError::OutOfMemory),
+        Err(ReadError::TooBig(_)) => Err(ExpandError::OutOfMemory),
+        Err(ReadError::OutOfMemory) => Err(ExpandError::OutOfMemory),
     }
 }
 
@@ -72,7 +75,7 @@ pub fn site_at<F: Files>(
     purpose: Purpose,
     files: &mut F,
     path: &[u8],
-) -> Result<Site, ExpandError>
+) -> Result<Built, ExpandError>
     ensures exact { (F.seen files.old).tells ≡ true →
         (F.seen files.new).newest ≡ (F.seen files.old).newest → (names : Names) →
         IsNaming ((F.seen files.old).trees (F.seen files.old).newest) names →

@@ -16,7 +16,6 @@ use Rattle.family_meaning.specs.Flight.{Terms}
 use Rattle.answers_meaning.specs.Asking.{Service, received}
 use Rattle.request_phases.specs.declared.ground.Ground.{Ground}
 use Rattle.request_phases.specs.declared.state.Phases.{Phases}
-use Rattle.request_flow.specs.declared.asked.Made.{Made}
 use Rattle.request_flow.specs.declared.asked.Opening.{Opening}
 use Rattle.request_flow.specs.declared.flow.Terms.{Terms as CodeTerms}
 
@@ -65,23 +64,20 @@ phases_at level main request =
       role = roles.Main;
     }
 
--- with what was made anew for it
-abbrev pub phases_with : (level : ℕ) → Made → Opening → Phases
-phases_with level made o = phases_at level (record {
-  received = made.received;
+-- what the variables mean, where what is made anew stays as it was
+abbrev pub main_with : Opening → Main → Main
+main_with o main = record main {
   method = o.head.method;
   version = o.head.version;
   target = o.head.target;
   host = o.head.host;
-  server_name = made.server_name;
   local = o.local;
   peer = o.peer;
   moment = o.moment;
   tree = o.tree;
   date = shown_text o.moment default_format;
   fields = o.head.fields;
-  folder = made.folder;
-}) made.request
+}
 
 -- what a response is asked with
 abbrev pub terms_seen : CodeTerms → Terms

@@ -2,11 +2,13 @@
 ghost use Rattle.std.specs.Prelude.{◌≡◌, ◌≤◌};
 ghost use Rattle.request_flow.specs.Flows.{waits as waits_for, may_run as can_run, shown_by, stage_written, flow_written, shown_of, stage_server, stage_length};
 
+use crate::asked::blank as blank_phases;
 use crate::blocks::Sending;
 use file_tree::{Ask, Node};
 use http_types::Version;
 use ngx_variables::VarTable;
 use request_phases::{Phases, Wait};
+use std::alloc::Global;
 
 /// No more bytes than these are shown as pending.
 const SHOWN: usize = 65536;
@@ -39,6 +41,24 @@ pub struct InPhases {
     pub length: u64,
     /// No more questions to the files than these may follow: far more than a configuration can make a request ask.
     pub questions: u32,
+}
+
+/// Room for a request within its phases.
+pub(crate) fn blank(alloc: Global) -> InPhases {
+    InPhases {
+        phases: blank_phases(alloc),
+        vars: VarTable::new(alloc),
+        terms: Terms {
+            moment: 0,
+            version: Version::V11,
+            no_body: false,
+            before: 0,
+            head_keeps: false,
+        },
+        server: 0,
+        length: 0,
+        questions: 0,
+    }
 }
 
 /// How far a request is.

@@ -7,6 +7,7 @@ mod blocks;
 mod flow;
 mod reply;
 mod run;
+mod slot;
 mod steps;
 
 pub use asked::Opening;

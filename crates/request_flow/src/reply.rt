@@ -4,7 +4,8 @@ ghost use Rattle.ngx_outside.specs.Views.{Start};
 ghost use Rattle.answers_meaning.specs.Answers.{refusal};
 ghost use Rattle.request_flow.specs.Sents.{head_seen, sent_now, content_now, put_now, stays_seen};
 
-use crate::flow::Terms;
+use crate::flow::{InPhases, Terms, blank};
+use crate::slot::put;
 use byte_text::{ByteQueue, ByteText, OutOfMemory};
 use error_page::page_text;
 use ngx_pattern::PatternSet;
@@ -20,6 +21,8 @@ pub struct Workspace {
     pub heads: HeadWriter,
     /// The patterns of the site that is served.
     pub patterns: PatternSet,
+    /// The room of a request that is over, for the next one.
+    spare: Option<Box<InPhases>>,
 }
 
 impl Workspace {
@@ -31,7 +34,26 @@ impl Workspace {
             alloc,
             heads: HeadWriter::new(alloc),
             patterns,
+            spare: None,
         }
+    }
+
+    /// Room for a request.
+    pub(crate) fn room(&mut self) -> Result<Box<InPhases>, OutOfMemory>
+        ensures { self.new.patterns ≡ self.old.patterns }
+    {
+        if let Some(request) = self.spare.take() {
+            return Ok(request);
+        }
+        let request = Box::new(self.alloc, blank(self.alloc))?;
+        Ok(request)
+    }
+
+    /// Takes the room of a request that is over.
+    pub(crate) fn keep(&mut self, request: Box<InPhases>)
+        ensures { self.new.patterns ≡ self.old.patterns }
+    {
+        put(&mut self.spare, Some(request));
     }
 }
 

@@ -16,10 +16,11 @@ ghost use Rattle.request_flow.specs.Flows.{flow_rest, file_rest, item_asked, flo
 ghost use Rattle.request_flow.specs.Rests.{Follows, opened_rest};
 ghost use Rattle.request_flow.specs.Sents.{known_bytes, known_tree, known_len, with_length as told_length, step_rest, is_unfiltered as acts_on_none, sends_file, file_known};
 
-use crate::asked::{Opening, phases_of};
+use crate::asked::{Opening, put_phases};
 use crate::blocks::{Sending, next_block};
 use crate::flow::{Flow, InPhases, Onward, Stage, Terms};
 use crate::reply::{Workspace, put_reply, stays};
+use crate::slot::put;
 use byte_text::{ByteQueue, ByteText, OutOfMemory};
 use file_tree::Ask;
 use http_types::Method;
@@ -299,49 +300,7 @@ pub(crate) fn go_on(
         }
         Step::Answers(outcome) => {
             let onward = answer(space, ground, &*request, outcome, known, out, closing);
-            drop(request);
-            Ok(onward?)
-        }
-    }
-}
-
-/// Goes on with a request that has just begun its phases: one that is answered at once never takes memory of its own.
-fn began(
-    space: &mut Workspace,
-    ground: &Ground<'_>,
-    request: InPhases,
-    step: Step,
-    known: Known,
-    out: &mut ByteQueue,
-) -> Result<Onward, OutOfMemory>
-    requires { out.old ≡ [] }
-    ensures goes { (patterns : List SetPattern) (trees : Trees) →
-        let w = world_in patterns ground.now shipped in
-        let site = ground.now.site.now in
-        IfOk result (λ o. Follows site
-        (step_rest w patterns site (trees (known_tree known)) request step
-        (known_bytes known trees))
-        (flow_rest w patterns site o.flow trees) out.old out.new false o.closing o.log o.level) }
-    ensures over { IfOk result (λ o. is_some o.log ≡ not (is_some o.flow)) }
-    ensures fits { IfOk result (λ o. flow_fits o.flow (length out.new) ≡ true) }
-    ensures lowers { IfOk result (λ o. length out.new + flow_left o.flow (length out.new)
-        < flow_most + 2 * request.questions + 1) }
-    ensures by { IfOk result (λ o. IsServedBy request.server request.length o.flow) }
-    ensures asked { IfOk result (λ o. tree_asked o.flow ≤ known_tree known) }
-    ensures kept { space.new.patterns ≡ space.old.patterns }
-{
-    match step {
-        Step::Asks { wait, path } => {
-            let request = Box::new(space.alloc, request)?;
-            Ok(asks(request, wait, path, known, false)?)
-        }
-        Step::Calls(_) => {
-            drop(request);
-            Err(OutOfMemory)
-        }
-        Step::Answers(outcome) => {
-            let onward = answer(space, ground, &request, outcome, known, out, false);
-            drop(request);
+            space.keep(request);
             Ok(onward?)
         }
     }
@@ -368,6 +327,46 @@ fn terms_of(opening: &Opening) -> Terms
         before: opening.before,
         head_keeps: opening.head.keep,
     }
+}
+
+/// Begins the phases of a main request, in the room of another.
+fn begun(
+    space: &mut Workspace,
+    ground: &Ground<'_>,
+    server: u32,
+    opening: Opening,
+    request: &mut InPhases,
+) -> Result<Step, OutOfMemory>
+    requires ground { IsGround ground.now }
+    ensures goes { (trees : Trees) →
+        let w = world_in space.old.patterns ground.now shipped in
+        let site = ground.now.site.now in
+        IfOk result (λ step. opened_rest w (trees opening.tree) (terms_at opening)
+        (main_at ground.now opening) (request_of
+        (server_whole (patterns_seen space.old.patterns) site ground.now.server.now)
+        opening.head) ≡ step_rest w space.old.patterns site (trees opening.tree) request.new
+        step []) }
+    ensures questions { request.new.questions ≤ 4294967295 }
+    ensures server { IfOk result (λ step. request.new.server ≡ server) }
+    ensures length { IfOk result (λ step. request.new.length ≡ ground.now.length) }
+    ensures kept { space.new.patterns ≡ space.old.patterns }
+{
+    let alloc = space.alloc;
+    let terms = terms_of(&opening);
+    request.terms = terms;
+    request.server = server;
+    request.length = ground.length;
+    request.questions = u32::MAX;
+    put(&mut request.vars, VarTable::new(alloc));
+    put_phases(ground, opening, &mut request.phases)?;
+    let step = begin(
+        alloc,
+        ground,
+        &mut space.patterns,
+        &mut request.phases,
+        &mut request.vars,
+    )?;
+    Ok(step)
 }
 
 /// Starts a main request: up to its first question to the files, or the whole response where it asks none. `server` is the
@@ -404,25 +403,16 @@ pub fn start(
 {
     let alloc = space.alloc;
     let known = Known::Nothing { of: opening.tree };
-    let terms = terms_of(&opening);
-    let phases = phases_of(alloc, ground, opening)?;
-    let mut request = InPhases {
-        phases,
-        vars: VarTable::new(alloc),
-        terms,
-        server,
-        length: ground.length,
-        questions: u32::MAX,
+    let mut request = match space.room() {
+        Ok(request) => request,
+        Err(OutOfMemory) => {
+            drop(opening);
+            return Err(OutOfMemory);
+        }
     };
-    let patterns = &mut space.patterns;
-    match begin(
-        alloc,
-        ground,
-        patterns,
-        &mut request.phases,
-        &mut request.vars,
-    ) {
-        Ok(step) => Ok(began(space, ground, request, step, known, out)?),
+    let inside = &mut *request;
+    match begun(space, ground, server, opening, inside) {
+        Ok(step) => Ok(go_on(space, ground, request, step, known, out, false)?),
         Err(OutOfMemory) => {
             drop(request);
             Err(OutOfMemory)

@@ -15,6 +15,8 @@ use Rattle.ready_loop.specs.Standing.{Account, Reason, NobodyAnswers, NoPlaceLef
 use Rattle.ready_loop.specs.Turns.{AtRest}
 use Rattle.http_types.specs.declared.words.Addr.{Addr}
 use Rattle.site_model.specs.declared.site.Server.{Server}
+use Rattle.ngx_pattern.specs.Pattern.{Pattern as SetPattern}
+use Rattle.pattern_search.specs.Found.{patterns_seen}
 use Rattle.site_model.specs.declared.site.Site.{Site}
 use Rattle.site_views.specs.Views.{ListenView}
 use Rattle.site_whole.specs.Whole.{whole, server_whole, listen_seen}
@@ -73,13 +75,13 @@ reason_since terms l r (NobodyAnswers h) = NobodyAnswers h
 reason_since terms l r (NoPlaceLeft h) = NoPlaceLeft h
 reason_since terms l r (NoMemory h) = NoMemory (r h)
 
-pub became : AllIsSentWhenIdle → ShutIsExact → ClosedUnstoppedSentAll → ClosedUnendedSentAll → (site : Site) (o : Outside) (rests : Type 0) (ticks : List Tick) (before id : ℕ) (v : ConnView) → IsSound v →
+pub became : AllIsSentWhenIdle → ShutIsExact → ClosedUnstoppedSentAll → ClosedUnendedSentAll → (patterns : List SetPattern) (site : Site) (o : Outside) (rests : Type 0) (ticks : List Tick) (before id : ℕ) (v : ConnView) → IsSound v →
     (rests → v.held ≡ true → AtRest (Unit {0}) (Unit {0}) v (o.links'.link id)) → o.links'.used id ≡ true →
-    Stands (Rose (o.links.link_faults id) (o.links'.link_faults id)) (Rose o.files.faults o.files'.faults) (Rose before o.links'.refused) (site_terms [] site) (fresh_course [] site) o.files' ticks v (o.links'.link id) (o.links'.used id) (o.links'.is_open id) →
-    Became site o rests ticks id
-became idle_sent shut_exact closed_sent unended_sent site o rests ticks before id v sound at used (Unused held shut unused) = never (o.links'.used id) used unused
-became idle_sent shut_exact closed_sent unended_sent site o rests ticks before id v sound at used (TurnedAway held shut taken sent why) = WasTurnedAway shut taken sent (reason_since (site_terms [] site) (o.links'.link id) (rose_since 0 before o.links'.refused (omega arith)) why)
-became idle_sent shut_exact closed_sent unended_sent site o rests ticks before id v sound at used (Open held is a) = Served (record {
+    Stands (Rose (o.links.link_faults id) (o.links'.link_faults id)) (Rose o.files.faults o.files'.faults) (Rose before o.links'.refused) (site_terms patterns site) (fresh_course patterns site) o.files' ticks v (o.links'.link id) (o.links'.used id) (o.links'.is_open id) →
+    Became patterns site o rests ticks id
+became idle_sent shut_exact closed_sent unended_sent patterns site o rests ticks before id v sound at used (Unused held shut unused) = never (o.links'.used id) used unused
+became idle_sent shut_exact closed_sent unended_sent patterns site o rests ticks before id v sound at used (TurnedAway held shut taken sent why) = WasTurnedAway shut taken sent (reason_since (site_terms patterns site) (o.links'.link id) (rose_since 0 before o.links'.refused (omega arith)) why)
+became idle_sent shut_exact closed_sent unended_sent patterns site o rests ticks before id v sound at used (Open held is a) = Served (record {
   last = v;
   sound = sound;
   front = λ trees agree. a.tracked.front refl trees agree;
@@ -87,35 +89,35 @@ became idle_sent shut_exact closed_sent unended_sent site o rests ticks before i
   unended = λ none shut. never (o.links'.is_open id) is shut;
   rested = λ none was resting room trees agree later.
       let r : AtRest (Unit {0}) (Unit {0}) v (o.links'.link id) = at resting held in
-      idle_sent (fresh_course [] site (o.links'.link id).local (o.links'.link id).peer) o.files'.trees o.files'.newest v (o.links'.link id).taken (o.links'.link id).sent a.tracked sound
+      idle_sent (fresh_course patterns site (o.links'.link id).local (o.links'.link id).peer) o.files'.trees o.files'.newest v (o.links'.link id).taken (o.links'.link id).sent a.tracked sound
       (idle v (live v held none) (written (Unit {0}) v (o.links'.link id) r room) r.ready r.jobs) refl trees agree later;
   stays = λ none was resting room trees agree later.
       let r : AtRest (Unit {0}) (Unit {0}) v (o.links'.link id) = at resting held in
       second (v.ended) _
-      (sym (shut_exact (fresh_course [] site (o.links'.link id).local (o.links'.link id).peer) o.files'.trees o.files'.newest v (o.links'.link id).taken (o.links'.link id).sent a.tracked sound
+      (sym (shut_exact (fresh_course patterns site (o.links'.link id).local (o.links'.link id).peer) o.files'.trees o.files'.newest v (o.links'.link id).taken (o.links'.link id).sent a.tracked sound
       (idle v (live v held none) (written (Unit {0}) v (o.links'.link id) r room) r.ready r.jobs) refl trees agree later) ∙ r.shut);
   read = λ none was resting room.
       let r : AtRest (Unit {0}) (Unit {0}) v (o.links'.link id) = at resting held in
       r.read tt (sound.reads (idle v (live v held none) (written (Unit {0}) v (o.links'.link id) r room) r.ready r.jobs) r.shut);
-  stopped = λ cause e. weaker ((fresh_course [] site (o.links'.link id).local (o.links'.link id).peer).timed ≡ true) (λ l. l) (λ f. f) (rose_since 0 before o.links'.refused (omega arith)) (λ h. h refl) cause (a.cause cause e);
+  stopped = λ cause e. weaker ((fresh_course patterns site (o.links'.link id).local (o.links'.link id).peer).timed ≡ true) (λ l. l) (λ f. f) (rose_since 0 before o.links'.refused (omega arith)) (λ h. h refl) cause (a.cause cause e);
   dated = a.dated;
   shut = λ cause e resting. never v.shut (sound.stopped cause held e) (at resting held).shut;
   left = λ resting was. at resting held;
 })
-became idle_sent shut_exact closed_sent unended_sent site o rests ticks before id v sound at used (Closed last held shut sound' closing a) = Served (record {
+became idle_sent shut_exact closed_sent unended_sent patterns site o rests ticks before id v sound at used (Closed last held shut sound' closing a) = Served (record {
   last = last;
   sound = sound';
   front = λ trees agree. a.tracked.front refl trees agree;
   closed = λ none is trees agree later.
-      closed_sent (fresh_course [] site (o.links'.link id).local (o.links'.link id).peer) o.files' ticks last (o.links'.link id).taken (o.links'.link id).sent (o.links'.link id).ended (bare a) sound' closing none refl trees agree later;
+      closed_sent (fresh_course patterns site (o.links'.link id).local (o.links'.link id).peer) o.files' ticks last (o.links'.link id).taken (o.links'.link id).sent (o.links'.link id).ended (bare a) sound' closing none refl trees agree later;
   unended = λ none is unended trees agree more later.
-      let whole : Course = fresh_course [] site (o.links'.link id).local (o.links'.link id).peer in
+      let whole : Course = fresh_course patterns site (o.links'.link id).local (o.links'.link id).peer in
       unended_sent whole o.files' ticks last (o.links'.link id).taken (o.links'.link id).sent
       (subst (λ t. Account (Unit {0}) (Unit {0}) (Unit {0}) whole o.files' ticks last (o.links'.link id).taken (o.links'.link id).sent t) unended (bare a)) sound' closing none refl trees agree more later;
   rested = λ none was resting room. never (o.links'.is_open id) was shut;
   stays = λ none was resting room. never (o.links'.is_open id) was shut;
   read = λ none was resting room. never (o.links'.is_open id) was shut;
-  stopped = λ cause e. weaker ((fresh_course [] site (o.links'.link id).local (o.links'.link id).peer).timed ≡ true) (λ l. l) (λ f. f) (rose_since 0 before o.links'.refused (omega arith)) (λ h. h refl) cause (a.cause cause e);
+  stopped = λ cause e. weaker ((fresh_course patterns site (o.links'.link id).local (o.links'.link id).peer).timed ≡ true) (λ l. l) (λ f. f) (rose_since 0 before o.links'.refused (omega arith)) (λ h. h refl) cause (a.cause cause e);
   dated = a.dated;
   shut = λ cause e resting. shut;
   left = λ resting was. never (o.links'.is_open id) was shut;
@@ -130,11 +132,11 @@ seen_addresses : (defaults all : List Addr) → all ≡ map (λ (l : ListenView)
 seen_addresses defaults [] = refl
 seen_addresses defaults (a ∷ all) = ap (λ l. a ∷ l) (seen_addresses defaults all)
 
-listened_by : (site : Site) (servers : List Server) → flat_map (λ r. r.listens) servers ≡ flat_map addresses_of (map (server_whole [] site) servers)
+listened_by : (patterns : List SetPattern) (site : Site) (servers : List Server) → flat_map (λ r. r.listens) servers ≡ flat_map addresses_of (map (server_whole (patterns_seen patterns) site) servers)
 unfolding server_whole
-listened_by site [] = refl
-listened_by site (r ∷ servers) = ap (λ l. r.listens ++ l) (listened_by site servers) ∙ ap (λ l. l ++ flat_map addresses_of (map (server_whole [] site) servers)) (seen_addresses r.defaults r.listens)
+listened_by patterns site [] = refl
+listened_by patterns site (r ∷ servers) = ap (λ l. r.listens ++ l) (listened_by patterns site servers) ∙ ap (λ l. l ++ flat_map addresses_of (map (server_whole (patterns_seen patterns) site) servers)) (seen_addresses r.defaults r.listens)
 
-pub listened : (site : Site) → each_once (flat_map (λ r. r.listens) site.servers.items) ≡ addresses site
+pub listened : (patterns : List SetPattern) (site : Site) → each_once (flat_map (λ r. r.listens) site.servers.items) ≡ addresses patterns site
 unfolding whole
-listened site = ap each_once (listened_by site site.servers.items)
+listened patterns site = ap each_once (listened_by patterns site site.servers.items)

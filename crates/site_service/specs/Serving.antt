@@ -13,6 +13,8 @@ use Rattle.ready_loop.specs.Standing.{Reason}
 use Rattle.ready_loop.specs.Turns.{AtRest, TurnsTaken}
 use Rattle.ready_loop.specs.declared.service.Ending.{Ending}
 use Rattle.ready_loop.specs.declared.service.Ending.TheVariants as ending
+use Rattle.ngx_pattern.specs.Pattern.{Pattern as SetPattern}
+use Rattle.pattern_search.specs.Found.{patterns_seen}
 use Rattle.site_model.specs.declared.site.Site.{Site}
 use Rattle.site_views.specs.Views.{ListenView, ServerView}
 use Rattle.site_whole.specs.Whole.{whole}
@@ -46,60 +48,60 @@ SayAsTold o trees = Agree o.files'.trees o.files'.newest trees
 abbrev pub addresses_of : ServerView → List Addr
 addresses_of server = map (λ (l : ListenView). l.addr) server.listens
 
-abbrev pub addresses : Site → List Addr
-addresses site = each_once (flat_map addresses_of (whole [] site).servers)
+abbrev pub addresses : List SetPattern → Site → List Addr
+addresses patterns site = each_once (flat_map addresses_of (whole (patterns_seen patterns) site).servers)
 
--- what a link is served: the site, which has no patterns, at the link's two ends
-abbrev pub service_at : Site → Outside → ℕ → Service
-service_at site o id = service_of [] site (o.links'.link id).local (o.links'.link id).peer
+-- what a link is served: the site, with its patterns, at the link's two ends
+abbrev pub service_at : List SetPattern → Site → Outside → ℕ → Service
+service_at patterns site o id = service_of patterns site (o.links'.link id).local (o.links'.link id).peer
 
 -- the answers to what was taken of a link, with this after it
-abbrev pub answers_to : Site → Outside → ℕ → Trees → (more : List ℕ) → List Start → List ℕ
-answers_to site o id trees more starts = answers (service_at site o id) 0 trees
+abbrev pub answers_to : List SetPattern → Site → Outside → ℕ → Trees → (more : List ℕ) → List Start → List ℕ
+answers_to patterns site o id trees more starts = answers (service_at patterns site o id) 0 trees
     ((o.links'.link id).taken ++ more) starts
 
 -- What was sent on a link is all the answers to what was taken of it, whatever requests start
 -- later.
-abbrev pub AllIsSent : Site → Outside → ℕ → List Start → Type 0
-AllIsSent site o id starts =
+abbrev pub AllIsSent : List SetPattern → Site → Outside → ℕ → List Start → Type 0
+AllIsSent patterns site o id starts =
     (trees : Trees) → SayAsTold o trees → (later : List Start) →
-    answers (service_at site o id) 0 trees (o.links'.link id).taken
+    answers (service_at patterns site o id) 0 trees (o.links'.link id).taken
     (starts ++ later) ≡ (o.links'.link id).sent
 
 -- What was sent on a link is all the answers to what was taken of it, whatever else would have
 -- arrived and whatever requests start later.
-abbrev pub NothingWasMissed : Site → Outside → ℕ → List Start → Type 0
-NothingWasMissed site o id starts =
+abbrev pub NothingWasMissed : List SetPattern → Site → Outside → ℕ → List Start → Type 0
+NothingWasMissed patterns site o id starts =
     (trees : Trees) → SayAsTold o trees → (more : List ℕ) (later : List Start) →
-    answers_to site o id trees more (starts ++ later) ≡ (o.links'.link id).sent
+    answers_to patterns site o id trees more (starts ++ later) ≡ (o.links'.link id).sent
 
 -- The answers to what was taken of a link don't close it, whatever requests start later.
-abbrev pub StaysOpen : Site → Outside → ℕ → List Start → Type 0
-StaysOpen site o id starts =
+abbrev pub StaysOpen : List SetPattern → Site → Outside → ℕ → List Start → Type 0
+StaysOpen patterns site o id starts =
     (trees : Trees) → SayAsTold o trees → (later : List Start) →
-    close_in (responses (service_at site o id) 0 trees (o.links'.link id).taken
+    close_in (responses (service_at patterns site o id) 0 trees (o.links'.link id).taken
     (starts ++ later)) ≡ false
 
 -- too many subrequests were foreseen when the connection of a link was opened
-abbrev pub WasForeseen : Site → Outside → ℕ → List Start → Type 0
-WasForeseen site o id starts =
+abbrev pub WasForeseen : List SetPattern → Site → Outside → ℕ → List Start → Type 0
+WasForeseen patterns site o id starts =
     (trees : Trees) → SayAsTold o trees →
-    (fresh_course [] site (o.links'.link id).local (o.links'.link id).peer).heavy trees
+    (fresh_course patterns site (o.links'.link id).local (o.links'.link id).peer).heavy trees
     (o.links'.link id).taken starts ≡ true
 
 -- the connection of a link may be given up when a moment comes
-abbrev pub IsTimed : Site → Outside → ℕ → Type 0
-IsTimed site o id = (fresh_course [] site (o.links'.link id).local
+abbrev pub IsTimed : List SetPattern → Site → Outside → ℕ → Type 0
+IsTimed patterns site o id = (fresh_course patterns site (o.links'.link id).local
     (o.links'.link id).peer).timed ≡ true
 
 -- What a cause of a stop comes of: a fault of the link or of the files, an event that was refused
 -- for want of memory, as the links were told, too many subrequests, or a moment that had come of a
 -- connection that may be given up.
-abbrev pub HasReason : Site → Outside → ℕ → List Start → StopCause → Type 0
-HasReason site o id starts cause =
+abbrev pub HasReason : List SetPattern → Site → Outside → ℕ → List Start → StopCause → Type 0
+HasReason patterns site o id starts cause =
     Behind (Rose (o.links.link_faults id) (o.links'.link_faults id))
     (Rose o.files.faults o.files'.faults) (Rose 0 o.links'.refused)
-    (WasForeseen site o id starts) (IsTimed site o id) cause
+    (WasForeseen patterns site o id starts) (IsTimed patterns site o id) cause
 
 -- A link that was served, where `last` is what its connection showed last. What was sent is the
 -- beginning of the answers to what was taken, by the requests that were started. Where no cause
@@ -110,50 +112,50 @@ HasReason site o id starts cause =
 -- at rest the link is closed. The requests started at ticks, in their order. And at rest nothing is
 -- left to do: where no cause stopped the connection, a link that was reported readable was read,
 -- unless it is full.
-pub record LinkServed (site : Site) (o : Outside) (rests : Type 0) (ticks : List Tick)
+pub record LinkServed (patterns : List SetPattern) (site : Site) (o : Outside) (rests : Type 0) (ticks : List Tick)
     (id : ℕ) : Type 0 where
   pub last : ConnView
   pub sound : IsSound last
   pub front : (trees : Trees) → SayAsTold o trees →
       IsPrefixOf (o.links'.link id).sent
-      (answers (service_at site o id) 0 trees (o.links'.link id).taken last.starts)
-  pub closed : last.cause ≡ None → o.links'.is_open id ≡ false → AllIsSent site o id last.starts
+      (answers (service_at patterns site o id) 0 trees (o.links'.link id).taken last.starts)
+  pub closed : last.cause ≡ None → o.links'.is_open id ≡ false → AllIsSent patterns site o id last.starts
   pub unended : last.cause ≡ None → o.links'.is_open id ≡ false → (o.links'.link id).ended ≡ false →
-      NothingWasMissed site o id last.starts
+      NothingWasMissed patterns site o id last.starts
   pub rested : last.cause ≡ None → o.links'.is_open id ≡ true → rests →
       (o.links'.link id).full ≡ false →
-      AllIsSent site o id last.starts
+      AllIsSent patterns site o id last.starts
   pub stays : last.cause ≡ None → o.links'.is_open id ≡ true → rests →
       (o.links'.link id).full ≡ false →
-      StaysOpen site o id last.starts
+      StaysOpen patterns site o id last.starts
   pub read : last.cause ≡ None → o.links'.is_open id ≡ true → rests →
       (o.links'.link id).full ≡ false →
       (o.links'.link id).due ≡ false
   pub stopped : (cause : StopCause) → last.cause ≡ Some cause →
-      HasReason site o id last.starts cause
+      HasReason patterns site o id last.starts cause
   pub shut : (cause : StopCause) → last.cause ≡ Some cause → rests → o.links'.is_open id ≡ false
   pub dated : IsDated ticks last.starts
   pub left : rests → o.links'.is_open id ≡ true →
       AtRest (Unit {0}) (Unit {0}) last (o.links'.link id)
 
 -- What became of a link: it was turned away for a reason, and closed at once; or it was served.
-pub data Became (site : Site) (o : Outside) (rests : Type 0) (ticks : List Tick)
+pub data Became (patterns : List SetPattern) (site : Site) (o : Outside) (rests : Type 0) (ticks : List Tick)
     (id : ℕ) : Type 0 where
   TurnedAway : o.links'.is_open id ≡ false → (o.links'.link id).taken ≡ [] →
       (o.links'.link id).sent ≡ [] →
-      Reason (Rose 0 o.links'.refused) (site_terms [] site) (o.links'.link id) →
-      Became site o rests ticks id
-  Served : LinkServed site o rests ticks id → Became site o rests ticks id
+      Reason (Rose 0 o.links'.refused) (site_terms patterns site) (o.links'.link id) →
+      Became patterns site o rests ticks id
+  Served : LinkServed patterns site o rests ticks id → Became patterns site o rests ticks id
 
 -- A site was served, and it ended so: the ticks that there were are as the clock and the files
 -- told; what became of each link that was reported, as far as links and files tell; each address of
 -- the site is listened on, unless that failed; and each turn handled one notice.
-pub record Serving (site : Site) (turns : ℕ) (e : Ending) (o : Outside) : Type 0 where
+pub record Serving (patterns : List SetPattern) (site : Site) (turns : ℕ) (e : Ending) (o : Outside) : Type 0 where
   pub ticks : List Tick
   pub told : AreTold ticks o.clock o.clock' o.files o.files'
   pub links : o.links.tells ≡ true → o.files.tells ≡ true → (id : ℕ) → o.links'.used id ≡ true →
-      Became site o (e ≢ ending.ListenFault) ticks id
+      Became patterns site o (e ≢ ending.ListenFault) ticks id
   pub listens : e ≢ ending.ListenFault →
-      o.links'.listening ≡ o.links.listening ++ addresses site
+      o.links'.listening ≡ o.links.listening ++ addresses patterns site
   pub notices : o.links.tells ≡ true → o.links.notices ≤ 2 ^ 64 - 1 →
       TurnsTaken e turns o.links.notices o.links'.notices

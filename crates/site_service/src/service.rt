@@ -13,17 +13,18 @@ use served_site::ServedSite;
 use site_model::Site;
 use std::alloc::Global;
 
-/// Serves a site over new links, on each of its addresses once, for that many turns. It has no patterns.
+/// Serves a site over new links, on each of its addresses once, for that many turns, with the set of its patterns.
 pub fn serve_site<F: Files, L: Links, C: Clock>(
     alloc: Global,
     site: Site,
+    patterns: PatternSet,
     files: &mut F,
     links: &mut L,
     clock: &mut C,
     turns: u64,
 ) -> Result<Ending, OutOfMemory>
     requires links { AreNew (L.seen links.old) }
-    ensures serving { IfOk result (λ e. Serving site turns e (record {
+    ensures serving { IfOk result (λ e. Serving patterns site turns e (record {
       files = F.seen files.old;
       files' = F.seen files.new;
       links = L.seen links.old;
@@ -46,7 +47,6 @@ pub fn serve_site<F: Files, L: Links, C: Clock>(
     cores_are_sound();
     let addrs = addresses(alloc, site.servers.as_slice())?;
     let served = ServedSite::new(alloc, site)?;
-    let patterns = PatternSet::new(alloc);
     let mut hub = Hub::new(alloc, served, patterns);
     let ending = serve(
         alloc,

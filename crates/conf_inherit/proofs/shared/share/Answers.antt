@@ -17,6 +17,7 @@ new c = record {
   rules = c.place-3.new.items;
   auth_sets = c.place-4.new.items;
   media = c.place-6.new.items;
+  patterns = c.args.shelf.now.patterns;
 }
 
 abbrev given : goal.In_ok-addition_types → Shared
@@ -56,4 +57,4 @@ pub returns-clause-fits : goal.returns-clause-fits
 returns-clause-fits c = shared-fits c.args.block.now c.args.shelf.now (new c) c.place-5.new.items.items c.args.outer (given c) c.some_names-own_index.result c.some_pages-own_pages.result c.some_rules-own_rules.result c.some_sets-own_sets.result c.some_media-own_ssi.result c.some_media-own_addition.result (said c) (placed c) c.requires
 
 pub returns-clause-kept : goal.returns-clause-kept
-returns-clause-kept c = shared-kept c.args.block.now c.args.shelf.now (new c) c.place-5.new.items.items c.args.outer (given c) c.some_names-own_index.result c.some_pages-own_pages.result c.some_rules-own_rules.result c.some_sets-own_sets.result c.some_media-own_ssi.result c.some_media-own_addition.result (said c) (placed c) refl
+returns-clause-kept c = shared-kept c.args.block.now c.args.shelf.now (new c) c.place-5.new.items.items c.args.outer (given c) c.some_names-own_index.result c.some_pages-own_pages.result c.some_rules-own_rules.result c.some_sets-own_sets.result c.some_media-own_ssi.result c.some_media-own_addition.result (said c) (placed c) refl refl

@@ -1,4 +1,5 @@
 use Rattle.std.proofs.Common.{map, ap, ◌∙◌, rules}
+use Rattle.conf_values.specs.TextSet.{holds}
 use Rattle.conf_block.specs.Forest.{forest_of}
 use Rattle.conf_block.specs.Blocks.{block_with}
 use Rattle.conf_inherit.specs.Pools.{values_by}
@@ -7,22 +8,22 @@ use Rattle.conf_inherit.proofs.SiteLaws.{keeps-same, keeps-then, all-then, fits-
 use Rattle.conf_inherit.proofs.site.servers_of.Goals as goal
 
 pub loop-branch-init : goal.loop-branch-init
-loop-branch-init c = so-far-begin _ _ _ _ _ (search rules)
+loop-branch-init g c = so-far-begin _ _ _ _ _ (search rules)
 
 pub inner-requires : goal.inner-requires
-inner-requires c = fits-later _ _ c.args.outer c.loop-branch.invariant.shelf_kept c.requires
+inner-requires g c = fits-later _ _ c.args.outer c.loop-branch.invariant.shelf_kept c.requires
 
 pub server_of-requires : goal.server_of-requires
-server_of-requires c = c.in_ok-values.ensures.there
+server_of-requires g c = c.in_ok-values.ensures.there
 
 pub loop-branch-preserved : goal.loop-branch-preserved
-loop-branch-preserved c =
+loop-branch-preserved g c =
     so-far-more c.loop-branch.invariant _ _ _ c.in_ok-server_of.field-0
-    (server_in (values_by c.args.outer) (block_with c.in-Some.branch.directive.now (forest_of c.in-Some.branch.block.now))) _
+    (server_in (holds c.args.known.now.keys) (values_by c.args.outer) (block_with c.in-Some.branch.directive.now (forest_of c.in-Some.branch.block.now))) _
     (keeps-then _ _ _ (keeps-same _ _ c.in_ok-values.ensures.levels) c.in_ok-server_of.ensures.levels)
     (all-then _ _ _ c.in_ok-values.ensures.shelf c.in_ok-server_of.ensures.shelf) (search rules)
-    (ap (map (server_in (values_by c.args.outer))) c.in-Some.ensures.blocks)
-    (λ site h. c.in_ok-server_of.ensures.seen site h ∙ ap (λ v. server_with v (forest_of c.in-Some.branch.block.now)) c.in_ok-values.ensures.values)
+    (ap (map (server_in (holds c.args.known.now.keys) (values_by c.args.outer))) c.in-Some.ensures.blocks)
+    (λ b h. c.in_ok-server_of.ensures.seen b h ∙ ap (λ v. server_with (holds c.args.known.now.keys) v (forest_of c.in-Some.branch.block.now)) c.in_ok-values.ensures.values)
 
 pub returns : goal.returns
-returns c = λ site h. so-far-end c.loop-branch.invariant (ap (map (server_in (values_by c.args.outer))) c.in_default.ensures.blocks) site h
+returns g c = λ b h. so-far-end c.loop-branch.invariant (ap (map (server_in (holds c.args.known.now.keys) (values_by c.args.outer))) c.in_default.ensures.blocks) b h

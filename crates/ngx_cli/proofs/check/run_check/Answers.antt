@@ -1,6 +1,6 @@
 use Rattle.std.proofs.Common.{◌≡◌, List, [], ℕ, Ok, Err, refl}
 use Rattle.ngx_outside.specs.Seen.{FilesSeen}
-use Rattle.site_whole.specs.Whole.{whole}
+use Rattle.conf_inherit.specs.Pools.{site_built}
 use Rattle.conf_inherit.specs.declared.site.Purpose.TheVariants as purposes
 use Rattle.ngx_cli.specs.Commands.{Output, Describes, OfSite, OfNoSite, counts_of}
 use Rattle.report_text.specs.Lines.{ended}
@@ -14,9 +14,9 @@ returns-in-Ok g c =
     let files' : FilesSeen = g.F.Files.seen c.site_at.new.files in
     let out : Output = record { before = g.O.Sink.seen c.args.out.now; after = g.O.Sink.seen c.put_counts.new.out } in
     let path = c.args.path.now in
-    let site = c.in-Ok.site in
-    let described : Describes purposes.Reading files files' path (Ok (whole [] site)) = record { reads = c.in-Ok.ensures.reading; is = c.in-Ok.ensures.exact } in
-    unput_check files files' out path (counts_of (whole [] site)) c.in-Err.status (OfSite site described refl) c.in-Err.ensures
+    let site = c.in-Ok.built in
+    let described : Describes purposes.Reading files files' path (Ok (site_built site)) = record { reads = c.in-Ok.ensures.reading; is = c.in-Ok.ensures.exact } in
+    unput_check files files' out path (counts_of (site_built site)) c.in-Err.status (OfSite site described refl) c.in-Err.ensures
 
 pub returns-in-Err-Fault : goal.returns-in-Err-Fault
 returns-in-Err-Fault g c =

@@ -1,7 +1,7 @@
 use Rattle.std.proofs.Common.{◌≡◌, [], Ok, Err, ap, sym, subst}
 use Rattle.std.proofs.lemmas.List.{append-nil}
 use Rattle.site_service.specs.Serving.{Outside}
-use Rattle.site_whole.specs.Whole.{whole}
+use Rattle.conf_inherit.specs.Pools.{site_built}
 use Rattle.conf_inherit.specs.declared.site.Purpose.TheVariants as purposes
 use Rattle.ngx_cli.specs.Commands.{Output, Describes, ServeEnds}
 use Rattle.report_text.specs.Lines.{ended}
@@ -19,7 +19,7 @@ returns-in-Ok-serve_site g c =
     let s = c.in-Ok-serve_site.ensures in
     let e = c.in-Ok-serve_site.ending in
     let path = c.args.path.now in
-    let site = c.in-Ok.site in
+    let site = c.in-Ok.built in
     let o : Outside = record {
       files = f.seen c.args.files.now;
       files' = f.seen c.serve_site.new.files;
@@ -29,7 +29,7 @@ returns-in-Ok-serve_site g c =
       clock' = t.seen c.serve_site.new.clock;
     } in
     let out : Output = record { before = u.seen c.args.out.now; after = u.seen c.args.out.now } in
-    let described : Describes purposes.Serving o.files (f.seen c.site_at.new.files) path (Ok (whole [] site)) = record { reads = a.reading; is = a.exact } in
+    let described : Describes purposes.Serving o.files (f.seen c.site_at.new.files) path (Ok (site_built site)) = record { reads = a.reading; is = a.exact } in
     subst (ServeEnds o out path c.args.turns) (sym c.served_status.ensures)
     (served o out path c.args.turns e site (f.seen c.site_at.new.files) described s.serving (λ tells. sym (append-nil (u.seen c.args.out.now).written))
     (λ is. s.ended (ap Ok is)) (λ is. s.listen_fault (ap Ok is)) (λ is. s.next_fault (ap Ok is)))

@@ -6,7 +6,7 @@ pub returns-in-Ok-site_of : goal.returns-in-Ok-site_of
 returns-in-Ok-site_of c =
     let r = c.in_ok-run-in-Ok-site_of.ensures in
     let script = c.in-Ok.script in
-    let site = c.in-Ok-site_of.site in (
+    let site = c.in-Ok-site_of.built in (
       r.0,
       r.1,
       (

@@ -15,11 +15,11 @@ use Rattle.ngx_cli.proofs.script.run.Goals as goal
 
 pub returns : goal.returns
 returns c =
-    let site = c.args.site in
+    let site = c.args.built in
     let events = c.args.events.now in
     let hub = c.new-hub.result in
-    let terms : terms_at hub ≡ site_terms [] site =
-    c.new-hub.ensures.terms ∙ ap (λ ps. site_terms ps c.in_ok-served.served.site) c.new-patterns.ensures ∙ ap (site_terms []) c.in_ok-served.ensures in
+    let terms : terms_at hub ≡ site_terms site.patterns site.site =
+    c.new-hub.ensures.terms ∙ ap (site_terms site.patterns) c.in_ok-served.ensures in
     let files = c.in_ok-files.files in
     let told : told_of files ≡ told_first c.args.tree.now = c.in_ok-files.ensures.told in
     let end = c.run_lines.new.core in
@@ -35,7 +35,7 @@ returns c =
         skipped = counts.skipped;
         refused = counts.refused;
         begins = new;
-        plays = subst (λ t. Plays (site_terms [] site) events t first 0 0 last counts.skipped counts.refused) told
+        plays = subst (λ t. Plays (site_terms site.patterns site.site) events t first 0 0 last counts.skipped counts.refused) told
             (subst (λ (m : Terms). Plays m events (told_of files) first 0 0 last counts.skipped counts.refused) terms c.in_ok-counts.ensures.plays);
         conns = conns_held end;
         held = c.put_run.ensures.held;
@@ -45,7 +45,7 @@ returns c =
         opened = opened_by_lines events first last.lanes new c.in_ok-counts.ensures.opened;
         printed = refl;
         answered = λ q among. answered c.all_is_sent_when_idle.ensures c.all_is_sent_when_shut.ensures c.shut_is_exact.ensures c.all_is_logged_when_idle.ensures site (told_in events (told_first c.args.tree.now)) (last.view q) (last.lanes q) (sent_in events q) ((c.put_run.ensures.held.held q).0 among) (c.cores_are_sound.ensures end q).sound (c.cores_are_sound.ensures end q).exact
-            (subst (λ t. AllStanding (fresh_course [] site) (told_in events t) last (λ k. sent_in events k)) told
+            (subst (λ t. AllStanding (fresh_course site.patterns site.site) (told_in events t) last (λ k. sent_in events k)) told
             (subst (λ (m : Terms). AllStanding m.fresh (told_in events (told_of files)) last (λ k. sent_in events k)) terms (c.in_ok-counts.ensures.stands (λ k. []) (begins_standing (fresh_at hub) (told_of files) first new))) q);
       },
     )

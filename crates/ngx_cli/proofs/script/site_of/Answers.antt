@@ -7,7 +7,7 @@ use Rattle.conf_include.specs.declared.main_file.ExpandError.TheVariants as erro
 use Rattle.replay_confs.specs.Confs.{conf_tree}
 use Rattle.site_views.specs.Views.{SiteView}
 use Rattle.conf_inherit.specs.declared.site.Purpose.TheVariants as purposes
-use Rattle.site_model.specs.declared.site.Site.{Site}
+use Rattle.conf_inherit.specs.declared.site.Built.{Built}
 use Rattle.ngx_cli.specs.Naming.{conf_names}
 use Rattle.ngx_cli.specs.Running.{main_path}
 use Rattle.ngx_cli.specs.Sites.{Describes, OnFault, site_at}
@@ -15,7 +15,7 @@ use Rattle.ngx_cli.proofs.NamingLaws.{folders_have_their_names}
 use Rattle.ngx_cli.proofs.script.site_of.Goals as goal
 
 -- what was answered is said of the configurations, their names and the main one's path
-found : (confs confs' : List Conf) (path path' : List ℕ) (result : Result Site ExpandError) → confs' ≡ confs → path' ≡ path →
+found : (confs confs' : List Conf) (path path' : List ℕ) (result : Result Built ExpandError) → confs' ≡ confs → path' ≡ path →
     ((names : Names) → IsNaming (conf_tree confs') names → Describes result (site_at purposes.Serving (conf_tree confs') names path')) →
     Describes result (site_at purposes.Serving (conf_tree confs) (conf_names confs) path)
 found confs confs' path path' result c p h =
@@ -29,7 +29,7 @@ fault_of error.OutOfMemory outcome d = tt
 
 pub returns-in-Ok-clause-ok : goal.returns-in-Ok-clause-ok
 returns-in-Ok-clause-ok c =
-    found c.args.confs.now c.new-files.result.confs.now (main_path c.args.confs.now) c.main_path.result.now (Ok c.in-Ok.site)
+    found c.args.confs.now c.new-files.result.confs.now (main_path c.args.confs.now) c.main_path.result.now (Ok c.in-Ok.built)
     (c.new-files.ensures.confs ∙ c.as_slice.ensures) (c.main_path.ensures ∙ ap main_path c.as_slice-2.ensures) (c.in-Ok.ensures.exact refl refl)
 
 pub returns-in-Err-clause-fault : goal.returns-in-Err-clause-fault

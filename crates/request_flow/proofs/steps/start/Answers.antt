@@ -1,42 +1,31 @@
-use Rattle.std.proofs.Common.{false, [], sym, ap, ◌∙◌, subst, arith}
+use Rattle.std.proofs.Common.{List, false, sym, subst, arith}
+use Rattle.ngx_pattern.specs.Pattern.{Pattern as SetPattern}
 use Rattle.pattern_search.specs.Found.{patterns_seen}
 use Rattle.site_whole.specs.Whole.{server_whole}
 use Rattle.answers_meaning.specs.Asking.{request_of}
 use Rattle.request_meaning.specs.Laws.{shipped}
-use Rattle.request_meaning.specs.Phases.{rounds}
-use Rattle.request_meaning.specs.Replies.{outside}
-use Rattle.request_meaning.specs.Serving.From.{Start}
-use Rattle.request_phases.specs.Rounds.{world_in, phases_left, asked_from}
-use Rattle.request_phases.specs.declared.state.Phases.{Phases}
+use Rattle.request_phases.specs.Rounds.{world_in}
 use Rattle.request_flow.specs.Flows.{flow_rest, asking_most}
-use Rattle.request_flow.specs.Openings.{main_at, terms_seen}
-use Rattle.request_flow.specs.Rests.{Follows, act_rest, opened_rest}
-use Rattle.request_flow.proofs.Turns.{act_settles}
+use Rattle.request_flow.specs.Openings.{main_at, terms_at}
+use Rattle.request_flow.specs.Rests.{Follows, opened_rest}
 use Rattle.request_flow.proofs.steps.start.Goals as goal
 
-pub returns-in_ok-began-in-Ok-clause-goes : goal.returns-in_ok-began-in-Ok-clause-goes
-returns-in_ok-began-in-Ok-clause-goes c = λ trees.
+pub returns-in_ok-go_on-in-Ok-begun-clause-goes : goal.returns-in_ok-go_on-in-Ok-begun-clause-goes
+returns-in_ok-go_on-in-Ok-begun-clause-goes c = λ trees.
     let g = c.args.ground.now in
     let site = g.site.now in
-    let patterns = c.args.space.now.patterns in
-    let w = world_in patterns g shipped in
     let opening = c.args.opening in
-    let tree = trees opening.tree in
-    let main = main_at g opening in
-    let request = request_of (server_whole (patterns_seen patterns) site g.server.now) opening.head in
-    let p = c.in_ok-phases.phases in
-    let vars = c.new.result in
-    let t = terms_seen c.terms_of-terms.result in
-    let o = c.in_ok-began-in-Ok.field-0 in
-    subst (λ b. Follows site b (flow_rest w patterns site o.flow trees) c.args.out.now c.began.new.out false o.closing o.log o.level) (sym
-    (ap (λ u. opened_rest w tree u main request) (sym c.terms_of-terms.ensures)
-    ∙ (ap (λ v. act_rest w tree t (rounds w 10 (outside main request)) v) (sym c.new.ensures)
-    ∙ (ap (λ (p : Phases). act_rest w tree t (rounds w p.changes (asked_from p Start)) vars) (sym (c.in_ok-phases.ensures patterns site))
-    ∙ act_settles w tree t (rounds w p.changes (asked_from p Start)) (phases_left w patterns site [] c.begin.new.phases c.in-Ok.step) vars c.begin.new.vars (c.in-Ok.ensures.does [] shipped)))))
-    (c.in_ok-began-in-Ok.ensures.goes patterns trees)
+    let patterns = c.room.new.self.patterns in
+    let w = world_in patterns g shipped in
+    let o = c.in_ok-go_on-in-Ok-begun.field-0 in
+    subst (λ (ps : List SetPattern). (let w = world_in ps g shipped in
+    Follows site (opened_rest w (trees opening.tree) (terms_at opening) (main_at g opening) (request_of (server_whole (patterns_seen ps) site g.server.now) opening.head)) (flow_rest w ps site o.flow trees) c.args.out.now c.go_on.new.out false o.closing o.log o.level)) c.room.ensures
+    (subst (λ b. Follows site b (flow_rest w patterns site o.flow trees) c.args.out.now c.go_on.new.out false o.closing o.log o.level) (sym (c.in-Ok-begun.ensures.goes trees))
+    (c.in_ok-go_on-in-Ok-begun.ensures.goes patterns trees))
 
-pub returns-in_ok-began-in-Ok-clause-lowers : goal.returns-in_ok-began-in-Ok-clause-lowers
+pub returns-in_ok-go_on-in-Ok-begun-clause-lowers : goal.returns-in_ok-go_on-in-Ok-begun-clause-lowers
 unfolding asking_most
-returns-in_ok-began-in-Ok-clause-lowers c =
-    let lower = c.in_ok-began-in-Ok.ensures.lowers in
-    omega (arith, lower)
+returns-in_ok-go_on-in-Ok-begun-clause-lowers c =
+    let lower = c.in_ok-go_on-in-Ok-begun.ensures.lowers in
+    let few = c.begun.ensures.questions in
+    omega (arith, lower, few)

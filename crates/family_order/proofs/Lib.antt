@@ -1,0 +1,9 @@
+pub mod Rows
+pub mod Wells
+pub mod Places
+pub mod Shown
+pub mod Stubs
+pub mod Goings
+pub mod Rests
+pub mod Bodies
+pub mod Tells

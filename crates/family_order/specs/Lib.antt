@@ -1,0 +1,4 @@
+pub mod Items
+pub mod Acts
+pub mod Laws
+pub mod Whole

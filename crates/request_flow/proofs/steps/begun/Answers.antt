@@ -1,0 +1,32 @@
+use Rattle.std.proofs.Common.{[], sym, ap, ◌∙◌}
+use Rattle.pattern_search.specs.Found.{patterns_seen}
+use Rattle.site_whole.specs.Whole.{server_whole}
+use Rattle.answers_meaning.specs.Asking.{request_of}
+use Rattle.request_meaning.specs.Laws.{shipped}
+use Rattle.request_meaning.specs.Phases.{rounds}
+use Rattle.request_meaning.specs.Replies.{outside}
+use Rattle.request_meaning.specs.Serving.From.{Start}
+use Rattle.request_phases.specs.Rounds.{world_in, phases_left, asked_from}
+use Rattle.request_phases.specs.declared.state.Phases.{Phases}
+use Rattle.request_flow.specs.Openings.{main_at, terms_seen}
+use Rattle.request_flow.specs.Rests.{act_rest, opened_rest}
+use Rattle.request_flow.proofs.Turns.{act_settles}
+use Rattle.request_flow.proofs.steps.begun.Goals as goal
+
+pub returns-clause-goes : goal.returns-clause-goes
+returns-clause-goes c = λ trees.
+    let g = c.args.ground.now in
+    let site = g.site.now in
+    let patterns = c.args.space.now.patterns in
+    let w = world_in patterns g shipped in
+    let opening = c.args.opening in
+    let tree = trees opening.tree in
+    let main = main_at g opening in
+    let request = request_of (server_whole (patterns_seen patterns) site g.server.now) opening.head in
+    let p = c.put_phases.new.phases in
+    let vars = c.put.new.slot in
+    let t = terms_seen c.terms_of-terms.result in
+    ap (λ u. opened_rest w tree u main request) (sym c.terms_of-terms.ensures)
+    ∙ (ap (λ v. act_rest w tree t (rounds w 10 (outside main request)) v) (sym (c.put.ensures ∙ c.new.ensures))
+    ∙ (ap (λ (p : Phases). act_rest w tree t (rounds w p.changes (asked_from p Start)) vars) (sym (c.in_ok-put_phases.ensures patterns site))
+    ∙ act_settles w tree t (rounds w p.changes (asked_from p Start)) (phases_left w patterns site [] c.begin.new.phases c.in_ok-step.step) vars c.begin.new.vars (c.in_ok-step.ensures.does [] shipped)))

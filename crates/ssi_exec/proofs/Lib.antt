@@ -1,0 +1,5 @@
+mod Acts
+mod Inside
+mod Ifs
+mod Wordings
+mod Texts

@@ -1,0 +1,4 @@
+pub mod Scenes
+pub mod Named
+pub mod Stages
+pub mod Includes

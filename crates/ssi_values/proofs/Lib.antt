@@ -1,0 +1,5 @@
+mod Entries
+mod Settles
+mod Reading
+mod Dates
+mod Sides

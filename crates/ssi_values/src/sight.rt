@@ -1,0 +1,17 @@
+// What the names of a document are looked up in.
+use crate::table::Table;
+use byte_text::ByteTexts;
+use ngx_variables::{Main, Request, VarTable};
+
+/// What the names of a document are looked up in: the main request, the request that the document answers, the format in
+/// which it shows dates, its own variables, the names that it sees of those that are set (`ssi_visible`, all without it), and
+/// the variables that are set.
+#[derive(Clone, Copy)]
+pub struct Sight<'a> {
+    pub main: &'a Main,
+    pub request: &'a Request,
+    pub format: &'a [u8],
+    pub ssi: &'a Table,
+    pub visible: &'a Option<ByteTexts>,
+    pub vars: &'a VarTable,
+}
