@@ -22,7 +22,7 @@ for crate in $crates; do
     grep "^$crate:" "$top/crates.txt" >>"$work/crates.txt"
 done
 below=$(sed -n 's/^rewrite_code: //p' "$top/crates.txt")
-echo "rewrite: rewrite_code $below" >>"$work/crates.txt"
+echo "rewrite: rewrite_code req_head $below" >>"$work/crates.txt"
 (cd "$work/crates/rewrite" && rt run) >"$work/built" 2>&1 || { cat "$work/built" >&2; exit 1; }
 count() { # a number of runs
     valgrind --tool=callgrind --callgrind-out-file="$work/counts" "$work/crates/rewrite/out/rewrite" "$1" 2>&1 >/dev/null |

@@ -8,10 +8,10 @@ program=${NGX:-$top/ngx}
 work=$(mktemp -d)
 trap 'rm -rf "$work"' EXIT
 ulimit -n "$(ulimit -H -n)" 2>/dev/null
-timeout --preserve-status -k 5 115 python3 - "$program" "$work" "$@" <<'PY'
+timeout --preserve-status -k 5 115 python3 - "$program" "$work" "$top" "$@" <<'PY'
 import hashlib, os, resource, shutil, signal, socket, stat, subprocess, sys, threading, time
-program, work = sys.argv[1:3]
-wanted = sys.argv[3:]
+program, work, top = sys.argv[1:4]
+wanted = sys.argv[4:]
 os.chdir(work)
 bad = 0
 began = time.time()
@@ -346,6 +346,8 @@ def words():
     told('8. a configuration that is not there: the path and the reason', status in (1, 4) and 'none/here.conf' in words and 'No such file' in words, (status, words))
     status, _, words = run('check', 'root')
     told('8. a folder in place of a configuration: its path', status in (1, 4) and 'root' in words, (status, words))
+    got = run('check', os.path.join(top, 'examples/debian/nginx.conf'))
+    told("8. Debian's configuration with its default site is read whole", got[0] == 0 and got[1] == 'servers 1 locations 1\n', got)
     if os.geteuid() == 0 and shutil.which('setpriv'):
         open('conf80', 'w').write(http(one % ('127.0.0.1:80', 'x')))
         os.chmod(work, 0o755)

@@ -1,7 +1,10 @@
 //! Tests of the crates that find what is answered: names that are tried, pages of errors, servers and locations, the race
-//! check. What a definition answers is in rows (`proofs/Rows.antt`), which the check computes; the tests run the code.
+//! check, the bodies of pages. What a definition answers is in rows (`proofs/Rows.antt`), which the check computes; the tests
+//! run the code.
 #![tactic(auto)]
 
+#[cfg(test)]
+mod bodies;
 #[cfg(test)]
 mod locations;
 #[cfg(test)]

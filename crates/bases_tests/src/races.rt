@@ -3,12 +3,11 @@
 use crate::samples::{level, text, value};
 use byte_text::{ByteText, ByteTexts};
 use file_type::Types;
-use race_check::{Conflict, conflicts};
+use race_check::{Named, named_in};
 use site_model::{
     AuthSet, AuthSets, FileTest, Level, Listens, Location, LocationKind, Program, RewriteStep,
     Server, Site, Test,
 };
-use source_lines::{LevelLines, Line};
 use std::alloc::Global;
 use std::process::Abort;
 use std::test::Fail;
@@ -118,34 +117,20 @@ fn site_of(alloc: Global, words: &[u8], visible: Option<ByteTexts>) -> Result<Si
     })
 }
 
-/// Each directive of a program on a line of its own, level after level.
-fn lines_of(alloc: Global, site: &Site) -> Result<Vec<LevelLines>, Fail> {
-    let mut table = Vec::new(alloc);
-    let mut line: u64 = 0;
-    for level in &site.levels {
-        let mut program = Vec::new(alloc);
-        for _ in level.program.as_slice() {
-            line = line.saturating_add(1);
-            program.push(Line { file: 0, line })?;
-        }
-        table.push(LevelLines {
-            place: None,
-            index: Vec::new(alloc),
-            tries: None,
-            pages: Vec::new(alloc),
-            auth_sets: Vec::new(alloc),
-            program,
-        })?;
+/// The variables that are named in the site's first server.
+fn named_first(alloc: Global, site: &Site) -> Result<Vec<Named>, Fail> {
+    match site.servers.first() {
+        None => Ok(Vec::new(alloc)),
+        Some(server) => Ok(named_in(alloc, site, server, 1)?),
     }
-    Ok(table)
 }
 
 /// The names with a space after each, and before it `+` where documents read the variable.
-fn told(alloc: Global, conflicts: &[Conflict]) -> Result<ByteText, Fail> {
+fn told(alloc: Global, named: &[Named]) -> Result<ByteText, Fail> {
     let mut told = ByteText::new(alloc);
-    for conflict in conflicts {
-        told.extend(conflict.name.as_slice())?;
-        if conflict.documents {
+    for variable in named {
+        told.extend(variable.name.as_slice())?;
+        if variable.documents {
             told.push(b'+')?;
         }
         told.push(b' ')?;
@@ -164,9 +149,8 @@ fn tell(
         names.push(text(alloc, b"y")?)?;
         let visible = if visible { None } else { Some(names) };
         let site = site_of(alloc, words, visible)?;
-        let lines = lines_of(alloc, &site)?;
-        let conflicts = conflicts(alloc, &site, lines.as_slice())?;
-        let told = told(alloc, conflicts.as_slice())?;
+        let named = named_first(alloc, &site)?;
+        let told = told(alloc, named.as_slice())?;
         assert!(rt; told.as_slice() == *expected);
     }
     Ok(())
@@ -209,39 +193,4 @@ fn what_other_levels_read_is_told(rt: HostRuntime) -> Result<(), Fail> {
             (b"|ssi|y=$x x=a|x=b", b"x y+ "),
         ],
     )
-}
-
-/// The lines where a variable is set, and then where it is read.
-fn places(alloc: Global, conflict: &Conflict) -> Result<ByteText, Fail> {
-    let mut told = text(alloc, b"set")?;
-    for line in &conflict.sets {
-        let number = line.line;
-        told.extend(format!(in alloc; " {number}")?.as_bytes())?;
-    }
-    told.extend(b" read")?;
-    for line in &conflict.reads {
-        let number = line.line;
-        told.extend(format!(in alloc; " {number}")?.as_bytes())?;
-    }
-    Ok(told)
-}
-
-fn first_places(alloc: Global, words: &[u8]) -> Result<ByteText, Fail> {
-    let site = site_of(alloc, words, None)?;
-    let lines = lines_of(alloc, &site)?;
-    let conflicts = conflicts(alloc, &site, lines.as_slice())?;
-    match conflicts.as_slice() {
-        [] => text(alloc, b"none"),
-        [first, ..] => places(alloc, first),
-    }
-}
-
-#[test]
-fn places_are_told(rt: HostRuntime) -> Result<(), Fail> {
-    let alloc = rt.alloc();
-    let own = first_places(alloc, b"|ssi|x=a ?$x|y=b x=$x")?;
-    assert_eq!(rt; own.as_slice(), b"set 1 4 read 2 4".as_slice());
-    let other = first_places(alloc, b"|ssi|x=a|-f ?$x$x")?;
-    assert_eq!(rt; other.as_slice(), b"set 1 read 3".as_slice());
-    Ok(())
 }

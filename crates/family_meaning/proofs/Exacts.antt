@@ -29,6 +29,10 @@ pub thinks : (w : World) (tree : Tree) (node left : ℕ) (m : Serving Answer) (l
 unfolding rest
 thinks w tree node left m line vars last = ap (λ r. before r.body (rest w tree line (Some r.result) r.vars)) (settled_run tree (reply w tree left) m vars)
 
+pub reads : (w : World) (tree : Tree) (node left : ℕ) (name : List ℕ) (k : Option (List ℕ) → Serving Answer) (line : Line) (vars : Vars) → Same w tree (Gives node left (Get name k) line) vars (Gives node left (k (look vars name)) line) vars
+unfolding rest run
+reads w tree node left name k line vars last = refl
+
 pub learns : (w : World) (tree : Tree) (node left : ℕ) (path : List ℕ) (k : Item → Serving Answer) (line : Line) (vars : Vars) → Same w tree (Gives node left (Stat path k) line) vars (Gives node left (k (tree path)) line) vars
 unfolding rest run
 learns w tree node left path k line vars last = refl
@@ -42,6 +46,12 @@ places w tree node left some more m line vars last =
     let r = run tree (reply w tree left) m vars in
     ap (λ body. before body (rest w tree line (Some r.result) r.vars)) (append_assoc some more r.body)
     ∙ before_before some (more ++ r.body) (rest w tree line (Some r.result) r.vars)
+
+pub merges : (w : World) (tree : Tree) (node left : ℕ) (first second : List ℕ) (m : Serving Answer) (line : Line) (vars : Vars) → Same w tree (Gives node left (Write first (Write second m)) line) vars (Gives node left (Write (first ++ second) m) line) vars
+unfolding rest run
+merges w tree node left first second m line vars last =
+    let r = run tree (reply w tree left) m vars in
+    ap (λ body. before body (rest w tree line (Some r.result) r.vars)) (sym (append_assoc first second r.body))
 
 -- a subrequest that opens: with a stub or without one
 module _ (w : World) (tree : Tree) (node left number : ℕ) (act : Serving Answer) where
@@ -232,7 +242,7 @@ keeps w tree own stub line vars s h last =
     ∙ sym (joined_rest w tree own line last vars)
 
 pub first_steps : FirstIsExact
-first_steps = record { thinks = thinks; learns = learns; places = places; opens = opens; asks = asks; leaves = leaves; hears = hears; keeps = keeps; decides = decides }
+first_steps = record { thinks = thinks; reads = reads; learns = learns; places = places; merges = merges; opens = opens; asks = asks; leaves = leaves; hears = hears; keeps = keeps; decides = decides }
 
 pub whole_at_start : (w : World) (tree : Tree) (main : Main) (request : Request) (terms : Terms) → flight_rest w tree (begun w main request terms) ≡ whole_rest terms (main_reply w tree main request)
 unfolding flight_rest begun rest main_reply main_came

@@ -9,10 +9,10 @@ use Rattle.request_meaning.specs.Replies.{run, or_stub}
 use Rattle.family_meaning.specs.Line.{Line, Left, rest, before, reply_of, status_of}
 use Rattle.family_meaning.specs.Line.Line.{Gives}
 use Rattle.family_meaning.specs.Moves.{Quiet, Quiets}
-use Rattle.family_meaning.specs.Moves.Quiet.{Learns, Places, Placed, Opens, Asks, Hears, Leaves, Keeps, Decides, PastHeld, PastNode, PastWait, Within, PastStub, WithinStub}
+use Rattle.family_meaning.specs.Moves.Quiet.{Learns, Places, Placed, Merges, Opens, Asks, Hears, Leaves, Keeps, Decides, PastHeld, PastNode, PastWait, Within, PastStub, WithinStub}
 use Rattle.family_meaning.specs.Moves.Quiets.{Rests, Goes}
 use Rattle.family_meaning.specs.Exact.{Same, OrderIsNoMatter}
-use Rattle.family_meaning.proofs.Exacts.{learns, places, opens, asks, hears, leaves, keeps, decides}
+use Rattle.family_meaning.proofs.Exacts.{learns, places, merges, opens, asks, hears, leaves, keeps, decides}
 
 placed : (w : World) (tree : Tree) (node left : ℕ) (m : Serving Answer) (line : Line) (vars : Vars) → Same w tree (Gives node left (Write [] m) line) vars (Gives node left m line) vars
 unfolding rest run
@@ -40,6 +40,7 @@ unfolding rest
 quiet_same w tree _ _ (Learns {node} {left} {path} {k} {line}) vars last = learns w tree node left path k line vars last
 quiet_same w tree _ _ (Places {node} {left} {some} {more} {m} {line}) vars last = places w tree node left some more m line vars last
 quiet_same w tree _ _ (Placed {node} {left} {m} {line}) vars last = placed w tree node left m line vars last
+quiet_same w tree _ _ (Merges {node} {left} {first} {second} {m} {line}) vars last = merges w tree node left first second m line vars last
 quiet_same w tree _ _ (Opens {node} {left} {child} {m} {line} number) vars last = opens w tree node left number child m line vars last
 quiet_same w tree _ _ (Asks {node} {left} {child} {k} {line} number) vars last = asks w tree node left number child k line vars last
 quiet_same w tree _ _ (Hears {node} {left} {own} {line} {k} said e) vars last = hears w tree node left own k line vars said e last

@@ -1,8 +1,8 @@
 -- The steps of the node that comes first: they need no condition, since none runs before it.
 use Rattle.std.specs.Prelude.{◌≡◌, ◌≢◌, ℕ, suc, List, [], ◌++◌, Option, None, Some, true}
 use Rattle.file_tree.specs.Tree.{Tree, Item}
-use Rattle.acts.specs.Vars.{Vars}
-use Rattle.acts.specs.Act.{Done, Stat, Call, Write, Inner, settled}
+use Rattle.acts.specs.Vars.{Vars, look}
+use Rattle.acts.specs.Act.{Done, Get, Stat, Call, Write, Inner, settled}
 use Rattle.request_meaning.specs.Serving.{World, Serving, Child, Reply, Answer}
 use Rattle.request_meaning.specs.Replies.{or_stub}
 use Rattle.family_meaning.specs.Line.{Line, rest, opened, ended, front, joined, has_node}
@@ -16,10 +16,14 @@ Same w tree line vars line' vars' = (last : Option Answer) → rest w tree line 
 pub record FirstIsExact : Type 0 where
   pub thinks : (w : World) (tree : Tree) (node left : ℕ) (m : Serving Answer) (line : Line) (vars : Vars) →
       Same w tree (Gives node left m line) vars (Gives node left (settled m vars).0 line) (settled m vars).1
+  pub reads : (w : World) (tree : Tree) (node left : ℕ) (name : List ℕ) (k : Option (List ℕ) → Serving Answer) (line : Line) (vars : Vars) →
+      Same w tree (Gives node left (Get name k) line) vars (Gives node left (k (look vars name)) line) vars
   pub learns : (w : World) (tree : Tree) (node left : ℕ) (path : List ℕ) (k : Item → Serving Answer) (line : Line) (vars : Vars) →
       Same w tree (Gives node left (Stat path k) line) vars (Gives node left (k (tree path)) line) vars
   pub places : (w : World) (tree : Tree) (node left : ℕ) (some more : List ℕ) (m : Serving Answer) (line : Line) (vars : Vars) →
       Same w tree (Gives node left (Write (some ++ more) m) line) vars (Held some (Gives node left (Write more m) line)) vars
+  pub merges : (w : World) (tree : Tree) (node left : ℕ) (first second : List ℕ) (m : Serving Answer) (line : Line) (vars : Vars) →
+      Same w tree (Gives node left (Write first (Write second m)) line) vars (Gives node left (Write (first ++ second) m) line) vars
   pub opens : (w : World) (tree : Tree) (node left number : ℕ) (child : Child) (m : Serving Answer) (line : Line) (vars : Vars) →
       Same w tree (Gives node (suc left) (Inner child m) line) vars (opened w number left child (Gives node (suc left) m line)) vars
   pub asks : (w : World) (tree : Tree) (node left number : ℕ) (child : Child) (k : Reply → Serving Answer) (line : Line) (vars : Vars) →

@@ -1,7 +1,7 @@
 -- The steps of a family: each is a step of any one node, by the table as it is then, and they may come in any order.
 use Rattle.std.specs.Prelude.{◌≡◌, ◌≢◌, ℕ, suc, nat_le, true, false, List, [], ◌++◌, Option, None, Some}
 use Rattle.file_tree.specs.Tree.{Tree, Item}
-use Rattle.acts.specs.Vars.{Vars}
+use Rattle.acts.specs.Vars.{Vars, look}
 use Rattle.acts.specs.Act.{Done, Get, Put, Stat, Call, Write, Inner, settled}
 use Rattle.request_meaning.specs.Serving.{World, Serving, Child, Reply, Answer}
 use Rattle.request_meaning.specs.Replies.{or_stub}
@@ -41,6 +41,9 @@ pub data Quiet (w : World) (tree : Tree) : Line → Line → Type 0 where
   Places : {node left : ℕ} {some more : List ℕ} {m : Serving Answer} {line : Line} →
       Quiet w tree (Gives node left (Write (some ++ more) m) line) (Held some (Gives node left (Write more m) line))
   Placed : {node left : ℕ} {m : Serving Answer} {line : Line} → Quiet w tree (Gives node left (Write [] m) line) (Gives node left m line)
+  -- two texts that it places next are one
+  Merges : {node left : ℕ} {first second : List ℕ} {m : Serving Answer} {line : Line} →
+      Quiet w tree (Gives node left (Write first (Write second m)) line) (Gives node left (Write (first ++ second) m) line)
   -- it opens a subrequest whose body is put here, which may open a level less
   Opens : {node left : ℕ} {child : Child} {m : Serving Answer} {line : Line} (number : ℕ) →
       Quiet w tree (Gives node (suc left) (Inner child m) line) (opened w number left child (Gives node (suc left) m line))
@@ -66,10 +69,13 @@ pub data Quiet (w : World) (tree : Tree) : Line → Line → Type 0 where
   PastStub : {own line line' : Line} {stub : List ℕ} → Quiet w tree line line' → Quiet w tree (Stubs own stub line) (Stubs own stub line')
   WithinStub : {own own' line : Line} {stub : List ℕ} → Quiet w tree own own' → Quiet w tree (Stubs own stub line) (Stubs own' stub line)
 
--- A node, at any place of the line, reads and writes variables, up to the next act that others may come between.
+-- A node, at any place of the line, reads and writes variables, up to the next act that others may come between; or it reads one
+-- variable alone.
 pub data Thinks : Line → Vars → Line → Vars → Type 0 where
   Here : {node left : ℕ} {m : Serving Answer} {line : Line} {vars : Vars} →
       Thinks (Gives node left m line) vars (Gives node left (settled m vars).0 line) (settled m vars).1
+  Reads : {node left : ℕ} {name : List ℕ} {k : Option (List ℕ) → Serving Answer} {line : Line} {vars : Vars} →
+      Thinks (Gives node left (Get name k) line) vars (Gives node left (k (look vars name)) line) vars
   ThereHeld : {bytes : List ℕ} {line line' : Line} {vars vars' : Vars} → Thinks line vars line' vars' → Thinks (Held bytes line) vars (Held bytes line') vars'
   ThereNode : {node left : ℕ} {m : Serving Answer} {line line' : Line} {vars vars' : Vars} →
       Thinks line vars line' vars' → Thinks (Gives node left m line) vars (Gives node left m line') vars'

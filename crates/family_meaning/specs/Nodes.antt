@@ -1,14 +1,10 @@
--- The nodes of a family by their numbers: what each still does, why one does not go on, and how the row of pieces in which the
--- bytes wait shows the line.
-use Rattle.std.specs.Prelude.{◌≡◌, ℕ, ◌==◌, ◌&&◌, Bool, true, false, not, List, [], ◌∷◌, ◌++◌, filter, map, find, Option, None, Some, is_some, if◌then◌else◌}
+-- The nodes of a family by their numbers: what each still does, and why one does not go on.
+use Rattle.std.specs.Prelude.{◌≡◌, ℕ, ◌==◌, ◌&&◌, Bool, true, false, not, List, [], ◌∷◌, filter, map, find, Option, None, Some, is_some, if◌then◌else◌}
 use Rattle.std.specs.List.{list_any, filter_map}
 use Rattle.acts.specs.Act.{Done, Get, Put, Stat, Call, Write, Inner}
 use Rattle.file_tree.specs.declared.job.Ask.{Ask}
 use Rattle.file_tree.specs.declared.job.Ask.TheVariants as ask
-use Rattle.postpone_filter.specs.Row.{Piece}
-use Rattle.request_meaning.specs.Serving.{Serving, Reply, Answer}
-use Rattle.family_meaning.specs.Line.{Line}
-use Rattle.family_meaning.specs.Line.Line.{Nil, Held, Gives, Waits, Stubs}
+use Rattle.request_meaning.specs.Serving.{Serving, Answer}
 
 -- A node: its number and its parent's, how deep its subrequests may nest, what it still does, its job, the subrequest that it
 -- waits for, whether its buffer holds as much as it can, and whether it was found over.
@@ -112,26 +108,3 @@ IsJobOf of (Stat path k) (ask.Stat asked tree) = (asked ≡ path) × (tree ≡ o
 IsJobOf of (Stat path k) (ask.Read asked start count tree) = ⊥
 IsJobOf of m (ask.Read asked start count tree) = tree ≡ of
 IsJobOf of m (ask.Stat asked tree) = ⊥
-
--- ---- the row of pieces
-
--- how a node that goes on is shown in the line: one that waits for a reply has the line of the subrequest
-pub data Stance : Type 0 where
-  Going : (left : ℕ) → Serving Answer → Stance
-  Waiting : (own : Line) → (left : ℕ) → (Reply → Serving Answer) → Stance
-
-abbrev pub shown_as : ℕ → Stance → Line → Line
-shown_as node (Going left m) line = Gives node left m line
-shown_as node (Waiting own left k) line = Waits node own left k line
-
-abbrev pub placed : ℕ → Bool → Stance → Line → Line
-placed node grows s line = if grows then shown_as node s line else line
-
--- The pieces show the line, where each node that goes on is shown so. The pieces of a subrequest with a stub that isn't decided
--- show its own line.
-pub data Shows (stance : ℕ → Stance) : List Piece → Line → Type 0 where
-  Empty : Shows stance [] Nil
-  Next : {p : Piece} {ps : List Piece} {line : Line} → Shows stance ps line →
-      Shows stance (p ∷ ps) (Held p.bytes (placed p.node p.grows (stance p.node) line))
-  Apart : {own ps : List Piece} {own_line line : Line} {stub : List ℕ} → Shows stance own own_line → Shows stance ps line →
-      Shows stance (own ++ ps) (Stubs own_line stub line)

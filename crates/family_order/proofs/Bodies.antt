@@ -26,7 +26,7 @@ use Rattle.family_order.proofs.Goings.{begun_line, goes_run}
 
 -- ---- a row in which nothing waits
 
-none_waits : (root : ℕ) → filled (λ _. []) (fresh root ∷ []) ≡ []
+pub none_waits : (root : ℕ) → filled (λ _. []) (fresh root ∷ []) ≡ []
 unfolding filled
 none_waits root = refl
 
@@ -44,7 +44,7 @@ root_alone root n h = elim (root == n) as (λ t. (root == n) ≡ t → (if t the
     clash : {A : Type 0} → false ≡ true → A
     clash u = cc
 
-at_last : (f : Family) (left : ℕ) (answer : Answer) → f.row.pieces ≡ fresh f.root ∷ [] → f.stance f.root ≡ Going left (Done answer) → IsOver f answer
+pub at_last : (f : Family) (left : ℕ) (answer : Answer) → f.row.pieces ≡ fresh f.root ∷ [] → f.stance f.root ≡ Going left (Done answer) → IsOver f answer
 at_last f left answer a h = record {
   left = left;
   stands = h;
@@ -56,7 +56,7 @@ at_last f left answer a h = record {
 
 module _ (w : World) (tree : Tree) where
   -- what stands first comes first
-  front_rest : (stance : ℕ → Stance) (ps : List Piece) (last : Option Answer) (vars : Vars) → (later : List ℕ) × ((items_rest w tree (row_items stance ps) last vars).body ≡ front_of ps ++ later)
+  pub front_rest : (stance : ℕ → Stance) (ps : List Piece) (last : Option Answer) (vars : Vars) → (later : List ℕ) × ((items_rest w tree (row_items stance ps) last vars).body ≡ front_of ps ++ later)
   unfolding items_rest row_items front_of
   front_rest stance [] last vars = ([], refl)
   front_rest stance (p ∷ ps) last vars =
@@ -80,7 +80,7 @@ module _ (w : World) (tree : Tree) where
         ∙ ap (λ a. record { answer = a; body = filled (λ _. []) ps; vars = vars })
         (either (is_open root ps) (Some answer) ∙ sym (here_is root ps answer last) ∙ sym (ap (λ j. if (if j == root then true else is_open root ps) then Some answer else last) z))
 
-    over_rest : (stance : ℕ → Stance) (left : ℕ) (answer : Answer) (ps : List Piece) (last : Option Answer) (vars : Vars) → stance root ≡ Going left (Done answer) → Alone root ps →
+    pub over_rest : (stance : ℕ → Stance) (left : ℕ) (answer : Answer) (ps : List Piece) (last : Option Answer) (vars : Vars) → stance root ≡ Going left (Done answer) → Alone root ps →
         items_rest w tree (row_items stance ps) last vars ≡ over_left ps answer last vars
     unfolding items_rest row_items filled is_open
     over_rest stance left answer [] last vars e k = refl

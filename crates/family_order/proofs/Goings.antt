@@ -11,19 +11,21 @@ use Rattle.family_order.specs.Items.{Stance, stance_items, Family, Shows, IsWell
 use Rattle.family_order.specs.Items.Item.{Byte}
 use Rattle.family_order.specs.Items.Stance.{Going}
 use Rattle.family_order.specs.Acts.{Acts, Goes}
-use Rattle.family_order.specs.Acts.Acts.{Thinks, Learns, Places, Placed, Opens, Asks, Within, Hears, Ends as Over, WithinStub, Keeps, Decides}
+use Rattle.family_order.specs.Acts.Acts.{Thinks, Reads, Learns, Places, Placed, Merges, Opens, Asks, Within, Hears, Ends as Over, WithinStub, Keeps, Decides}
 use Rattle.family_order.specs.Acts.Goes.{Stays, Acting, Leaving, Alike}
 use Rattle.family_order.specs.Laws.{Moved, Ran, RowShowsLine}
 use Rattle.family_order.proofs.Rows.{row_items-clean}
 use Rattle.family_order.proofs.Wells.{begun-well, well-use}
 use Rattle.family_order.proofs.Stubs.{joins}
-use Rattle.family_order.proofs.Shown.{map-append, thinks, learns, places_none, places, opens, asks, within, hears, ends, within_stub, keeps, decides}
+use Rattle.family_order.proofs.Shown.{map-append, thinks, reads, learns, places_none, places, merges, opens, asks, within, hears, ends, within_stub, keeps, decides}
 
 acts_move : (w : World) (tree : Tree) (f : Family) (vars : Vars) (f' : Family) (vars' : Vars) (line : Line) → IsWell f → Acts w tree f vars f' vars' → Shows f line → Moved w tree line vars f' vars'
 acts_move w tree _ _ _ _ line h (Thinks {f} {vars} {left} {m} n d) e = thinks w tree f line vars h e n left m d
+acts_move w tree _ _ _ _ line h (Reads {f} {vars} {left} {name} {k} n d) e = reads w tree f line vars h e n left name k d
 acts_move w tree _ _ _ _ line h (Learns {f} {vars} {left} {path} {k} n d) e = learns w tree f line vars h e n left path k d
 acts_move w tree _ _ _ _ line h (Places {f} {vars} {left} {m} n some more d) e = places w tree f line vars h e n left some more m d
 acts_move w tree _ _ _ _ line h (Placed {f} {vars} {left} {m} n d) e = places_none w tree f line vars h e n left m d
+acts_move w tree _ _ _ _ line h (Merges {f} {vars} {left} {first} {second} {m} n d) e = merges w tree f line vars h e n left first second m d
 acts_move w tree _ _ _ _ line h (Opens {f} {vars} {left} {child} {m} n d) e = opens w tree f line vars h e n left child m d
 acts_move w tree _ _ _ _ line h (Asks {f} {vars} {left} {child} {k} n number d) e = asks w tree f line vars h e n number left child k d
 acts_move w tree _ _ _ _ line h (Within {f} {vars} {vars'} {own} {own'} {left} {k} n d m) e = within w tree f line vars h e n left own own' k vars' d m
@@ -34,7 +36,7 @@ acts_move w tree _ _ _ _ line h (Keeps {f} {g} {vars} own stub ahead behind a b 
 acts_move w tree _ _ _ _ line h (Decides {f} {vars} {own} {stub} n reply d r k) e = decides w tree f line vars h e n own stub reply d r k
 
 -- what leaves was in the row
-used_row : (stance : ℕ → Stance) (count : ℕ) (ps : List Piece) → row_items stance ps ≡ map Byte (take count (front_of ps)) ++ row_items stance (shorter count ps)
+pub used_row : (stance : ℕ → Stance) (count : ℕ) (ps : List Piece) → row_items stance ps ≡ map Byte (take count (front_of ps)) ++ row_items stance (shorter count ps)
 unfolding row_items front_of shorter
 used_row stance count [] = sym (ap (λ z. map Byte z ++ []) (none count))
   where

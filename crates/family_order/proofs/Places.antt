@@ -135,7 +135,7 @@ module _ (w : World) (tree : Tree) where
   quiet_past (Waits node own left k a) b c q = PastWait (quiet_past a b c q)
   quiet_past (Stubs own stub a) b c q = PastStub (quiet_past a b c q)
 
-  thinks_past : (a b c : Line) (vars vars' : Vars) → Thinks b vars c vars' → Thinks (joined a b) vars (joined a c) vars'
+  pub thinks_past : (a b c : Line) (vars vars' : Vars) → Thinks b vars c vars' → Thinks (joined a b) vars (joined a c) vars'
   unfolding joined
   thinks_past Nil b c vars vars' t = t
   thinks_past (Held bytes a) b c vars vars' t = ThereHeld (thinks_past a b c vars vars' t)

@@ -3,8 +3,8 @@ use Rattle.std.proofs.Common.{◌≡◌, ◌≢◌, ℕ, suc, Bool, true, false,
 use Rattle.std.proofs.lemmas.Bool.{eq-eqb}
 use Rattle.file_tree.specs.Tree
 use Rattle.file_tree.specs.Tree.{Tree}
-use Rattle.acts.specs.Vars.{Vars}
-use Rattle.acts.specs.Act.{Done, Stat, Call, Write, Inner, settled}
+use Rattle.acts.specs.Vars.{Vars, look}
+use Rattle.acts.specs.Act.{Done, Get, Stat, Call, Write, Inner, settled}
 use Rattle.request_meaning.specs.Serving.{World, Serving, Child, Reply, Answer}
 use Rattle.request_meaning.specs.Replies.{or_stub}
 use Rattle.postpone_filter.specs.Row.{Piece, Row, is_place, is_open, at_place, longer, closed, fresh, appended, with_child, ended}
@@ -13,8 +13,8 @@ use Rattle.family_meaning.specs.Line
 use Rattle.family_meaning.specs.Line.{Line, joined, opened, with_stub, begun, has_node, front}
 use Rattle.family_meaning.specs.Line.Line.{Nil, Held, Gives, Waits, Stubs}
 use Rattle.family_meaning.specs.Moves.{Moves, KeepsBody}
-use Rattle.family_meaning.specs.Moves.Quiet.{Learns, Places, Placed, Opens, Asks, Hears, Leaves, Keeps, Decides}
-use Rattle.family_meaning.specs.Moves.Thinks.{Here}
+use Rattle.family_meaning.specs.Moves.Quiet.{Learns, Places, Placed, Merges, Opens, Asks, Hears, Leaves, Keeps, Decides}
+use Rattle.family_meaning.specs.Moves.Thinks.{Here, Reads}
 use Rattle.family_meaning.specs.Moves.Moves.{Quietly, ByTable}
 use Rattle.family_order.specs.Items.{Stance, is_shown, goes_on_behind, stance_by, stance_items, Item, Family, Shows, items_of, IsWellRow, IsWell, items, row_items, with_stance, doing, placing, opening, ending}
 use Rattle.family_order.specs.Items.Stance.{Going, Waiting, Apart, Hidden}
@@ -97,7 +97,7 @@ unfolding row_items
 closed_row stance p = refl
 
 -- a node that places bytes and ends
-at_place-both : (n : ℕ) (bytes : List ℕ) (ps : List Piece) → at_place n (λ p. closed p ∷ []) (at_place n (λ p. longer bytes p ∷ []) ps) ≡ at_place n (λ p. closed (longer bytes p) ∷ []) ps
+pub at_place-both : (n : ℕ) (bytes : List ℕ) (ps : List Piece) → at_place n (λ p. closed p ∷ []) (at_place n (λ p. longer bytes p ∷ []) ps) ≡ at_place n (λ p. closed (longer bytes p) ∷ []) ps
 unfolding at_place
 at_place-both n bytes [] = refl
 at_place-both n bytes (p ∷ ps) = elim (is_place n p) as (λ t. is_place n p ≡ t → at_place n (λ p. closed p ∷ []) (if t then longer bytes p ∷ ps else p ∷ at_place n (λ p. longer bytes p ∷ []) ps) ≡ (if t then closed (longer bytes p) ∷ ps else p ∷ at_place n (λ p. closed (longer bytes p) ∷ []) ps)) [
@@ -107,15 +107,15 @@ at_place-both n bytes (p ∷ ps) = elim (is_place n p) as (λ t. is_place n p �
       ∙ ap (λ z. p ∷ z) (at_place-both n bytes ps)
 ] refl
 
-decided_row : (stance : ℕ → Stance) (bytes : List ℕ) (p : Piece) → row_items stance (closed (longer bytes p) ∷ []) ≡ map Byte p.bytes ++ map Byte bytes
+pub decided_row : (stance : ℕ → Stance) (bytes : List ℕ) (p : Piece) → row_items stance (closed (longer bytes p) ∷ []) ≡ map Byte p.bytes ++ map Byte bytes
 unfolding row_items
 decided_row stance bytes p = append-nil (map Byte (p.bytes ++ bytes)) ∙ map-append p.bytes bytes
 
-decided_line : (bytes : List ℕ) (line : Line) → items (Held bytes line) ≡ map Byte bytes ++ items line
+pub decided_line : (bytes : List ℕ) (line : Line) → items (Held bytes line) ≡ map Byte bytes ++ items line
 unfolding items
 decided_line bytes line = refl
 
-placed_line : (bytes : List ℕ) (n : ℕ) (s : Stance) (line : Line) → items (Held bytes (stance_line n s line)) ≡ (map Byte bytes ++ stance_items n s) ++ items line
+pub placed_line : (bytes : List ℕ) (n : ℕ) (s : Stance) (line : Line) → items (Held bytes (stance_line n s line)) ≡ (map Byte bytes ++ stance_items n s) ++ items line
 unfolding items
 placed_line bytes n s line =
     ap (λ z. map Byte bytes ++ z) (items_stance n s line)
@@ -126,7 +126,7 @@ unfolding items joined
 by_stub_line None w number left child line = refl
 by_stub_line (Some stub) w number left child line = refl
 
-child_line : (w : World) (number left : ℕ) (child : Child) (line : Line) → items (opened w number left child line) ≡ stance_items number (stance_by child.stub w number left child) ++ items line
+pub child_line : (w : World) (number left : ℕ) (child : Child) (line : Line) → items (opened w number left child line) ≡ stance_items number (stance_by child.stub w number left child) ++ items line
 child_line w number left child line = by_stub_line child.stub w number left child line
 
 -- ---- whether a node is there
@@ -221,6 +221,9 @@ module _ (w : World) (tree : Tree) (f : Family) (line : Line) where
 -- ---- steps that leave the row as it is
 
 module _ (w : World) (tree : Tree) (f : Family) (line : Line) (vars : Vars) (h : IsWell f) (e : Shows f line) where
+  pub reads : (n left : ℕ) (name : List ℕ) (k : Option (List ℕ) → Serving Answer) → Does f n (Going left (Get name k)) → Moved w tree line vars (doing n (Going left (k (look vars name))) f) vars
+  reads n left name k d = changed w tree f line n (Going left (Get name k)) (Going left (k (look vars name))) vars vars h refl refl d e (λ behind. ByTable Reads)
+
   pub thinks : (n left : ℕ) (m : Serving Answer) → Does f n (Going left m) → Moved w tree line vars (doing n (Going left (settled m vars).0) f) (settled m vars).1
   thinks n left m d = changed w tree f line n (Going left m) (Going left (settled m vars).0) vars (settled m vars).1 h refl refl d e (λ behind. ByTable Here)
 
@@ -229,6 +232,11 @@ module _ (w : World) (tree : Tree) (f : Family) (line : Line) (vars : Vars) (h :
 
   pub places_none : (n left : ℕ) (m : Serving Answer) → Does f n (Going left (Write [] m)) → Moved w tree line vars (doing n (Going left m) f) vars
   places_none n left m d = changed w tree f line n (Going left (Write [] m)) (Going left m) vars vars h refl refl d e (λ behind. Quietly Placed)
+
+  pub merges : (n left : ℕ) (first second : List ℕ) (m : Serving Answer) → Does f n (Going left (Write first (Write second m))) →
+      Moved w tree line vars (doing n (Going left (Write (first ++ second) m)) f) vars
+  merges n left first second m d =
+      changed w tree f line n (Going left (Write first (Write second m))) (Going left (Write (first ++ second) m)) vars vars h refl refl d e (λ behind. Quietly Merges)
 
   pub asks : (n number left : ℕ) (child : Child) (k : Reply → Serving Answer) → Does f n (Going (suc left) (Call child k)) →
       Moved w tree line vars (doing n (Waiting (opened w number left child Nil) (suc left) k) f) vars

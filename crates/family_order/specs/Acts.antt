@@ -1,9 +1,9 @@
 -- The steps of a family as it is served: those of its nodes, in any order, and the bytes that leave.
-use Rattle.std.specs.Prelude.{◌≡◌, ◌≢◌, ℕ, suc, true, List, [], ◌∷◌, ◌++◌, None, Some}
+use Rattle.std.specs.Prelude.{◌≡◌, ◌≢◌, ℕ, suc, true, List, [], ◌∷◌, ◌++◌, Option, None, Some}
 use Rattle.file_tree.specs.Tree
 use Rattle.file_tree.specs.Tree.{Tree}
-use Rattle.acts.specs.Vars.{Vars}
-use Rattle.acts.specs.Act.{Done, Stat, Call, Write, Inner, settled}
+use Rattle.acts.specs.Vars.{Vars, look}
+use Rattle.acts.specs.Act.{Done, Get, Stat, Call, Write, Inner, settled}
 use Rattle.postpone_filter.specs.Row.{is_open}
 use Rattle.request_meaning.specs.Serving.{World, Serving, Child, Reply, Answer}
 use Rattle.request_meaning.specs.Replies.{or_stub}
@@ -31,6 +31,9 @@ pub data Acts (w : World) (tree : Tree) : Family → Vars → Family → Vars �
   -- it reads and writes variables, up to the next act that others may come between
   Thinks : {f : Family} {vars : Vars} {left : ℕ} {m : Serving Answer} (n : ℕ) → Does f n (Going left m) →
       Acts w tree f vars (doing n (Going left (settled m vars).0) f) (settled m vars).1
+  -- it reads one variable
+  Reads : {f : Family} {vars : Vars} {left : ℕ} {name : List ℕ} {k : Option (List ℕ) → Serving Answer} (n : ℕ) → Does f n (Going left (Get name k)) →
+      Acts w tree f vars (doing n (Going left (k (look vars name))) f) vars
   -- its question is answered
   Learns : {f : Family} {vars : Vars} {left : ℕ} {path : List ℕ} {k : Tree.Item → Serving Answer} (n : ℕ) → Does f n (Going left (Stat path k)) →
       Acts w tree f vars (doing n (Going left (k (tree path))) f) vars
@@ -39,6 +42,9 @@ pub data Acts (w : World) (tree : Tree) : Family → Vars → Family → Vars �
       Acts w tree f vars (doing n (Going left (Write more m)) (placing n some f)) vars
   Placed : {f : Family} {vars : Vars} {left : ℕ} {m : Serving Answer} (n : ℕ) → Does f n (Going left (Write [] m)) →
       Acts w tree f vars (doing n (Going left m) f) vars
+  -- two texts that it places next are one
+  Merges : {f : Family} {vars : Vars} {left : ℕ} {first second : List ℕ} {m : Serving Answer} (n : ℕ) → Does f n (Going left (Write first (Write second m))) →
+      Acts w tree f vars (doing n (Going left (Write (first ++ second) m)) f) vars
   -- it opens a subrequest whose body is put here
   Opens : {f : Family} {vars : Vars} {left : ℕ} {child : Child} {m : Serving Answer} (n : ℕ) → Does f n (Going (suc left) (Inner child m)) →
       Acts w tree f vars (doing n (Going (suc left) m) (opening n (stance_by child.stub w f.row.nodes left child) f)) vars

@@ -1,5 +1,5 @@
 -- Where a file stands, by the tests that find it.
-use Rattle.std.proofs.Common.{◌≡◌, ℕ, ◌+◌, ◌-◌, ◌<◌, Bool, true, false, ◌||◌, eqb, List, [], ◌∷◌, ◌++◌, length, take, drop, refl, sym, ◌∙◌, ap, arith}
+use Rattle.std.proofs.Common.{◌≡◌, ℕ, ◌+◌, ◌-◌, ◌<◌, Bool, true, false, ◌||◌, eqb, List, ◌++◌, length, take, drop, refl, sym, ◌∙◌, ap, arith}
 use Rattle.std.specs.List.{list_any, position_or_len, slice_split}
 use Rattle.std.specs.Str.{IsUtf8, is_utf8}
 use Rattle.std.proofs.lemmas.Bool.{cond-true, cond-false, false_from_ne_true}
@@ -17,7 +17,7 @@ use Rattle.ngx_variables.specs.declared.request.Place.{Place}
 use Rattle.ngx_variables.specs.declared.request.Request.{Request}
 use Rattle.ngx_variables.specs.Paths.{text_of, joined}
 use Rattle.ngx_variables.specs.Texts.{is_too_long, value_text}
-use Rattle.file_path.specs.Located.{Located, is_dots, has_dots, can_stand, at_path, located, located_at}
+use Rattle.file_path.specs.Located.{is_dots, has_dots, can_stand, located, located_at}
 use Rattle.file_path.specs.Located.Located.{TooLong, NotThere, At}
 
 -- the first segment, and those behind its slash

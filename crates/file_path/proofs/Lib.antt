@@ -1,3 +1,4 @@
 mod Settles
 mod Roots
 mod Found
+mod Plain

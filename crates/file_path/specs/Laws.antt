@@ -1,10 +1,9 @@
 -- No path leads out of its root.
-use Rattle.std.specs.Prelude.{◌≡◌, ℕ, Bool, true, false, ◌||◌, List, [], ◌∷◌, ◌++◌}
+use Rattle.std.specs.Prelude.{◌≡◌, ℕ, false, List, [], ◌++◌}
 use Rattle.ngx_variables.specs.declared.request.Place.{Place}
 use Rattle.ngx_variables.specs.declared.request.Place.TheVariants.{Root, Rest, Whole}
-use Rattle.ngx_variables.specs.Grammar.{begins_with}
 use Rattle.ngx_variables.specs.Paths.{without_last_slash, merged, start, without_prefix}
-use Rattle.file_path.specs.Located.{Located, has_dots, has_nul, located}
+use Rattle.file_path.specs.Located.{has_dots, has_nul, located}
 use Rattle.file_path.specs.Located.Located.{At}
 
 -- the text of `root` or `alias` with the folder where a relative one starts, before what a URI adds

@@ -1,7 +1,7 @@
 // The path of a file.
 ghost use Rattle.std.specs.Prelude.{◌≡◌, ℕ, ◌≤◌, ◌<◌, ◌+◌, ◌==◌, true, false, List, ◌++◌, length, Ok, Err};
 ghost use Rattle.std.specs.Str.{is_utf8};
-ghost use Rattle.file_path.specs.Located.{is_dots, has_dots, has_nul, can_stand, located, located_at};
+ghost use Rattle.file_path.specs.Located.{is_dots, has_dots, has_nul, can_stand, is_plain_behind, located, located_at};
 ghost use Rattle.file_path.specs.Located.Located.{At, NotThere, TooLong};
 ghost use Rattle.ngx_variables.specs.Texts.{is_too_long};
 
@@ -55,13 +55,34 @@ fn is_too_long(text: &[u8]) -> bool
     text.len() > TEXT_LIMIT
 }
 
+/// Whether a byte is ASCII, not NUL, and no dot that begins a segment.
+fn is_plain_behind(before: u8, byte: u8) -> bool
+    ensures { result ≡ is_plain_behind before byte }
+{
+    byte != 0 && byte < 128 && !(byte == b'.' && before == b'/')
+}
+
+/// Whether each byte is plain, so that a file can stand at the path: one pass says so of most paths.
+fn is_plain(path: &[u8]) -> bool
+    ensures { result ≡ true → can_stand path.now ≡ true }
+{
+    let mut before = b'/';
+    for byte in path {
+        if !is_plain_behind(before, *byte) {
+            return false;
+        }
+        before = *byte;
+    }
+    true
+}
+
 /// Whether a file can stand at a path: no segment leads to a folder itself or out of it, and the path is UTF-8 text
 /// without NUL.
 #[tactic(auto, unfolding(crate::specs::Located::can_stand))]
 fn can_stand(path: &[u8]) -> bool
     ensures { result ≡ can_stand path.now }
 {
-    !has_dots(path) && !has_nul(path) && is_text(path)
+    is_plain(path) || (!has_dots(path) && !has_nul(path) && is_text(path))
 }
 
 /// Writes the path behind `out`, where `text` is what the text of `root` or `alias` evaluates to.

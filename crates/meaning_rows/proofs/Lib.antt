@@ -8,6 +8,7 @@ mod More
 mod Wholes
 mod Cuts
 mod Nodes
+mod Rests
 mod Connections
 mod Steps
 mod Schedules

@@ -8,10 +8,10 @@ use Rattle.meaning_rows.proofs.Cuts.{answer}
 use Rattle.request_meaning.specs.Serving.{Serving, Answer}
 use Rattle.family_meaning.specs.Line.{Line, front, used}
 use Rattle.family_meaning.specs.Line.Line.{Nil, Held, Gives}
-use Rattle.family_meaning.specs.Nodes.{NodeView, Stance, Shows, why, ready_nodes, jobs_of}
+use Rattle.family_meaning.specs.Nodes.{NodeView, why, ready_nodes, jobs_of}
 use Rattle.family_meaning.specs.Nodes.Why.{OwnJob, WaitsChild, FullBuffer, EndsAfterChildren, Ready, Over}
-use Rattle.family_meaning.specs.Nodes.Stance.{Going}
-use Rattle.family_meaning.specs.Nodes.Shows.{Empty, Next}
+use Rattle.family_order.specs.Items.{Family, Stance, Shows, items, row_items}
+use Rattle.family_order.specs.Items.Stance.{Going}
 
 abbrev pub over : Serving Answer
 over = Done answer
@@ -82,9 +82,13 @@ going number = Going 49 asks
 abbrev pub piece : ℕ → List ℕ → Piece
 piece number bytes = record { node = number; bytes = bytes; grows = true }
 
--- a subrequest that placed B comes right before its parent, which placed A before it was opened
-row_pieces : Shows going (record (piece 0 (codes "A")) { grows = false } ∷ piece 1 (codes "B") ∷ piece 0 [] ∷ []) (Held (codes "A") (Held (codes "B") (Gives 1 49 asks (Held [] (Gives 0 49 asks Nil)))))
-row_pieces = Next (Next (Next Empty))
+-- a subrequest that placed B comes right before its parent, which placed AD before it was opened; A has left
+abbrev pub family : Family
+family = record { row = record { pieces = record (piece 0 (codes "D")) { grows = false } ∷ piece 1 (codes "B") ∷ piece 0 [] ∷ []; nodes = 2 }; output = codes "A"; stance = going; root = 0 }
+
+row_pieces : Shows family (Held (codes "AD") (Held (codes "B") (Gives 1 49 asks (Gives 0 49 asks Nil))))
+unfolding opened items row_items
+row_pieces = refl
 
 abbrev pub line : Line
 line = Held (codes "A") (Held (codes "B") (Gives 1 49 asks (Held (codes "C") (Gives 0 49 asks Nil))))

@@ -1,5 +1,5 @@
 -- The text of a piece alone.
-use Rattle.std.proofs.Common.{◌≡◌, false, List, [], ◌∷◌, ◌++◌, Option, Some, None, IfSome, Result, Ok, Err, IfOk, sym, ◌∙◌}
+use Rattle.std.proofs.Common.{◌≡◌, false, [], ◌∷◌, Option, Some, None, IfSome, Result, Ok, Err, IfOk, sym, ◌∙◌}
 use Rattle.std.proofs.lemmas.List.{append-nil}
 use Rattle.acts.specs.Vars.{Vars}
 use Rattle.ngx_variables.specs.declared.value.Piece.{Piece}

@@ -2,6 +2,7 @@ mod Splits
 mod Settings
 mod Evals
 mod Tokens
-mod Settles
+pub mod Settles
 mod Builtins
 mod Alone
+mod Seams

@@ -66,8 +66,9 @@ pub(crate) fn argument<'a>(name: &[u8], args: &'a [u8]) -> Option<&'a [u8]>
     value_in(name, rest)
 }
 
+/// The text without the spaces that it begins with.
 #[tactic(auto, unfolding(crate::specs::Pairs::without_first_spaces))]
-fn without_first_spaces(text: &[u8]) -> &[u8]
+pub fn without_first_spaces(text: &[u8]) -> &[u8]
     ensures { result.now ≡ without_first_spaces text.now }
 {
     let mut rest = text;
@@ -77,8 +78,9 @@ fn without_first_spaces(text: &[u8]) -> &[u8]
     rest
 }
 
+/// The text without the spaces that it ends with.
 #[tactic(auto, unfolding(crate::specs::Pairs::without_last_spaces))]
-fn without_last_spaces(text: &[u8]) -> &[u8]
+pub fn without_last_spaces(text: &[u8]) -> &[u8]
     ensures { result.now ≡ without_last_spaces text.now }
 {
     let mut rest = text;

@@ -99,7 +99,10 @@ fn braced_reference(text: &[u8]) -> Result<Reference, ValueFault>
 }
 
 /// The variable at a `$`, by what follows.
-fn reference_at(text: &[u8]) -> Result<Reference, ValueFault>
+///
+/// # Errors
+/// `BadName` where no name stands there, `Unclosed` where a `{` is not closed.
+pub fn reference_at(text: &[u8]) -> Result<Reference, ValueFault>
     ensures value { result ≡ reference_at text.now }
     ensures within { IfOk result (λ r. (r.start ≤ r.end) × (r.end ≤ length text.now) × (r.size ≤ length text.now)) }
 {
@@ -111,7 +114,7 @@ fn reference_at(text: &[u8]) -> Result<Reference, ValueFault>
 }
 
 /// A name in lower case.
-fn lowercase(alloc: Global, name: &[u8]) -> Result<ByteText, OutOfMemory>
+pub fn lowercase(alloc: Global, name: &[u8]) -> Result<ByteText, OutOfMemory>
     ensures { IfOk result (λ text. text ≡ lowercase name.now) }
 {
     let mut bytes = name.to_vec(alloc)?;
@@ -132,7 +135,7 @@ fn dashed(alloc: Global, name: &[u8]) -> Result<ByteText, OutOfMemory>
 
 /// What a name in lower case stands for.
 #[tactic(auto, unfolding(crate::specs::Grammar::piece_named))]
-fn piece_named(alloc: Global, name: ByteText) -> Result<Piece, OutOfMemory>
+pub fn piece_named(alloc: Global, name: ByteText) -> Result<Piece, OutOfMemory>
     ensures { IfOk result (λ piece. piece ≡ piece_named name) }
 {
     let bytes = name.as_slice();

@@ -1,5 +1,5 @@
 // Where the file of a request stands.
-ghost use Rattle.std.specs.Prelude.{◌≡◌, ℕ, ◌+◌, ◌-◌, ◌<◌, ◌≤◌, List, [], ◌∷◌, ◌++◌, length, false, IfOk, OnOk, OnErr};
+ghost use Rattle.std.specs.Prelude.{◌≡◌, ℕ, ◌+◌, ◌-◌, ◌<◌, ◌≤◌, List, [], ◌∷◌, ◌++◌, length, take, drop, false, IfOk, OnOk, OnErr};
 ghost use Rattle.ngx_variables.specs.Grammar.{begins_with};
 ghost use Rattle.ngx_variables.specs.Paths.{text_of, without_last_slash, merged, start, without_prefix, behind_start, joined};
 
@@ -82,14 +82,11 @@ fn begins_with_slash(text: &[u8]) -> bool
 
 /// The path with slashes that are neighbours as one.
 #[tactic(auto, unfolding(crate::specs::Paths::merged))]
-fn merged(alloc: Global, path: ByteText) -> Result<ByteText, OutOfMemory>
-    ensures { IfOk result (λ text. text ≡ merged path) }
+fn merged(alloc: Global, path: &[u8]) -> Result<ByteText, OutOfMemory>
+    ensures { IfOk result (λ text. text ≡ merged path.now) }
 {
-    if !has_double_slash(path.as_slice()) {
-        return Ok(path);
-    }
     let mut text = ByteText::new(alloc);
-    let mut rest = path.as_slice();
+    let mut rest = path;
     while let [first, behind @ ..] = rest {
         if !(*first == b'/' && begins_with_slash(behind)) {
             text.push(*first)?;
@@ -97,6 +94,29 @@ fn merged(alloc: Global, path: ByteText) -> Result<ByteText, OutOfMemory>
         rest = behind;
     }
     Ok(text)
+}
+
+/// Makes slashes that are neighbours one, from `at` on.
+fn merge_from(alloc: Global, at: usize, out: &mut ByteText) -> Result<(), OutOfMemory>
+    requires { at ≤ length out.old }
+    ensures { OnOk result (out.new ≡ take at out.old ++ merged (drop at out.old)) }
+{
+    if !has_double_slash(&out.as_slice()[at..]) {
+        return Ok(());
+    }
+    let path = merged(alloc, &out.as_slice()[at..])?;
+    out.truncate(at);
+    out.extend(path.as_slice())?;
+    Ok(())
+}
+
+/// Drops a slash that stands last, from `at` on.
+fn drop_last_slash(at: usize, out: &mut ByteText)
+    requires { at ≤ length out.old }
+    ensures { out.new ≡ take at out.old ++ without_last_slash (drop at out.old) }
+{
+    let size = without_last_slash(&out.as_slice()[at..]).len();
+    out.truncate(at + size);
 }
 
 /// Writes the path of a file: `text` is what the text of `root` or `alias` evaluates to, `path` the request's path, and
@@ -115,13 +135,13 @@ pub fn joined(
 ) -> Result<(), OutOfMemory>
     ensures { OnOk result (out.new ≡ out.old ++ joined place.now text.now path.now folder.now) }
 {
-    let mut whole = ByteText::new(alloc);
+    let at = out.len();
     let size = folder.len().saturating_add(text.len());
-    whole.reserve(size.saturating_add(path.len()).saturating_add(1))?;
-    append_start(folder, text, &mut whole)?;
-    append_behind(place, text, path, &mut whole)?;
-    let path = merged(alloc, whole)?;
-    out.extend(without_last_slash(path.as_slice()))?;
+    out.reserve(size.saturating_add(path.len()).saturating_add(1))?;
+    append_start(folder, text, out)?;
+    append_behind(place, text, path, out)?;
+    merge_from(alloc, at, out)?;
+    drop_last_slash(at, out);
     Ok(())
 }
 

@@ -16,6 +16,8 @@ mod table;
 mod value;
 mod variable;
 
+pub use argument::{without_first_spaces, without_last_spaces};
+pub use compile::{Reference, lowercase, piece_named, reference_at};
 pub use date::LocalDate;
 pub use fault::{EvalFault, ValueFault};
 pub use joining::joined;

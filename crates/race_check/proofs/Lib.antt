@@ -1,10 +1,8 @@
-mod Lists
+pub mod Lists
 mod Notes
 mod Keys
 mod Alike
 mod Programs
-mod Numbering
+pub mod Numbering
 mod Telling
 mod Deciding
-mod Lines
-mod Placing

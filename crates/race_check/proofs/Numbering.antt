@@ -84,7 +84,7 @@ module _ (patterns : List Pattern) (site : Site) where
   block_seen (steps.Return code text) = refl
   block_seen steps.Stop = refl
 
-  blocks_seen : (ss : List RewriteStep) → map values_at (flat_map block_number ss) ≡ flat_map block_values (map (step_seen patterns site) ss)
+  pub blocks_seen : (ss : List RewriteStep) → map values_at (flat_map block_number ss) ≡ flat_map block_values (map (step_seen patterns site) ss)
   blocks_seen [] = refl
   blocks_seen (s ∷ ss) =
       map-append values_at (block_number s) (flat_map block_number ss)

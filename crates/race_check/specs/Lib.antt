@@ -2,4 +2,3 @@ pub mod Names
 pub mod Numbers
 pub mod Texts
 pub mod Told
-pub mod Places

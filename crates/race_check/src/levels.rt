@@ -53,6 +53,15 @@ fn push_block(numbers: &mut Vec<u32>, step: &RewriteStep) -> Result<(), OutOfMem
     }
 }
 
+/// The numbers of the levels of the blocks in a program.
+pub fn block_numbers(alloc: Global, steps: &[RewriteStep]) -> Result<Vec<u32>, OutOfMemory>
+    ensures { IfOk result (λ numbers. numbers.items ≡ flat_map block_number steps.now) }
+{
+    let mut numbers = Vec::new(alloc);
+    push_blocks(&mut numbers, steps)?;
+    Ok(numbers)
+}
+
 /// The numbers of all levels in which values hold: these, and those of the blocks of their `if`s.
 pub fn value_numbers(alloc: Global, site: &Site, levels: &[u32]) -> Result<Vec<u32>, OutOfMemory>
     ensures { IfOk result (λ numbers. numbers.items ≡ value_numbers site.now levels.now) }

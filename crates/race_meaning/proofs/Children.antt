@@ -110,7 +110,7 @@ module _ (w : World) (fit : AreFit w) (open_server : is_open w.server ≡ true) 
           names = λ name l g. named_of _ w.server levels name l g;
           done = λ other. from_done _ tt;
           written = λ other bytes. from_write (from_done _ tt);
-          body = λ other s status kind bytes ssi x a v t n. fits_body other s left status kind bytes ssi v t;
+          body = λ other s status kind bytes ssi x a v t n. from_write (fits_body other s left status kind bytes ssi v t);
         }
 
     steady_script : (left : ℕ) (c : Child) → c.role ≡ Content → c.main ≡ main → Obeys (steady_rules (record { steady = steady; table = table; main = c.main })) steady (script w left c) any
@@ -189,7 +189,7 @@ module _ (w : World) where
         names = λ name l g. named_of _ w.server levels name l g;
         done = λ other. from_done _ tt;
         written = λ other bytes. from_write (from_done _ tt);
-        body = λ other s status kind bytes ssi x a v t n. auth_no_body other s a n;
+        body = λ other s status kind bytes ssi x a v t n. from_write (auth_no_body other s a n);
       }
 
   pub auth_obeys : (left : ℕ) (c : Child) → c.role ≡ Auth → Obeys (auth_rules c.main) (every w.server) (script w left c) any

@@ -9,12 +9,12 @@ use Rattle.request_meaning.specs.Replies.{Came, run, script, or_stub}
 use Rattle.family_meaning.specs.Line.{Line, Left, rest, before, reply_of, status_of, joined, opened, with_stub, begun}
 use Rattle.family_meaning.specs.Line.Line.{Nil, Held, Gives, Waits, Stubs}
 use Rattle.family_meaning.specs.Moves.{Quiet, Thinks, Moves, Runs}
-use Rattle.family_meaning.specs.Moves.Quiet.{Learns, Places, Placed, Opens, Asks, Hears, Leaves, Keeps, Decides, PastHeld, PastNode, PastWait, Within, PastStub, WithinStub}
-use Rattle.family_meaning.specs.Moves.Thinks.{Here, ThereHeld, ThereNode, ThereWait, InWait, ThereStub, InStub}
+use Rattle.family_meaning.specs.Moves.Quiet.{Learns, Places, Placed, Merges, Opens, Asks, Hears, Leaves, Keeps, Decides, PastHeld, PastNode, PastWait, Within, PastStub, WithinStub}
+use Rattle.family_meaning.specs.Moves.Thinks.{Here, Reads, ThereHeld, ThereNode, ThereWait, InWait, ThereStub, InStub}
 use Rattle.family_meaning.specs.Moves.Moves.{Quietly, ByTable}
 use Rattle.family_meaning.specs.Moves.Runs.{Ends, Steps}
 use Rattle.family_meaning.proofs.Orders.{quiet_same}
-use Rattle.family_meaning.proofs.Exacts.{thinks}
+use Rattle.family_meaning.proofs.Exacts.{thinks, reads}
 use Rattle.race_meaning.specs.Steady.{Names, along, Agree, MayAsk, Shared, steady_rules, Steady, SameReply, InnerSame, any}
 use Rattle.race_meaning.proofs.Steadies.{agree_through, agree_kept, run_same}
 
@@ -137,6 +137,7 @@ module _ (s : Shared) where
     quiet_steady _ _ (Learns {path}) h = (h.0 (tree path), h.1)
     quiet_steady _ _ Places h = h
     quiet_steady _ _ Placed h = h
+    quiet_steady _ _ Merges h = h
     quiet_steady _ _ (Opens {node} {left} {child} {m} {line} number) h = opened_steady number left child (Gives node (suc left) m line) h.0.0.0 (h.0.1, h.1)
     quiet_steady _ _ (Asks {node} {left} {child} {k} {line} number) h = (opened_steady number left child Nil h.0.0 tt, (h.0.1, h.1))
     quiet_steady _ _ (Hears reply e) h = (h.1.0 reply, h.1.1)
@@ -172,6 +173,8 @@ module _ (s : Shared) where
     thinks_keep _ _ _ _ (Here {node} {left} {m} {line} {vars}) h p =
         let g = settled_steady s.steady m vars h.0 p in
         by_here (Gives node left m line) (Gives node left (settled m vars).0 line) vars (settled m vars).1 h (g.0, h.1) p g.1 (thinks w tree node left m line vars)
+    thinks_keep _ _ _ _ (Reads {node} {left} {name} {k} {line} {vars}) h p =
+        by_here (Gives node left (Get name k) line) (Gives node left (k (look vars name)) line) vars vars h (h.0.1 (look vars name), h.1) p p (reads w tree node left name k line vars)
     thinks_keep _ _ _ _ (ThereHeld {bytes} {line} {line'} {vars} {vars'} t) h p =
         let g = thinks_keep line line' vars vars' t h p in
         record { steady = g.steady; vars = g.vars; same = λ a b last l r. row_same line line' bytes bytes last last a b g.same refl refl l r }

@@ -3,7 +3,7 @@ use Rattle.std.proofs.Common.{◌≡◌, ◌⊎◌, inl, inr, ℕ, zero, suc, �
 use Rattle.std.specs.List.{list_any}
 use Rattle.std.proofs.lemmas.Slice.Eq.{bytes_eq-Decides}
 use Rattle.acts.specs.Vars.{Vars, look, set}
-use Rattle.acts.specs.Act.{Done, ◌>>=◌}
+use Rattle.acts.specs.Act.{Done, Write, ◌>>=◌}
 use Rattle.acts.proofs.ActLaws.{look_after_set}
 use Rattle.ngx_variables.specs.declared.request.Main.{Main}
 use Rattle.ngx_variables.specs.declared.request.Place.{Place}
@@ -109,6 +109,11 @@ module _ (w : World) (V : Values → Type 0) (T : Option Place → Type 0)
     unfolding ◌>>=◌
     fits_done main v h answer = tt
 
+    fits_body : (main : Main) (s : Standing) (status : ℕ) (kind bytes : List ℕ) (ssi : Vars) → V s.values → T s.request.place →
+        Fits main (Write [] (body w (begun main s.request s.values most_depth ssi) (filtered_marks w (facts_of s status kind) bytes)))
+    unfolding ◌>>=◌
+    fits_body main s status kind bytes ssi v t vars h answer = inr (bodies main s status kind bytes ssi v t vars h answer)
+
     fits_writes : (main : Main) (bytes : List ℕ) → Fits main (writes bytes)
     unfolding ◌>>=◌
     fits_writes main bytes v h answer = inr tt
@@ -131,7 +136,7 @@ module _ (w : World) (V : Values → Type 0) (T : Option Place → Type 0)
       names = λ name l g. named_of _ w.server levels name l g;
       done = fits_done;
       written = fits_writes;
-      body = λ main s status kind bytes ssi m a v t n. bodies main s status kind bytes ssi v t;
+      body = λ main s status kind bytes ssi m a v t n. fits_body main s status kind bytes ssi v t;
     }
 
     abbrev OkAsked : Asked → Type 0
@@ -452,7 +457,7 @@ module _ (w : World) (fit : AreFit w) (race : IsRaceless w.server) where
           no_calls : (main : Main) → Calls w (auth_rules w main) (HasValues w.server main)
           no_calls main = record { puts = λ name value v f h. set_values w main name value v f h; asks = λ c v may h. no_false may.0; inner = λ c may e. no_false may.0 }
 
-  solo_any : (main : Main) (request : Request) → Solo w (main_script w main request) []
+  pub solo_any : (main : Main) (request : Request) → Solo w (main_script w main request) []
   solo_any main request = by (is_open w.server) refl
     where
       by : (b : Bool) → is_open w.server ≡ b → Solo w (main_script w main request) []

@@ -3,7 +3,7 @@ use Rattle.std.proofs.Common.{◌≡◌, ℕ, zero, suc, ◌&&◌, ◌||◌, not
 use Rattle.std.specs.List.{list_any}
 use Rattle.file_tree.specs.Tree.{Item}
 use Rattle.acts.specs.Vars.{Vars}
-use Rattle.acts.specs.Act.{Done, ◌>>=◌}
+use Rattle.acts.specs.Act.{Done, Write, ◌>>=◌}
 use Rattle.file_path.specs.Located.{Located}
 use Rattle.file_path.specs.Located.Located.{TooLong, NotThere, At}
 use Rattle.http_types.specs.declared.words.Method.{Method}
@@ -79,7 +79,7 @@ pub record Fit (w : World) (left : ℕ) (kept fixed : Names) (value : Main → L
   pub done : (main : Main) → Fits main (Done tt)
   pub written : (main : Main) (bytes : List ℕ) → Fits main (writes bytes)
   pub body : (main : Main) (s : Standing) (status : ℕ) (kind bytes : List ℕ) (ssi : Vars) → M main → R s.request.role → V s.values → T s.request.place → has_no_body main s.request ≡ false →
-      Fits main (Bodies.body w (begun main s.request s.values left ssi) (filtered_marks w (facts_of s status kind) bytes))
+      Fits main (Write [] (Bodies.body w (begun main s.request s.values left ssi) (filtered_marks w (facts_of s status kind) bytes)))
 
 module _ {w : World} {left : ℕ} {kept fixed : Names} {value : Main → List ℕ → Option (List ℕ)} {asks : Role → Bool}
     {R : Role → Type 0} {V : Values → Type 0} {T : Option Place → Type 0} {M : Main → Type 0} {Fits : Main → Serving (Unit {0}) → Type 0}

@@ -13,12 +13,12 @@ use Rattle.request_meaning.specs.Replies.{Came, run, script, or_stub}
 use Rattle.family_meaning.specs.Line.{Line, Left, rest, before, reply_of, status_of, joined, opened, with_stub, begun, has_node}
 use Rattle.family_meaning.specs.Line.Line.{Nil, Held, Gives, Waits, Stubs}
 use Rattle.family_meaning.specs.Moves.{Quiet, Thinks, Moves, Runs}
-use Rattle.family_meaning.specs.Moves.Quiet.{Learns, Places, Placed, Opens, Asks, Hears, Leaves, Keeps, Decides, PastHeld, PastNode, PastWait, Within, PastStub, WithinStub}
-use Rattle.family_meaning.specs.Moves.Thinks.{Here, ThereHeld, ThereNode, ThereWait, InWait, ThereStub, InStub}
+use Rattle.family_meaning.specs.Moves.Quiet.{Learns, Places, Placed, Merges, Opens, Asks, Hears, Leaves, Keeps, Decides, PastHeld, PastNode, PastWait, Within, PastStub, WithinStub}
+use Rattle.family_meaning.specs.Moves.Thinks.{Here, Reads, ThereHeld, ThereNode, ThereWait, InWait, ThereStub, InStub}
 use Rattle.family_meaning.specs.Moves.Moves.{Quietly, ByTable}
 use Rattle.family_meaning.specs.Moves.Runs.{Ends, Steps}
 use Rattle.family_meaning.proofs.Orders.{quiet_same}
-use Rattle.family_meaning.proofs.Exacts.{thinks}
+use Rattle.family_meaning.proofs.Exacts.{thinks, reads}
 use Rattle.race_meaning.specs.Named.{is_open, is_fixed}
 use Rattle.race_meaning.specs.Steady.{Names, along, Agree, Rules, Obeys, MayAsk, Shared, steady_rules, Steady, InnerSame, any}
 use Rattle.race_meaning.specs.Laws.{is_steady, shared}
@@ -158,6 +158,10 @@ module _ (w : World) where
   solo_settled (Write bytes m) v h = h
   solo_settled (Inner child m) v h = h
 
+  solo_reads : (name : List ℕ) (k : Option (List ℕ) → Serving Answer) (v : Vars) → Solo (Get name k) v → Solo (k (look v name)) v
+  solo_reads name k v (inl h) = ready_solo (k (look v name)) v (record { is_so = h.is_so; main = h.main; table = h.table; has = h.has; agree = h.agree; steady = h.steady.1 (look v name) })
+  solo_reads name k v (inr h) = h
+
   -- ---- the line of an auth subrequest
 
   abbrev pub AloneLine : Main → Line → Type 0
@@ -173,7 +177,7 @@ module _ (w : World) where
       by : Quiet w tree Nil line' → B
       by x = elim x [ ]
 
-  no_thinks : {B : Type 0} (line line' : Line) (v v' : Vars) → Thinks line v line' v' → line ≡ Nil → B
+  pub no_thinks : {B : Type 0} (line line' : Line) (v v' : Vars) → Thinks line v line' v' → line ≡ Nil → B
   no_thinks {B = B} line line' v v' t e = by (subst (λ l. Thinks l v line' v') e t)
     where
       by : Thinks Nil v line' v' → B
@@ -210,6 +214,7 @@ module _ (w : World) where
   alone_quiet tree main _ _ (Learns {path}) h = (h.0 (tree path), h.1)
   alone_quiet tree main _ _ Places h = h
   alone_quiet tree main _ _ Placed h = h
+  alone_quiet tree main _ _ Merges h = h
   alone_quiet tree main _ _ (Opens number) h = no_false h.0.0.0.0
   alone_quiet tree main _ _ (Asks number) h = no_false h.0.0.0
   alone_quiet tree main _ _ (Hears reply e) h = absurd h
@@ -252,6 +257,8 @@ module _ (w : World) where
   alone_thinks tree main _ _ _ _ (Here {node} {left} {m} {line} {vars}) h p =
       let g = alone_settled main (every w.server) m vars h.0 p in
       record { alone = (g.0, h.1); values = g.1; exact = thinks w tree node left m line vars }
+  alone_thinks tree main _ _ _ _ (Reads {node} {left} {name} {k} {line} {vars}) h p =
+      record { alone = (h.0.1 (look vars name), h.1); values = p; exact = reads w tree node left name k line vars }
   alone_thinks tree main _ _ _ _ (ThereHeld {bytes} {line} {line'} {vars} {vars'} t) h p =
       let g = alone_thinks tree main line line' vars vars' t h p in
       record { alone = g.alone; values = g.values; exact = held_exact tree bytes line line' vars vars' g.exact }
@@ -322,6 +329,11 @@ module _ (w : World) where
     solo_quiet _ _ v (Places {node} {left} {some} {more} {m} {line}) (inr h, e) = inl (inr h, e)
     solo_quiet _ _ v (Placed {node} {left} {m} {line}) (inl h, e) = inr (from_ready node left (Write [] m) line (Gives node left m line) v Placed e h)
     solo_quiet _ _ v (Placed {node} {left} {m} {line}) (inr h, e) = inl (h, e)
+    solo_quiet _ _ v (Merges {node} {left} {first} {second} {m} {line}) (inl h, e) =
+        inr (from_ready node left (Write first (Write second m)) line (Gives node left (Write (first ++ second) m) line) v Merges e h)
+    solo_quiet _ _ v (Merges {node} {left} {first} {second} {m} {line}) (inr (inl h), e) =
+        inl (inl (record { is_so = h.is_so; main = h.main; table = h.table; has = h.has; agree = h.agree; steady = h.steady }), e)
+    solo_quiet _ _ v (Merges {node} {left} {first} {second} {m} {line}) (inr (inr h), e) = inl (inr h, e)
     solo_quiet _ _ v (Opens {node} {left} {child} {m} {line} number) (h, e) =
         inr (from_ready node (suc left) (Inner child m) line (opened w number left child (Gives node (suc left) m line)) v (Opens number) e h)
     solo_quiet _ _ v (Asks {node} {left} {child} {k} {line} number) (inl h, e) =
@@ -339,12 +351,14 @@ module _ (w : World) where
     solo_quiet _ _ v (PastStub q) h = absurd h
     solo_quiet _ _ v (WithinStub q) h = absurd h
 
-    record Went (line : Line) (v : Vars) (line' : Line) (v' : Vars) : Type 0 where
-      exact : (last : Option Answer) → rest w tree line last v ≡ rest w tree line' last v'
-      next : SoloLine line' v' ⊎ Begun line' v'
+    -- a step comes to the same, and the main request is alone still or every node is steady
+    pub record Went (line : Line) (v : Vars) (line' : Line) (v' : Vars) : Type 0 where
+      pub exact : (last : Option Answer) → rest w tree line last v ≡ rest w tree line' last v'
+      pub next : SoloLine line' v' ⊎ Begun line' v'
 
     solo_thinks : (line line' : Line) (v v' : Vars) → Thinks line v line' v' → SoloLine line v → Went line v line' v'
     solo_thinks _ _ _ _ (Here {node} {left} {m} {line} {vars}) (h, e) = record { exact = thinks w tree node left m line vars; next = inl (solo_settled m vars h, e) }
+    solo_thinks _ _ _ _ (Reads {node} {left} {name} {k} {line} {vars}) (h, e) = record { exact = reads w tree node left name k line vars; next = inl (solo_reads name k vars h, e) }
     solo_thinks _ _ _ _ (ThereHeld {bytes} {line} {line'} {vars} {vars'} t) h =
         let g = solo_thinks line line' vars vars' t h in
         record { exact = held_exact tree bytes line line' vars vars' g.exact; next = past bytes line' vars' g.next }
@@ -356,7 +370,7 @@ module _ (w : World) where
     solo_thinks _ _ _ _ (ThereStub t) h = absurd h
     solo_thinks _ _ _ _ (InStub t) h = absurd h
 
-    solo_moves : (line line' : Line) (v v' : Vars) → Moves w tree line v line' v' → SoloLine line v → Went line v line' v'
+    pub solo_moves : (line line' : Line) (v v' : Vars) → Moves w tree line v line' v' → SoloLine line v → Went line v line' v'
     solo_moves _ _ _ _ (Quietly {line} {line'} {vars} q) h = record { exact = quiet_same w tree line line' q vars; next = solo_quiet line line' vars q h }
     solo_moves _ _ _ _ (ByTable {line} {line'} {vars} {vars'} t) h = solo_thinks line line' vars vars' t h
 

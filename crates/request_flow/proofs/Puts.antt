@@ -5,8 +5,6 @@ use Rattle.std.proofs.lemmas.List.{append-nil}
 use Rattle.acts.specs.Vars.{Vars}
 use Rattle.file_tree.specs.Tree.{Item, Trees, text_of}
 use Rattle.filter_api.specs.declared.facts.Facts.{Facts}
-use Rattle.addition_filter.specs.Machine.{is_added}
-use Rattle.ssi_filter.specs.Machine.{is_split}
 use Rattle.ngx_pattern.specs.Pattern.{Pattern as SetPattern}
 use Rattle.resp_head.specs.declared.head.ReplyHead.{ReplyHead}
 use Rattle.resp_head.specs.Head.{head_of}
@@ -23,7 +21,6 @@ use Rattle.request_meaning.specs.Serving.Body.{NoBody}
 use Rattle.request_meaning.specs.Answering.{sent, page, page_to, moved, answer_with, page_answer, closed_answer}
 use Rattle.request_meaning.specs.Responses.{response, reply_head, content_sent, keeps, stays_by, framing, may_stay, framed_body}
 use Rattle.family_meaning.specs.Flight.{stays_after}
-use Rattle.request_meaning.specs.Answering.{facts_of}
 use Rattle.request_meaning.specs.Laws.{shipped}
 use Rattle.rewrite_code.specs.Places.{standing_seen}
 use Rattle.request_phases.specs.Rounds.{prepared_as, asked_in, world_in}
@@ -31,7 +28,7 @@ use Rattle.request_phases.specs.declared.ground.Ground.{Ground}
 use Rattle.request_phases.specs.declared.state.Phases.{Phases}
 use Rattle.request_phases.specs.declared.state.Outcome.{Outcome}
 use Rattle.request_phases.specs.declared.state.Outcome.TheVariants as outcomes
-use Rattle.request_reply.specs.Replies.{IsReply, IsUnfiltered, body_seen, FitsFile}
+use Rattle.request_reply.specs.Replies.{IsReply, body_seen, FitsFile}
 use Rattle.request_reply.specs.declared.reply.Body.{Body}
 use Rattle.request_reply.specs.declared.reply.Body.TheVariants as bodies
 use Rattle.request_reply.specs.declared.reply.Reply.{Reply}
@@ -44,7 +41,7 @@ use Rattle.request_flow.specs.Padded.{padded}
 use Rattle.request_flow.proofs.Padding.{padded_length}
 use Rattle.request_flow.specs.Rests.{Rest, no_rest, Follows}
 use Rattle.request_flow.specs.Flows.{file_rest}
-use Rattle.request_flow.specs.Sents.{head_seen, sent_now, content_now, put_now, stays_seen, is_unfiltered, is_file, sends_file, file_known, known_bytes, known_len, with_length, plain_bytes, prepared_rest}
+use Rattle.request_flow.specs.Sents.{head_seen, sent_now, content_now, put_now, stays_seen, is_plain, is_file, sends_file, file_known, known_bytes, known_len, with_length, plain_bytes, prepared_rest}
 
 -- ---- what an outcome prepares
 
@@ -92,7 +89,39 @@ and_true false = refl
 by_length : (t : Terms) (a : Answer) → a.known ≡ true → may_stay (framing a.known (terms_seen t).version) ≡ true
 by_length t a e = ap (λ k. may_stay (framing k t.version)) e
 
-module _ (t : Terms) (reply : Reply) (bytes : List ℕ) (p : Prepared) (is : IsReply reply bytes p) where
+-- a reply on whose body no filter acts
+pub record IsPlain (reply : Reply) (bytes : List ℕ) (p : Prepared) : Type 0 where
+  pub status : reply.status ≡ p.answer.status
+  pub kind : option_map (λ k. k.now) reply.kind ≡ p.answer.kind
+  pub len : reply.length ≡ p.answer.length
+  pub known : p.answer.known ≡ true
+  pub modified : reply.modified ≡ p.answer.modified
+  pub location : reply.location ≡ p.answer.location
+  pub closes : reply.closes ≡ p.answer.closes
+  pub gone : reply.gone ≡ p.answer.gone
+  pub body : body_seen bytes None reply.body ≡ p.body
+
+both_plain : (known : Bool) (facts : Option Facts) → (known && is_none facts) ≡ true → (known ≡ true) × (facts ≡ None)
+both_plain true None e = (refl, refl)
+both_plain true (Some f) e = cc
+both_plain false facts e = cc
+
+pub plain_is : (reply : Reply) (bytes : List ℕ) (p : Prepared) → is_plain reply ≡ true → IsReply reply bytes p → IsPlain reply bytes p
+plain_is reply bytes p e h =
+    let b = both_plain reply.known reply.facts e in
+    record {
+      status = h.status;
+      kind = h.kind;
+      len = h.len;
+      known = sym h.known ∙ b.0;
+      modified = h.modified;
+      location = h.location;
+      closes = h.closes;
+      gone = h.gone;
+      body = ap (λ f. body_seen bytes f reply.body) (sym b.1) ∙ h.body;
+    }
+
+module _ (t : Terms) (reply : Reply) (bytes : List ℕ) (p : Prepared) (is : IsPlain reply bytes p) where
   head_is : (keep : Bool) → head_seen reply t keep ≡ reply_head p.answer t.moment t.version t.no_body keep
   unfolding reply_head
   head_is keep =
@@ -131,7 +160,7 @@ module _ (t : Terms) (reply : Reply) (bytes : List ℕ) (p : Prepared) (is : IsR
 
 -- ---- a file is sent, or none is
 
-content_by : (no_body gone : Bool) (body : Body) (known : Known) (trees : Trees) (meant : MeantBody) → body_seen (known_bytes known trees) body ≡ meant → (gone ≡ true → meant ≡ NoBody) →
+content_by : (no_body gone : Bool) (body : Body) (known : Known) (trees : Trees) (meant : MeantBody) → body_seen (known_bytes known trees) None body ≡ meant → (gone ≡ true → meant ≡ NoBody) →
     file_known (is_file body && not no_body && not gone) known ≡ None → cond no_body [] (plain_bytes meant) ≡ cond no_body [] (sent_now body)
 content_by true gone body known trees meant e g f = refl
 content_by false gone bodies.Nothing known trees meant e g f = ap plain_bytes (sym e)
@@ -141,7 +170,7 @@ content_by false gone bodies.File (Nothing of) trees meant e g f = ap plain_byte
 content_by false true bodies.File (Told file) trees meant e g f = ap plain_bytes (g refl)
 content_by false false bodies.File (Told file) trees meant e g f = cc
 
-pub no_file : (t : Terms) (reply : Reply) (p : Prepared) (known : Known) (trees : Trees) → IsReply reply (known_bytes known trees) p → (p.answer.gone ≡ true → p.body ≡ NoBody) →
+pub no_file : (t : Terms) (reply : Reply) (p : Prepared) (known : Known) (trees : Trees) → IsPlain reply (known_bytes known trees) p → (p.answer.gone ≡ true → p.body ≡ NoBody) →
     file_known (sends_file t reply) known ≡ None → cond t.no_body [] (plain_bytes p.body) ≡ content_now reply t
 no_file t reply p known trees is bare e = content_by t.no_body reply.gone reply.body known trees p.body is.body (λ g. bare (sym is.gone ∙ g)) e
 
@@ -163,43 +192,6 @@ sent_by no_body gone (bodies.Text text) (Told f) file e = cc
 pub file_sent : (t : Terms) (reply : Reply) (known : Known) (file : FileAt) → file_known (sends_file t reply) known ≡ Some file → FileSent t.no_body reply.gone reply.body known file
 file_sent t reply known file e = sent_by t.no_body reply.gone reply.body known file e
 
--- ---- no filter acts
-
-and_false : (b : Bool) → (b && false) ≡ false
-and_false true = refl
-and_false false = refl
-
-split_off : (facts : Facts) → facts.ssi ≡ false → is_split facts ≡ false
-split_off facts e = ap (λ b. b && facts.ssi_type) e
-
-added_off : (facts : Facts) → facts.before ≡ false → facts.after ≡ false → is_added facts ≡ false
-added_off facts b a =
-    ap (λ x. facts.main && (eqb facts.status 200 && (facts.addition_type && (x || facts.after)))) b
-    ∙ (ap (λ x. facts.main && (eqb facts.status 200 && (facts.addition_type && x))) a
-    ∙ (ap (λ x. facts.main && (eqb facts.status 200 && x)) (and_false facts.addition_type)
-    ∙ (ap (λ x. facts.main && x) (and_false (eqb facts.status 200)) ∙ and_false facts.main)))
-
-none_is : {A : Type 0} (o : Option A) → is_none o ≡ true → is_some o ≡ false
-none_is None e = refl
-none_is (Some a) e = cc
-
-off_by : (ssi : Bool) (before after : Option (List ℕ)) → (not ssi && is_none before && is_none after) ≡ true → (ssi ≡ false) × ((is_some before ≡ false) × (is_some after ≡ false))
-off_by true before after e = cc
-off_by false None None e = (refl, (refl, refl))
-off_by false None (Some a) e = cc
-off_by false (Some b) after e = cc
-
-pub unfiltered : (patterns : List SetPattern) (g : Ground) (p : Phases) (l : Level) → is_unfiltered l ≡ true → l ≡ raw_level g.site.now p.at.level →
-    IsUnfiltered (world_in patterns g shipped) (standing_seen g.site.now p.at)
-unfolding values_seen facts_of
-unfiltered patterns g p l off e = λ status kind.
-    let facts = facts_of (standing_seen g.site.now p.at) status kind in
-    let h = off_by l.ssi l.before l.after off in
-    let s : facts.ssi ≡ false = ap (λ (l : Level). l.ssi) (sym e) ∙ h.0 in
-    let b : facts.before ≡ false = ap (λ (l : Level). is_some l.before) (sym e) ∙ h.1.0 in
-    let a : facts.after ≡ false = ap (λ (l : Level). is_some l.after) (sym e) ∙ h.1.1 in
-    ap (λ x. x || (is_added facts || false)) (split_off facts s) ∙ ap (λ x. x || false) (added_off facts b a)
-
 -- ---- what is still to come then
 
 -- whether the connection closes after a reply
@@ -209,7 +201,7 @@ kept_or false true stays e = ap (λ b. cond b false true) e
 kept_or true false stays e = ap (λ b. cond b true true) e
 kept_or false false stays e = ap (λ b. cond b false true) e
 
-module _ (site : Site) (number : ℕ) (t : Terms) (l : Level) (reply : Reply) (bytes : List ℕ) (p : Prepared) (vars : Vars) (is : IsReply reply bytes p)
+module _ (site : Site) (number : ℕ) (t : Terms) (l : Level) (reply : Reply) (bytes : List ℕ) (p : Prepared) (vars : Vars) (is : IsPlain reply bytes p)
     (el : l ≡ raw_level site number) (ev : p.answer.values ≡ values_seen site (raw_level site number)) (out out' : List ℕ) (closing closing' keep : Bool) (size : ℕ)
     (kept : keep ≡ stays_seen t l reply) (closed : closing' ≡ (closing || not keep)) (puts : out' ≡ out ++ put_now reply t keep) (sized : size ≡ length (content_now reply t)) where
   before : Rest
@@ -274,16 +266,17 @@ known_length : (known : Known) (trees : Trees) → length (known_bytes known tre
 known_length (Nothing of) trees = refl
 known_length (Told f) trees = padded_length f.len _
 
-pub replied : (patterns : List SetPattern) (g : Ground) (p : Phases) (l : Level) (known : Known) (trees : Trees) (len : ℕ) (o told : Outcome) (reply : Reply) →
-    l ≡ raw_level g.site.now p.at.level → is_unfiltered l ≡ true → len ≡ known_len known → told ≡ with_length len o →
-    ((w : World) (bytes : List ℕ) → IsUnfiltered w (standing_seen g.site.now p.at) → FitsFile told bytes → IsReply reply bytes (prepared_as w (asked_in p) (standing_seen g.site.now p.at) bytes told)) →
-    IsReply reply (known_bytes known trees) (prepared_as (world_in patterns g shipped) (asked_in p) (standing_seen g.site.now p.at) (known_bytes known trees) o)
-replied patterns g p l known trees len o told reply el off en et h =
+pub replied : (patterns : List SetPattern) (g : Ground) (p : Phases) (known : Known) (trees : Trees) (len : ℕ) (o told : Outcome) (reply : Reply) →
+    is_plain reply ≡ true → len ≡ known_len known → told ≡ with_length len o →
+    ((w : World) (bytes : List ℕ) → w.members ≡ shipped → FitsFile told bytes → IsReply reply bytes (prepared_as w (asked_in p) (standing_seen g.site.now p.at) bytes told)) →
+    IsPlain reply (known_bytes known trees) (prepared_as (world_in patterns g shipped) (asked_in p) (standing_seen g.site.now p.at) (known_bytes known trees) o)
+replied patterns g p known trees len o told reply plain en et h =
     let b = known_bytes known trees in
     let w = world_in patterns g shipped in
     let fits : FitsFile told b = subst (λ x. FitsFile x b) (sym et) (fits_told b len o (known_length known trees ∙ sym en)) in
-    subst (IsReply reply b) (ap (prepared_as w (asked_in p) (standing_seen g.site.now p.at) b) et ∙ same_outcome w (asked_in p) (standing_seen g.site.now p.at) b len o)
-    (h w b (unfiltered patterns g p l off el) fits)
+    plain_is reply b (prepared_as w (asked_in p) (standing_seen g.site.now p.at) b o) plain
+    (subst (IsReply reply b) (ap (prepared_as w (asked_in p) (standing_seen g.site.now p.at) b) et ∙ same_outcome w (asked_in p) (standing_seen g.site.now p.at) b len o)
+    (h w b refl fits))
 
 -- ---- how many bytes are put
 

@@ -1,5 +1,5 @@
 -- What is still to come, act by act.
-use Rattle.std.proofs.Common.{◌≡◌, ℕ, List, [], refl, sym, ap, ◌∙◌, subst}
+use Rattle.std.proofs.Common.{◌≡◌, ℕ, List, [], None, refl, sym, ap, ◌∙◌, subst}
 use Rattle.std.proofs.lemmas.List.{append-nil}
 use Rattle.acts.specs.Vars.{Vars, look, set}
 use Rattle.acts.specs.Act.{Done, Get, Put, Stat, Call, Write, Inner, ◌>>=◌, ◌>>◌, settled, settled_then}
@@ -87,14 +87,14 @@ unfolding act_rest finished ◌>>=◌ written run subs_in
 done_bare w tree t answer vars = refl
 
 done_by : (w : World) (tree : Tree) (t : Terms) (answer : Answer) (bytes : List ℕ) (body : CodeBody) (vars : Vars) →
-    act_rest w tree t (Done (record { answer = answer; body = body_seen bytes body })) vars
-    ≡ prepared_rest t (record { answer = answer; body = body_seen bytes body }) vars
+    act_rest w tree t (Done (record { answer = answer; body = body_seen bytes None body })) vars
+    ≡ prepared_rest t (record { answer = answer; body = body_seen bytes None body }) vars
 done_by w tree t answer bytes bodies.Nothing vars = done_bare w tree t answer vars
 done_by w tree t answer bytes (bodies.Page code) vars = done_plain w tree t answer _ vars
 done_by w tree t answer bytes (bodies.Text text) vars = done_plain w tree t answer text vars
 done_by w tree t answer bytes bodies.File vars = done_plain w tree t answer bytes vars
 
-pub done_rest : (w : World) (tree : Tree) (t : Terms) (p : Prepared) (bytes : List ℕ) (body : CodeBody) (vars : Vars) → body_seen bytes body ≡ p.body →
+pub done_rest : (w : World) (tree : Tree) (t : Terms) (p : Prepared) (bytes : List ℕ) (body : CodeBody) (vars : Vars) → body_seen bytes None body ≡ p.body →
     act_rest w tree t (Done p) vars ≡ prepared_rest t p vars
 done_rest w tree t p bytes body vars e =
     subst (λ b. act_rest w tree t (Done (record { answer = p.answer; body = b })) vars ≡ prepared_rest t (record { answer = p.answer; body = b }) vars) e

@@ -65,9 +65,9 @@ stays_seen t level r =
     t.head_keeps && (nat_lt (t.before + 1) level.requests && not (level.idle == 0))
     && not (r.closes || r.gone)
 
--- no filter of the level acts on a body
-abbrev pub is_unfiltered : Level → Bool
-is_unfiltered level = not level.ssi && is_none level.before && is_none level.after
+-- the length of a reply is known, and no filter acts on its body
+abbrev pub is_plain : Reply → Bool
+is_plain reply = reply.known && is_none reply.facts
 
 -- ---- what is known of the files
 

@@ -14,7 +14,7 @@ ghost use Rattle.site_model.specs.declared.site.Site.{Site as SiteRow};
 ghost use Rattle.request_meaning.specs.Serving.{World};
 ghost use Rattle.request_flow.specs.Flows.{flow_rest, file_rest, item_asked, flow_fits, flow_left, flow_most, asking_most, tree_asked, IsServedBy};
 ghost use Rattle.request_flow.specs.Rests.{Follows, opened_rest};
-ghost use Rattle.request_flow.specs.Sents.{known_bytes, known_tree, known_len, with_length as told_length, step_rest, is_unfiltered as acts_on_none, sends_file, file_known};
+ghost use Rattle.request_flow.specs.Sents.{known_bytes, known_tree, known_len, with_length as told_length, step_rest, is_plain as plain_reply, sends_file, file_known};
 
 use crate::asked::{Opening, put_phases};
 use crate::blocks::{Sending, next_block};
@@ -80,11 +80,11 @@ fn with_length(len: u64, outcome: Outcome) -> Outcome
     }
 }
 
-/// Whether no filter of a level acts on a body (`ssi`, `add_before_body`, `add_after_body`).
-fn is_unfiltered(level: &Level) -> bool
-    ensures { result ≡ acts_on_none level.now }
+/// Whether the length of a reply is known, and no filter acts on its body (`ssi`, `add_before_body`, `add_after_body`).
+fn is_plain(reply: &Reply<'_>) -> bool
+    ensures { result ≡ plain_reply reply.now }
 {
-    !level.ssi && level.before.is_none() && level.after.is_none()
+    reply.known && reply.facts.is_none()
 }
 
 /// Whether the body is sent that a reply has, and is a file.
@@ -200,12 +200,12 @@ fn answer(
 {
     let number = request.phases.at.level;
     let level = ground.site.level(number);
-    if !is_unfiltered(level) {
-        return Err(OutOfMemory);
-    }
     let terms = request.terms;
     let outcome = with_length(length_in(&known), outcome);
     let reply = reply_of(space.alloc, ground.site, &request.phases, outcome)?;
+    if !is_plain(&reply) {
+        return Err(OutOfMemory);
+    }
     let keep = stays(terms, level, &reply);
     let status = reply.status;
     let file = file_if(sends_file(terms, &reply), known);

@@ -365,7 +365,7 @@ module _ (w : World) (left : ℕ) (P : Child → Type 0) (R : Role → Type 0) (
     only_sent_by : (s : Standing) (nothing filtered : Bool) (answer : Answer) (status : ℕ) (kind bytes : List ℕ) → V s.values → OkPrepared (record { answer = answer; body = body_sent nothing filtered (facts_of s status kind) bytes })
     unfolding written
     only_sent_by s true filtered answer status kind bytes v ssi = only_done _ tt
-    only_sent_by s false true answer status kind bytes v ssi = bodies s answer status kind bytes ssi v
+    only_sent_by s false true answer status kind bytes v ssi = only_write (bodies s answer status kind bytes ssi v)
     only_sent_by s false false answer status kind bytes v ssi = only_write (only_done _ tt)
 
     ok_page : (a : Asked) (s : Standing) (code : ℕ) (to : Option (List ℕ)) → OkPrepared (Answering.page_to a s code to)

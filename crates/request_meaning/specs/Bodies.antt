@@ -2,7 +2,7 @@
 -- (https://nginx.org/en/docs/dev/development_guide.html#http_body_filters; ngx_http_addition_module.html).
 use Rattle.std.specs.Prelude.{ℕ, zero, suc, false, List, [], ◌∷◌, map, Option, None, Some, if◌then◌else◌}
 use Rattle.acts.specs.Vars.{Vars}
-use Rattle.acts.specs.Act.{Done, ◌>>=◌, ◌>>◌}
+use Rattle.acts.specs.Act.{Done, Write, ◌>>=◌, ◌>>◌}
 use Rattle.filter_api.specs.declared.facts.Facts.{Facts}
 use Rattle.filter_api.specs.Members.{Member, Machine, turned}
 use Rattle.ngx_variables.specs.declared.request.Role.TheVariants.{Content}
@@ -73,9 +73,10 @@ machines w facts = map (λ (m : Member). m.machine facts) w.members
 abbrev pub filtered_marks : World → Facts → List ℕ → List Mark
 filtered_marks w facts bytes = turned (machines w facts) (map Byte bytes)
 
--- the body of an answer whose document begins with these variables, and may open this many levels of subrequests
+-- The body of an answer whose document begins with these variables, and may open this many levels of subrequests. One on which
+-- filters act begins with nothing, and is an act of its own by that: other nodes may come between the phases and its document.
 unfoldable pub written : World → (left : ℕ) → Vars → Answer → Body → Serving (Unit {0})
 written w left ssi answer NoBody = Done tt
 written w left ssi answer (Plain bytes) = writes bytes
 written w left ssi answer (Filtered facts bytes) =
-    body w (begun answer.main answer.request answer.values left ssi) (filtered_marks w facts bytes)
+    Write [] (body w (begun answer.main answer.request answer.values left ssi) (filtered_marks w facts bytes))

@@ -55,6 +55,10 @@ pub record IsGround (g : Ground) : Type 0 where
   pub located : AreOf g.locations.now g.server.now
   pub indexed : map index_seen g.index.now ≡ default_index
 
+-- the same main request, with another method it may be
+abbrev pub IsOfMain : Main → Main → Type 0
+IsOfMain old new = new ≡ record old { method = new.method }
+
 -- ---- where a request is
 
 abbrev pub handled_seen : Option Handled → Option (ℕ × Shown)

@@ -6,7 +6,7 @@ ghost use Rattle.request_meaning.specs.Serving.{is_main_role};
 ghost use Rattle.request_meaning.specs.Answering.{is_closing as closes_for};
 ghost use Rattle.request_meaning.specs.Errors.{page_method as method_of_page, outcome_next, failed};
 ghost use Rattle.rewrite_code.specs.Places.{standing_seen};
-ghost use Rattle.request_phases.specs.Rounds.{IsGround, asked_in, decision_seen};
+ghost use Rattle.request_phases.specs.Rounds.{IsGround, IsOfMain, asked_in, decision_seen};
 ghost use Rattle.request_phases.specs.Nexts.{last_outcome, last_phases, with_own_role, NextIs, closed_by, paged};
 ghost use Rattle.request_phases.specs.declared.state.Outcome.TheVariants.{Page as AnswerPage};
 
@@ -40,6 +40,7 @@ fn too_many(phases: &mut Phases) -> Outcome
 pub(crate) fn last_of(phases: &mut Phases, decision: Decision) -> Outcome
     ensures answer { result ≡ last_outcome decision }
     ensures phases { phases.new ≡ last_phases phases.old decision }
+    ensures main { IsOfMain phases.old.main phases.new.main }
 {
     match decision {
         Decision::Text { code, text } => Outcome::Text { code, text },
@@ -121,6 +122,7 @@ fn fail(
         (standing_seen ground.now.site.now phases.old.at) code)
         vars.now bytes phases.new next) }
     ensures changes { IfOk result (λ next. phases.new.changes ≡ phases.old.changes) }
+    ensures main { IfOk result (λ next. IsOfMain phases.old.main phases.new.main) }
 {
     let level = ground.site.level(phases.at.level);
     let rules = pages_at(ground.site, level.pages);
@@ -177,6 +179,7 @@ pub(crate) fn next_of(
         (standing_seen ground.now.site.now phases.old.at) (decision_seen bytes decision))
         vars.now bytes phases.new next) }
     ensures changes { IfOk result (λ next. phases.new.changes ≡ phases.old.changes) }
+    ensures main { IfOk result (λ next. IsOfMain phases.old.main phases.new.main) }
 {
     match decision {
         Decision::Text { code, text } => Ok(Next::Answers(Outcome::Text { code, text })),

@@ -9,7 +9,7 @@ ghost use Rattle.request_meaning.specs.Rewriting.{passes};
 ghost use Rattle.request_meaning.specs.Errors.Outcome.{Fails};
 ghost use Rattle.request_meaning.specs.Phases.{rounds};
 ghost use Rattle.family_meaning.specs.Suspended.{rounds_rest};
-ghost use Rattle.request_phases.specs.Rounds.{IsGround, asked_from, asked_in, told_in, reached_in, phases_told, tries_told, decision_seen};
+ghost use Rattle.request_phases.specs.Rounds.{IsGround, IsOfMain, asked_from, asked_in, told_in, reached_in, phases_told, tries_told, decision_seen};
 ghost use Rattle.request_phases.specs.Turns.{Reaches, Steps};
 
 use crate::content::{content, index, on_node, try_names};
@@ -115,6 +115,7 @@ fn settle(
         → Steps patterns.old ground.now (λ w. rounds_rest w phases.old.changes (asked_in phases.old)
         (reached_in w patterns.old ground.now.site.now (asked_in phases.old) bytes phases.old.at reached))
         vars.old bytes phases.new step vars.new) }
+    ensures main { IfOk result (λ step. IsOfMain phases.old.main phases.new.main) }
     ensures kept { patterns.new ≡ patterns.old }
 {
     let mut reached = reached;
@@ -147,7 +148,8 @@ fn settle(
     }
 }
 
-/// Begins the phases of a request, at the server's rewrite program: up to its first question, or its answer.
+/// Begins the phases of a request, at the server's rewrite program: up to its first question, or its answer. Of the main request
+/// they change the method alone.
 ///
 /// # Errors
 /// `OutOfMemory`; `phases` and `vars` are then fit to be dropped alone.
@@ -163,6 +165,7 @@ pub fn begin(
         → Steps patterns.old ground.now
         (λ w. rounds w phases.old.changes (asked_from phases.old Start))
         vars.old bytes phases.new step vars.new) }
+    ensures main { IfOk result (λ step. IsOfMain phases.old.main phases.new.main) }
     ensures kept { patterns.new ≡ patterns.old }
 {
     phases.role = phases.at.request.role;
@@ -196,6 +199,7 @@ pub fn resume(
         → Steps patterns.old ground.now
         (λ w. phases_told w patterns.old ground.now.site.now phases.old wait item)
         vars.old (text_of item) phases.new step vars.new) }
+    ensures main { IfOk result (λ step. IsOfMain phases.old.main phases.new.main) }
     ensures kept { patterns.new ≡ patterns.old }
 {
     let reached = told(alloc, ground, wait, node, patterns, phases, vars)?;

@@ -1,7 +1,8 @@
-//! What is sent for what the phases of a request decided: what the head of the response says, and its body, where no body
-//! filter acts on it.
+//! What is sent for what the phases of a request decided: what the head of the response says, and its body, with what the body
+//! filters are told of it.
 #![tactic(auto)]
 
+mod filters;
 mod redirect;
 mod reply;
 mod status;

@@ -1,16 +1,18 @@
 // What is sent for what phases decided.
-ghost use Rattle.std.specs.Prelude.{◌≡◌, ◌||◌, ◌&&◌, Bool, true, false, ℕ, List, None, Some, option_map, length, IfOk, if◌then◌else◌};
+ghost use Rattle.std.specs.Prelude.{◌≡◌, ◌||◌, ◌&&◌, not, Bool, true, false, ℕ, List, None, Some, option_map, length, IfOk, if◌then◌else◌};
 ghost use Rattle.error_page.specs.Page.{page_of};
 ghost use Rattle.request_meaning.specs.Serving.{World};
-ghost use Rattle.request_meaning.specs.Answering.{page_to, sent as sent_of, closed as closed_of};
+ghost use Rattle.request_meaning.specs.Answering.{page_to, read_of, sent as sent_of, closed as closed_of};
 ghost use Rattle.rewrite_code.specs.Places.{standing_seen};
 ghost use Rattle.site_model.specs.declared.site.Site.{Site as SiteRow};
 ghost use Rattle.request_phases.specs.declared.state.Phases.{Phases as PhasesView};
 ghost use Rattle.request_phases.specs.Rounds.{asked_in, prepared_as};
-ghost use Rattle.request_reply.specs.Replies.{IsReply, IsUnfiltered, FitsFile, body_seen, status_in};
+ghost use Rattle.request_meaning.specs.Laws.{shipped};
+ghost use Rattle.request_reply.specs.Replies.{IsReply, FitsFile, body_seen, is_sent, status_in};
 ghost use Rattle.request_reply.specs.declared.reply.Body.TheVariants.{Nothing as NothingView};
 ghost use Rattle.request_meaning.specs.Serving.Body.{Plain};
 
+use crate::filters::facts_if;
 use crate::redirect::redirect_target;
 use crate::status::{
     has_no_body, is_bodiless, is_closing, is_main, is_unmodified, sends_nothing, shown_date,
@@ -18,6 +20,7 @@ use crate::status::{
 };
 use byte_text::{ByteText, OutOfMemory};
 use error_page::page_len;
+use filter_api::Facts;
 use request_phases::{Outcome, Phases};
 use site_model::Site;
 use std::alloc::Global;
@@ -39,8 +42,9 @@ pub struct Reply<'a> {
     pub status: u16,
     /// The media type of Content-Type.
     pub kind: Option<&'a [u8]>,
-    /// The length of the content in bytes, whether it is sent or not.
+    /// The length of the content in bytes, where it is known, whether it is sent or not; and whether it is.
     pub length: Option<u64>,
+    pub known: bool,
     /// The second of Last-Modified, since the beginning of 1970.
     pub modified: Option<u64>,
     /// The target of Location.
@@ -49,6 +53,10 @@ pub struct Reply<'a> {
     pub closes: bool,
     /// Whether the connection is closed at once, without a response.
     pub gone: bool,
+    /// How many bytes of a file are read for it, where it is one.
+    pub read: Option<u64>,
+    /// What the body filters are told of the body, where one acts on it.
+    pub facts: Option<Facts>,
     pub body: Body,
 }
 
@@ -67,10 +75,13 @@ fn page(phases: &Phases, code: u16, to: Option<ByteText>) -> Reply<'static>
         status: code,
         kind: Some(b"text/html"),
         length: Some(page_len(code)),
+        known: true,
         modified: None,
         location: to,
         closes: phases.closes || (is_main(phases.role) && is_closing(code)),
         gone: false,
+        read: None,
+        facts: None,
         body,
     }
 }
@@ -85,20 +96,22 @@ fn closed() -> Reply<'static>
         status: 444,
         kind: None,
         length: Some(0),
+        known: true,
         modified: None,
         location: None,
         closes: true,
         gone: true,
+        read: None,
+        facts: None,
         body: Body::Nothing,
     }
 }
 
-/// The status that is shown, or 304 where a file was not modified since the date that the request names.
-fn status_of(phases: &Phases, own: u16, date: Option<u64>) -> u16
-    ensures { result ≡ status_in phases.now own date }
+/// The status, or 304 where a file on which no filter acts was not modified since the date that the request names.
+fn status_of(phases: &Phases, shown: u16, filtered: bool, date: Option<u64>) -> u16
+    ensures { result ≡ status_in phases.now shown filtered date }
 {
-    let shown = shown_status(phases.error, own);
-    if is_unmodified(&phases.main, &phases.at.request, shown, date) {
+    if is_unmodified(&phases.main, &phases.at.request, shown, filtered, date) {
         return 304;
     }
     shown
@@ -113,10 +126,10 @@ fn kind_unless(bodiless: bool, kind: &[u8]) -> Option<&[u8]>
     Some(kind)
 }
 
-fn length_unless(bodiless: bool, len: u64) -> Option<u64>
-    ensures { result ≡ (if bodiless then None else Some len) }
+fn length_unless(untold: bool, len: u64) -> Option<u64>
+    ensures { result ≡ (if untold then None else Some len) }
 {
-    if bodiless {
+    if untold {
         return None;
     }
     Some(len)
@@ -131,6 +144,38 @@ fn body_unless(nothing: bool, body: Body) -> Body
     body
 }
 
+/// A head tells no length of a response without content, nor of what filters make.
+fn is_untold(bodiless: bool, filtered: bool) -> bool
+    ensures { result ≡ (bodiless || filtered) }
+{
+    bodiless || filtered
+}
+
+fn is_known(bodiless: bool, filtered: bool) -> bool
+    ensures { result ≡ (bodiless || not filtered) }
+{
+    bodiless || !filtered
+}
+
+fn facts_unless(nothing: bool, facts: Option<Facts>) -> Option<Facts>
+    ensures { result ≡ (if nothing then None else facts) }
+{
+    if nothing {
+        return None;
+    }
+    facts
+}
+
+/// How many bytes are read of a file of this length, where it is one.
+fn read_unless(nothing: bool, date: Option<u64>, len: u64) -> Option<u64>
+    ensures { (bytes : List ℕ) → length bytes ≡ len → result ≡ read_of nothing date bytes }
+{
+    match date {
+        Some(_) => length_unless(nothing, len),
+        None => None,
+    }
+}
+
 /// A text or a file, of this length, that is answered with a status of its own.
 fn sent<'a>(
     site: &'a Site,
@@ -140,30 +185,35 @@ fn sent<'a>(
     date: Option<u64>,
     body: Body,
 ) -> Reply<'a>
-    ensures { (w : World) (bytes content : List ℕ)
-        → IsUnfiltered w (standing_seen site.now phases.now.at)
-        → body_seen bytes body ≡ Plain content → length content ≡ len
+    ensures { (w : World) (bytes content : List ℕ) → w.members ≡ shipped
+        → body_seen bytes None body ≡ Plain content → length content ≡ len → is_sent body ≡ true
         → IsReply result bytes
         (sent_of w (asked_in phases.now) (standing_seen site.now phases.now.at) own content date) }
 {
-    let status = status_of(phases, own, date);
-    let bodiless = is_bodiless(status);
-    let nothing = sends_nothing(&phases.main, &phases.at.request, status);
     let path = phases.at.request.path.as_slice();
     let kind = site.types(site.level(phases.at.level).types).type_of(path);
+    let shown = shown_status(phases.error, own);
+    let facts = facts_if(site, phases, shown, kind);
+    let filtered = facts.is_some();
+    let status = status_of(phases, shown, filtered, date);
+    let bodiless = is_bodiless(status);
+    let nothing = sends_nothing(&phases.main, &phases.at.request, status);
     Reply {
         status,
         kind: kind_unless(bodiless, kind),
-        length: length_unless(bodiless, len),
-        modified: shown_date(status, date),
+        length: length_unless(is_untold(bodiless, filtered), len),
+        known: is_known(bodiless, filtered),
+        modified: shown_date(status, filtered, date),
         location: None,
         closes: phases.closes,
         gone: false,
+        read: read_unless(nothing, date, len),
+        facts: facts_unless(nothing, facts),
         body: body_unless(nothing, body),
     }
 }
 
-/// What a request is replied for what its phases decided, where no body filter acts on it.
+/// What a request is replied for what its phases decided.
 pub fn reply_of<'a>(
     alloc: Global,
     site: &'a Site,
@@ -171,7 +221,7 @@ pub fn reply_of<'a>(
     outcome: Outcome,
 ) -> Result<Reply<'a>, OutOfMemory>
     ensures { IfOk result (λ reply. (w : World) (bytes : List ℕ)
-        → IsUnfiltered w (standing_seen site.now phases.now.at) → FitsFile outcome bytes
+        → w.members ≡ shipped → FitsFile outcome bytes
         → IsReply reply bytes (prepared_as w (asked_in phases.now)
         (standing_seen site.now phases.now.at) bytes outcome)) }
 {

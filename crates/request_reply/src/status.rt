@@ -121,19 +121,25 @@ fn same_date(date: Option<u64>, since: Option<u64>) -> bool
     }
 }
 
-/// A file of the main request that was not modified since then.
+/// A file of the main request that was not modified since then, and on which no filter acts.
 #[tactic(auto, unfolding(request_meaning::specs::Answering::is_unmodified))]
-pub(crate) fn is_unmodified(main: &Main, request: &Request, status: u16, date: Option<u64>) -> bool
-    ensures { result ≡ unmodified main.now request.now status false date }
+pub(crate) fn is_unmodified(
+    main: &Main,
+    request: &Request,
+    status: u16,
+    filtered: bool,
+    date: Option<u64>,
+) -> bool
+    ensures { result ≡ unmodified main.now request.now status filtered date }
 {
-    is_main(request.role) && status == 200 && same_date(date, since_date(main))
+    is_main(request.role) && status == 200 && !filtered && same_date(date, since_date(main))
 }
 
-/// The date of a file is told where it is sent, or is not modified.
-pub(crate) fn shown_date(status: u16, date: Option<u64>) -> Option<u64>
-    ensures { result ≡ date_shown status false date }
+/// The date of a file is told where it is sent, or is not modified, and no filter acts on it.
+pub(crate) fn shown_date(status: u16, filtered: bool, date: Option<u64>) -> Option<u64>
+    ensures { result ≡ date_shown status filtered date }
 {
-    if status == 200 || status == 304 {
+    if !filtered && (status == 200 || status == 304) {
         return date;
     }
     None

@@ -1,5 +1,5 @@
 -- The definitions compute: to unfold these words is enough at a written-out head.
-use Rattle.std.proofs.Common.{◌≡◌, false, true, ◌++◌, codes, refl, Some, None}
+use Rattle.std.proofs.Common.{◌≡◌, false, true, codes, refl, Some, None}
 use Rattle.std.specs.Bool.{⊤}
 use Rattle.std.specs.Fmt.{digits}
 use Rattle.http_moment.proofs.Computed.{date_on_literals}

@@ -1,9 +1,10 @@
 -- What is appended piece by piece is a whole line.
-use Rattle.std.proofs.Common.{◌≡◌, ℕ, true, false, List, [], ◌∷◌, ◌++◌, append_assoc, append-nil, codes, refl, ap}
+use Rattle.std.proofs.Common.{◌≡◌, ℕ, true, false, List, [], ◌∷◌, ◌++◌, append_assoc, append-nil, codes, ap}
 use Rattle.http_moment.specs.Moment.{date_of}
 use Rattle.std.proofs.lemmas.Grind.{flat_map-append}
 use Rattle.resp_head.specs.declared.head.ReplyHead.{ReplyHead}
-use Rattle.resp_head.specs.Head.{HeadField, field_line, field_lines, status_line, server_field, date_field, type_field, connection_field, crlf, type_fields, length_fields, modified_fields, location_fields, transfer_fields, fields_with, head_with, head_of}
+use Rattle.resp_head.specs.Head.{HeadField, field_line, field_lines, server_field, date_field, type_field, connection_field, crlf, type_fields, length_fields, modified_fields, location_fields, transfer_fields, fields_with, rest_lines, head_with, head_of}
+use Rattle.resp_head.specs.Front.{front_lines}
 use Rattle.resp_head.specs.Values.{value_text}
 
 pub start_lines : (out a b c date : List ℕ) → a ≡ out ++ codes "Server: nginx\r\nDate: " → b ≡ a ++ date → c ≡ b ++ codes "\r\n" → c ≡ out ++ field_line server_field ++ field_line (date_field date)
@@ -39,10 +40,12 @@ lines_with : (date : List ℕ) (r : ReplyHead) → field_lines (fields_with date
 unfolding fields_with
 lines_with date r = simp (lines_append, lines_one, lines_two)
 
-pub whole_head : (date : List ℕ) (r : ReplyHead) (out s a b c d e f g : List ℕ) → s ≡ out ++ status_line r.status → a ≡ s ++ field_line server_field ++ field_line (date_field date) → b ≡ a ++ field_lines (type_fields r) → c ≡ b ++ field_lines (length_fields r) → d ≡ c ++ field_lines (modified_fields r) → e ≡ d ++ field_lines (location_fields r) → f ≡ e ++ field_lines (transfer_fields r) → g ≡ f ++ field_line (connection_field r.keep) ++ crlf → g ≡ out ++ head_with date r
-unfolding head_with
-whole_head date r out s a b c d e f g hs ha hb hc hd he hf hg = rw (hg, hf, he, hd, hc, hb, ha, hs, lines_with date r) (simp append_assoc)
+-- all after Date, line by line
+pub rest_is : (r : ReplyHead) (a b c d e f g : List ℕ) → b ≡ a ++ field_lines (type_fields r) → c ≡ b ++ field_lines (length_fields r) → d ≡ c ++ field_lines (modified_fields r) → e ≡ d ++ field_lines (location_fields r) → f ≡ e ++ field_lines (transfer_fields r) → g ≡ f ++ field_line (connection_field r.keep) ++ crlf → g ≡ a ++ rest_lines r
+unfolding rest_lines
+rest_is r a b c d e f g hb hc hd he hf hg = rw (hg, hf, he, hd, hc, hb) (simp append_assoc)
 
-pub head_at_moment : (date : List ℕ) (r : ReplyHead) → date ≡ date_of r.moment → head_with date r ≡ head_of r
-unfolding head_of
-head_at_moment date r e = rw e refl
+-- a front, and all after it
+pub whole_is : (date : List ℕ) (r : ReplyHead) (out a g : List ℕ) → date ≡ date_of r.moment → a ≡ out ++ front_lines r.status date → g ≡ a ++ rest_lines r → g ≡ out ++ head_of r
+unfolding head_of head_with rest_lines
+whole_is date r out a g ed ea eg = rw (eg, ea, ed, lines_with (date_of r.moment) r) (simp append_assoc)

@@ -2,3 +2,4 @@ pub mod Phrases
 pub mod Values
 pub mod Head
 pub mod Laws
+pub mod Front

@@ -1,7 +1,7 @@
 // The head of a response.
-ghost use Rattle.std.specs.Prelude.{◌≡◌, ◌++◌, IfOk, OnOk, false};
-ghost use Rattle.http_moment.specs.Moment.{date_of};
-ghost use Rattle.resp_head.specs.Head.{is_bodiless as has_no_body, field_lines, type_fields, length_fields, modified_fields, location_fields, transfer_fields, head_with, head_of};
+ghost use Rattle.std.specs.Prelude.{◌≡◌, ◌++◌, OnOk, false};
+ghost use Rattle.resp_head.specs.Head.{is_bodiless as has_no_body, field_lines, type_fields, length_fields, modified_fields, location_fields, transfer_fields, rest_lines, head_of};
+ghost use Rattle.resp_head.specs.Front.{front_lines, IsFront};
 
 use crate::lines::{
     put_chunked, put_date, put_end, put_length, put_modified, put_status_line, put_target, put_type,
@@ -74,12 +74,16 @@ fn put_length_of(head: &ReplyHead, out: &mut ByteText) -> Result<(), OutOfMemory
 }
 
 #[tactic(auto, unfolding(crate::specs::Head::modified_fields, crate::specs::Head::field_lines, crate::specs::Head::optional))]
-fn put_modified_of(head: &ReplyHead, out: &mut ByteText) -> Result<(), OutOfMemory>
+fn put_modified_of(
+    head: &ReplyHead,
+    dates: &mut DateCache,
+    out: &mut ByteText,
+) -> Result<(), OutOfMemory>
     ensures { OnOk result (out.new ≡ out.old ++ field_lines (modified_fields head.now)) }
 {
     match head.modified {
         Some(secs) => {
-            put_modified(secs, out)?;
+            put_modified(dates.date_text(secs), out)?;
             Ok(())
         }
         None => Ok(()),
@@ -127,35 +131,38 @@ fn most_bytes(head: &ReplyHead) -> usize {
         .saturating_add(FIXED_PARTS)
 }
 
-/// The same as [`head_text`], with the text of Date given, so that responses of one second share it.
-pub fn head_text_dated(
-    head: &ReplyHead,
-    date: &[u8; 29],
-    out: &mut ByteText,
-) -> Result<(), OutOfMemory>
-    ensures text { OnOk result (out.new ≡ out.old ++ head_with date.now head.now) }
-    ensures of_moment { date.now ≡ date_of head.now.moment → OnOk result (out.new ≡ out.old ++ head_of head.now) }
+/// All after Date. `dates` keeps the text of Last-Modified.
+#[tactic(auto, unfolding(crate::specs::Head::rest_lines))]
+fn put_rest(head: &ReplyHead, dates: &mut DateCache, out: &mut ByteText) -> Result<(), OutOfMemory>
+    ensures { OnOk result (out.new ≡ out.old ++ rest_lines head.now) }
 {
-    out.reserve(most_bytes(head))?;
-    put_status_line(head.status, out)?;
-    put_date(date, out)?;
     put_type_of(head, out)?;
     put_length_of(head, out)?;
-    put_modified_of(head, out)?;
+    put_modified_of(head, dates, out)?;
     put_location_of(head, out)?;
     put_transfer_of(head, out)?;
     put_end(head.keep, out)?;
     Ok(())
 }
 
+/// The status line, Server and Date.
+fn put_front(status: u16, date: &[u8; 29], out: &mut ByteText) -> Result<(), OutOfMemory>
+    ensures { OnOk result (out.new ≡ out.old ++ front_lines status date.now) }
+{
+    put_status_line(status, out)?;
+    put_date(date, out)?;
+    Ok(())
+}
+
 /// Appends the head of a response (RFC 9112, 4 and 5): the status line, Server, Date, Content-Type, Content-Length,
 /// Last-Modified, Location, Transfer-Encoding and Connection, as far as they apply, and the empty line. `out` grows
 /// once at most. After want of memory it holds some part of the head.
-#[tactic(auto, unfolding(crate::specs::Head::head_of))]
 pub fn head_text(head: &ReplyHead, out: &mut ByteText) -> Result<(), OutOfMemory>
     ensures { OnOk result (out.new ≡ out.old ++ head_of head.now) }
 {
-    head_text_dated(head, &date_text(head.moment), out)?;
+    out.reserve(most_bytes(head))?;
+    put_front(head.status, &date_text(head.moment), out)?;
+    put_rest(head, &mut DateCache::new(head.moment), out)?;
     Ok(())
 }
 
@@ -171,20 +178,64 @@ impl ReplyHead {
     }
 }
 
-/// Writes the heads of responses, one after another: each into the room of the one before, and the Date of a second once.
+/// What heads of one status and one second begin with, and how many bytes these are: the status line, Server and Date.
+#[derive(Clone, Copy, Debug, PartialEq, Eq)]
+pub struct Front {
+    status: u16,
+    moment: u64,
+    len: usize,
+}
+
+/// Writes the heads of responses, one after another: each into the room of the one before, of which the front stays where
+/// it is the same, and the dates of a second once.
 #[derive(Drop)]
 pub struct HeadWriter {
     dates: DateCache,
+    modified: DateCache,
     text: ByteText,
+    front: Option<Front>,
+    ghost kept: { IsFront front text },
 }
 
 impl HeadWriter {
+    ghost use Rattle.std.specs.Prelude.{◌≡◌, None, length, IfOk};
+    ghost use Rattle.http_moment.specs.Moment.{date_of};
+    ghost use Rattle.resp_head.specs.Head.{head_of};
+    ghost use Rattle.resp_head.specs.Front.{front_lines};
+
     /// A writer that wrote nothing. It takes no memory yet.
     pub fn new(alloc: Global) -> HeadWriter {
         HeadWriter {
             dates: DateCache::new(0),
+            modified: DateCache::new(0),
             text: ByteText::new(alloc),
+            front: None,
         }
+    }
+
+    /// The front of a head, and nothing else, in the room.
+    fn take_front(&mut self, status: u16, moment: u64) -> Result<Front, OutOfMemory>
+        ensures text { IfOk result (λ f. self.new.text ≡ front_lines status (date_of moment)) }
+        ensures len { IfOk result (λ f. f.len ≡ length self.new.text) }
+        ensures is { IfOk result (λ f. f.status ≡ status) }
+        ensures at { IfOk result (λ f. f.moment ≡ moment) }
+        ensures none { self.new.front ≡ None }
+    {
+        if let Some(front) = self.front {
+            if front.status == status && front.moment == moment {
+                self.front = None;
+                self.text.truncate(front.len);
+                return Ok(front);
+            }
+        }
+        self.front = None;
+        self.text.clear();
+        put_front(status, self.dates.date_text(moment), &mut self.text)?;
+        Ok(Front {
+            status,
+            moment,
+            len: self.text.len(),
+        })
     }
 
     /// The head of a response, as [`head_text`] appends it.
@@ -195,8 +246,10 @@ impl HeadWriter {
     pub fn text(&mut self, head: &ReplyHead) -> Result<&[u8], OutOfMemory>
         ensures { IfOk result (λ text. text.now ≡ head_of head.now) }
     {
-        self.text.clear();
-        head_text_dated(head, self.dates.date_text(head.moment), &mut self.text)?;
+        let front = self.take_front(head.status, head.moment)?;
+        self.text.reserve(most_bytes(head))?;
+        put_rest(head, &mut self.modified, &mut self.text)?;
+        self.front = Some(front);
         Ok(self.text.as_slice())
     }
 }

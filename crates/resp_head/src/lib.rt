@@ -7,6 +7,6 @@ mod lines;
 mod phrases;
 mod values;
 
-pub use head::{HeadWriter, ReplyHead, head_text, head_text_dated};
+pub use head::{HeadWriter, ReplyHead, head_text};
 pub use laws::{head_is_whole, head_reads_back};
 pub use phrases::{page_phrase, phrase};

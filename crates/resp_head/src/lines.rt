@@ -1,5 +1,5 @@
 // The lines of a head, each a function that appends it.
-ghost use Rattle.std.specs.Prelude.{◌≡◌, ◌++◌, OnOk};
+ghost use Rattle.std.specs.Prelude.{◌≡◌, ℕ, ◌++◌, OnOk};
 ghost use Rattle.http_moment.specs.Moment.{date_of};
 ghost use Rattle.resp_head.specs.Head.{status_line, field_line, server_field, date_field, type_field, length_field, modified_field, location_field, chunked_field, connection_field, crlf};
 ghost use Rattle.resp_head.specs.Values.{value_text, location_text};
@@ -7,7 +7,6 @@ ghost use Rattle.resp_head.specs.Values.{value_text, location_text};
 use crate::phrases::phrase;
 use crate::values::{put_location, put_value};
 use byte_text::{ByteText, OutOfMemory};
-use http_moment::date_text;
 use itoa::Buffer;
 
 #[tactic(auto, unfolding(crate::specs::Head::status_line, crate::specs::Head::crlf))]
@@ -54,11 +53,12 @@ pub fn put_length(length: u64, out: &mut ByteText) -> Result<(), OutOfMemory>
 }
 
 #[tactic(auto, unfolding(crate::specs::Head::field_line, crate::specs::Head::modified_field, crate::specs::Head::crlf))]
-pub fn put_modified(secs: u64, out: &mut ByteText) -> Result<(), OutOfMemory>
-    ensures { OnOk result (out.new ≡ out.old ++ field_line (modified_field secs)) }
+pub fn put_modified(date: &[u8; 29], out: &mut ByteText) -> Result<(), OutOfMemory>
+    ensures { (secs : ℕ) → date.now ≡ date_of secs
+        → OnOk result (out.new ≡ out.old ++ field_line (modified_field secs)) }
 {
     out.extend(b"Last-Modified: ")?;
-    out.extend(&date_text(secs))?;
+    out.extend(date)?;
     out.extend(b"\r\n")?;
     Ok(())
 }

@@ -1,8 +1,6 @@
-use Rattle.std.proofs.Common.{◌≡◌, List, ◌++◌, Err, refl, sym, ◌∙◌, ap, rules}
+use Rattle.std.proofs.Common.{◌≡◌, ◌++◌, Err, refl, sym, ◌∙◌, ap, rules}
 use Rattle.ngx_variables.specs.declared.fault.EvalFault.TheVariants.{TooLong}
-use Rattle.ngx_variables.specs.Paths.{text_of}
 use Rattle.ngx_variables.specs.Texts.{value_text}
-use Rattle.file_path.specs.Located.{located, located_at}
 use Rattle.file_path.proofs.Found.{located_by, too_long_at}
 use Rattle.file_path.proofs.locate.path_of.Goals as goal
 

@@ -1,4 +1,4 @@
-use Rattle.std.proofs.Common.{ℕ, List, [], length, sym, ap, ◌∙◌, cond, arith}
+use Rattle.std.proofs.Common.{ℕ, List, [], None, length, sym, ap, ◌∙◌, cond, arith}
 use Rattle.file_tree.specs.Tree.{text_of}
 use Rattle.request_meaning.specs.Laws.{shipped}
 use Rattle.rewrite_code.specs.Places.{standing_seen}
@@ -25,8 +25,8 @@ returns-in-None-clause-goes c = λ patterns trees.
     let t = c.args.request.now.terms in
     let reply = c.in_ok-reply.reply in
     let made = prepared_as w (asked_in p) s bytes c.args.outcome in
-    let is = puts.replied patterns g p c.level-level.result.now known trees c.length_in.result c.args.outcome c.with_length-outcome.result reply c.level-level.ensures
-    (sym c.is_unfiltered.ensures ∙ c.if-not-is_unfiltered.false) c.length_in.ensures c.with_length-outcome.ensures c.in_ok-reply.ensures in
+    let is = puts.replied patterns g p known trees c.length_in.result c.args.outcome c.with_length-outcome.result reply
+    (sym c.is_plain.ensures ∙ c.if-not-is_plain.false) c.length_in.ensures c.with_length-outcome.ensures c.in_ok-reply.ensures in
     puts.moved_follows site _ _ _ _ c.args.out.now c.put_reply.new.out c.args.closing _ _ _ _ _ _
     (done_rest w (trees (known_tree known)) (terms_seen t) made bytes reply.body c.args.request.now.vars is.body)
     (ap (λ (o : Onward). flow_rest w patterns site o.flow trees) c.over.ensures.is) (ap (λ (o : Onward). o.closing) c.over.ensures.is)
@@ -50,11 +50,11 @@ returns-in-Some-clause-goes c = λ patterns trees.
     let reply = c.in_ok-reply.reply in
     let made = prepared_as w (asked_in p) s bytes c.args.outcome in
     let file = c.in-Some.file in
-    let is = puts.replied patterns g p c.level-level.result.now known trees c.length_in.result c.args.outcome c.with_length-outcome.result reply c.level-level.ensures
-    (sym c.is_unfiltered.ensures ∙ c.if-not-is_unfiltered.false) c.length_in.ensures c.with_length-outcome.ensures c.in_ok-reply.ensures in
+    let is = puts.replied patterns g p known trees c.length_in.result c.args.outcome c.with_length-outcome.result reply
+    (sym c.is_plain.ensures ∙ c.if-not-is_plain.false) c.length_in.ensures c.with_length-outcome.ensures c.in_ok-reply.ensures in
     let sent = puts.file_sent t reply known file (ap (λ b. file_known b known) (sym c.sends_file.ensures) ∙ (sym c.file_if-file.ensures ∙ c.in-Some.is)) in
     let item = item_asked trees file.ask in
-    let text = ap plain_bytes (sym is.body) ∙ (ap (λ b. plain_bytes (body_seen bytes b)) sent.is ∙ ap (λ k. known_bytes k trees) sent.told) in
+    let text = ap plain_bytes (sym is.body) ∙ (ap (λ b. plain_bytes (body_seen bytes None b)) sent.is ∙ ap (λ k. known_bytes k trees) sent.told) in
     puts.moved_follows site _ _ _ _ c.args.out.now c.put_reply.new.out c.args.closing _ _ _ _ _ _
     (done_rest w (trees (known_tree known)) (terms_seen t) made bytes reply.body c.args.request.now.vars is.body)
     (c.reading.ensures.rest w patterns site trees) c.reading.ensures.others.0 c.reading.ensures.others.1 c.reading.ensures.others.2

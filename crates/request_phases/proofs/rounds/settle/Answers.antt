@@ -3,10 +3,15 @@ use Rattle.acts.specs.Act.{Done, settled}
 use Rattle.rewrite_code.specs.Places.{standing_seen}
 use Rattle.request_meaning.specs.Phases.{rounds, phases_from}
 use Rattle.request_phases.specs.Nexts.{next_in, last_outcome}
-use Rattle.request_phases.specs.Rounds.{world_in, asked_in, asked_from, from_seen, prepared_as, reached_in}
+use Rattle.ngx_variables.specs.declared.request.Main.{Main}
+use Rattle.request_phases.specs.Rounds.{world_in, IsOfMain, asked_in, asked_from, from_seen, prepared_as, reached_in}
 use Rattle.request_phases.proofs.Ahead as ahead
 use Rattle.request_phases.proofs.Nexts as nexts
 use Rattle.request_phases.proofs.rounds.settle.Goals as goal
+
+-- of the main request of one that is of it
+of_main : (a b d : Main) → IsOfMain a b → IsOfMain b d → IsOfMain a d
+of_main a b d e f = f ∙ ap (λ (x : Main). record x { method = d.method }) e
 
 pub returns-in-Waits-clause-does : goal.returns-in-Waits-clause-does
 returns-in-Waits-clause-does c = λ bytes members.
@@ -63,7 +68,7 @@ returns-in-Answers-clause-does c = λ bytes members.
 
 pub loop-reached-preserved : goal.loop-reached-preserved
 loop-reached-preserved c = (
-  c.round.ensures.kept ∙ c.loop-reached.invariant.0,
+  (c.round.ensures.kept ∙ c.loop-reached.invariant.0.0, of_main c.args.phases.now.main c.loop-reached.phases.main c.next_of.new.phases.main c.loop-reached.invariant.0.1 c.in_ok-outcome-in-Decides.ensures.main),
   λ bytes members.
       let g = c.args.ground.now in
       let site = g.site.now in
@@ -80,7 +85,7 @@ loop-reached-preserved c = (
       (c.in_ok-outcome-in-Decides.ensures.next ps bytes members (rounds w (p.changes - 1))
       ∙ (ap (λ next. settled (next_in w site bytes q (rounds w (p.changes - 1)) next) vars) c.in-Changed.is
       ∙ (ahead.again_so w ps site bytes (p.changes - 1) q from c.round.new.at reached vars c.round.new.vars
-      (subst (λ qs. settled (phases_from (world_in qs g members) (asked_from q from) from) vars ≡ (reached_in (world_in qs g members) qs site (asked_from q from) bytes c.round.new.at reached, c.round.new.vars)) c.loop-reached.invariant.0
+      (subst (λ qs. settled (phases_from (world_in qs g members) (asked_from q from) from) vars ≡ (reached_in (world_in qs g members) qs site (asked_from q from) bytes c.round.new.at reached, c.round.new.vars)) c.loop-reached.invariant.0.0
       (c.in_ok-reached-in-Changed.ensures.does bytes members (asked_from q from)))
       ∙ ap (λ n. settled (ahead.ahead w ps site bytes (record q { at = c.round.new.at; changes = n - 1; role = q.at.request.role }) reached) c.round.new.vars) (sym c.in_ok-outcome-in-Decides.ensures.changes)))))
       ∙ c.loop-reached.invariant.1 bytes members,

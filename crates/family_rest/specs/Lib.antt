@@ -1,0 +1,4 @@
+pub mod Still
+pub mod Reached
+pub mod Opened
+pub mod Laws

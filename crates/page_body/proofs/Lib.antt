@@ -1,0 +1,5 @@
+pub mod Acts
+pub mod Alone
+pub mod Bodies
+pub mod Chains
+pub mod Pages

@@ -1,0 +1,5 @@
+use Rattle.page_body.proofs.Acts as acts
+use Rattle.page_body.proofs.laws.writing_settles.Goals as goal
+
+pub returns : goal.returns
+returns c = acts.writing_settles

@@ -1,0 +1,12 @@
+//! The body of a page on which filters act, worked off block by block: blocks of its file come, the filters of server side
+//! includes and of additions make parts of them, and each part is done by the page's document. No page is held whole.
+#![tactic(auto)]
+
+mod doing;
+mod laws;
+mod page;
+mod parts;
+
+pub use doing::Doing;
+pub use laws::{reading_settles, writing_settles};
+pub use page::Page;

@@ -1,0 +1,10 @@
+use Rattle.std.proofs.Common.{◌≡◌, ◌++◌, drop, map}
+use Rattle.site_model.specs.Levels.{raw_level}
+use Rattle.site_whole.specs.Whole.{values_seen}
+use Rattle.race_places.specs.Places.{origins_by, over_both, value_reads}
+use Rattle.race_places.proofs.places.push_blocks.Given as goal
+
+abbrev pub invariant-loop-number : goal.invariant-loop-number
+invariant-loop-number l =
+    l.out.items ++ over_both (value_reads l.name) (map (λ n. values_seen l.site (raw_level l.site n)) (drop l.number-index l.numbers)) (map origins_by l.left)
+    ≡ l.fn.out.items ++ over_both (value_reads l.name) (map (λ n. values_seen l.site (raw_level l.site n)) l.numbers) (map origins_by l.lines)

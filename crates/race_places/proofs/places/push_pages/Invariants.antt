@@ -1,0 +1,10 @@
+use Rattle.std.proofs.Common.{◌≡◌, ◌++◌, drop, map}
+use Rattle.site_views.specs.Values.{PageRule}
+use Rattle.site_whole.specs.Whole.{page_seen}
+use Rattle.race_meaning.specs.Reads.{in_target}
+use Rattle.race_places.specs.Places.{lines_of}
+use Rattle.race_places.proofs.places.push_pages.Given as goal
+
+abbrev pub invariant-loop-rule : goal.invariant-loop-rule
+invariant-loop-rule l =
+    l.out.items ++ lines_of (λ (r : PageRule). in_target l.name r.target) (map page_seen (drop l.rule-index l.rules)) l.left ≡ l.fn.out.items ++ lines_of (λ (r : PageRule). in_target l.name r.target) (map page_seen l.rules) l.lines

@@ -1,0 +1,12 @@
+use Rattle.std.proofs.Common.{◌≡◌, ◌++◌, List, drop, map}
+use Rattle.site_views.specs.Pattern.{Pattern}
+use Rattle.site_model.specs.declared.site.Site.{Site}
+use Rattle.site_whole.specs.Whole.{step_seen}
+use Rattle.race_meaning.specs.Reads.{in_directive}
+use Rattle.race_places.specs.Places.{lines_of}
+use Rattle.race_places.proofs.places.push_reading_steps.Given as goal
+
+abbrev pub invariant-loop-step : goal.invariant-loop-step
+invariant-loop-step l =
+    (patterns : List Pattern) (site : Site) →
+    l.out.items ++ lines_of (in_directive l.name) (map (step_seen patterns site) (drop l.step-index l.steps)) l.left ≡ l.fn.out.items ++ lines_of (in_directive l.name) (map (step_seen patterns site) l.steps) l.lines

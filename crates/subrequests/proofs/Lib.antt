@@ -1,0 +1,3 @@
+mod Phased
+mod Paged
+mod Serving

@@ -1,0 +1,13 @@
+//! The tree of a request and its subrequests (<https://nginx.org/en/docs/dev/development_guide.html#http_subrequests>): each node goes
+//! on with its phases, its file and its page by itself, and the bytes of all leave in the written order.
+#![tactic(auto)]
+
+mod answered;
+mod lend;
+mod node;
+mod page;
+mod phase;
+mod slot;
+mod turn;
+
+pub use node::{Body, Node, Source, Stage};
