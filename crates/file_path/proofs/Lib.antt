@@ -1,4 +1,4 @@
-mod Settles
+pub mod Settles
 mod Roots
 mod Found
 mod Plain

@@ -11,6 +11,8 @@ mod reports;
 #[cfg(test)]
 mod request_heads;
 #[cfg(test)]
+mod response_bodies;
+#[cfg(test)]
 mod response_heads;
 #[cfg(test)]
 mod scripts;

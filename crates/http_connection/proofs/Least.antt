@@ -1,17 +1,23 @@
 -- A moment before which a connection isn't given up.
-use Rattle.std.proofs.Common.{◌≡◌, ℕ, ◌+◌, ◌-◌, ◌^◌, ◌≤◌, min, Option, None, Some, arith}
+use Rattle.std.proofs.Common.{◌≡◌, ℕ, ◌+◌, ◌-◌, ◌^◌, ◌≤◌, true, false, cond, eqb, min, Option, None, Some, arith}
+use Rattle.http_connection.specs.declared.times.Pace.{Pace}
 use Rattle.http_connection.specs.declared.times.Times.{Times}
 use Rattle.http_connection.specs.declared.times.Awaited.{Awaited}
 use Rattle.http_connection.specs.declared.times.Awaited.TheVariants.{Nothing, Room, Head, Further}
-use Rattle.http_connection.specs.Times.{after, due_of, soonest}
+use Rattle.http_connection.specs.Times.{seconds_in, after, due_of, soonest, NoneShorter}
 
-soonest_most : (o : Option ℕ) → soonest o ≤ 2 ^ 64 - 1
-soonest_most None = omega arith
-soonest_most (Some due) = omega arith
+pub shortest_of : (head : ℕ) (pace : Pace) (send wait idle two all : ℕ) → send ≡ soonest (after 0 (seconds_in pace.send)) → wait ≡ soonest (after 0 head) → idle ≡ seconds_in pace.idle → two ≡ min send wait → all ≡ min two idle → NoneShorter head pace all
+shortest_of head pace send wait idle two all s h i t a = (omega (arith, s, t, a), (omega (arith, h, t, a), omega (arith, i, t, a)))
 
-pub least_of : (times : Times) (awaited : Awaited) (send head idle two all : ℕ) → send ≡ soonest (after times.mark times.pace.send) → head ≡ soonest (after times.mark times.head) → idle ≡ min (times.mark + times.pace.idle) (2 ^ 64 - 1) → two ≡ min send head → all ≡ min two idle →
-    all ≤ soonest (due_of awaited times)
-least_of times Nothing send head idle two all s h i t a = omega (arith, i, t, a)
-least_of times Room send head idle two all s h i t a = omega (arith, s, t, a)
-least_of times Head send head idle two all s h i t a = omega (arith, h, t, a)
-least_of times Further send head idle two all s h i t a = omega (arith, i, t, a)
+after_least : (mark wait least sum : ℕ) → least ≤ soonest (after 0 wait) → sum ≡ min (mark + least) (2 ^ 64 - 1) → sum ≤ soonest (after mark wait)
+after_least mark wait least sum h s =
+    elim (eqb wait 0) as (λ b. least ≤ soonest (cond b None (Some (0 + wait))) → sum ≤ soonest (cond b None (Some (mark + wait)))) [
+      | true ↦ λ k. omega (arith, s)
+      | false ↦ λ k. omega (arith, s, k)
+    ] h
+
+pub least_of : (times : Times) (awaited : Awaited) (least sum : ℕ) → NoneShorter times.head times.pace least → sum ≡ min (times.mark + least) (2 ^ 64 - 1) → sum ≤ soonest (due_of awaited times)
+least_of times Nothing least sum n s = omega (arith, s)
+least_of times Room least sum n s = after_least times.mark (seconds_in times.pace.send) least sum n.0 s
+least_of times Head least sum n s = after_least times.mark times.head least sum n.1.0 s
+least_of times Further least sum n s = (let i = n.1.1 in omega (arith, s, i))

@@ -1,5 +1,5 @@
 -- How long a connection waits for its peer.
-use Rattle.std.specs.Prelude.{◌≡◌, ℕ, ◌+◌, ◌-◌, ◌^◌, ◌/◌, ◌%◌, ◌==◌, min, Bool, true, false, not, ◌&&◌, ◌||◌, Option, None, Some, if◌then◌else◌}
+use Rattle.std.specs.Prelude.{◌≡◌, ℕ, ◌+◌, ◌-◌, ◌^◌, ◌/◌, ◌%◌, ◌==◌, ◌≤◌, min, Bool, true, false, not, ◌&&◌, ◌||◌, Option, None, Some, if◌then◌else◌}
 use Rattle.file_tree.specs.Tree.{Trees}
 use Rattle.ngx_outside.specs.Views.{Start}
 use Rattle.site_views.specs.Choice.{default_server}
@@ -38,14 +38,20 @@ after mark wait = if wait == 0 then None else Some (mark + wait)
 -- `keepalive_timeout`).
 abbrev pub due_of : Awaited → Times → Option ℕ
 due_of Nothing times = None
-due_of Room times = after times.mark times.pace.send
+due_of Room times = after times.mark (seconds_in times.pace.send)
 due_of AHead times = after times.mark times.head
-due_of Further times = Some (times.mark + times.pace.idle)
+due_of Further times = Some (times.mark + seconds_in times.pace.idle)
 
 -- a moment that isn't later than this one, as far as a number of 64 bits says it
 abbrev pub soonest : Option ℕ → ℕ
 soonest None = 2 ^ 64 - 1
 soonest (Some due) = min due (2 ^ 64 - 1)
+
+-- whatever is awaited, it is awaited no shorter than so many seconds
+abbrev pub NoneShorter : (head : ℕ) → Pace → (least : ℕ) → Type 0
+NoneShorter head pace least =
+    (least ≤ soonest (after 0 (seconds_in pace.send))) ×
+    ((least ≤ soonest (after 0 head)) × (least ≤ seconds_in pace.idle))
 
 -- The mark is set to this moment where bytes come to be pending, and where a request comes to its
 -- end.
@@ -55,7 +61,7 @@ mark_by mark moment pending flying pending' flying' =
 
 -- the pace of a level with these values
 abbrev pub pace_seen : Values → Pace
-pace_seen v = record { send = seconds_in v.send_wait; idle = seconds_in v.idle }
+pace_seen v = record { send = v.send_wait; idle = v.idle }
 
 abbrev pub no_pace : Pace
 no_pace = record { send = 0; idle = 0 }

@@ -5,12 +5,13 @@ ghost use Rattle.req_head.specs.Step.{head_step};
 ghost use Rattle.request_flow.specs.Flows.{flow_fits};
 ghost use Rattle.http_connection.specs.Rests.{Serves, service_in};
 ghost use Rattle.http_connection.specs.Steps.{starts, rest_of, logged_in, IsLogged};
+ghost use Rattle.http_connection.specs.Times.{NoneShorter};
 ghost use Rattle.body_frame.specs.Outcome.{Short};
 
 use crate::input::begins;
 use crate::sending::{front, is_fresh, is_in_flight, is_pending};
 use crate::slot::put;
-use crate::times::{Awaited, NO_PACE, Times, awaited_of, due, head_wait_at, least_due};
+use crate::times::{Awaited, NO_PACE, Times, awaited_of, due, head_wait_at};
 use body_frame::BodyState;
 use byte_text::{ByteQueue, OutOfMemory};
 use file_tree::Ask;
@@ -22,7 +23,7 @@ use served_site::ServedSite;
 use std::alloc::Global;
 
 /// One connection: the bytes that are held and what they begin, the request in flight, the bytes that are kept for the
-/// peer, the journal of its requests, and how long it waits.
+/// peer, the journal of its requests, how long it waits, and how long it waits at least.
 #[derive(Drop)]
 pub struct Conn {
     pub(crate) local: Addr,
@@ -37,6 +38,7 @@ pub struct Conn {
     pub(crate) ended: bool,
     pub(crate) cause: Option<StopCause>,
     pub(crate) times: Times,
+    pub(crate) least: u64,
     ghost looked: { is_some cause ≡ false → next ≡ head_step held },
     ghost dropped: { is_some cause ≡ true → out ≡ [] },
     ghost quit: { is_some cause ≡ true → flow ≡ None },
@@ -45,6 +47,7 @@ pub struct Conn {
     ghost drained: { is_some body ≡ true → held ≡ [] },
     ghost unended: { is_some body ≡ true → rest_of body [] ≡ Short },
     ghost logged: { is_some cause ≡ false → IsLogged (is_some flow) journal.items },
+    ghost brief: { NoneShorter times.head times.pace least },
 }
 
 impl Conn {
@@ -99,6 +102,7 @@ impl Conn {
                 head: head_wait_at(served, local),
                 pace: NO_PACE,
             },
+            least: 0,
         })
     }
 
@@ -253,7 +257,7 @@ impl Conn {
     pub fn least_due(&self) -> u64
         ensures { result ≤ soonest (due_at self.now) }
     {
-        least_due(self.times)
+        self.times.mark.saturating_add(self.least)
     }
 
     /// The clock tells a moment: it is given up where its own has come.

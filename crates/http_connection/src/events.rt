@@ -12,7 +12,7 @@ use crate::open::Meeting;
 use crate::sending::{begun, sending};
 use crate::slot::{put, take};
 use crate::start::run_one;
-use crate::times::{Times, marked, pace_after};
+use crate::times::{Times, marked, pace_after, shortest_after};
 use byte_text::OutOfMemory;
 use file_tree::{JobAnswer, is_fitting};
 use ngx_outside::{StepAnswer, StopCause};
@@ -197,7 +197,9 @@ impl Conn {
                 self.closing = onward.closing;
                 let after = sending(&self.flow, &self.out);
                 self.times.mark = marked(self.times.mark, moment, before, after);
-                self.times.pace = pace_after(served, onward.level, self.times.pace);
+                let pace = pace_after(served, onward.level, self.times.pace);
+                self.least = shortest_after(self.least, self.times.head, self.times.pace, pace);
+                self.times.pace = pace;
                 StepAnswer::Done { taken: 0 }
             }
             Err(OutOfMemory) => {
@@ -252,7 +254,9 @@ impl Conn {
                 self.closing = onward.closing;
                 let after = sending(&self.flow, &self.out);
                 self.times.mark = marked(self.times.mark, moment, before, after);
-                self.times.pace = pace_after(served, onward.level, self.times.pace);
+                let pace = pace_after(served, onward.level, self.times.pace);
+                self.least = shortest_after(self.least, self.times.head, self.times.pace, pace);
+                self.times.pace = pace;
                 StepAnswer::Done { taken: 0 }
             }
             Err(OutOfMemory) => {

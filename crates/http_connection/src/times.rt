@@ -6,22 +6,21 @@ ghost use Rattle.site_model.specs.declared.site.Site.{Site as SiteRow};
 ghost use Rattle.site_views.specs.Choice.{default_server};
 ghost use Rattle.site_whole.specs.Whole.{values_seen, whole};
 ghost use Rattle.http_connection.specs.Rests.{values_at};
-ghost use Rattle.http_connection.specs.declared.times.Awaited.{Awaited as Awaiting};
-ghost use Rattle.http_connection.specs.Times.{seconds_in, after, due_of, soonest, mark_by, awaited_by, pace_seen, paced, own_values, head_wait_in};
+ghost use Rattle.http_connection.specs.Times.{seconds_in, after, due_of, soonest, mark_by, awaited_by, pace_seen, paced, own_values, head_wait_in, NoneShorter};
 
 use http_types::Addr;
 use served_site::ServedSite;
 use site_model::Level;
 
-/// How long a response may wait to be read, and how long a connection is kept open after it, in seconds
-/// (`send_timeout`, of which 0 is no limit, and `keepalive_timeout`).
+/// How long a response may wait to be read, and how long a connection is kept open after it, in
+/// milliseconds (`send_timeout`, of which 0 is no limit, and `keepalive_timeout`).
 #[derive(Clone, Copy, Debug, PartialEq, Eq)]
 pub struct Pace {
     pub send: u64,
     pub idle: u64,
 }
 
-/// What a connection waits by, in seconds: the moment that its waiting began, how long it waits for a head
+/// What a connection waits by: the moment that its waiting began and how long it waits for a head, both in seconds
 /// (`client_header_timeout`, of which 0 is no limit), and the pace of its last response.
 #[derive(Clone, Copy, Debug, PartialEq, Eq)]
 pub struct Times {
@@ -68,8 +67,8 @@ fn pace_of(level: &Level) -> Pace
     ensures { (site : SiteRow) → result ≡ pace_seen (values_seen site level.now) }
 {
     Pace {
-        send: seconds(level.send_wait),
-        idle: seconds(level.idle),
+        send: level.send_wait,
+        idle: level.idle,
     }
 }
 
@@ -159,19 +158,33 @@ pub(crate) fn due(awaited: Awaited, times: Times) -> u64
 {
     match awaited {
         Awaited::Nothing => u64::MAX,
-        Awaited::Room => limit(times.mark, times.pace.send),
+        Awaited::Room => limit(times.mark, seconds(times.pace.send)),
         Awaited::Head => limit(times.mark, times.head),
-        Awaited::Further => times.mark.saturating_add(times.pace.idle),
+        Awaited::Further => times.mark.saturating_add(seconds(times.pace.idle)),
     }
 }
 
-/// A moment before which a connection isn't given up, whatever is awaited.
-pub(crate) fn least_due(times: Times) -> u64
-    ensures { (awaited : Awaiting) → result ≤ soonest (due_of awaited times) }
+// The shortest wait, in seconds: whatever is awaited, it is awaited no shorter.
+fn shortest(head: u64, pace: Pace) -> u64
+    ensures { NoneShorter head pace result }
 {
-    limit(times.mark, times.pace.send)
-        .min(limit(times.mark, times.head))
-        .min(times.mark.saturating_add(times.pace.idle))
+    limit(0, seconds(pace.send))
+        .min(limit(0, head))
+        .min(seconds(pace.idle))
+}
+
+/// The shortest wait by another pace, which mostly is the one before.
+pub(crate) fn shortest_after(least: u64, head: u64, before: Pace, after: Pace) -> u64
+    requires { NoneShorter head before least }
+    ensures { NoneShorter head after result }
+{
+    if after.send != before.send {
+        return shortest(head, after);
+    }
+    if after.idle != before.idle {
+        return shortest(head, after);
+    }
+    least
 }
 
 /// The mark after a step: this moment where bytes came to be pending or a request came to its end.

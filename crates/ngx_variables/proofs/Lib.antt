@@ -1,5 +1,4 @@
 mod Splits
-mod Settings
 mod Evals
 mod Tokens
 pub mod Settles

@@ -9,13 +9,13 @@ use crate::fault::EvalFault;
 use crate::field::{append_fields, cookie, first_field};
 use crate::joining::joined;
 use crate::request::{Main, Place, Request, method_name};
-use crate::table::VarTable;
 use crate::value::{Piece, Value};
 use crate::variable::Variable;
 use byte_text::{ByteText, OutOfMemory};
 use http_types::Version;
 use std::alloc::Global;
 use std::net::IpAddr;
+use variable_table::VarTable;
 
 /// An evaluated text has at most so many bytes.
 pub(crate) const TEXT_LIMIT: usize = 16384;

@@ -12,7 +12,6 @@ mod joining;
 mod laws;
 mod lone;
 mod request;
-mod table;
 mod value;
 mod variable;
 
@@ -23,6 +22,6 @@ pub use fault::{EvalFault, ValueFault};
 pub use joining::joined;
 pub use laws::{builtin_is_not_set, settles_behind_value, value_settles};
 pub use request::{Groups, Main, Place, Request, Role, method_name};
-pub use table::{Setting, VarTable};
 pub use value::{Piece, Value};
 pub use variable::{Variable, is_builtin};
+pub use variable_table::VarTable;

@@ -10,11 +10,11 @@ use crate::eval::{
 use crate::field::{cookie, first_field};
 use crate::joining::joined;
 use crate::request::{Main, Place, Request, method_name};
-use crate::table::VarTable;
 use crate::value::Piece;
 use crate::variable::Variable;
 use byte_text::{ByteText, OutOfMemory};
 use std::alloc::Global;
+use variable_table::VarTable;
 
 /// A built-in variable's text, where it is held somewhere already.
 #[tactic(auto, unfolding(crate::specs::Texts::variable_text))]

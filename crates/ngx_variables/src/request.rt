@@ -1,5 +1,5 @@
 // The data of a request of which variables speak.
-ghost use Rattle.std.specs.Prelude.{◌≡◌, ℕ, ◌+◌, ◌-◌, ◌<◌, ◌≤◌, List, [], ◌∷◌, ◌++◌, length, OnOk, OnErr};
+ghost use Rattle.std.specs.Prelude.{◌≡◌, ℕ, ◌+◌, ◌-◌, ◌<◌, ◌≤◌, List, [], ◌∷◌, ◌++◌, length, replicate, OnOk, OnErr};
 ghost use Rattle.ngx_variables.specs.Words.{method_name};
 
 use crate::date::LocalDate;
@@ -35,18 +35,21 @@ pub enum Place {
 
 /// The texts of the groups of a request's last match, the first group first. Contracts see them as a list; a group that
 /// isn't there is empty.
+///
+/// Empty texts that stand last are counted alone, since few patterns have nine groups.
 #[derive(Drop)]
 pub struct Groups {
     alloc: Global,
     texts: Vec<ByteText>,
+    empty: usize,
 }
 
 impl Model for Groups {
-    ghost use Rattle.std.specs.Prelude.{List, ℕ};
+    ghost use Rattle.std.specs.Prelude.{List, ℕ, [], ◌++◌, replicate};
 
     ghost Value = { List (List ℕ) };
 
-    ghost view = { λ g. g.texts.items };
+    ghost view = { λ g. g.texts.items ++ replicate g.empty [] };
 }
 
 impl Groups {
@@ -59,6 +62,7 @@ impl Groups {
         Groups {
             alloc,
             texts: Vec::new(alloc),
+            empty: 0,
         }
     }
 
@@ -82,6 +86,7 @@ impl Groups {
         ensures { self.new ≡ [] }
     {
         self.texts.clear();
+        self.empty = 0;
     }
 
     /// The text of the next group.
@@ -89,10 +94,32 @@ impl Groups {
         ensures ok { OnOk result (self.new ≡ self.old ++ text.now ∷ []) }
         ensures err { OnErr result (self.new ≡ self.old) }
     {
+        if text.is_empty() {
+            self.empty = self.empty.checked_add(1).ok_or(OutOfMemory)?;
+            return Ok(());
+        }
+        write_empty(self.alloc, &mut self.texts, &mut self.empty)?;
         let text = ByteText::from_slice(self.alloc, text)?;
         self.texts.push(text)?;
         Ok(())
     }
+}
+
+/// Writes the empty texts that were counted alone, before another text is pushed.
+fn write_empty(
+    alloc: Global,
+    texts: &mut Vec<ByteText>,
+    empty: &mut usize,
+) -> Result<(), OutOfMemory>
+    ensures kept { texts.new.items ++ replicate empty.new []
+        ≡ texts.old.items ++ replicate empty.old [] }
+    ensures none { OnOk result (empty.new ≡ 0) }
+{
+    while *empty > 0 {
+        texts.push(ByteText::new(alloc))?;
+        *empty -= 1;
+    }
+    Ok(())
 }
 
 /// What a main request and all its subrequests share. It stands once, beside the requests that refer to it.

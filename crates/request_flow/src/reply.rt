@@ -75,15 +75,6 @@ pub(crate) fn stays(terms: Terms, level: &Level, reply: &Reply<'_>) -> bool
     terms.head_keeps && allows(level, terms.before) && !(reply.closes || reply.gone)
 }
 
-fn copy_kind(alloc: Global, kind: Option<&[u8]>) -> Result<Option<ByteText>, OutOfMemory>
-    ensures { IfOk result (λ copy. copy ≡ option_map (λ k. k.now) kind.entry) }
-{
-    match kind {
-        Some(kind) => Ok(Some(ByteText::from_slice(alloc, kind)?)),
-        None => Ok(None),
-    }
-}
-
 /// What of a body is put with the head; a page is written into `page`.
 fn content<'a>(
     body: &'a Body,
@@ -163,14 +154,14 @@ pub(crate) fn put_reply(
     let head = ReplyHead {
         status,
         moment: terms.moment,
-        kind: copy_kind(space.alloc, kind)?,
+        kind: None,
         length,
         modified,
         location,
         chunked: false,
         keep,
     };
-    put_parts(out, space.heads.text(&head)?, bytes)?;
+    put_parts(out, space.heads.text_of_kind(&head, kind)?, bytes)?;
     Ok(size)
 }
 
@@ -196,7 +187,7 @@ pub fn put_refusal(
     let head = ReplyHead {
         status: code,
         moment,
-        kind: Some(ByteText::from_slice(space.alloc, b"text/html")?),
+        kind: None,
         length: Some(page.len() as u64),
         modified: None,
         location: None,
@@ -204,6 +195,10 @@ pub fn put_refusal(
         keep: false,
     };
     let body = content_unless(no_body, page.as_slice());
-    put_parts(out, space.heads.text(&head)?, body)?;
+    put_parts(
+        out,
+        space.heads.text_of_kind(&head, Some(b"text/html"))?,
+        body,
+    )?;
     Ok(body.len() as u64)
 }

@@ -3,3 +3,4 @@ pub mod Values
 pub mod Head
 pub mod Laws
 pub mod Front
+pub mod Lent

@@ -1,6 +1,7 @@
 // The head of a response.
 ghost use Rattle.std.specs.Prelude.{◌≡◌, ◌++◌, OnOk, false};
 ghost use Rattle.resp_head.specs.Head.{is_bodiless as has_no_body, field_lines, type_fields, length_fields, modified_fields, location_fields, transfer_fields, rest_lines, head_of};
+ghost use Rattle.resp_head.specs.Lent.{of_kind};
 ghost use Rattle.resp_head.specs.Front.{front_lines, IsFront};
 
 use crate::lines::{
@@ -42,15 +43,15 @@ fn is_bodiless(status: u16) -> bool
 }
 
 #[tactic(auto, unfolding(crate::specs::Head::type_fields, crate::specs::Head::field_lines, crate::specs::Head::optional))]
-fn put_type_of(head: &ReplyHead, out: &mut ByteText) -> Result<(), OutOfMemory>
-    ensures { OnOk result (out.new ≡ out.old ++ field_lines (type_fields head.now)) }
+fn put_type_of(head: &ReplyHead, kind: Option<&[u8]>, out: &mut ByteText) -> Result<(), OutOfMemory>
+    ensures { OnOk result (out.new ≡ out.old ++ field_lines (type_fields (of_kind head.now kind.entry))) }
 {
     if is_bodiless(head.status) {
         return Ok(());
     }
-    match &head.kind {
+    match kind {
         Some(kind) => {
-            put_type(kind.as_slice(), out)?;
+            put_type(kind, out)?;
             Ok(())
         }
         None => Ok(()),
@@ -115,9 +116,9 @@ fn put_transfer_of(head: &ReplyHead, out: &mut ByteText) -> Result<(), OutOfMemo
     }
 }
 
-/// The most bytes that a head takes.
-fn most_bytes(head: &ReplyHead) -> usize {
-    let kind = match &head.kind {
+/// The most bytes that a head takes with this media type.
+fn most_bytes(head: &ReplyHead, kind: Option<&[u8]>) -> usize {
+    let kind = match kind {
         Some(kind) => kind.len(),
         None => 0,
     };
@@ -131,12 +132,27 @@ fn most_bytes(head: &ReplyHead) -> usize {
         .saturating_add(FIXED_PARTS)
 }
 
-/// All after Date. `dates` keeps the text of Last-Modified.
-#[tactic(auto, unfolding(crate::specs::Head::rest_lines))]
-fn put_rest(head: &ReplyHead, dates: &mut DateCache, out: &mut ByteText) -> Result<(), OutOfMemory>
-    ensures { OnOk result (out.new ≡ out.old ++ rest_lines head.now) }
+/// The media type of a head, lent.
+fn kind_of(head: &ReplyHead) -> Option<&[u8]>
+    ensures { of_kind head.now result ≡ head.now }
 {
-    put_type_of(head, out)?;
+    match &head.kind {
+        Some(kind) => Some(kind.as_slice()),
+        None => None,
+    }
+}
+
+/// All after Date, with this media type. `dates` keeps the text of Last-Modified.
+#[tactic(auto, unfolding(crate::specs::Head::rest_lines))]
+fn put_rest(
+    head: &ReplyHead,
+    kind: Option<&[u8]>,
+    dates: &mut DateCache,
+    out: &mut ByteText,
+) -> Result<(), OutOfMemory>
+    ensures { OnOk result (out.new ≡ out.old ++ rest_lines (of_kind head.now kind.entry)) }
+{
+    put_type_of(head, kind, out)?;
     put_length_of(head, out)?;
     put_modified_of(head, dates, out)?;
     put_location_of(head, out)?;
@@ -160,9 +176,10 @@ fn put_front(status: u16, date: &[u8; 29], out: &mut ByteText) -> Result<(), Out
 pub fn head_text(head: &ReplyHead, out: &mut ByteText) -> Result<(), OutOfMemory>
     ensures { OnOk result (out.new ≡ out.old ++ head_of head.now) }
 {
-    out.reserve(most_bytes(head))?;
+    let kind = kind_of(head);
+    out.reserve(most_bytes(head, kind))?;
     put_front(head.status, &date_text(head.moment), out)?;
-    put_rest(head, &mut DateCache::new(head.moment), out)?;
+    put_rest(head, kind, &mut DateCache::new(head.moment), out)?;
     Ok(())
 }
 
@@ -201,6 +218,7 @@ impl HeadWriter {
     ghost use Rattle.std.specs.Prelude.{◌≡◌, None, length, IfOk};
     ghost use Rattle.http_moment.specs.Moment.{date_of};
     ghost use Rattle.resp_head.specs.Head.{head_of};
+    ghost use Rattle.resp_head.specs.Lent.{of_kind};
     ghost use Rattle.resp_head.specs.Front.{front_lines};
 
     /// A writer that wrote nothing. It takes no memory yet.
@@ -246,9 +264,25 @@ impl HeadWriter {
     pub fn text(&mut self, head: &ReplyHead) -> Result<&[u8], OutOfMemory>
         ensures { IfOk result (λ text. text.now ≡ head_of head.now) }
     {
+        let text = self.text_of_kind(head, kind_of(head))?;
+        Ok(text)
+    }
+
+    /// The same with this media type in place of the head's own, which need not be copied for it.
+    ///
+    /// # Errors
+    ///
+    /// Want of memory alone, where no head before was as long.
+    pub fn text_of_kind(
+        &mut self,
+        head: &ReplyHead,
+        kind: Option<&[u8]>,
+    ) -> Result<&[u8], OutOfMemory>
+        ensures { IfOk result (λ text. text.now ≡ head_of (of_kind head.now kind.entry)) }
+    {
         let front = self.take_front(head.status, head.moment)?;
-        self.text.reserve(most_bytes(head))?;
-        put_rest(head, &mut self.modified, &mut self.text)?;
+        self.text.reserve(most_bytes(head, kind))?;
+        put_rest(head, kind, &mut self.modified, &mut self.text)?;
         self.front = Some(front);
         Ok(self.text.as_slice())
     }

@@ -2,3 +2,4 @@ mod Values
 mod Acts
 mod Programs
 mod Cuts
+mod Alone

@@ -1,5 +1,5 @@
 -- A program worked off directive by directive.
-use Rattle.std.proofs.Common.{◌≡◌, ℕ, zero, suc, ◌+◌, ◌<◌, ◌≤◌, ◌&&◌, ◌==◌, Bool, true, false, List, [], ◌∷◌, length, map, drop, get_or, refl, sym, ◌∙◌, ap, arith}
+use Rattle.std.proofs.Common.{◌≡◌, ℕ, zero, suc, ◌+◌, ◌<◌, ◌≤◌, ◌&&◌, ◌==◌, Bool, true, false, List, [], ◌∷◌, length, map, drop, get_or, Option, Some, IfSome, refl, sym, ◌∙◌, ap, subst, arith}
 use Rattle.std.proofs.lemmas.Bool.{ne_eqb}
 use Rattle.std.proofs.lemmas.List.{drop_all, length-map}
 use mathlib.Core.Path.{fun_ext}
@@ -51,6 +51,10 @@ dropped_twice (suc n) m (x ∷ xs) = dropped_twice n m xs ∙ ap (λ k. drop k (
 
 pub onward : {P N X : Type 0} (F : P → N → X) (G : P → X) (p q : P) (n m : N) (x : X) → p ≡ q → n ≡ m → F p n ≡ G p → G q ≡ x → F q m ≡ x
 onward F G p q n m x e f a b = ap (λ r. F r m) (sym e) ∙ (ap (F p) (sym f) ∙ (a ∙ (ap G e ∙ b)))
+
+-- what holds of the item that is there
+pub of_some : {A : Type 0} (P : A → Type 0) (o : Option A) (a : A) → o ≡ Some a → IfSome o P → P a
+of_some P o a e h = subst (λ x. IfSome x P) e h
 
 module _ (w : World) (main : Main) where
   passed_over : (skip : ℕ) (program : Program) (p : Passed) → rewritten w main false skip program p ≡ rewritten w main false 0 (drop skip program) p

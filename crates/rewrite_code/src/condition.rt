@@ -36,7 +36,7 @@ pub enum Condition {
 }
 
 /// A variable's text is false where it is empty or `0`.
-fn is_true(text: &[u8]) -> bool
+pub(crate) fn is_true(text: &[u8]) -> bool
     ensures { result ≡ is_true text.now }
 {
     if text.is_empty() {
@@ -176,7 +176,7 @@ fn check_text(
 }
 
 /// The variable that a condition looks at; a file test has none.
-fn variable_of(test: &Test) -> Option<&Piece>
+pub(crate) fn variable_of(test: &Test) -> Option<&Piece>
     ensures { option_map (λ variable. variable.now) result ≡ variable_of test.now }
 {
     match test {

@@ -6,6 +6,7 @@ mod condition;
 mod groups;
 mod place;
 mod program;
+mod quick;
 mod step;
 mod target;
 mod text;

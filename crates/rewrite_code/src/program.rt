@@ -1,5 +1,5 @@
 // Programs, worked off directive by directive.
-ghost use Rattle.std.specs.Prelude.{◌≡◌, ℕ, ◌+◌, ◌-◌, ◌<◌, ◌≤◌, ◌^◌, List, length, drop, slice_index_or, IfOk};
+ghost use Rattle.std.specs.Prelude.{◌≡◌, ℕ, ◌+◌, ◌-◌, ◌<◌, ◌≤◌, ◌^◌, ◌==◌, ◌&&◌, List, length, drop, slice_index_or, IfOk};
 ghost use Rattle.file_tree.specs.Tree.{Item, node_of};
 ghost use Rattle.site_model.specs.declared.site.Site.{Site as SiteRow};
 ghost use Rattle.site_views.specs.Pattern.{Pattern};
@@ -13,6 +13,7 @@ ghost use Rattle.rewrite_code.specs.Steps.{ahead, next_made, LeadsOn};
 ghost use Rattle.rewrite_code.specs.declared.program.Next.TheVariants.{At};
 
 use crate::place::{Ending, Progress, RunStep};
+use crate::quick::at_once;
 use crate::step::{Done, Move, step, tell};
 use byte_text::OutOfMemory;
 use file_tree::Node;
@@ -45,6 +46,14 @@ fn stays_leading(leading: bool, directive: &RewriteStep) -> bool
     }
 }
 
+/// The same past a directive that skipped so many others.
+fn leads_on(skip: u32, leading: bool, directive: &RewriteStep) -> bool
+    ensures { (ps : List Pattern) (site : SiteRow) → result
+        ≡ ((skip == 0) && stays_first leading (step_seen ps site directive.now)) }
+{
+    skip == 0 && stays_leading(leading, directive)
+}
+
 /// Where a program goes on.
 #[derive(Drop)]
 pub enum Next {
@@ -64,7 +73,7 @@ fn next_after(made: Move, directive: &RewriteStep, at: usize, leading: bool) -> 
     match made {
         Move::On { skip } => Next::At {
             at: at + 1 + skip as usize,
-            leading: skip == 0 && stays_leading(leading, directive),
+            leading: leads_on(skip, leading, directive),
         },
         Move::Stop(ending) => Next::Answered(RunStep::Ended(ending)),
     }
@@ -127,17 +136,27 @@ fn run_from(
         match program.get(at) {
             None => return Ok(RunStep::Ended(Ending::End)),
             Some(directive) => {
-                let next = advance(
-                    alloc, site, program, directive, patterns, main, progress, vars, at, leading,
-                )?;
-                match next {
-                    Next::Answered(step) => return Ok(step),
-                    Next::At {
-                        at: place,
-                        leading: first,
-                    } => {
-                        at = place;
-                        leading = first;
+                let done = at_once(directive, main, progress, vars)?;
+                match done {
+                    Some(skip) => {
+                        leading = leads_on(skip, leading, directive);
+                        at = at + 1 + skip as usize;
+                    }
+                    None => {
+                        let next = advance(
+                            alloc, site, program, directive, patterns, main, progress, vars, at,
+                            leading,
+                        )?;
+                        match next {
+                            Next::Answered(step) => return Ok(step),
+                            Next::At {
+                                at: place,
+                                leading: first,
+                            } => {
+                                at = place;
+                                leading = first;
+                            }
+                        }
                     }
                 }
             }

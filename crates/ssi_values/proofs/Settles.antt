@@ -1,18 +1,15 @@
 -- The acts of a document's values settle as what they come to.
-use Rattle.std.proofs.Common.{◌≡◌, ℕ, Bool, true, false, cond, List, [], ◌∷◌, ◌++◌, Option, Some, None, unwrap_or, nat_eq, refl, sym, ◌∙◌, ap, append-nil}
+use Rattle.std.proofs.Common.{◌≡◌, ℕ, Bool, true, false, cond, List, [], ◌∷◌, Option, Some, None, unwrap_or, nat_eq, refl, sym, ◌∙◌, ap, append-nil}
 use Rattle.std.specs.List.{list_any, before_first, after_first, ends_with}
 use Rattle.acts.specs.Vars.{Vars, look}
-use Rattle.acts.specs.Act.{Done, Get, ◌>>=◌, settled, settled_then}
-use Rattle.acts.proofs.ActLaws.{settles_in_turn}
-use Rattle.ngx_variables.specs.declared.variable.Variable.TheVariants.{DocumentRoot, RequestFilename}
+use Rattle.acts.specs.Act.{Done, Get, ◌>>=◌, settled}
 use Rattle.ngx_variables.specs.declared.value.Piece.{Piece}
 use Rattle.ngx_variables.specs.declared.value.Piece.TheVariants.{Literal, Group, Builtin, Argument, Field, Cookie, Set}
 use Rattle.ngx_variables.specs.declared.request.Main.{Main}
-use Rattle.ngx_variables.specs.declared.request.Place.{Place}
 use Rattle.ngx_variables.specs.declared.request.Request.{Request}
-use Rattle.ngx_variables.specs.Paths.{text_of}
-use Rattle.ngx_variables.specs.Texts.{piece_text, pieces_text, variable_text, no_paths, paths_by, paths_at, place_paths, value_text}
-use Rattle.ngx_variables.specs.Acts.{inner_piece, inner_pieces, file_paths, piece}
+use Rattle.ngx_variables.specs.Texts.{piece_text, pieces_text, place_paths, value_text}
+use Rattle.ngx_variables.specs.Acts.{piece}
+use Rattle.ngx_variables.proofs.Settles.{then_does, pair_settles, piece_settles}
 use Rattle.ngx_variables.specs.Grammar.{Token, lowercase, piece_named}
 use Rattle.ngx_variables.specs.Grammar.Token.{Bytes, Name}
 use Rattle.ngx_variables.specs.Pairs.{trimmed}
@@ -21,38 +18,7 @@ use Rattle.request_meaning.specs.Documents.{Doc, Truth, dated, filled, is_equals
 use Rattle.request_meaning.specs.Documents.Truth.{Pattern}
 use Rattle.ssi_values.specs.Known.{known, named_text, own_else, site_text, token_value, tokens_value, read_value, rest_value, fit_value, filled_text, compared_truth, sides_truth, truth_of, NamedSettles, FilledSettles, TruthSettles}
 
--- an act that settles as a value, and what follows
-then_does : {A B : Type 0} (vars : Vars) (m : Serving A) (k : A → Serving B) (a : A) → settled m vars ≡ (Done a, vars) → settled (m >>= k) vars ≡ settled (k a) vars
-unfolding settled_then
-then_does vars m k a e = settles_in_turn m k vars ∙ ap (λ s. settled_then s.0 s.1 k) e
-
 module _ (main : Main) (request : Request) (vars : Vars) where
-  inner_settles : (p : Piece) → settled {C = Child} {R = Reply} (inner_piece main request p) vars ≡ (Done (piece_text no_paths main request vars p), vars)
-  unfolding settled inner_piece piece_text
-  inner_settles (Set name) = refl
-  inner_settles other = refl
-
-  pair_settles : (m n : Serving (List ℕ)) (a b : List ℕ) → settled m vars ≡ (Done a, vars) → settled n vars ≡ (Done b, vars) → settled (m >>= λ x. n >>= λ y. Done (x ++ y)) vars ≡ (Done (a ++ b), vars)
-  unfolding settled
-  pair_settles m n a b e f = then_does vars m (λ x. n >>= λ y. Done (x ++ y)) a e ∙ then_does vars n (λ y. Done (a ++ y)) b f
-
-  inners_settle : (ps : List Piece) → settled {C = Child} {R = Reply} (inner_pieces main request ps) vars ≡ (Done (pieces_text no_paths main request vars ps), vars)
-  unfolding settled inner_pieces pieces_text
-  inners_settle [] = refl
-  inners_settle (p ∷ ps) = pair_settles (inner_piece main request p) (inner_pieces main request ps) (piece_text no_paths main request vars p) (pieces_text no_paths main request vars ps) (inner_settles p) (inners_settle ps)
-
-  paths_settle : (place : Option Place) → settled {C = Child} {R = Reply} (file_paths main request place) vars ≡ (Done (place_paths main request vars place), vars)
-  unfolding settled file_paths place_paths paths_at
-  paths_settle None = refl
-  paths_settle (Some place) = then_does vars (inner_pieces main request (text_of place)) (λ text. Done (paths_by place text request.path main.folder)) (pieces_text no_paths main request vars (text_of place)) (inners_settle (text_of place))
-
-  piece_settles : (p : Piece) → settled {C = Child} {R = Reply} (piece main request p) vars ≡ (Done (piece_text (place_paths main request vars request.place) main request vars p), vars)
-  unfolding settled inner_piece piece piece_text variable_text
-  piece_settles (Builtin DocumentRoot) = then_does vars (file_paths main request request.place) (λ paths. Done paths.root) (place_paths main request vars request.place) (paths_settle request.place)
-  piece_settles (Builtin RequestFilename) = then_does vars (file_paths main request request.place) (λ paths. Done paths.file) (place_paths main request vars request.place) (paths_settle request.place)
-  piece_settles (Set name) = refl
-  piece_settles other = refl
-
   one_piece : (p : Piece) → piece_text (place_paths main request vars request.place) main request vars p ≡ value_text main request vars (p ∷ [])
   unfolding value_text pieces_text
   one_piece p = sym (append-nil (piece_text (place_paths main request vars request.place) main request vars p))
@@ -60,7 +26,7 @@ module _ (main : Main) (request : Request) (vars : Vars) where
   some_settles : (p : Piece) → settled (some_bytes (piece main request p)) vars ≡ (Done (Some (value_text main request vars (p ∷ []))), vars)
   unfolding settled
   some_settles p =
-      then_does vars (piece main request p) (λ bytes. Done (Some bytes)) (piece_text (place_paths main request vars request.place) main request vars p) (piece_settles p)
+      then_does vars (piece main request p) (λ bytes. Done (Some bytes)) (piece_text (place_paths main request vars request.place) main request vars p) (piece_settles main request vars p)
       ∙ ap (λ (t : List ℕ). (Done (Some t), vars)) (one_piece p)
 
 -- ---- names
@@ -95,7 +61,7 @@ module _ (w : World) (doc : Doc) (vars : Vars) where
   tokens_settle : (ts : List Token) → settled (tokens_text w doc ts) vars ≡ (Done (tokens_value (known w doc vars) ts), vars)
   unfolding settled tokens_text tokens_value
   tokens_settle [] = refl
-  tokens_settle (t ∷ ts) = pair_settles doc.main doc.request vars (token_text w doc t) (tokens_text w doc ts) (token_value (known w doc vars) t) (tokens_value (known w doc vars) ts) (token_settles t) (tokens_settle ts)
+  tokens_settle (t ∷ ts) = pair_settles vars (token_text w doc t) (tokens_text w doc ts) (token_value (known w doc vars) t) (tokens_value (known w doc vars) ts) (token_settles t) (tokens_settle ts)
 
   read_settles : (o : Option (List Token)) → settled (read_text w doc o) vars ≡ (Done (fit_value (read_value (known w doc vars) o)), vars)
   unfolding settled read_text

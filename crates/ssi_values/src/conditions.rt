@@ -1,13 +1,14 @@
 // The conditions of `if` and `elif`.
 ghost use Rattle.std.specs.Prelude.{◌≡◌, ℕ, ◌+◌, ◌<◌, ◌≤◌, ◌==◌, nat_eq, bytes_eq, Some, List, [], ◌∷◌, length, take, position, IfOk};
 ghost use Rattle.std.specs.List.{ends_with};
-ghost use Rattle.ngx_variables.specs.Pairs.{without_first_spaces, without_last_spaces, trimmed};
+ghost use Rattle.ngx_variables.specs.Pairs.{trimmed};
 ghost use Rattle.request_meaning.specs.Documents.{is_full as fills, is_pattern as has_slashes, left_side, same_text};
 ghost use Rattle.ssi_values.specs.Known.{known_seen, compared_truth, sides_truth, truth_of, truth_seen};
 
 use crate::sight::Sight;
 use crate::values::filled;
 use byte_text::{ByteText, OutOfMemory};
+use ngx_variables::{without_first_spaces, without_last_spaces};
 use std::alloc::Global;
 
 /// What a condition says: true or false; or it can't be read; or its right side is a regular expression, of which there are
@@ -17,28 +18,6 @@ pub enum Truth {
     Is(bool),
     Unread,
     Pattern,
-}
-
-#[tactic(auto, unfolding(ngx_variables::specs::Pairs::without_first_spaces))]
-fn without_first_spaces(text: &[u8]) -> &[u8]
-    ensures { result.now ≡ without_first_spaces text.now }
-{
-    let mut rest = text;
-    while let [b' ', after @ ..] = rest {
-        rest = after;
-    }
-    rest
-}
-
-#[tactic(auto, unfolding(ngx_variables::specs::Pairs::without_last_spaces))]
-fn without_last_spaces(text: &[u8]) -> &[u8]
-    ensures { result.now ≡ without_last_spaces text.now }
-{
-    let mut rest = text;
-    while let [before @ .., b' '] = rest {
-        rest = before;
-    }
-    rest
 }
 
 fn trimmed(text: &[u8]) -> &[u8]

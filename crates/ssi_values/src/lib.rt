@@ -14,7 +14,7 @@ mod values;
 pub use conditions::{Truth, condition};
 pub use encodings::encoded;
 pub use laws::{filled_settles, named_settles, truth_settles};
-pub use names::lowercase;
+pub use ngx_variables::lowercase;
 pub use sight::Sight;
 pub use table::Table;
 pub use values::{filled, named_value};

@@ -6,10 +6,10 @@ ghost use Rattle.request_meaning.specs.Documents.{is_visible as sees, name_onto,
 ghost use Rattle.ssi_values.specs.Known.{known_seen, named_text, seen_value, site_text, read_value, rest_value, filled_text, behind};
 
 use crate::dated::{TEXT_LIMIT, append_dated};
-use crate::names::{lowercase, name_at, piece_named};
+use crate::names::name_at;
 use crate::sight::Sight;
 use byte_text::{ByteText, ByteTexts, OutOfMemory};
-use ngx_variables::Piece;
+use ngx_variables::{Piece, lowercase, piece_named};
 use std::alloc::Global;
 
 fn is_among(names: &[ByteText], name: &[u8]) -> bool

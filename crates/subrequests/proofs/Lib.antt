@@ -1,3 +1,14 @@
 mod Phased
 mod Paged
 mod Serving
+mod Placing
+mod Sets
+mod Steps
+mod Members
+mod Numbers
+mod Hearing
+mod Heard
+mod Wholes
+mod Taking
+mod Opening
+mod Beginning

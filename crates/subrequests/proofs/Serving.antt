@@ -1,5 +1,5 @@
 -- The parts of a page in the acts of its node.
-use Rattle.std.proofs.Common.{◌≡◌, ℕ, suc, ◌&&◌, ◌==◌, Bool, true, false, List, [], ◌∷◌, ◌++◌, length, refl, ap, ◌∙◌, subst, append_assoc}
+use Rattle.std.proofs.Common.{◌≡◌, ℕ, suc, ◌&&◌, ◌==◌, Bool, true, false, List, [], ◌∷◌, ◌++◌, length, Option, refl, ap, ◌∙◌, subst, append_assoc}
 use Rattle.acts.specs.Vars.{Vars}
 use Rattle.acts.specs.Act.{Write}
 use Rattle.request_meaning.specs.Serving.{Serving, Answer}
@@ -7,7 +7,13 @@ use Rattle.std.proofs.lemmas.Bool.{eqb-true}
 use Rattle.page_body.specs.Reading.{ReadsTo, Writing}
 use Rattle.page_body.specs.Reading.ReadsTo.{Rests as ReadsRest, Reads as ReadsOne}
 use Rattle.page_body.specs.Reading.Writing.{Whole, Piece}
-use Rattle.subrequests.specs.Nodes.{padded, from_source}
+use Rattle.site_model.specs.declared.site.Site.{Site}
+use Rattle.request_meaning.specs.Serving.{World}
+use Rattle.request_phases.specs.declared.state.Phases.{Phases}
+use Rattle.page_body.specs.declared.page.Page.{Page}
+use Rattle.subrequests.specs.Nodes.{answer_seen, padded, from_source, hand, later, placed_act, served_act}
+use Rattle.subrequests.specs.declared.answered.Answered.{Answered}
+use Rattle.subrequests.specs.declared.node.Body.{Body}
 use Rattle.subrequests.specs.Served.{is_spent}
 use Rattle.subrequests.specs.Turns.{Works}
 use Rattle.subrequests.specs.Turns.Works.{Rests, Reads, Placed, Merges}
@@ -63,3 +69,21 @@ unfolding padded
 spent s file e =
     ap (λ t. t ++ padded s.left file) (empty_is s.text (left_of (length s.text == 0) (s.left == 0) e))
     ∙ ap (λ n. padded n file) (zero_is s.left (right_of (length s.text == 0) (s.left == 0) e))
+
+-- ---- bodies
+
+module _ (w : World) (site : Site) (p : Phases) (left : ℕ) (b : Body) (answered : Answered) (source : Source) (page : Option Page)
+    (same : (b.answered ≡ answered) × (b.source ≡ source) × (b.page ≡ page)) (file : List ℕ) where
+  pub body_served : served_act w site p left (answer_seen site p b.answered) b.page (later b file) ≡ served_act w site p left (answer_seen site p answered) page (from_source source file)
+  body_served =
+      ap (λ (a : Answered). served_act w site p left (answer_seen site p a) b.page (later b file)) same.0
+      ∙ (ap (λ (s : Source). served_act w site p left (answer_seen site p answered) b.page (from_source s file)) same.1
+      ∙ ap (λ x. served_act w site p left (answer_seen site p answered) x (from_source source file)) same.2)
+
+  pub body_placed : (bytes : List ℕ) → hand b ≡ bytes →
+      placed_act w site p left (answer_seen site p b.answered) b.page (hand b) (later b file) ≡ placed_act w site p left (answer_seen site p answered) page bytes (from_source source file)
+  body_placed bytes is =
+      ap (λ (a : Answered). placed_act w site p left (answer_seen site p a) b.page (hand b) (later b file)) same.0
+      ∙ (ap (λ (s : Source). placed_act w site p left (answer_seen site p answered) b.page (hand b) (from_source s file)) same.1
+      ∙ (ap (λ x. placed_act w site p left (answer_seen site p answered) x (hand b) (from_source source file)) same.2
+      ∙ ap (λ bytes. placed_act w site p left (answer_seen site p answered) page bytes (from_source source file)) is))

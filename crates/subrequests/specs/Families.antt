@@ -1,25 +1,42 @@
 -- A family as its nodes keep it.
-use Rattle.std.specs.Prelude.{◌≡◌, ℕ, Bool, true, false, not, List, [], length, slice_get, Option, None, Some}
-use Rattle.file_tree.specs.Tree.{Tree}
+use Rattle.std.specs.Prelude.{◌≡◌, ℕ, ◌==◌, ◌≤◌, ◌&&◌, min, Bool, true, false, not, List, [], ◌∷◌, length, drop, slice_get, Option, None, Some}
+use Rattle.std.specs.List.{list_all}
+use Rattle.file_tree.specs.Tree.{Item, Trees, text_of}
 use Rattle.file_tree.specs.declared.job.Ask.{Ask}
 use Rattle.file_tree.specs.declared.job.Ask.TheVariants as asks
 use Rattle.ngx_pattern.specs.Pattern.{Pattern as SetPattern}
 use Rattle.ngx_variables.specs.declared.request.Main.{Main}
 use Rattle.site_model.specs.declared.site.Site.{Site}
 use Rattle.postpone_filter.specs.Row.{Row, is_open}
-use Rattle.request_meaning.specs.Laws.{shipped}
 use Rattle.request_meaning.specs.Serving.{World, Serving, Answer}
-use Rattle.request_phases.specs.Rounds.{world_in}
-use Rattle.request_phases.specs.declared.ground.Ground.{Ground}
-use Rattle.family_order.specs.Acts.{Goes}
 use Rattle.family_order.specs.Items.{Stance, Family}
 use Rattle.family_order.specs.Items.Stance.{Going, Hidden}
-use Rattle.subrequests.specs.Nodes.{asked_path, lent, stage_act}
+use Rattle.subrequests.specs.Nodes.{asked_path, hand, lent, stage_act}
 use Rattle.subrequests.specs.declared.node.Node.{Node}
 use Rattle.subrequests.specs.declared.node.Stage.{Stage}
-use Rattle.subrequests.specs.declared.node.Stage.TheVariants.{Begins, Asks, Told, Places, Serves, Reads, Ends, Over}
+use Rattle.subrequests.specs.declared.node.Stage.TheVariants.{Begins, Asks, Told, Places, Serves, Reads, Ends}
 
 -- ---- nodes
+
+-- the files are asked what is at a path
+abbrev pub is_asking : Stage → Bool
+is_asking (Begins ssi) = false
+is_asking (Asks wait ssi) = true
+is_asking (Told wait file ssi) = false
+is_asking (Places b) = false
+is_asking (Serves b) = false
+is_asking (Reads b) = false
+is_asking (Ends answered) = false
+
+-- a block of its file is asked
+abbrev pub is_reading : Stage → Bool
+is_reading (Begins ssi) = false
+is_reading (Asks wait ssi) = false
+is_reading (Told wait file ssi) = false
+is_reading (Places b) = false
+is_reading (Serves b) = false
+is_reading (Reads b) = true
+is_reading (Ends answered) = false
 
 -- its phases go on next
 abbrev pub is_turning : Stage → Bool
@@ -30,7 +47,6 @@ is_turning (Places b) = false
 is_turning (Serves b) = false
 is_turning (Reads b) = false
 is_turning (Ends answered) = false
-is_turning (Over answered) = false
 
 -- bytes are placed next
 abbrev pub is_placing : Stage → Bool
@@ -41,7 +57,16 @@ is_placing (Places b) = true
 is_placing (Serves b) = false
 is_placing (Reads b) = false
 is_placing (Ends answered) = false
-is_placing (Over answered) = false
+
+-- the bytes that are placed next
+abbrev pub hand_at : Stage → List ℕ
+hand_at (Begins ssi) = []
+hand_at (Asks wait ssi) = []
+hand_at (Told wait file ssi) = []
+hand_at (Places b) = hand b
+hand_at (Serves b) = []
+hand_at (Reads b) = []
+hand_at (Ends answered) = []
 
 -- the next part of its page is taken up next
 abbrev pub is_serving : Stage → Bool
@@ -52,18 +77,16 @@ is_serving (Places b) = false
 is_serving (Serves b) = true
 is_serving (Reads b) = false
 is_serving (Ends answered) = false
-is_serving (Over answered) = false
 
--- it was found over
-abbrev pub is_over : Stage → Bool
-is_over (Begins ssi) = false
-is_over (Asks wait ssi) = false
-is_over (Told wait file ssi) = false
-is_over (Places b) = false
-is_over (Serves b) = false
-is_over (Reads b) = false
-is_over (Ends answered) = false
-is_over (Over answered) = true
+-- it has come to its answer
+abbrev pub is_ending : Stage → Bool
+is_ending (Begins ssi) = false
+is_ending (Asks wait ssi) = false
+is_ending (Told wait file ssi) = false
+is_ending (Places b) = false
+is_ending (Serves b) = false
+is_ending (Reads b) = false
+is_ending (Ends answered) = true
 
 -- what a node still does, where the file that it reads still has this text
 abbrev pub node_act : World → List SetPattern → Site → Main → Node → (text : List ℕ) → Serving Answer
@@ -74,15 +97,48 @@ abbrev pub ask_or : Option (List ℕ) → (of : ℕ) → Ask → Ask
 ask_or None of ask = ask
 ask_or (Some path) of ask = asks.Stat path of
 
--- the same node: as deep, and of the same parent, with as many subrequests
+-- and from where on its file is read next
+abbrev pub start_or : Option (List ℕ) → ℕ → ℕ
+start_or None start = start
+start_or (Some path) start = 0
+
+-- no more bytes of a file are asked at once
+unfoldable pub block_most : ℕ
+block_most = 16384
+
+-- the job that asks for the next block of a file, of which this many bytes are left
+abbrev pub block_of : Ask → (start left : ℕ) → Ask
+block_of (asks.Stat path of) start left = asks.Read path start (min left block_most) of
+block_of (asks.Read path begin count of) start left = asks.Read path start (min left block_most) of
+
+-- a job asks for a block of its file from there on
+abbrev pub asks_from : Ask → (start : ℕ) → Bool
+asks_from (asks.Stat path of) start = false
+asks_from (asks.Read path begin count of) start = begin == start
+
+-- what is where a job asks
+abbrev pub item_asked : Trees → Ask → Item
+item_asked trees (asks.Stat path of) = trees of path
+item_asked trees (asks.Read path start count of) = trees of path
+
+-- the bytes of its file that are to be read
+abbrev pub text_in : Trees → Node → List ℕ
+text_in trees n = drop n.start (text_of (item_asked trees n.ask))
+
+-- the main request to which a node belongs
+abbrev pub main_of : Main → Node → Main
+main_of main n = (lent main n.phases).main
+
+-- The same node: as deep, and of the same parent, with as many subrequests.
 pub record IsSameNode (old new : Node) : Type 0 where
   pub parent : new.parent ≡ old.parent
   pub left : new.left ≡ old.left
   pub children : new.children ≡ old.children
+  pub over : new.over ≡ old.over
 
 -- ---- the family
 
--- what the node with a number still does, where the files that are read still have these texts
+-- What the node with a number still does, where the file that it reads still has this text.
 abbrev pub stance_of : World → List SetPattern → Site → Main → (text : List ℕ) → Option Node → Stance
 stance_of w patterns site main text None = Hidden
 stance_of w patterns site main text (Some n) = Going n.left (node_act w patterns site main n text)
@@ -90,14 +146,32 @@ stance_of w patterns site main text (Some n) = Going n.left (node_act w patterns
 abbrev pub stance_in : World → List SetPattern → Site → Main → List Node → (texts : ℕ → List ℕ) → ℕ → Stance
 stance_in w patterns site main nodes texts j = stance_of w patterns site main (texts j) (slice_get nodes j)
 
+-- The family, where the files that are read still have these texts, by node.
 abbrev pub seen : World → List SetPattern → Site → Main → Row → List Node → (texts : ℕ → List ℕ) → Family
 seen w patterns site main row nodes texts = record { row = row; output = []; stance = stance_in w patterns site main nodes texts; root = 0 }
 
+-- those that they have in these trees
+abbrev pub text_at : Trees → Option Node → List ℕ
+text_at trees None = []
+text_at trees (Some n) = text_in trees n
+
+abbrev pub texts_of : Trees → List Node → ℕ → List ℕ
+texts_of trees nodes j = text_at trees (slice_get nodes j)
+
 abbrev pub goes_on_at : Option Node → Bool
 goes_on_at None = false
-goes_on_at (Some n) = not (is_over n.stage)
+goes_on_at (Some n) = not n.over
 
--- the row has a place for each node that isn't over, and for no other
+abbrev pub over_node : Node → Bool
+over_node n = n.over
+
+-- the first of these nodes has come to its answer, and all others are over
+abbrev pub AreDone : List Node → Type 0
+AreDone [] = ⊥
+AreDone (n ∷ nodes) = (is_ending n.stage ≡ true) × (n.over ≡ false) × (list_all over_node nodes ≡ true)
+
+-- The row has a place for each node that isn't over, and for no other; and there are no more nodes than make one response.
 pub record IsSound (row : Row) (nodes : List Node) : Type 0 where
+  pub few : length nodes ≤ 1001
   pub count : row.nodes ≡ length nodes
   pub going : (j : ℕ) → is_open j row.pieces ≡ goes_on_at (slice_get nodes j)

@@ -34,7 +34,7 @@ use Rattle.subrequests.specs.declared.answered.Answered.{Answered}
 use Rattle.subrequests.specs.declared.node.Body.{Body}
 use Rattle.subrequests.specs.declared.node.Source.{Source}
 use Rattle.subrequests.specs.declared.node.Stage.{Stage}
-use Rattle.subrequests.specs.declared.node.Stage.TheVariants.{Begins, Asks, Told, Places, Serves, Reads, Ends, Over}
+use Rattle.subrequests.specs.declared.node.Stage.TheVariants.{Begins, Asks, Told, Places, Serves, Reads, Ends}
 
 -- ---- the main request, which a family keeps once
 
@@ -184,4 +184,3 @@ stage_act w patterns site p left path (Places b) text =
 stage_act w patterns site p left path (Serves b) text = served_act w site p left (answer_seen site p b.answered) b.page (later b text)
 stage_act w patterns site p left path (Reads b) text = served_act w site p left (answer_seen site p b.answered) b.page (later b text)
 stage_act w patterns site p left path (Ends answered) text = Done (answer_seen site p answered)
-stage_act w patterns site p left path (Over answered) text = Done (answer_seen site p answered)

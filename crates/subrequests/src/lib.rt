@@ -3,11 +3,15 @@
 #![tactic(auto)]
 
 mod answered;
+mod family;
+mod hear;
 mod lend;
 mod node;
 mod page;
 mod phase;
 mod slot;
 mod turn;
+mod wants;
 
+pub use family::{Family, Ran};
 pub use node::{Body, Node, Source, Stage};

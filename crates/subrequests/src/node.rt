@@ -1,4 +1,6 @@
 // A node of a family.
+ghost use Rattle.std.specs.Prelude.{◌≤◌, length};
+
 use crate::answered::Answered;
 use byte_text::ByteText;
 use file_tree::{Ask, Node as FileNode};
@@ -22,6 +24,7 @@ pub struct Body {
     pub from: usize,
     pub source: Source,
     pub page: Option<Page>,
+    ghost within: { from ≤ length bytes },
 }
 
 /// How far a node is. Until its body begins it has the variables with which its document begins.
@@ -48,18 +51,24 @@ pub enum Stage {
     Reads(Body),
     /// It has come to its answer.
     Ends(Answered),
-    /// It was found over.
-    Over(Answered),
 }
 
-/// A node of a family: its parent's number; how many levels of subrequests it may still open; how many of its subrequests aren't
-/// over; its phases, in which the main request's method alone counts; its job, where it has one; and how far it is.
+/// A node of a family.
 #[derive(Drop)]
 pub struct Node {
+    /// Its parent's number; the main request has its own.
     pub parent: u32,
+    /// How many levels of subrequests it may still open.
     pub left: u32,
+    /// How many of its subrequests aren't over, and the number of the one for whose end it waits, if there is one.
     pub children: u32,
+    pub waits: Option<u32>,
+    /// Its phases, in which the main request's method alone counts.
     pub phases: Phases,
+    /// Its job, or its last one, and from which byte on its file is read next.
     pub ask: Ask,
+    pub start: u64,
     pub stage: Stage,
+    /// It has come to its answer, and so have all its subrequests.
+    pub over: bool,
 }

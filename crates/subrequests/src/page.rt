@@ -10,7 +10,7 @@ ghost use Rattle.request_phases.specs.declared.state.Phases.{Phases as PhasesVie
 ghost use Rattle.ssi_exec.specs.declared.document.Scene.{Scene as SceneView};
 ghost use Rattle.acts.specs.Act.{Done};
 ghost use Rattle.page_body.specs.Pages.{Does, page_rest, stop_of, waits};
-ghost use Rattle.subrequests.specs.Nodes.{answer_seen, from_source, later, page_at, served_act};
+ghost use Rattle.subrequests.specs.Nodes.{answer_seen, from_source, hand, later, page_at, served_act};
 ghost use Rattle.subrequests.specs.Served.{ServesTo, is_spent as source_spent};
 ghost use Rattle.subrequests.specs.Turns.{IsSceneOf};
 
@@ -35,13 +35,8 @@ pub(crate) enum Served {
 
 /// A body of which these bytes are placed next.
 fn body_of(answered: Answered, bytes: ByteText, source: Source, page: Option<Page>) -> Body
-    ensures { result ≡ record {
-      answered = answered;
-      bytes = bytes;
-      from = 0;
-      source = source;
-      page = page;
-    } }
+    ensures others { (result.answered ≡ answered) × (result.source ≡ source) × (result.page ≡ page) }
+    ensures hand { hand result ≡ bytes }
 {
     Body {
         answered,

@@ -1,5 +1,5 @@
 // The phases of a node.
-ghost use Rattle.std.specs.Prelude.{◌≡◌, ◌++◌, ℕ, List, [], IfOk, OnOk, None, Some};
+ghost use Rattle.std.specs.Prelude.{◌≡◌, ◌++◌, ℕ, List, [], true, is_some, IfOk, OnOk, None, Some};
 ghost use Rattle.acts.specs.Act.{settled};
 ghost use Rattle.acts.specs.Vars.{Vars};
 ghost use Rattle.filter_api.specs.declared.facts.Facts.{Facts as FactsView};
@@ -18,6 +18,7 @@ ghost use Rattle.request_reply.specs.Replies.{sent_as};
 ghost use Rattle.page_body.specs.Pages.{filtered_rest};
 ghost use Rattle.subrequests.specs.Nodes.{answer_seen, body_then, bytes_for, len_of as told_len, lent, padded, path_or, served_as, stage_act, told_length};
 ghost use Rattle.subrequests.specs.Turns.{IsSceneOf, AnswersAs};
+ghost use Rattle.subrequests.specs.Families.{is_asking};
 ghost use Rattle.subrequests.specs.declared.node.Stage.TheVariants.{Begins as BeginsView, Told as ToldView};
 
 use crate::answered::{Answered, Parted, apart};
@@ -155,19 +156,16 @@ fn sent(
 }
 
 /// Begins the body of what phases decided.
-fn answering(
+pub(crate) fn answering(
     alloc: Global,
     ground: &Ground<'_>,
     phases: &Phases,
     left: u32,
     ssi: Table,
     outcome: Outcome,
-    len: u64,
 ) -> Result<Stage, OutOfMemory>
-    ensures { IfOk result (λ stage.
-        AnswersAs ground.now phases.now left ssi (told_length len outcome) stage) }
+    ensures { IfOk result (λ stage. AnswersAs ground.now phases.now left ssi outcome stage) }
 {
-    let outcome = with_length(len, outcome);
     let len = file_len(&outcome);
     let reply = reply_of(alloc, ground.site, phases, outcome)?;
     let Parted {
@@ -208,7 +206,7 @@ fn after_step(
     step: Step,
     len: u64,
 ) -> Result<Turned, OutOfMemory>
-    ensures { IfOk result (λ turned. (patterns : List SetPattern) (path text : List ℕ)
+    ensures turns { IfOk result (λ turned. (patterns : List SetPattern) (path text : List ℕ)
         (vars : Vars) → let w = world_in patterns ground.now shipped in
         let site = ground.now.site.now in
         settled (served_as w left ssi
@@ -217,6 +215,7 @@ fn after_step(
           stage_act w patterns site phases.now left (path_or turned.path path) turned.stage text,
           vars,
         )) }
+    ensures asks { IfOk result (λ turned. is_some turned.path ≡ true → is_asking turned.stage ≡ true) }
 {
     match step {
         Step::Asks { wait, path } => Ok(Turned {
@@ -224,10 +223,13 @@ fn after_step(
             path: Some(path),
         }),
         Step::Calls(_) => Err(OutOfMemory),
-        Step::Answers(outcome) => Ok(Turned {
-            stage: answering(alloc, ground, phases, left, ssi, outcome, len)?,
-            path: None,
-        }),
+        Step::Answers(outcome) => {
+            let outcome = with_length(len, outcome);
+            Ok(Turned {
+                stage: answering(alloc, ground, phases, left, ssi, outcome)?,
+                path: None,
+            })
+        }
     }
 }
 
@@ -252,6 +254,7 @@ pub(crate) fn begins(
               (path_or turned.path path) turned.stage text,
           vars.new,
         )) }
+    ensures asks { IfOk result (λ turned. is_some turned.path ≡ true → is_asking turned.stage ≡ true) }
     ensures main { IfOk result (λ turned. main.new ≡ main.old) }
     ensures kept { patterns.new ≡ patterns.old }
 {
@@ -285,6 +288,7 @@ pub(crate) fn resumes(
               (path_or turned.path path) turned.stage text,
           vars.new,
         )) }
+    ensures asks { IfOk result (λ turned. is_some turned.path ≡ true → is_asking turned.stage ≡ true) }
     ensures main { IfOk result (λ turned. main.new ≡ main.old) }
     ensures kept { patterns.new ≡ patterns.old }
 {

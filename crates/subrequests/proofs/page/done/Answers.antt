@@ -4,9 +4,8 @@ use Rattle.request_meaning.specs.Laws.{shipped}
 use Rattle.request_phases.specs.Rounds.{world_in}
 use Rattle.ssi_exec.specs.Scenes.{child_seen}
 use Rattle.page_body.specs.Pages.{Does, stop_of}
-use Rattle.subrequests.specs.Nodes.{answer_seen, from_source, hand, later, page_at, placed_act, served_act}
+use Rattle.subrequests.specs.Nodes.{answer_seen, from_source, page_at}
 use Rattle.subrequests.specs.Served.{ServesTo}
-use Rattle.subrequests.specs.declared.node.Body.{Body}
 use Rattle.subrequests.proofs.Serving as serving
 use Rattle.subrequests.proofs.page.done.Goals as goal
 
@@ -16,7 +15,7 @@ returns-in-Nothing c = λ g p levels patterns path file vars old captures is h o
     let site = g.site.now in
     let new = page_at w site p levels (answer_seen site p c.args.answered) c.args.page (from_source c.args.source file) in
     serving.both (serving.reads_work (subst (λ d. Does p.main vars d old new captures) c.in-Nothing.is h))
-    (serving.same_work (sym (ap (λ (b : Body). served_act w site p levels (answer_seen site p b.answered) b.page (later b file)) c.body_of-body.ensures)))
+    (serving.same_work (sym (serving.body_served w site p levels c.body_of-body.result c.args.answered _ _ c.body_of-body.ensures.others file)))
 
 pub returns-in-Writes : goal.returns-in-Writes
 returns-in-Writes c = λ g p levels patterns path file vars old captures is h over.
@@ -24,7 +23,7 @@ returns-in-Writes c = λ g p levels patterns path file vars old captures is h ov
     let site = g.site.now in
     let new = page_at w site p levels (answer_seen site p c.args.answered) c.args.page (from_source c.args.source file) in
     serving.both (serving.writes vars c.in-Writes.text old new (subst (λ d. Does p.main vars d old new captures) c.in-Writes.is h))
-    (serving.same_work (sym (ap (λ (b : Body). placed_act w site p levels (answer_seen site p b.answered) b.page (hand b) (later b file)) c.body_of-body-in-Writes.ensures)))
+    (serving.same_work (sym (serving.body_placed w site p levels c.body_of-body-in-Writes.result c.args.answered _ _ c.body_of-body-in-Writes.ensures.others file c.in-Writes.text c.body_of-body-in-Writes.ensures.hand)))
 
 pub returns-in-Includes : goal.returns-in-Includes
 returns-in-Includes c = λ g p levels patterns path file vars old captures is h over.
@@ -32,7 +31,7 @@ returns-in-Includes c = λ g p levels patterns path file vars old captures is h 
     let site = g.site.now in
     let new = page_at w site p levels (answer_seen site p c.args.answered) c.args.page (from_source c.args.source file) in
     serving.both (serving.reads_work (subst (λ d. Does p.main vars d old new captures) c.in-Includes.is h))
-    (serving.same_work (sym (ap (λ (b : Body). Inner (child_seen p.main c.in-Includes.child) (served_act w site p levels (answer_seen site p b.answered) b.page (later b file))) c.body_of-body-in-Includes.ensures)))
+    (serving.same_work (sym (ap (λ m. Inner (child_seen p.main c.in-Includes.child) m) (serving.body_served w site p levels c.body_of-body-in-Includes.result c.args.answered _ _ c.body_of-body-in-Includes.ensures.others file))))
 
 pub returns-in_ok-more-in-NeedsMore : goal.returns-in_ok-more-in-NeedsMore
 returns-in_ok-more-in-NeedsMore c = λ g p levels patterns path file vars old captures is h over.

@@ -2,8 +2,7 @@ use Rattle.std.proofs.Common.{List, ℕ, [], ◌++◌, refl, sym, ap, ◌∙◌}
 use Rattle.request_meaning.specs.Laws.{shipped}
 use Rattle.request_phases.specs.Rounds.{world_in}
 use Rattle.page_body.specs.Pages.{page_rest}
-use Rattle.subrequests.specs.Nodes.{answer_seen, from_source, later, padded, page_at, served_act}
-use Rattle.subrequests.specs.declared.node.Body.{Body}
+use Rattle.subrequests.specs.Nodes.{answer_seen, from_source, padded, page_at}
 use Rattle.subrequests.proofs.Paged as paged
 use Rattle.subrequests.proofs.Serving as serving
 use Rattle.subrequests.proofs.page.more.Goals as goal
@@ -22,7 +21,7 @@ returns-then-not-is_empty c = λ g p levels patterns path file vars is.
     ∙ (c.in_ok-page.ensures scene w answer rest refl
     ∙ (paged.page_is g p levels scene is w answer page rest
     ∙ (ap (λ (t : List ℕ). page_at w site p levels answer page (t ++ rest)) (sym c.new.ensures)
-    ∙ sym (ap (λ (b : Body). served_act w site p levels (answer_seen site p b.answered) b.page (later b file)) c.body_of.ensures))))))
+    ∙ sym (serving.body_served w site p levels c.body_of.result c.args.answered _ _ c.body_of.ensures.others file))))))
 
 pub returns : goal.returns
 returns c = λ g p levels patterns path file vars is.
@@ -38,4 +37,4 @@ returns c = λ g p levels patterns path file vars is.
     ∙ (c.in_ok-page-2.ensures scene w answer refl
     ∙ (paged.page_is g p levels scene is w answer page []
     ∙ (ap (page_at w site p levels answer page) (sym none)
-    ∙ sym (ap (λ (b : Body). served_act w site p levels (answer_seen site p b.answered) b.page (later b file)) c.body_of-2.ensures))))))
+    ∙ sym (serving.body_served w site p levels c.body_of-2.result c.args.answered _ _ c.body_of-2.ensures.others file))))))

@@ -5,7 +5,7 @@ use Rattle.request_meaning.specs.Laws.{shipped}
 use Rattle.rewrite_code.specs.Places.{standing_seen}
 use Rattle.request_phases.specs.Rounds.{asked_in, prepared_as, world_in}
 use Rattle.request_reply.specs.Replies.{sent_as}
-use Rattle.subrequests.specs.Nodes.{answer_seen, body_then, bytes_for, padded, told_length}
+use Rattle.subrequests.specs.Nodes.{answer_seen, body_then, bytes_for, padded}
 use Rattle.subrequests.proofs.Phased as phased
 use Rattle.subrequests.proofs.phase.answering.Goals as goal
 
@@ -15,10 +15,10 @@ returns-in-Nothing c = λ patterns path text vars.
     let site = g.site.now in
     let p = c.args.phases.now in
     let w = world_in patterns g shipped in
-    let o = told_length c.args.len c.args.outcome in
+    let o = c.args.outcome in
     let bytes = bytes_for o text in
     let made = prepared_as w (asked_in p) (standing_seen site p.at) bytes o in
-    let parts = c.in_ok-answered.ensures site p bytes made (phased.is_for w site p bytes o) (phased.reply_so w site p text c.in_ok-reply.reply o c.with_length-outcome.result c.with_length-outcome.ensures refl c.in_ok-reply.ensures) in
+    let parts = c.in_ok-answered.ensures site p bytes made (phased.is_for w site p bytes o) (phased.reply_so w site p text c.in_ok-reply.reply o c.args.outcome refl refl c.in_ok-reply.ensures) in
     phased.answers_so w c.args.left c.args.ssi made (answer_seen site p c.in_ok-answered.field-0.answered) bytes c.in_ok-answered.field-0.facts c.in_ok-answered.field-0.body _ vars parts.0 parts.1 c.in-Nothing.is
     ∙ phased.bare_so w c.args.left c.args.ssi (answer_seen site p c.in_ok-answered.field-0.answered) vars
 
@@ -28,11 +28,11 @@ returns-in_ok-page_text-in-Page c = λ patterns path text vars.
     let site = g.site.now in
     let p = c.args.phases.now in
     let w = world_in patterns g shipped in
-    let o = told_length c.args.len c.args.outcome in
+    let o = c.args.outcome in
     let bytes = bytes_for o text in
     let made = prepared_as w (asked_in p) (standing_seen site p.at) bytes o in
     let answer = answer_seen site p c.in_ok-answered.field-0.answered in
-    let parts = c.in_ok-answered.ensures site p bytes made (phased.is_for w site p bytes o) (phased.reply_so w site p text c.in_ok-reply.reply o c.with_length-outcome.result c.with_length-outcome.ensures refl c.in_ok-reply.ensures) in
+    let parts = c.in_ok-answered.ensures site p bytes made (phased.is_for w site p bytes o) (phased.reply_so w site p text c.in_ok-reply.reply o c.args.outcome refl refl c.in_ok-reply.ensures) in
     phased.answers_so w c.args.left c.args.ssi made answer bytes c.in_ok-answered.field-0.facts c.in_ok-answered.field-0.body _ vars parts.0 parts.1 c.in-Page.is
     ∙ (phased.plain_so w c.args.left c.args.ssi answer (page_of c.in-Page.code) vars
     ∙ ap (λ m. (m, vars)) (ap (λ b. Write b (Done answer)) (sym (phased.none_behind c.page_text.new.out text ∙ (c.in_ok-page_text-in-Page.ensures ∙ ap (λ b. b ++ page_of c.in-Page.code) c.new-bytes.ensures)))
@@ -44,12 +44,12 @@ returns-in_ok-sent-in-Text c = λ patterns path text vars.
     let site = g.site.now in
     let p = c.args.phases.now in
     let w = world_in patterns g shipped in
-    let o = told_length c.args.len c.args.outcome in
+    let o = c.args.outcome in
     let bytes = bytes_for o text in
     let made = prepared_as w (asked_in p) (standing_seen site p.at) bytes o in
     let answer = answer_seen site p c.in_ok-answered.field-0.answered in
     let facts = c.in_ok-answered.field-0.facts in
-    let parts = c.in_ok-answered.ensures site p bytes made (phased.is_for w site p bytes o) (phased.reply_so w site p text c.in_ok-reply.reply o c.with_length-outcome.result c.with_length-outcome.ensures refl c.in_ok-reply.ensures) in
+    let parts = c.in_ok-answered.ensures site p bytes made (phased.is_for w site p bytes o) (phased.reply_so w site p text c.in_ok-reply.reply o c.args.outcome refl refl c.in_ok-reply.ensures) in
     phased.answers_so w c.args.left c.args.ssi made answer bytes facts c.in_ok-answered.field-0.body _ vars parts.0 parts.1 c.in-Text.is
     ∙ (ap (λ b. settled (body_then w c.args.left c.args.ssi answer (sent_as facts b)) vars) (sym (phased.none_behind c.in-Text.text text))
     ∙ c.in_ok-sent-in-Text.ensures g p c.args.left patterns path text vars c.scene_of-scene.ensures)
@@ -60,14 +60,14 @@ returns-in_ok-sent-in-File c = λ patterns path text vars.
     let site = g.site.now in
     let p = c.args.phases.now in
     let w = world_in patterns g shipped in
-    let o = told_length c.args.len c.args.outcome in
+    let o = c.args.outcome in
     let bytes = bytes_for o text in
     let made = prepared_as w (asked_in p) (standing_seen site p.at) bytes o in
     let answer = answer_seen site p c.in_ok-answered.field-0.answered in
     let facts = c.in_ok-answered.field-0.facts in
     let len = c.file_len-len.result in
-    let parts = c.in_ok-answered.ensures site p bytes made (phased.is_for w site p bytes o) (phased.reply_so w site p text c.in_ok-reply.reply o c.with_length-outcome.result c.with_length-outcome.ensures refl c.in_ok-reply.ensures) in
+    let parts = c.in_ok-answered.ensures site p bytes made (phased.is_for w site p bytes o) (phased.reply_so w site p text c.in_ok-reply.reply o c.args.outcome refl refl c.in_ok-reply.ensures) in
     phased.answers_so w c.args.left c.args.ssi made answer bytes facts c.in_ok-answered.field-0.body _ vars parts.0 parts.1 c.in-File.is
     ∙ (ap (λ b. settled (body_then w c.args.left c.args.ssi answer (sent_as facts b)) vars)
-    (sym (ap (λ (x : List ℕ). x ++ padded len text) c.new-none.ensures ∙ (c.file_len-len.ensures text ∙ ap (λ x. bytes_for x text) c.with_length-outcome.ensures)))
+    (sym (ap (λ (x : List ℕ). x ++ padded len text) c.new-none.ensures ∙ c.file_len-len.ensures text))
     ∙ c.in_ok-sent-in-File.ensures g p c.args.left patterns path text vars c.scene_of-scene.ensures)

@@ -26,6 +26,6 @@ returns-clause-turns c = λ path text.
     ap (λ (p : Phases). settled (served_as w left c.args.ssi (rounds w p.changes (asked_from p Start))) old) (sym c.lend.ensures.phases)
     ∙ (phased.in_turn (rounds w given.changes (asked_from given Start)) (phases_left w ps site (padded 0 text) q step) (after_phases w left c.args.ssi) old new
     (c.in_ok-step.ensures.does (padded 0 text) shipped)
-    ∙ (c.in_ok-turned.ensures ps path text new
+    ∙ (c.in_ok-turned.ensures.turns ps path text new
     ∙ ap (λ p. (stage_act w ps site p left (path_or turned.path path) turned.stage text, new))
     (sym (phased.given_back main c.lend.new.main c.args.phases.now given q c.lend-2.new.phases c.lend.ensures.phases c.in_ok-step.ensures.main c.lend-2.ensures.phases))))

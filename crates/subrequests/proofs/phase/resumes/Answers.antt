@@ -25,6 +25,6 @@ returns-clause-turns c = λ path text.
     ∙ (phased.in_turn (phases_told w ps site c.lend.new.phases c.args.wait item) (phases_left w ps site (text_of item) q step) (after_phases w left c.args.ssi) old new
     (c.in_ok-step.ensures.does item (phased.told_node c.args.file text) shipped)
     ∙ (ap (λ b. settled (served_as w left c.args.ssi (phases_left w ps site b q step)) new) (phased.told_text c.args.file text ∙ ap (λ n. padded n text) (sym c.len_of.ensures))
-    ∙ (c.in_ok-turned.ensures ps path text new
+    ∙ (c.in_ok-turned.ensures.turns ps path text new
     ∙ ap (λ p. (stage_act w ps site p left (path_or turned.path path) turned.stage text, new))
     (sym (phased.given_back main c.lend.new.main c.args.phases.now c.lend.new.phases q c.lend-2.new.phases c.lend.ensures.phases c.in_ok-step.ensures.main c.lend-2.ensures.phases)))))

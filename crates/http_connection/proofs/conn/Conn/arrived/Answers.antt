@@ -81,6 +81,7 @@ invariant_of-self c =
       drained = held_drained s.body d.body s.held n.held first kept d.broken s.drained c.drop_rest-dropped.ensures.none drops.drained held;
       unended = drops.unended;
       logged = s.logged;
+      brief = s.brief;
     }
 
 pub invariant_of-self-in-Err : goal.invariant_of-self-in-Err
@@ -93,4 +94,5 @@ invariant_of-self-in-Err c = record {
   drained = λ h. cc;
   unended = λ h. cc;
   logged = λ h. cc;
+  brief = c.args.self.now.brief;
 }

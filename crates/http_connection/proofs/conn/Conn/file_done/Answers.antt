@@ -70,6 +70,7 @@ invariant_of-self-in-Ok c =
       drained = s.drained;
       unended = s.unended;
       logged = λ h. subst (λ b. IsLogged b s.journal.items) (ap is_some is ∙ ap is_some (sym c.put.ensures)) (s.logged h);
+      brief = s.brief;
     }
 
 pub invariant_of-self-in-Err : goal.invariant_of-self-in-Err
@@ -84,6 +85,7 @@ invariant_of-self-in-Err c =
       drained = s.drained;
       unended = s.unended;
       logged = λ h. cc;
+      brief = s.brief;
     }
 
 pub returns-in-Ok-clause-times : goal.returns-in-Ok-clause-times

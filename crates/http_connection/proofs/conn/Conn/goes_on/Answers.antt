@@ -72,9 +72,9 @@ returns-in-Ok-clause-times c = λ now conn m.
     record {
       mark = marks_by s.times.mark c.args.moment now.moment c.marked-self.result _ _ _ _ _ _ _ _ c.marked-self.ensures m c.sending-before.ensures.pending c.sending-before.ensures.in_flight c.sending-after.ensures.pending c.sending-after.ensures.in_flight;
       head = refl;
-      pace = subst (λ f. PaceRan x now f s c.put.new.slot c.pace_after-self.result) (sym is) (record {
+      pace = subst (λ f. PaceRan x now f s c.put.new.slot c.pace_after-pace.result) (sym is) (record {
         told = values_at c.args.served.now onward.level;
-        pace = c.pace_after-self.ensures;
+        pace = c.pace_after-pace.ensures;
         level = λ trees. subst (λ f. or_values (values_at c.args.served.now onward.level) (rest_in x f trees).values ≡ (rest_in x (Some flow) trees).values) (sym c.put.ensures)
             (sym (level_is x onward.level (rest_in x onward.flow trees).values)
             ∙ (goes_by x c.ground-ground.result (Some flow) flow (stage_server flow.stage) (stage_length flow.stage) onward.flow s.out c.run_on.new.out s.closing onward.closing onward.log onward.level trees c.ground-ground.ensures.site (c.ground-ground.ensures.server ∙ ap (raw_server x.served) c.server_of.ensures) (c.ground-ground.ensures.length ∙ c.length_of.ensures) refl c.in-Ok.ensures.by (c.in-Ok.ensures.goes trees) refl).level);
@@ -97,6 +97,7 @@ invariant_of-self c =
       drained = s.drained;
       unended = s.unended;
       logged = λ h. subst (λ b. IsLogged b c.finish.new.journal.items) (not_over (is_some onward.log) (is_some onward.flow) c.in-Ok.ensures.over ∙ ap is_some (sym c.put.ensures)) c.finish.ensures.logged;
+      brief = c.shortest_after-self.ensures;
     }
 
 pub invariant_of-self-in-Err : goal.invariant_of-self-in-Err
@@ -111,6 +112,7 @@ invariant_of-self-in-Err c =
       drained = s.drained;
       unended = s.unended;
       logged = λ h. cc;
+      brief = s.brief;
     }
 
 pub returns-in-Err-clause-times : goal.returns-in-Err-clause-times

@@ -71,6 +71,7 @@ invariant_of-self c =
       unended = ran_unended x site (λ of path. Nothing) start (vec_len s.journal) s.next s.held n.held n.body f' s.out n.out o.closing o.log ran;
       logged = λ h. subst (IsLogged (is_some f')) (sym entry.3) (entered_logged (is_some f') s.journal.items entry.0 o.log entry.2 (subst (λ f. IsLogged (is_some f) s.journal.items) c.requires.none (s.logged st.0))
           (ran_over x site (λ of path. Nothing) start (vec_len s.journal) s.next s.held n.held n.body f' s.out n.out o.closing o.log ran));
+      brief = c.shortest_after-self.ensures;
     }
 
 pub returns-in-Ok-clause-times : goal.returns-in-Ok-clause-times
@@ -81,9 +82,9 @@ returns-in-Ok-clause-times c = λ conn.
     record {
       mark = marks_by s.times.mark c.args.moment c.args.moment c.marked-self.result _ _ _ _ _ _ _ _ c.marked-self.ensures refl c.sending-before.ensures.pending c.sending-before.ensures.in_flight c.sending-after.ensures.pending c.sending-after.ensures.in_flight;
       head = refl;
-      pace = subst (λ f. PaceRan x now f s c.put.new.slot c.pace_after-self.result) (sym c.requires.none) (record {
+      pace = subst (λ f. PaceRan x now f s c.put.new.slot c.pace_after-pace.result) (sym c.requires.none) (record {
         told = values_at c.args.served.now c.in-Ok.onward.level;
-        pace = c.pace_after-self.ensures;
+        pace = c.pace_after-pace.ensures;
         level = subst (λ f. LevelFor (service_in x s.local s.peer) now s.next (λ trees. (rest_in x f trees).values) (values_at c.args.served.now c.in-Ok.onward.level)) (sym c.put.ensures) c.in-Ok.ensures.level;
       });
     }

@@ -13,4 +13,5 @@ invariant_of-self c =
       drained = s.drained;
       unended = s.unended;
       logged = λ h. cc;
+      brief = s.brief;
     }

@@ -43,4 +43,5 @@ invariant_of-self c =
       drained = s.drained;
       unended = s.unended;
       logged = λ h. wrote_logged c.args.count s.flow c.put.new.slot s.journal.items is (s.logged h);
+      brief = s.brief;
     }

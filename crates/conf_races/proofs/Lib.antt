@@ -1,0 +1,5 @@
+mod LineLaws
+mod LevelLaws
+mod ServerLaws
+mod RaceLaws
+mod RunLaws

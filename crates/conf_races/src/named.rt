@@ -1,0 +1,155 @@
+// The race check of a configuration.
+ghost use Rattle.std.specs.Prelude.{◌≡◌, ◌+◌, ◌++◌, [], ℕ, List, map, codes, Contains, IfOk, OnOk};
+ghost use Rattle.site_views.specs.Pattern.{Pattern};
+ghost use Rattle.site_views.specs.Views.{ServerView};
+ghost use Rattle.site_whole.specs.Whole.{server_whole, whole};
+ghost use Rattle.conf_values.specs.TextSet.{holds};
+ghost use Rattle.conf_block.specs.Forest.{forest_of};
+ghost use Rattle.conf_block.specs.Blocks.{blocks_of};
+ghost use Rattle.race_meaning.specs.Conflicts.{AreConflicts};
+ghost use Rattle.race_meaning.specs.Named.{IsRaceless};
+ghost use Rattle.race_places.specs.Places.{server_sources, conflict_seen};
+ghost use Rattle.race_places.specs.declared.told.Conflict.{Conflict as Told};
+ghost use Rattle.conf_races.specs.Origins.{outer_by, server_origins};
+ghost use Rattle.conf_races.specs.Races.{first_body, behind, AreRaces, RacesBy, RacesOf, conflicts_seen};
+
+use crate::outer::{OuterLines, nowhere, outer_over};
+use crate::runs::number_runs;
+use crate::server::server_lines;
+use byte_text::OutOfMemory;
+use conf_block::{http_in, next_named};
+use conf_check::names_in;
+use conf_text::Directive;
+use conf_values::TextSet;
+use race_check::named_in;
+use race_places::{Conflict, placed};
+use site_model::{Server, Site};
+use std::alloc::Global;
+
+/// The block of the first server of a level, and what is behind it.
+#[tactic(auto, unfolding(conf_block::specs::Forest::forest_of, conf_block::specs::Blocks::blocks_of))]
+fn next_server(level: &[Directive]) -> (&[Directive], &[Directive])
+    ensures first { first_body (blocks_of (codes "server") (forest_of level.now))
+        ≡ forest_of result.0.now }
+    ensures behind { behind (blocks_of (codes "server") (forest_of level.now))
+        ≡ blocks_of (codes "server") (forest_of result.1.now) }
+{
+    match next_named(level, b"server") {
+        None => (&[], &[]),
+        Some(branch) => (branch.block, branch.beside),
+    }
+}
+
+/// The variables that are named in a server with this block.
+fn races_in(
+    alloc: Global,
+    known: &TextSet,
+    outer: &OuterLines,
+    site: &Site,
+    server: &Server,
+    number: usize,
+    block: &[Directive],
+) -> Result<Vec<Conflict>, OutOfMemory>
+    ensures { IfOk result (λ conflicts. (files : ℕ → List ℕ) (patterns : List Pattern)
+        → AreConflicts number (server_whole patterns site.now server.now)
+        (server_sources files (server_whole patterns site.now server.now)
+        (server_origins (holds known.now.keys) (outer_by outer.now) (forest_of block.now)))
+        (map (conflict_seen files) conflicts.items)) }
+{
+    let named = named_in(alloc, site, server, number)?;
+    if named.is_empty() {
+        return Ok(Vec::new(alloc));
+    }
+    let lines = server_lines(alloc, known, outer, block)?;
+    let conflicts = placed(
+        alloc,
+        site,
+        server,
+        number,
+        lines.as_slice(),
+        named.as_slice(),
+    )?;
+    Ok(conflicts)
+}
+
+/// The variables that are named in the servers of a site, which are those in `http`, where the values of these lines hold.
+fn races_of(
+    alloc: Global,
+    known: &TextSet,
+    outer: &OuterLines,
+    site: &Site,
+    http: &[Directive],
+) -> Result<Vec<Conflict>, OutOfMemory>
+    ensures { IfOk result (λ conflicts. (files : ℕ → List ℕ) (patterns : List Pattern)
+        → AreRaces files (holds known.now.keys) (outer_by outer.now) 1
+        (map (server_whole patterns site.now) site.now.servers.items)
+        (blocks_of (codes "server") (forest_of http.now))
+        (map (conflict_seen files) conflicts.items)) }
+{
+    let mut conflicts = Vec::new(alloc);
+    let mut number = 0;
+    let mut rest = http;
+    for server in &site.servers {
+        number += 1;
+        let (block, beside) = next_server(rest);
+        let mut here = races_in(alloc, known, outer, site, server, number, block)?;
+        conflicts.append(&mut here)?;
+        rest = beside;
+    }
+    Ok(conflicts)
+}
+
+/// The variables that can show in which order subrequests run, and the files of the runs of directives in which they are set
+/// and read.
+#[derive(Drop)]
+pub struct FoundRaces {
+    /// The `file` of each line is the number of a run of directives of one file, so that lines are in the order of the text.
+    pub conflicts: Vec<Conflict>,
+    /// The number of each run's file.
+    pub files: Vec<u32>,
+}
+
+/// The same for directives whose files are in the order of the text.
+fn races_by(
+    alloc: Global,
+    site: &Site,
+    directives: &[Directive],
+) -> Result<Vec<Conflict>, OutOfMemory>
+    ensures told { IfOk result (λ conflicts. (files : ℕ → List ℕ) (patterns : List Pattern)
+        → RacesBy files directives.now (whole patterns site.now).servers
+        (map (conflict_seen files) conflicts.items)) }
+    ensures none { IfOk result (λ conflicts. conflicts.items ≡ []
+        → (patterns : List Pattern) (server : ServerView)
+        → Contains (whole patterns site.now).servers server → IsRaceless server) }
+{
+    let known = names_in(alloc, directives)?;
+    let http = http_in(directives);
+    let outer = outer_over(alloc, http, &nowhere(alloc))?;
+    let conflicts = races_of(alloc, &known, &outer, site, http)?;
+    Ok(conflicts)
+}
+
+/// The variables that can show in which order the subrequests of a page ran, of the site that these directives describe:
+/// server by server, and in a server each once, in the order of their bytes. A variable is one where a level of the server
+/// has server side includes or additions, a `set` sets it, it hasn't one text of literals and variables of the main request
+/// which a `set` at the beginning of the server's program gives it, and documents may read it, or a directive reads it that
+/// isn't in a program after an unconditional `set` of it with no test of a file between. Where there is none, nobody can tell
+/// the order. Each is told with the lines where the server's directives set it and read it, those around the server too that
+/// hold in it.
+pub fn races(
+    alloc: Global,
+    site: &Site,
+    directives: Vec<Directive>,
+) -> Result<FoundRaces, OutOfMemory>
+    ensures told { IfOk result (λ races. (paths : ℕ → List ℕ) (patterns : List Pattern)
+        → RacesOf paths directives.items (whole patterns site.now).servers
+        (conflicts_seen paths races)) }
+    ensures none { IfOk result (λ races. races.conflicts.items ≡ []
+        → (patterns : List Pattern) (server : ServerView)
+        → Contains (whole patterns site.now).servers server → IsRaceless server) }
+{
+    let mut directives = directives;
+    let files = number_runs(alloc, &mut directives)?;
+    let conflicts = races_by(alloc, site, directives.as_slice())?;
+    Ok(FoundRaces { conflicts, files })
+}

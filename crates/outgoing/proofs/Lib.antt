@@ -1,0 +1,2 @@
+pub mod ChunkLengths
+pub mod PutLemmas

@@ -1,0 +1,62 @@
+-- What is still to come of a page of parts.
+use Rattle.std.specs.Prelude.{◌≡◌, ℕ, ◌+◌, ◌*◌, false, List, length}
+use Rattle.file_tree.specs.Tree.{Trees}
+use Rattle.ngx_pattern.specs.Pattern.{Pattern as SetPattern}
+use Rattle.site_model.specs.declared.site.Site.{Site}
+use Rattle.request_meaning.specs.Laws.{shipped}
+use Rattle.postpone_filter.specs.Row.{Piece, is_open}
+use Rattle.request_meaning.specs.Serving.{World, Answer}
+use Rattle.request_phases.specs.Rounds.{world_in}
+use Rattle.request_phases.specs.declared.ground.Ground.{Ground}
+use Rattle.family_meaning.specs.Line.{Left}
+use Rattle.family_order.specs.Acts.{IsOver}
+use Rattle.family_rest.specs.Reached.{Reached}
+use Rattle.family_rest.specs.Still.{still, subs_still}
+use Rattle.outgoing.specs.Leaving.{to_come}
+use Rattle.subrequests.specs.Moved.{files, meant}
+use Rattle.page_response.specs.declared.pages.Pages.{Pages}
+
+-- what is still to come of its family, by these trees
+abbrev pub left_in : World → List SetPattern → Site → Trees → Pages → Left
+left_in w patterns site trees p = still w (trees p.family.tree) (meant w patterns site (files trees p.family) p.family) p.family.vars
+
+-- The bytes that are still to come of it, framed; and how long its whole body is.
+abbrev pub bytes_left : World → List SetPattern → Site → Trees → Pages → List ℕ
+bytes_left w patterns site trees p = to_come p.outgoing (left_in w patterns site trees p).body
+
+abbrev pub whole_length : World → List SetPattern → Site → Trees → Pages → ℕ
+whole_length w patterns site trees p = p.sent + length (left_in w patterns site trees p).body
+
+-- How many nodes it has, with the subrequests that are still asked for: no step makes these more.
+abbrev pub nodes_asked : World → List SetPattern → Site → Trees → Pages → ℕ
+nodes_asked w patterns site trees p =
+    length p.family.nodes.items + subs_still w (trees p.family.tree) (meant w patterns site (files trees p.family) p.family) p.family.vars
+
+-- As much is still to come of both.
+pub record IsSame (w : World) (patterns : List SetPattern) (site : Site) (trees : Trees) (p q : Pages) : Type 0 where
+  pub bytes : bytes_left w patterns site trees p ≡ bytes_left w patterns site trees q
+  pub whole : whole_length w patterns site trees p ≡ whole_length w patterns site trees q
+  pub nodes : nodes_asked w patterns site trees p ≡ nodes_asked w patterns site trees q
+
+-- the same, in the world of a request
+abbrev pub IsSameIn : List SetPattern → Ground → Trees → Pages → Pages → Type 0
+IsSameIn patterns g trees p q = IsSame (world_in patterns g shipped) patterns g.site.now trees p q
+
+-- Steps of its nodes have led to it, whatever is still to come of the files that are read.
+abbrev pub IsReached : World → List SetPattern → Site → Pages → Type 0
+IsReached w patterns site p = (texts : ℕ → List ℕ) → Reached w (meant w patterns site texts p.family) p.family.vars
+
+-- All its nodes are over but that of the main request, which has come to its answer.
+abbrev pub IsAllOver : World → List SetPattern → Site → Trees → Pages → Type 0
+IsAllOver w patterns site trees p = (answer : Answer) × IsOver (meant w patterns site (files trees p.family) p.family) answer
+
+-- no node goes on
+abbrev pub AreClosed : List Piece → Type 0
+AreClosed pieces = (j : ℕ) → is_open j pieces ≡ false
+
+-- What is left to do: each step lowers it.
+unfoldable pub step_weight : ℕ
+step_weight = 65537
+
+abbrev pub pages_left : Pages → ℕ
+pages_left p = step_weight * p.steps + length p.outgoing.pending

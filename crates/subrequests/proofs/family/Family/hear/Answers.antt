@@ -1,0 +1,42 @@
+use Rattle.std.proofs.Common.{set, refl, sym, ap, ◌∙◌, subst}
+use Rattle.file_tree.specs.Tree.{tree_of}
+use Rattle.subrequests.specs.Families.{seen, texts_of}
+use Rattle.subrequests.specs.Moved.{Keeps}
+use Rattle.subrequests.proofs.Heard as heard
+use Rattle.subrequests.proofs.Members as members
+use Rattle.subrequests.proofs.Sets.{length_set}
+use Rattle.subrequests.proofs.Wholes as wholes
+use Rattle.subrequests.proofs.family.Family.hear.Goals as goal
+
+pub returns-clause-keeps : goal.returns-clause-keeps
+returns-clause-keeps c = λ w patterns site trees from well.
+    let f = c.args.self.now in
+    let n = c.index_mut-node.result.now in
+    let is = c.in_ok-hears.ensures in
+    let there = wholes.fits_here f.tree f.nodes.items c.args.at n c.args.answer c.requires.fits c.index_mut-node.ensures.value in
+    let fits = wholes.fits_are f.tree f.nodes.items c.args.at n c.args.answer c.requires.fits there in
+    subst (λ t. Keeps w (trees t) (seen w patterns site f.main f.order f.nodes.items (texts_of trees f.nodes.items))
+    (seen w patterns site f.main f.order (set f.nodes.items c.args.at c.hears.new.node) (texts_of trees (set f.nodes.items c.args.at c.hears.new.node))) f.vars) fits.1
+    (heard.keeps c.shows_the_same.ensures w patterns site f.main f.order f.nodes.items c.args.at n c.hears.new.node there is.node.left n.ask c.args.answer (is.acts w patterns site f.main)
+    c.quiet_is_exact.ensures c.row_tells_still.ensures trees f.vars (c.requires.whole.going c.args.at ∙ fits.0) well (wholes.from_here trees f.nodes.items c.args.at n c.args.answer there from))
+
+pub returns-clause-comes : goal.returns-clause-comes
+returns-clause-comes c = λ w patterns site texts.
+    let f = c.args.self.now in
+    let n = c.index_mut-node.result.now in
+    let is = c.in_ok-hears.ensures in
+    let there = wholes.fits_here f.tree f.nodes.items c.args.at n c.args.answer c.requires.fits c.index_mut-node.ensures.value in
+    let fits = wholes.fits_are f.tree f.nodes.items c.args.at n c.args.answer c.requires.fits there in
+    let come = heard.comes c.shows_the_same.ensures w patterns site f.main f.order f.nodes.items c.args.at n c.hears.new.node there is.node.left n.ask c.args.answer (is.acts w patterns site f.main)
+    f.vars texts (c.requires.whole.going c.args.at ∙ fits.0) in
+    record { tree = come.0; before = come.1; goes = come.2 }
+
+pub returns-clause-whole : goal.returns-clause-whole
+returns-clause-whole c =
+    let f = c.args.self.now in
+    let n = c.index_mut-node.result.now in
+    members.set_sound f.order f.order f.nodes.items c.args.at n c.hears.new.node
+    (wholes.fits_here f.tree f.nodes.items c.args.at n c.args.answer c.requires.fits c.index_mut-node.ensures.value) c.requires.whole refl (λ j. refl) c.in_ok-hears.ensures.node.over
+
+pub returns-clause-size : goal.returns-clause-size
+returns-clause-size c = length_set c.args.self.now.nodes.items c.args.at c.hears.new.node

@@ -1,0 +1,12 @@
+use Rattle.std.proofs.Common.{sym, ap, ◌∙◌, refl}
+use Rattle.request_meaning.specs.Phases.{rounds}
+use Rattle.request_meaning.specs.Replies.{child_asked, script, served}
+use Rattle.request_meaning.specs.Serving.{Asked}
+use Rattle.ssi_exec.specs.Scenes.{child_seen}
+use Rattle.subrequests.specs.Nodes.{of_method, served_as}
+use Rattle.subrequests.proofs.Opening as opening
+use Rattle.subrequests.proofs.family.child_node.Goals as goal
+
+pub returns-clause-acts : goal.returns-clause-acts
+returns-clause-acts c = λ w patterns site main text.
+    opening.script_is w c.args.left c.args.method main c.child_phases.result c.args.child c.child_phases.ensures.main c.child_phases.ensures.asked

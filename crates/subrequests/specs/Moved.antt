@@ -1,0 +1,121 @@
+-- What becomes of a family by its nodes.
+use Rattle.std.specs.Prelude.{◌≡◌, ℕ, ◌+◌, ◌&&◌, ◌==◌, not, Bool, true, false, List, [], length, slice_get, Option, None, Some}
+use Rattle.acts.specs.Act.{Inner}
+use Rattle.acts.specs.Vars.{Vars}
+use Rattle.file_tree.specs.Tree.{IsFrom, Tree, Trees, is_fitting, text_of, tree_of}
+use Rattle.file_tree.specs.declared.job.Ask.{Ask}
+use Rattle.file_tree.specs.declared.job.JobAnswer.{JobAnswer}
+use Rattle.ngx_pattern.specs.Pattern.{Pattern as SetPattern}
+use Rattle.site_model.specs.declared.site.Site.{Site}
+use Rattle.request_meaning.specs.Laws.{shipped}
+use Rattle.request_meaning.specs.Replies.{most_depth}
+use Rattle.request_meaning.specs.Serving.{World, Answer}
+use Rattle.request_phases.specs.Rounds.{asked_in, prepared_as, world_in}
+use Rattle.request_phases.specs.declared.state.Outcome.{Outcome}
+use Rattle.request_phases.specs.declared.state.Phases.{Phases}
+use Rattle.rewrite_code.specs.Places.{standing_seen}
+use Rattle.request_phases.specs.declared.ground.Ground.{Ground}
+use Rattle.family_order.specs.Acts.{Goes, IsOver}
+use Rattle.family_order.specs.Items.{Family as Meant, alone, doing}
+use Rattle.family_order.specs.Items.Stance.{Going}
+use Rattle.family_rest.specs.Opened.{opened_going}
+use Rattle.family_rest.specs.Still.{still, subs_still}
+use Rattle.ssi_exec.specs.Scenes.{child_seen}
+use Rattle.ssi_exec.specs.declared.document.Child.{Child}
+use Rattle.subrequests.specs.Families.{IsSound, item_asked, main_of, node_act, seen, texts_of}
+use Rattle.subrequests.specs.Nodes.{after_phases, bytes_for}
+use Rattle.subrequests.specs.declared.family.Family.{Family}
+use Rattle.subrequests.specs.declared.node.Node.{Node}
+use Rattle.subrequests.specs.declared.node.Stage.{Stage}
+
+-- The family that the meaning has, where the files that are read still have these texts, by node; and those of these trees.
+abbrev pub meant : World → List SetPattern → Site → (texts : ℕ → List ℕ) → Family → Meant
+meant w patterns site texts f = seen w patterns site f.main f.order f.nodes.items texts
+
+abbrev pub files : Trees → Family → ℕ → List ℕ
+files trees f = texts_of trees f.nodes.items
+
+abbrev pub IsWhole : Family → Type 0
+IsWhole f = IsSound f.order f.nodes.items
+
+-- Steps lead from one family to another, by which this many subrequests are opened.
+pub record Opening (w : World) (tree : Tree) (count : ℕ) (f : Meant) (vars : Vars) (g : Meant) (vars' : Vars) : Type 0 where
+  pub goes : Goes w tree f vars g vars'
+  pub opens : opened_going goes ≡ count
+
+-- Its nodes take steps, whatever is still to come of the files that are read; and by the files of any trees. It has a node more for
+-- each subrequest that is opened.
+pub record Steps (patterns : List SetPattern) (g : Ground) (old new : Family) : Type 0 where
+  pub opened : ℕ
+  pub grows : length new.nodes.items ≡ length old.nodes.items + opened
+  pub any : (tree : Tree) (texts : ℕ → List ℕ) → Opening (world_in patterns g shipped) tree opened (meant (world_in patterns g shipped) patterns g.site.now texts old) old.vars
+      (meant (world_in patterns g shipped) patterns g.site.now texts new) new.vars
+  pub by_files : (tree : Tree) (trees : Trees) → Opening (world_in patterns g shipped) tree opened (meant (world_in patterns g shipped) patterns g.site.now (files trees old) old) old.vars
+      (meant (world_in patterns g shipped) patterns g.site.now (files trees new) new) new.vars
+
+-- the node with a number isn't over, and its stage has this property
+abbrev pub is_at : (Stage → Bool) → Option Node → Bool
+is_at p None = false
+is_at p (Some n) = p n.stage && not n.over
+
+abbrev pub stands : (Stage → Bool) → Family → (at : ℕ) → Type 0
+stands p f at = is_at p (slice_get f.nodes.items at) ≡ true
+
+-- The subrequest opens that a node asks for, which goes on as it is in the old family.
+abbrev pub OpensAt : List SetPattern → Ground → (at : ℕ) → Child → (old new : Family) → Type 0
+OpensAt patterns g at child old new =
+    let w = world_in patterns g shipped in
+    let site = g.site.now in
+    (n : Node) → slice_get old.nodes.items at ≡ Some n → (tree : Tree) (texts : ℕ → List ℕ)
+    → Opening w tree 1 (doing at (Going n.left (Inner (child_seen (main_of old.main n) child) (node_act w patterns site old.main n (texts at)))) (meant w patterns site texts old)) old.vars
+    (meant w patterns site texts new) new.vars
+
+-- The nodes that are old do the same by the files of any trees, and the new one, whatever file it reads.
+abbrev pub SameFiles : (old new : Family) → Type 0
+SameFiles old new = (w : World) (patterns : List SetPattern) (site : Site) (trees : Trees) (j : ℕ) (n : Node) → slice_get new.nodes.items j ≡ Some n →
+    node_act w patterns site new.main n (files trees old j) ≡ node_act w patterns site new.main n (files trees new j)
+
+-- It goes on, and as much is still to come of it as before, of its answer and of subrequests.
+pub record Keeps (w : World) (tree : Tree) (f g : Meant) (vars : Vars) : Type 0 where
+  pub goes : Goes w tree f vars g vars
+  pub still : still w tree f vars ≡ still w tree g vars
+  pub subs : subs_still w tree f vars ≡ subs_still w tree g vars
+
+-- It comes by some answers of some files to what it still does.
+pub record Comes (w : World) (patterns : List SetPattern) (site : Site) (old new : Family) (texts : ℕ → List ℕ) : Type 0 where
+  pub tree : Tree
+  pub before : ℕ → List ℕ
+  pub goes : Goes w tree (meant w patterns site before old) old.vars (meant w patterns site texts new) new.vars
+
+-- The answer to the job of a node with a number is from these trees.
+abbrev pub IsFromAt : Trees → Option Node → JobAnswer → Type 0
+IsFromAt trees None answer = Unit {0}
+IsFromAt trees (Some n) answer = IsFrom trees n.ask answer
+
+abbrev pub fits_at : (tree : ℕ) → Option Node → JobAnswer → Bool
+fits_at tree None answer = false
+fits_at tree (Some n) answer = is_fitting n.ask answer && (not n.over && (tree_of n.ask == tree))
+
+-- It begins with the body of what phases decided, which it settles as: the main request alone, which may open fifty levels.
+abbrev pub BeginsWith : Ground → Phases → Vars → Outcome → Family → Type 0
+BeginsWith g p vars outcome f = (patterns : List SetPattern) (tree : Tree) (texts : ℕ → List ℕ) →
+    let w = world_in patterns g shipped in
+    let site = g.site.now in
+    Goes w tree (alone 0 1 (Going most_depth (after_phases w most_depth [] (prepared_as w (asked_in p) (standing_seen site p.at) (bytes_for outcome (texts 0)) outcome)))) vars
+    (meant w patterns site texts f) f.vars
+
+-- All its nodes are over but that of the main request, which has come to its answer.
+abbrev pub IsDone : List SetPattern → Ground → Family → Type 0
+IsDone patterns g f = (texts : ℕ → List ℕ) → (answer : Answer) × IsOver (meant (world_in patterns g shipped) patterns g.site.now texts f) answer
+
+-- Its nodes come to ask for one subrequest more than are opened for one response.
+pub record Overruns (w : World) (tree : Tree) (f : Meant) (vars : Vars) (nodes : ℕ) : Type 0 where
+  pub count : ℕ
+  pub after : Meant
+  pub later : Vars
+  pub opening : Opening w tree count f vars after later
+  pub many : nodes + count ≡ 1002
+
+abbrev pub OverrunsBy : List SetPattern → Ground → Family → Type 0
+OverrunsBy patterns g f = (tree : Tree) (trees : Trees) →
+    Overruns (world_in patterns g shipped) tree (meant (world_in patterns g shipped) patterns g.site.now (files trees f) f) f.vars (length f.nodes.items)

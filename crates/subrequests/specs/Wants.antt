@@ -1,0 +1,76 @@
+-- What a family waits for, and which of its nodes can run.
+use Rattle.std.specs.Prelude.{◌≡◌, ◌≢◌, ℕ, suc, ◌-◌, ◌==◌, ◌&&◌, ◌||◌, nat_lt, not, is_none, Bool, true, false, List, [], ◌∷◌, length, Option, None, Some, slice_get, if◌then◌else◌}
+use Rattle.file_tree.specs.Tree.{tree_of}
+use Rattle.file_tree.specs.declared.job.Ask.{Ask}
+use Rattle.ngx_outside.specs.Views.{Job}
+use Rattle.postpone_filter.specs.Row.{Row, room}
+use Rattle.subrequests.specs.Families.{is_asking, is_ending, is_placing, is_reading, is_serving, is_turning}
+use Rattle.subrequests.specs.Moved.{is_at}
+use Rattle.subrequests.specs.declared.family.Family.{Family}
+use Rattle.subrequests.specs.declared.family.Next.{Next}
+use Rattle.subrequests.specs.declared.family.Next.TheVariants.{Turns, Places, Takes, Ends, Waits}
+use Rattle.subrequests.specs.declared.node.Node.{Node}
+use Rattle.subrequests.specs.declared.node.Stage.{Stage}
+use Rattle.subrequests.specs.declared.node.Stage.TheVariants as stages
+
+-- its job, which asks the tree with this number, waits for an answer
+abbrev pub is_waiting : (tree : ℕ) → Node → Bool
+is_waiting tree n = ((is_asking n.stage || is_reading n.stage) && not n.over) && (tree_of n.ask == tree)
+
+-- the jobs of nodes, of which the first has this number
+unfoldable pub jobs_from : (tree : ℕ) → ℕ → List Node → List Job
+jobs_from tree at [] = []
+jobs_from tree at (n ∷ nodes) = if is_waiting tree n then record { node = at; ask = n.ask } ∷ jobs_from tree (suc at) nodes else jobs_from tree (suc at) nodes
+
+abbrev pub jobs_of : Family → List Job
+jobs_of f = jobs_from f.tree 0 f.nodes.items
+
+-- the job of a node
+abbrev pub job_of : (tree : ℕ) → Option Node → Option Ask
+job_of tree None = None
+job_of tree (Some n) = if is_waiting tree n then Some n.ask else None
+
+abbrev pub first_of : List ℕ → Option ℕ
+first_of [] = None
+first_of (n ∷ numbers) = Some n
+
+abbrev pub first_job : List Job → Option ℕ
+first_job [] = None
+first_job (job ∷ jobs) = Some job.node
+
+-- bytes of it can be placed, or none is left to place
+abbrev pub can_place : (room : ℕ) → Stage → Bool
+can_place room (stages.Places b) = b.from == length b.bytes || nat_lt 0 room
+can_place room other = true
+
+-- It can run: it waits neither for its job nor for the end of a subrequest, it isn't at its end, and there is room for what it
+-- places.
+abbrev pub can_run : Row → (at : ℕ) → Node → Bool
+can_run row at n =
+    not n.over && ((is_turning n.stage || (is_serving n.stage && is_none n.waits)) || (is_placing n.stage && can_place (room at row.pieces) n.stage))
+
+unfoldable pub ready_from : Row → ℕ → List Node → List ℕ
+ready_from row at [] = []
+ready_from row at (n ∷ nodes) = if can_run row at n then at ∷ ready_from row (suc at) nodes else ready_from row (suc at) nodes
+
+abbrev pub runs_at : Row → (at : ℕ) → Option Node → Bool
+runs_at row at None = false
+runs_at row at (Some n) = can_run row at n
+
+unfoldable pub is_among : ℕ → List ℕ → Bool
+is_among n [] = false
+is_among n (m ∷ numbers) = if m == n then true else is_among n numbers
+
+abbrev pub ready_of : Family → List ℕ
+ready_of f = ready_from f.order 0 f.nodes.items
+
+-- what a node with this number does next
+abbrev pub StandsAt : Option Node → (at : ℕ) → Next → Type 0
+StandsAt n at Turns = is_at is_turning n ≡ true
+StandsAt n at Places = is_at is_placing n ≡ true
+StandsAt n at Takes = is_at is_serving n ≡ true
+StandsAt n at Ends = (is_at is_ending n ≡ true) × (at ≢ 0)
+StandsAt n at Waits = (row : Row) → runs_at row at n ≡ false
+
+abbrev pub Stands : Family → (at : ℕ) → Next → Type 0
+Stands f at next = StandsAt (slice_get f.nodes.items at) at next
