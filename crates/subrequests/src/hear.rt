@@ -13,7 +13,7 @@ ghost use Rattle.subrequests.specs.Taken.{Hears};
 ghost use Rattle.subrequests.specs.declared.node.Stage.TheVariants.{Reads as ReadsView, Told as ToldView};
 
 use crate::node::{Body, Node, Source, Stage};
-use crate::slot::take;
+use crate::slot::{put, take};
 use byte_text::{ByteText, OutOfMemory};
 use file_tree::{Ask, JobAnswer, Node as FileNode};
 use request_phases::Wait;
@@ -102,7 +102,7 @@ fn sum(a: u64, b: u64) -> Option<u64>
 fn put_told(node: &mut Node, wait: Wait, file: FileNode, ssi: Table)
     ensures { node.new ≡ record node.old { stage = ToldView wait file ssi; start = 0 } }
 {
-    node.stage = Stage::Told { wait, file, ssi };
+    put(&mut node.stage, Stage::Told { wait, file, ssi });
     node.start = 0;
 }
 
@@ -125,7 +125,7 @@ fn put_block(alloc: Global, node: &mut Node, body: Body, bytes: &[u8]) -> Result
         return Err(OutOfMemory);
     };
     node.start = start;
-    node.stage = came(alloc, body, bytes)?;
+    put(&mut node.stage, came(alloc, body, bytes)?);
     Ok(())
 }
 

@@ -19,3 +19,10 @@ pub(crate) fn swap<T: Drop>(one: &mut T, other: &mut T)
 {
     mem::swap(one, other);
 }
+
+/// Puts a value in the place of another, which goes.
+pub(crate) fn put<T: Drop>(slot: &mut T, value: T)
+    ensures put { slot.new ≡ value }
+{
+    *slot = value;
+}

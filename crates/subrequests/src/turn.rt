@@ -24,7 +24,7 @@ use crate::lend::lend;
 use crate::node::{Body, Node, Stage};
 use crate::page::{Served, serves};
 use crate::phase::{Turned, begins, resumes, scene_of};
-use crate::slot::take;
+use crate::slot::{put, take};
 use byte_text::{ByteText, OutOfMemory};
 use file_tree::Ask;
 use ngx_pattern::PatternSet;
@@ -44,9 +44,9 @@ fn put_turned(node: &mut Node, turned: Turned, of: u64)
     } }
 {
     let Turned { stage, path } = turned;
-    node.stage = stage;
+    put(&mut node.stage, stage);
     if let Some(path) = path {
-        node.ask = Ask::Stat { path, of };
+        put(&mut node.ask, Ask::Stat { path, of });
         node.start = 0;
     }
 }
@@ -210,8 +210,9 @@ fn put_block(alloc: Global, node: &mut Node, body: Body)
         path: ByteText::new(alloc),
         of: 0,
     };
-    node.ask = next_block(take(&mut node.ask, none), node.start, body.source.left);
-    node.stage = Stage::Reads(body);
+    let ask = next_block(take(&mut node.ask, none), node.start, body.source.left);
+    put(&mut node.ask, ask);
+    put(&mut node.stage, Stage::Reads(body));
 }
 
 /// The next part of the page of a request in its phases.
@@ -248,11 +249,11 @@ fn put_served(alloc: Global, node: &mut Node, served: Served) -> Turn
 {
     match served {
         Served::On(stage) => {
-            node.stage = stage;
+            put(&mut node.stage, stage);
             Turn::On
         }
         Served::Opens(child, stage) => {
-            node.stage = stage;
+            put(&mut node.stage, stage);
             Turn::Opens(child)
         }
         Served::Wants(body) => {
