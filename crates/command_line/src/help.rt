@@ -11,11 +11,13 @@ const HELP: &[u8] = b"ngx serves sites over HTTP/1.1 from nginx configuration te
 Usage: ngx COMMAND\n\
 \n\
 Commands:\n\
-\x20 check CONF              Reads a configuration; prints how many servers it has, or its first fault\n\
-\x20 serve CONF [--turns N]  Serves a configuration until it is stopped, or for N events of the sockets\n\
-\x20 replay SCRIPT           Runs a script of connections; prints what came of each\n\
+\x20 check CONF                       Reads a configuration; prints its counts and what races, or its first fault\n\
+\x20 serve CONF [--turns N] [--racy]  Serves a configuration until it is stopped, or for N events of the sockets\n\
+\x20 replay SCRIPT [--racy]           Runs a script of connections; prints what came of each\n\
 \n\
 Options:\n\
+\x20 --turns N               Stops after N events of the sockets, from 1 to 1000000000\n\
+\x20 --racy                  Serves or runs though it shows in which order subrequests run\n\
 \x20 -h, --help              Prints this help\n\
 \x20 -V, --version           Prints the version\n\
 \n\
@@ -29,12 +31,14 @@ Exit status:\n\
 \x20 0  done\n\
 \x20 1  the configuration has a fault: `fault NUMBER KIND FILE:LINE WORD` is printed\n\
 \x20 2  no such command, or other words than it takes\n\
+\x20 3  it shows in which order subrequests run: `race SERVER $NAME set PLACES read PLACES` is printed\n\
 \x20 4  a file couldn't be read\n\
 \x20 5  the output was not taken\n\
 \x20 6  an address couldn't be listened on, or the sockets failed\n\
 \x20 7  no memory\n\
 \x20 8  the script has a fault: `script NUMBER KIND LINE` is printed\n\
-\x20 9  all turns were taken\n";
+\x20 9  all turns were taken\n\
+\x20 10 a pattern of the configuration is too big\n";
 
 /// What the program does, its commands, examples and exit statuses.
 #[tactic(auto, unfolding(crate::specs::Help::help_text))]

@@ -1,6 +1,6 @@
 // What the program's words ask for.
 ghost use Rattle.std.specs.Prelude.{◌≡◌, option_map, map, string_bytes};
-ghost use Rattle.command_line.specs.Words.{request_in, request_for, request_of, serve_after, turns_of as turns_for, is_help as asks_help, is_version as asks_version, option_for, or_help};
+ghost use Rattle.command_line.specs.Words.{request_in, request_for, request_of, serve_after, racy_for, turns_for_path, both_for, with_options, turns_of as turns_for, is_help as asks_help, is_version as asks_version, option_for, or_help};
 
 use crate::turns::{ALL_TURNS, turns_of};
 
@@ -12,18 +12,28 @@ pub enum Command<'a> {
     /// Its version is to be printed.
     Version,
     /// A configuration is to be read.
-    Check { conf: &'a str },
-    /// A script is to be run.
-    Replay { script: &'a str },
-    /// The site of a configuration is to be served, for so many turns.
-    Serve { conf: &'a str, turns: u64 },
+    Check {
+        conf: &'a str,
+    },
+    /// A script is to be run, if need be on a site where it shows in which order subrequests run.
+    Replay {
+        script: &'a str,
+        racy: bool,
+    },
+    /// The site of a configuration is to be served, for so many turns, if need be though it shows in which order subrequests
+    /// run.
+    Serve {
+        conf: &'a str,
+        turns: u64,
+        racy: bool,
+    },
 }
 
-fn serve_for<'a>(conf: &'a str, turns: &str) -> Option<Command<'a>>
-    ensures { option_map request_of result ≡ serve_after conf.now (turns_for turns.now) }
+fn serve_for<'a>(conf: &'a str, turns: &str, racy: bool) -> Option<Command<'a>>
+    ensures { option_map request_of result ≡ serve_after conf.now racy (turns_for turns.now) }
 {
     match turns_of(turns.as_bytes()) {
-        Some(turns) => Some(Command::Serve { conf, turns }),
+        Some(turns) => Some(Command::Serve { conf, turns, racy }),
         None => None,
     }
 }
@@ -72,17 +82,106 @@ fn command_for<'a>(command: &str, path: &'a str) -> Option<Command<'a>>
     if command == "check" {
         Some(or_help(path, Command::Check { conf: path }))
     } else if command == "replay" {
-        Some(or_help(path, Command::Replay { script: path }))
+        Some(or_help(
+            path,
+            Command::Replay {
+                script: path,
+                racy: false,
+            },
+        ))
     } else if command == "serve" {
         Some(or_help(
             path,
             Command::Serve {
                 conf: path,
                 turns: ALL_TURNS,
+                racy: false,
             },
         ))
     } else {
         None
+    }
+}
+
+// What a command with a path and one option asks for.
+#[tactic(auto, unfolding(crate::specs::Words::all_turns))]
+fn racy_for<'a>(command: &str, path: &'a str, option: &str) -> Option<Command<'a>>
+    ensures { option_map request_of result ≡ racy_for command.now path.now option.now }
+{
+    if option != "--racy" {
+        None
+    } else if command == "replay" {
+        Some(Command::Replay {
+            script: path,
+            racy: true,
+        })
+    } else if command == "serve" {
+        Some(Command::Serve {
+            conf: path,
+            turns: ALL_TURNS,
+            racy: true,
+        })
+    } else {
+        None
+    }
+}
+
+// What `serve` with a path, `--turns` and a number asks for.
+fn turns_for_path<'a>(
+    command: &str,
+    path: &'a str,
+    option: &str,
+    turns: &str,
+) -> Option<Command<'a>>
+    ensures { option_map request_of result
+        ≡ turns_for_path command.now path.now option.now turns.now }
+{
+    if command == "serve" && option == "--turns" {
+        serve_for(path, turns, false)
+    } else {
+        None
+    }
+}
+
+// What `serve` with a path and both options asks for, in either order.
+fn both_for<'a>(
+    command: &str,
+    path: &'a str,
+    first: &str,
+    second: &str,
+    third: &str,
+) -> Option<Command<'a>>
+    ensures { option_map request_of result
+        ≡ both_for command.now path.now first.now second.now third.now }
+{
+    if command != "serve" {
+        None
+    } else if first == "--turns" && third == "--racy" {
+        serve_for(path, second, true)
+    } else if first == "--racy" && second == "--turns" {
+        serve_for(path, third, true)
+    } else {
+        None
+    }
+}
+
+// What a command with a path and options asks for.
+fn with_options<'a>(command: &str, path: &'a str, options: &[String]) -> Option<Command<'a>>
+    ensures { option_map request_of result
+        ≡ with_options command.now path.now (map string_bytes options.now) }
+{
+    match options {
+        [] => command_for(command, path),
+        [option] => racy_for(command, path, option.as_str()),
+        [option, turns] => turns_for_path(command, path, option.as_str(), turns.as_str()),
+        [first, second, third] => both_for(
+            command,
+            path,
+            first.as_str(),
+            second.as_str(),
+            third.as_str(),
+        ),
+        _ => None,
     }
 }
 
@@ -92,13 +191,8 @@ pub fn command_of(words: &[String]) -> Option<Command<'_>>
 {
     match words {
         [_, word] => option_for(word.as_str()),
-        [_, command, path] => command_for(command.as_str(), path.as_str()),
-        [_, command, path, flag, turns] => {
-            if command.as_str() == "serve" && flag.as_str() == "--turns" {
-                serve_for(path.as_str(), turns.as_str())
-            } else {
-                None
-            }
+        [_, command, path, options @ ..] => {
+            with_options(command.as_str(), path.as_str(), options)
         }
         _ => None,
     }

@@ -5,6 +5,7 @@ use memory_outside::{
     StoredItem,
 };
 use ngx_cli::ngx;
+use ngx_pattern::{CrateMaker, ListMaker};
 use std::alloc::Global;
 use std::net::{IpAddr, Ipv4Addr};
 use std::process::Abort;
@@ -32,6 +33,13 @@ const TWO: &[u8] =
     b"http { server { listen 80; location / { return 200 hi; } location /a { return 204; } } server { listen 81; location / { return 200 ho; } } }";
 
 const BAD: &[u8] = b"http {\nserves; }";
+
+/// Documents see a variable that two locations set apart.
+const RACY: &[u8] =
+    b"http {\nserver {\nlocation / { ssi on; }\nlocation /a { set $x a; }\nlocation /b { set $x b; } } }";
+
+/// Patterns in two places.
+const PATTERNS: &[u8] = b"http {\nserver {\nlocation ~ a { }\nlocation ~ b { } } }";
 
 const REQUEST: &[u8] = b"GET / HTTP/1.1\r\nHost: a\r\n\r\n";
 
@@ -63,6 +71,8 @@ fn files_of(alloc: Global, failing: Option<FileCall>) -> Result<MemoryFiles, Fai
         (b"/part".as_slice(), PART),
         (b"/two".as_slice(), TWO),
         (b"/bad".as_slice(), BAD),
+        (b"/racy".as_slice(), RACY),
+        (b"/patterns".as_slice(), PATTERNS),
     ];
     for (path, text) in stored {
         let bytes = ByteText::from_slice(alloc, text)?;
@@ -94,6 +104,14 @@ fn one_peer(alloc: Global) -> Result<Vec<ScriptedNotice>, Fail> {
     Ok(notices)
 }
 
+fn called(alloc: Global, words: &[&str]) -> Result<Vec<String>, Fail> {
+    let mut called = Vec::new(alloc);
+    for word in words {
+        called.push(String::from_str(alloc, word)?)?;
+    }
+    Ok(called)
+}
+
 /// Runs the words, where this call of the files or the first listen fails, over one peer, or over none, to an output of which
 /// the first put fails or not.
 fn run(
@@ -104,10 +122,7 @@ fn run(
     peer: bool,
     full: bool,
 ) -> Result<Shown, Fail> {
-    let mut called = Vec::new(alloc);
-    for word in words {
-        called.push(String::from_str(alloc, word)?)?;
-    }
+    let called = called(alloc, words)?;
     let mut files = files_of(alloc, file)?;
     let mut calls = Vec::new(alloc);
     if let Some(call) = link {
@@ -125,7 +140,10 @@ fn run(
         puts.push(0)?;
     }
     let mut out = MemorySink::new(alloc, puts);
-    let status = ngx(alloc, &called, &mut files, &mut links, &mut clock, &mut out);
+    let mut maker = CrateMaker::new();
+    let status = ngx(
+        alloc, &called, &mut files, &mut links, &mut clock, &mut maker, &mut out,
+    );
     Ok(Shown {
         status,
         sent: ByteText::from_slice(alloc, links.sent(1))?,
@@ -251,6 +269,12 @@ fn what_is_printed_is_the_answer_or_the_fault_with_its_file(rt: HostRuntime) -> 
                 b"servers 2 locations 3\n",
             ),
             (
+                &["ngx", "check", "/racy"],
+                None,
+                3,
+                b"servers 1 locations 3\nrace 1 $x set /racy:4 /racy:5 read documents\n",
+            ),
+            (
                 &["ngx", "check", "/none"],
                 None,
                 1,
@@ -277,4 +301,24 @@ fn what_is_printed_is_the_answer_or_the_fault_with_its_file(rt: HostRuntime) -> 
             ),
         ],
     )
+}
+
+#[test]
+fn a_pattern_that_the_maker_refuses_is_told(rt: HostRuntime) -> Result<(), Fail> {
+    let alloc = rt.alloc();
+    let called = called(alloc, &["ngx", "check", "/patterns"])?;
+    let mut files = files_of(alloc, None)?;
+    let mut links = MemoryLinks::new(alloc, Vec::new(alloc), Vec::new(alloc));
+    let mut clock = FixedClock { moment: 0 };
+    let mut refusing = Vec::new(alloc);
+    refusing.push(1)?;
+    let mut maker = ListMaker::new(refusing);
+    let mut out = MemorySink::new(alloc, Vec::new(alloc));
+    let status = ngx(
+        alloc, &called, &mut files, &mut links, &mut clock, &mut maker, &mut out,
+    );
+    assert_eq!(rt; status, 10);
+    let printed = b"fault 20 PatternTooBig /patterns:4 location\n";
+    assert_eq!(rt; out.taken(), printed.as_slice());
+    Ok(())
 }

@@ -19,8 +19,6 @@ use Rattle.conf_values.specs.Variables.{variable_in}
 use Rattle.conf_values.specs.Listing.{are_listed_from, are_listed}
 use Rattle.conf_lists.specs.Hosts.{name_of, or_empty, shown}
 use Rattle.conf_lists.specs.Words.{index_name, front_of, last_of, tries_of, page_of, rule_of, set_of, with_types, variables_in}
-use Rattle.conf_lists.specs.Lists.{no_lists}
-use Rattle.conf_inherit.specs.Values.{default_lists, auth_by, added_by, lists_over}
 
 -- ---- `server_name`
 
@@ -136,21 +134,3 @@ visible-1 = refl
 visible-2 : are_listed (λ name. false) listings.SsiVisible (codes "x" ∷ []) ≡ false
 unfolding are_listed_from variable_in
 visible-2 = refl
-
--- ---- a level over those around it
-
-over-1 : lists_over (record no_lists { index = index_name (codes "b") ∷ [] }) default_lists ≡ record default_lists { index = index_name (codes "b") ∷ [] }
-over-1 = refl
-
-over-2 : lists_over (record no_lists { ssi_types = record { every = true; types = [] } }) (record default_lists { ssi_types = record { every = false; types = codes "a/b" ∷ [] } })
-    ≡ record default_lists { ssi_types = record { every = true; types = [] } }
-over-2 = refl
-
-auth-1 : auth_by (codes "off") ≡ None
-auth-1 = refl
-
-added-1 : added_by [] ≡ None
-added-1 = refl
-
-added-2 : added_by (codes "off") ≡ Some (codes "off")
-added-2 = refl

@@ -5,7 +5,6 @@ use Rattle.conf_table.specs.declared.role.Switch.TheVariants as switches
 use Rattle.conf_table.specs.declared.role.Time.TheVariants as times
 use Rattle.conf_values.specs.Numbers.{count_to, unit_of, digits_before, time_of, bytes_of, size_to}
 use Rattle.conf_values.specs.Settings.{switch_of, any_of, with_word, with_words, default_settings}
-use Rattle.conf_check.specs.Patterns.{regex_case}
 
 size-1 : size_to 1099511627776 (codes "1024g") ≡ Some 1099511627776
 unfolding size_to digits_before bytes_of
@@ -54,21 +53,3 @@ setting-4 = refl
 setting-5 : with_words settings.SubrequestOutputBufferSize (codes "1K" ∷ []) default_settings ≡ record default_settings { capture_most = 1024 }
 unfolding with_word size_to digits_before bytes_of
 setting-5 = refl
-
--- ---- how locations are found by patterns
-
-regex-1 : regex_case (codes "~" ∷ codes "/a" ∷ []) ≡ Some false
-unfolding regex_case
-regex-1 = refl
-
-regex-2 : regex_case (codes "~*" ∷ codes "/a" ∷ []) ≡ Some true
-unfolding regex_case
-regex-2 = refl
-
-regex-3 : regex_case (codes "^~" ∷ codes "/a" ∷ []) ≡ None
-unfolding regex_case
-regex-3 = refl
-
-regex-4 : regex_case (codes "~" ∷ []) ≡ None
-unfolding regex_case
-regex-4 = refl

@@ -1,18 +1,9 @@
-//! Tests of the crates that read a configuration: its text, its directives, their values, the site that it describes.
+//! Tests of the crates that read the words of a configuration: its text, its directives, the addresses of a server, values with
+//! variables. What a word is as a value is in rows (`proofs/Rows.antt`, `proofs/ListRows.antt`), which the check computes.
 #![tactic(auto)]
 
 #[cfg(test)]
 mod blocks;
-#[cfg(test)]
-mod check;
-#[cfg(test)]
-mod hosts;
-#[cfg(test)]
-mod lists;
-#[cfg(test)]
-mod patterns;
-#[cfg(test)]
-mod site;
 #[cfg(test)]
 mod table;
 #[cfg(test)]

@@ -32,6 +32,19 @@ pub all_wait : (now soon : ℕ) (conns : List Conn) → now < soon → AllLater 
 all_wait now soon [] lt a = tt
 all_wait now soon (x ∷ conns) lt a = (waits_one now soon x lt a.0, all_wait now soon conns lt a.1)
 
+-- no deadline is before the first moment of one
+after_first : (soon : ℕ) (o : Option ℕ) (due : ℕ) → soon ≤ soonest o → o ≡ Some due → soon ≤ due
+after_first soon None due le e = cc
+after_first soon (Some d) due le e =
+    let same : d ≡ due = cc in
+    omega (arith, le, same)
+
+pub quiet_in : (serves : Serves) (ids : List ℕ) (conns : List Conn) (soon : ℕ) → AllLater soon conns → (q due : ℕ) → (view_in serves ids conns q).deadline ≡ Some due → soon ≤ due
+quiet_in serves [] conns soon a q due e = cc
+quiet_in serves (id ∷ ids) [] soon a q due e = cc
+quiet_in serves (id ∷ ids) (x ∷ conns) soon a q due e =
+    (elim (eqb id q) as (λ t. (cond t (view_of serves x) (view_in serves ids conns q)).deadline ≡ Some due → soon ≤ due) [ true ↦ after_first soon (due_at x) due a.0 | false ↦ quiet_in serves ids conns soon a.1 q due ]) e
+
 nobody_waits : (now : ℕ) → Ticked now nobody nobody
 nobody_waits now = Waits (λ due h. cc) refl
 

@@ -10,6 +10,7 @@ use http_connection::{Conn, connections_are_sound, next_want};
 use http_types::Addr;
 use ngx_outside::{Entry, Event, EventCore, StepAnswer, StopCause, Want};
 use ngx_pattern::PatternSet;
+use ready_loop::TimedCore;
 use request_flow::Workspace;
 use served_site::ServedSite;
 use std::alloc::Global;
@@ -225,5 +226,11 @@ impl EventCore for Hub {
 
     fn refused(&self) -> u64 {
         self.refused
+    }
+}
+
+impl TimedCore for Hub {
+    fn quiet_until(&self) -> u64 {
+        self.table.quiet_until()
     }
 }

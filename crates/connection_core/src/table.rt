@@ -31,7 +31,7 @@ pub(crate) struct Table {
 }
 
 impl Table {
-    ghost use Rattle.std.specs.Prelude.{◌≡◌, ◌≢◌, ◌+◌, ◌-◌, ◌^◌, ◌*◌, ◌<◌, ◌≤◌, ℕ, List, [], true, false, IfOk, IfSome, OnOk, MatchOption, length, insert, vec_len, vec_capacity};
+    ghost use Rattle.std.specs.Prelude.{◌≡◌, ◌≢◌, ◌+◌, ◌-◌, ◌^◌, ◌*◌, ◌<◌, ◌≤◌, ℕ, List, [], true, false, IfOk, IfSome, OnOk, MatchOption, Some, length, insert, vec_len, vec_capacity};
     ghost use Rattle.http_types.specs.declared.words.Addr.{Addr as End};
     ghost use Rattle.ngx_outside.specs.Views.{Start, Steps, StepsOwn, OneSteps, LeftBy, OpensIf, TakesNone, CountsHeld, Course, Fresh, nobody};
     ghost use Rattle.ngx_outside.specs.declared.event.Event.TheVariants.{Opened, Gone};
@@ -222,6 +222,15 @@ impl Table {
         if self.soon <= now {
             self.soon = tick_all(self.conns.as_mut_slice(), now);
         }
+    }
+
+    /// A moment before which no connection is given up.
+    pub(crate) fn quiet_until(&self) -> u64
+        ensures { (x : Serves) (c due : ℕ) →
+            (view_in x self.now.ids.items self.now.conns.items c).deadline ≡ Some due →
+            result ≤ due }
+    {
+        self.soon
     }
 
     /// Lets a connection go, whose link is to be closed.

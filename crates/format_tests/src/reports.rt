@@ -3,8 +3,10 @@ use conf_text::{ConfFault, FaultKind as ConfKind};
 use ngx_outside::{Entry, StopCause};
 use replay_text::{FaultKind as ScriptKind, ScriptFault};
 use report_text::{
-    ConnReport, ConnState, conf_fault_text, conn_text, counts_text, end_text, script_fault_text,
+    ConnReport, ConnState, RaceReport, conf_fault_text, conn_text, counts_text, end_text,
+    race_text, script_fault_text,
 };
+use source_lines::Line;
 use std::alloc::Global;
 use std::process::Abort;
 use std::test::Fail;
@@ -140,6 +142,29 @@ fn ends_faults_and_counts_are_printed(rt: HostRuntime) -> Result<(), Fail> {
     counts_text(1, 0, &mut out)?;
     counts_text(2, 18446744073709551615, &mut out)?;
     let text = b"servers 1 locations 0\nservers 2 locations 18446744073709551615\n";
+    assert_eq!(rt; out.as_slice(), text.as_slice());
+    Ok(())
+}
+
+#[test]
+fn a_race_is_printed_with_its_places(rt: HostRuntime) -> Result<(), Fail> {
+    let alloc = rt.alloc();
+    let mut paths = Vec::new(alloc);
+    paths.push(ByteText::from_slice(alloc, b"/c")?)?;
+    paths.push(ByteText::from_slice(alloc, b"/d")?)?;
+    let first = Line { file: 0, line: 5 };
+    let included = Line { file: 1, line: 1 };
+    let last = Line { file: 2, line: 6 };
+    let report = RaceReport {
+        server: 2,
+        name: b"x",
+        sets: &[first, included, last],
+        reads: &[included],
+        documents: true,
+    };
+    let mut out = ByteText::new(alloc);
+    race_text(&report, &[0, 1, 0], paths.as_slice(), &mut out)?;
+    let text = b"race 2 $x set /c:5 /d:1 /c:6 read /d:1 documents\n";
     assert_eq!(rt; out.as_slice(), text.as_slice());
     Ok(())
 }

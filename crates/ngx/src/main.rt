@@ -2,6 +2,7 @@
 #![tactic(auto)]
 
 use ngx_cli::ngx;
+use ngx_pattern::CrateMaker;
 use socket_links::{ListenFault, SocketLinks, SystemClock};
 use std::fs::Files;
 use std::io::{Eprint, ErrorKind};
@@ -24,7 +25,7 @@ const OUT_OF_MEMORY: u8 = 7;
 
 /// How the program is called.
 const USAGE: &str =
-    "usage: ngx check CONF\n       ngx serve CONF [--turns N]\n       ngx replay SCRIPT\n       ngx --help | --version";
+    "usage: ngx check CONF\n       ngx serve CONF [--turns N] [--racy]\n       ngx replay SCRIPT [--racy]\n       ngx --help | --version";
 
 fn is_command(word: &str) -> bool {
     word == "check" || word == "serve" || word == "replay"
@@ -105,7 +106,10 @@ fn main(rt: HostRuntime) -> io::Result<ExitCode> {
     };
     let mut clock = SystemClock::new(&rt);
     let mut out = HostSink::new(rt.clone()?);
-    let code = ngx(alloc, &words, &mut files, &mut links, &mut clock, &mut out);
+    let mut maker = CrateMaker::new();
+    let code = ngx(
+        alloc, &words, &mut files, &mut links, &mut clock, &mut maker, &mut out,
+    );
     let _told = tell_why(&rt, code, &words, links.listen_fault());
     Ok(ExitCode::from(code))
 }

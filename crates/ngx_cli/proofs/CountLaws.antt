@@ -10,7 +10,7 @@ use Rattle.site_whole.specs.Whole.{whole, Nested, inside, outside, nested, locat
 use Rattle.conf_inherit.specs.Pools.{patterns_in, named_built, server_built, site_built}
 use Rattle.site_whole.specs.Whole.Nested.{NoneLeft, Nest}
 use Rattle.report_text.specs.Counts.{counts_text}
-use Rattle.ngx_cli.specs.Commands.{count_of, locations_of, counts_of}
+use Rattle.ngx_cli.specs.Checks.{count_of, locations_of, counts_of}
 
 unfoldable size : Nested → ℕ
 size NoneLeft = 0

@@ -1,90 +1,181 @@
 -- How the commands end.
-use Rattle.std.proofs.Common.{◌≡◌, inl, inr, List, ℕ, [], true, Ok, Err, refl, subst}
+use Rattle.std.specs.Prelude.{◌⊎◌}
+use Rattle.std.proofs.Common.{◌≡◌, ◌∷◌, inl, inr, Bool, true, false, not, ◌&&◌, List, ℕ, [], ◌++◌, Ok, Err, refl, sym, subst, if◌then◌else◌}
 use Rattle.ngx_outside.specs.Causes.{Rose}
 use Rattle.ngx_outside.specs.Seen.{FilesSeen}
 use Rattle.ready_loop.specs.declared.service.Ending.{Ending}
 use Rattle.ready_loop.specs.declared.service.Ending.TheVariants as ending
-use Rattle.conf_text.specs.declared.fault.ConfFault.{ConfFault}
 use Rattle.conf_include.specs.Listings.{Names, IsNaming}
-use Rattle.conf_include.specs.declared.main_file.ExpandError.{ExpandError}
-use Rattle.conf_include.specs.declared.main_file.ExpandError.TheVariants as error
 use Rattle.conf_include.specs.declared.main_file.PlacedFault.{PlacedFault}
-use Rattle.ngx_cli.specs.Sites.{Describes as IsDescribed, FailsIf, Reading, site_at}
-use Rattle.conf_text.specs.declared.fault.FaultKind.TheVariants.{ReadFault}
-use Rattle.report_text.specs.Lines.{ended}
-use Rattle.report_text.specs.Faults.{conf_fault_line}
-use Rattle.conf_inherit.specs.declared.site.Built.{Built}
-use Rattle.conf_inherit.specs.Pools.{site_built}
+use Rattle.conf_inherit.specs.Values.{has_items}
 use Rattle.conf_inherit.specs.declared.site.Purpose.{Purpose}
 use Rattle.conf_inherit.specs.declared.site.Purpose.TheVariants as purposes
+use Rattle.report_text.specs.Lines.{ended}
+use Rattle.report_text.specs.Faults.{conf_fault_line}
 use Rattle.site_service.specs.Serving.{Outside, Serving}
+use Rattle.ngx_cli.specs.Sites.{Describes as IsDescribed, FailsIf, Reading, AreRaceless, conflicts_of, site_at}
+use Rattle.ngx_cli.specs.Checks.{check_text}
 use Rattle.ngx_cli.specs.declared.script.Outcome.{Outcome}
+use Rattle.ngx_cli.specs.declared.script.Outcome.TheVariants as outcome
+use Rattle.ngx_cli.specs.declared.site.Found.{Found}
+use Rattle.ngx_cli.specs.declared.site.SiteError.{SiteError}
+use Rattle.ngx_cli.specs.declared.site.SiteError.TheVariants as error
 use Rattle.ngx_cli.specs.declared.status.Status.{Status}
 use Rattle.ngx_cli.specs.declared.status.Status.TheVariants as status
-use Rattle.ngx_cli.specs.Commands.{Output, Printed, CutShort, ComesTo, Describes, IsFaultLine, OfFault, OfFiles, IsCheckLine, OfSite, OfNoSite, ReplayEnds, CheckEnds, ServeEnds, PutsText, counts_of, served_status}
+use Rattle.ngx_cli.specs.Commands.{Output, Made, Printed, CutShort, ComesTo, Describes, Finds, Served, ServedFound, Played, IsFaultLine, OfFirst, OfFiles, OfMaker, IsCheckLine, OfSite, OfNoSite, IsRefusal, OfRaces, OfFault, FoundEnds, ReplayEnds, CheckEnds, ServeEnds, PutsText, served_status, status_of}
 
 -- a site was served
-pub served : (o : Outside) (out : Output) (path : List ℕ) (turns : ℕ) (e : Ending) (site : Built) (reading : FilesSeen) → Describes purposes.Serving o.files reading path (Ok (site_built site)) →
-    Serving site.patterns site.site turns e (record o { files = reading }) → Printed out [] → (e ≡ ending.Ended → o.links'.over ≡ true) → (e ≡ ending.ListenFault → Rose o.links.faults o.links'.faults) → (e ≡ ending.NextFault → Rose o.links.faults o.links'.faults) →
-    ServeEnds o out path turns (served_status e)
-served o out path turns ending.Ended site reading d s p ends listen next = (ends refl, record { site = site; reading = reading; described = d; serving = s; printed = p })
-served o out path turns ending.TurnsUsed site reading d s p ends listen next = record { site = site; reading = reading; described = d; serving = s; printed = p }
-served o out path turns ending.ListenFault site reading d s p ends listen next = (listen refl, inl (record { site = site; reading = reading; described = d; serving = s; printed = p }))
-served o out path turns ending.NextFault site reading d s p ends listen next = (next refl, inr (record { site = site; reading = reading; described = d; serving = s; printed = p }))
+pub served : (found : Found) (racy : Bool) (o : Outside) (out : Output) (turns : ℕ) (e : Ending) → ServedFound found racy o out turns e → (e ≡ ending.Ended → o.links'.over ≡ true) → (e ≡ ending.ListenFault → Rose o.links.faults o.links'.faults) → (e ≡ ending.NextFault → Rose o.links.faults o.links'.faults) →
+    FoundEnds found racy o out turns (served_status e)
+served found racy o out turns ending.Ended s ends listen next = (ends refl, s)
+served found racy o out turns ending.TurnsUsed s ends listen next = s
+served found racy o out turns ending.ListenFault s ends listen next = (listen refl, inl s)
+served found racy o out turns ending.NextFault s ends listen next = (next refl, inr s)
+
+pub none_named : (found : Found) → has_items (conflicts_of found) ≡ false → conflicts_of found ≡ []
+none_named found h = empty (conflicts_of found) h
+  where
+    empty : {A : Type 0} (xs : List A) → has_items xs ≡ false → xs ≡ []
+    empty [] h = refl
+    empty (x ∷ xs) h = cc
+
+-- what was found at a path came to this
+module _ (found : Found) (racy : Bool) (o : Outside) (reading : FilesSeen) (made : Made) (out : Output) (path : List ℕ) (turns : ℕ) (finds : Finds purposes.Serving o.files reading path found) where
+  abbrev pub later : Outside
+  later = record o { files = reading }
+
+  whole : (e : Ending) → ServedFound found racy later out turns e → Served o out path turns racy e
+  whole e s = record {
+    found = found;
+    reading = reading;
+    described = finds;
+    raceless = λ off. finds.raceless (none_named found (s.names off));
+    serving = s.serving;
+    printed = s.printed;
+  }
+
+  at_files : (files : FilesSeen) → files ≡ reading → Finds purposes.Serving o.files files path found
+  at_files files e = subst (λ f. Finds purposes.Serving o.files f path found) (sym e) finds
+
+  pub found_ends : (s : Status) → FoundEnds found racy later out turns s → ServeEnds o made out path turns racy s
+  found_ends status.Done h = (h.0, whole ending.Ended h.1)
+  found_ends status.TurnsUsed h = whole ending.TurnsUsed h
+  found_ends status.Racy h = (h.0, record { found = found; described = at_files o.files' h.1.files; names = h.1.names; links = h.1.links; clock = h.1.clock; printed = h.1.printed })
+  found_ends status.LinksFault h = (h.0, either h.1)
+    where
+      either : ServedFound found racy later out turns ending.ListenFault ⊎ ServedFound found racy later out turns ending.NextFault → Served o out path turns racy ending.ListenFault ⊎ Served o out path turns racy ending.NextFault
+      either (inl s) = inl (whole ending.ListenFault s)
+      either (inr s) = inr (whole ending.NextFault s)
+  found_ends status.SinkFault h = record { rose = h.1.rose; text = h.1.text; due = OfRaces found (at_files o.files' h.0) h.1.due; front = h.1.front }
+  found_ends status.OutOfMemory h = h
+  found_ends status.Usage h = absurd h
+  found_ends status.ConfFault h = absurd h
+  found_ends status.FilesFault h = absurd h
+  found_ends status.ScriptFault h = absurd h
+  found_ends status.PatternFault h = absurd h
 
 -- a text that was due couldn't be put
 cut : (IsDue : List ℕ → Type 0) (out : Output) (text : List ℕ) → IsDue text → PutsText out text (Err status.SinkFault) → CutShort IsDue out
 cut IsDue out text due p = record { rose = p.0; text = text; due = due; front = p.1 }
 
-pub unput_serving : (o : Outside) (out : Output) (path : List ℕ) (turns : ℕ) (text : List ℕ) (s : Status) → IsFaultLine purposes.Serving o.files o.files' path text → PutsText out text (Err s) → ServeEnds o out path turns s
-unput_serving o out path turns text status.SinkFault due p = cut (IsFaultLine purposes.Serving o.files o.files' path) out text due p
-unput_serving o out path turns text status.OutOfMemory due p = p
-unput_serving o out path turns text status.Done due p = absurd p
-unput_serving o out path turns text status.Usage due p = absurd p
-unput_serving o out path turns text status.ConfFault due p = absurd p
-unput_serving o out path turns text status.FilesFault due p = absurd p
-unput_serving o out path turns text status.LinksFault due p = absurd p
-unput_serving o out path turns text status.ScriptFault due p = absurd p
-unput_serving o out path turns text status.TurnsUsed due p = absurd p
+pub unput_found : (found : Found) (racy : Bool) (o : Outside) (out : Output) (turns : ℕ) (s : Status) → o.files' ≡ o.files → PutsText out (check_text found) (Err s) → FoundEnds found racy o out turns s
+unput_found found racy o out turns status.SinkFault e p = (e, cut (λ text. text ≡ check_text found) out (check_text found) refl p)
+unput_found found racy o out turns status.OutOfMemory e p = p
+unput_found found racy o out turns status.Done e p = absurd p
+unput_found found racy o out turns status.Usage e p = absurd p
+unput_found found racy o out turns status.Racy e p = absurd p
+unput_found found racy o out turns status.ConfFault e p = absurd p
+unput_found found racy o out turns status.FilesFault e p = absurd p
+unput_found found racy o out turns status.LinksFault e p = absurd p
+unput_found found racy o out turns status.ScriptFault e p = absurd p
+unput_found found racy o out turns status.TurnsUsed e p = absurd p
+unput_found found racy o out turns status.PatternFault e p = absurd p
 
-pub unput_check : (files files' : FilesSeen) (out : Output) (path text : List ℕ) (s : Status) → IsCheckLine files files' path text → PutsText out text (Err s) → CheckEnds files files' out path s
-unput_check files files' out path text status.SinkFault due p = cut (IsCheckLine files files' path) out text due p
-unput_check files files' out path text status.OutOfMemory due p = p
-unput_check files files' out path text status.Done due p = absurd p
-unput_check files files' out path text status.Usage due p = absurd p
-unput_check files files' out path text status.ConfFault due p = absurd p
-unput_check files files' out path text status.FilesFault due p = absurd p
-unput_check files files' out path text status.LinksFault due p = absurd p
-unput_check files files' out path text status.ScriptFault due p = absurd p
-unput_check files files' out path text status.TurnsUsed due p = absurd p
+pub unput_serving : (o : Outside) (made : Made) (out : Output) (path : List ℕ) (turns : ℕ) (racy : Bool) (text : List ℕ) (s : Status) → IsFaultLine purposes.Serving o.files o.files' made path text → PutsText out text (Err s) → ServeEnds o made out path turns racy s
+unput_serving o made out path turns racy text status.SinkFault due p = cut (IsRefusal o.files o.files' made path) out text (OfFault due) p
+unput_serving o made out path turns racy text status.OutOfMemory due p = p
+unput_serving o made out path turns racy text status.Done due p = absurd p
+unput_serving o made out path turns racy text status.Usage due p = absurd p
+unput_serving o made out path turns racy text status.Racy due p = absurd p
+unput_serving o made out path turns racy text status.ConfFault due p = absurd p
+unput_serving o made out path turns racy text status.FilesFault due p = absurd p
+unput_serving o made out path turns racy text status.LinksFault due p = absurd p
+unput_serving o made out path turns racy text status.ScriptFault due p = absurd p
+unput_serving o made out path turns racy text status.TurnsUsed due p = absurd p
+unput_serving o made out path turns racy text status.PatternFault due p = absurd p
 
-pub unput_replay : (files files' : FilesSeen) (out : Output) (path text : List ℕ) (o : Outcome) (s : Status) → ComesTo files path o text → PutsText out text (Err s) → ReplayEnds files files' out path s
-unput_replay files files' out path text o status.SinkFault due p = cut (λ text. (o : Outcome) × ComesTo files path o text) out text (o, due) p
-unput_replay files files' out path text o status.OutOfMemory due p = p
-unput_replay files files' out path text o status.Done due p = absurd p
-unput_replay files files' out path text o status.Usage due p = absurd p
-unput_replay files files' out path text o status.ConfFault due p = absurd p
-unput_replay files files' out path text o status.FilesFault due p = absurd p
-unput_replay files files' out path text o status.LinksFault due p = absurd p
-unput_replay files files' out path text o status.ScriptFault due p = absurd p
-unput_replay files files' out path text o status.TurnsUsed due p = absurd p
+pub unput_check : (files files' : FilesSeen) (made : Made) (out : Output) (path text : List ℕ) (s : Status) → IsCheckLine files files' made path text → PutsText out text (Err s) → CheckEnds files files' made out path s
+unput_check files files' made out path text status.SinkFault due p = cut (IsCheckLine files files' made path) out text due p
+unput_check files files' made out path text status.OutOfMemory due p = p
+unput_check files files' made out path text status.Done due p = absurd p
+unput_check files files' made out path text status.Usage due p = absurd p
+unput_check files files' made out path text status.Racy due p = absurd p
+unput_check files files' made out path text status.ConfFault due p = absurd p
+unput_check files files' made out path text status.FilesFault due p = absurd p
+unput_check files files' made out path text status.LinksFault due p = absurd p
+unput_check files files' made out path text status.ScriptFault due p = absurd p
+unput_check files files' made out path text status.TurnsUsed due p = absurd p
+unput_check files files' made out path text status.PatternFault due p = absurd p
+
+pub unput_replay : (files files' : FilesSeen) (made : Made) (out : Output) (path text : List ℕ) (racy : Bool) (o : Outcome) (s : Status) → ComesTo files made path racy o text → PutsText out text (Err s) → ReplayEnds files files' made out path racy s
+unput_replay files files' made out path text racy o status.SinkFault due p = cut (λ text. (o : Outcome) × ComesTo files made path racy o text) out text (o, due) p
+unput_replay files files' made out path text racy o status.OutOfMemory due p = p
+unput_replay files files' made out path text racy o status.Done due p = absurd p
+unput_replay files files' made out path text racy o status.Usage due p = absurd p
+unput_replay files files' made out path text racy o status.Racy due p = absurd p
+unput_replay files files' made out path text racy o status.ConfFault due p = absurd p
+unput_replay files files' made out path text racy o status.FilesFault due p = absurd p
+unput_replay files files' made out path text racy o status.LinksFault due p = absurd p
+unput_replay files files' made out path text racy o status.ScriptFault due p = absurd p
+unput_replay files files' made out path text racy o status.TurnsUsed due p = absurd p
+unput_replay files files' made out path text racy o status.PatternFault due p = absurd p
+
+-- what a script came to was printed
+pub played : (files files' : FilesSeen) (made : Made) (out : Output) (path : List ℕ) (racy : Bool) (o : Outcome) → Played files made out path racy o → ReplayEnds files files' made out path racy (status_of o)
+played files files' made out path racy outcome.Done p = p
+played files files' made out path racy outcome.ConfFault p = p
+played files files' made out path racy outcome.Racy p = p
+played files files' made out path racy outcome.PatternFault p = p
+played files files' made out path racy (outcome.ScriptFault fault) p = (fault, p)
 
 -- a configuration's first fault, as it was found
-pub fault_described : (purpose : Purpose) (files files' : FilesSeen) (path : List ℕ) (e : ExpandError) (placed : PlacedFault) → e ≡ error.Fault placed → Reading files files' →
+pub fault_described : (purpose : Purpose) (files files' : FilesSeen) (path : List ℕ) (e : SiteError) (placed : PlacedFault) → e ≡ error.Fault placed → Reading files files' →
     (files.tells ≡ true → files'.newest ≡ files.newest → (names : Names) → IsNaming (files.trees files.newest) names → IsDescribed (Err e) (site_at purpose (files.trees files.newest) names path)) →
-    Describes purpose files files' path (Err (placed.fault, placed.path))
+    Describes purpose files files' path (Err (error.Fault placed))
 fault_described purpose files files' path e placed is reads exact = record {
   reads = reads;
-  is = subst (λ (x : ExpandError). files.tells ≡ true → files'.newest ≡ files.newest → (names : Names) → IsNaming (files.trees files.newest) names → IsDescribed (Err x) (site_at purpose (files.trees files.newest) names path)) is exact;
+  is = subst (λ (x : SiteError). files.tells ≡ true → files'.newest ≡ files.newest → (names : Names) → IsNaming (files.trees files.newest) names → IsDescribed (Err x) (site_at purpose (files.trees files.newest) names path)) is exact;
 }
 
-pub is_fault_line : (purpose : Purpose) (files files' : FilesSeen) (path : List ℕ) (placed : PlacedFault) → Describes purpose files files' path (Err (placed.fault, placed.path)) →
-    IsFaultLine purpose files files' path (ended (conf_fault_line placed.path placed.fault))
-is_fault_line purpose files files' path placed described = OfFault placed.fault placed.path described refl
-
 -- a file that couldn't be read
-pub is_files_line : (purpose : Purpose) (files files' : FilesSeen) (path : List ℕ) (e : ExpandError) (placed : PlacedFault) → e ≡ error.Failed placed → FailsIf {A = Built} (Err e) files.faults files'.faults →
-    IsFaultLine purpose files files' path (ended (conf_fault_line placed.path placed.fault))
-is_files_line purpose files files' path e placed is cause =
-    let c : FailsIf {A = Built} (Err (error.Failed placed)) files.faults files'.faults = subst (λ (x : ExpandError). FailsIf {A = Built} (Err x) files.faults files'.faults) is cause in
+pub is_files_line : (purpose : Purpose) (files files' : FilesSeen) (made : Made) (path : List ℕ) (e : SiteError) (placed : PlacedFault) → e ≡ error.Failed placed → FailsIf {A = Found} (Err e) files.faults files'.faults made.before made.after →
+    IsFaultLine purpose files files' made path (ended (conf_fault_line placed.path placed.fault))
+is_files_line purpose files files' made path e placed is cause =
+    let c : FailsIf {A = Found} (Err (error.Failed placed)) files.faults files'.faults made.before made.after = subst (λ (x : SiteError). FailsIf {A = Found} (Err x) files.faults files'.faults made.before made.after) is cause in
     OfFiles placed.fault placed.path c.0 c.1 refl
+
+-- a pattern that the maker refused
+pub is_maker_line : (purpose : Purpose) (files files' : FilesSeen) (made : Made) (path : List ℕ) (e : SiteError) (placed : PlacedFault) → e ≡ error.TooBig placed → FailsIf {A = Found} (Err e) files.faults files'.faults made.before made.after →
+    IsFaultLine purpose files files' made path (ended (conf_fault_line placed.path placed.fault))
+is_maker_line purpose files files' made path e placed is cause =
+    let c : FailsIf {A = Found} (Err (error.TooBig placed)) files.faults files'.faults made.before made.after = subst (λ (x : SiteError). FailsIf {A = Found} (Err x) files.faults files'.faults made.before made.after) is cause in
+    OfMaker placed.fault placed.path c.0 c.1 refl
+
+-- what was found was printed
+pub checked : (files files' : FilesSeen) (made : Made) (out : Output) (path : List ℕ) (found : Found) (racy : Bool) → has_items (conflicts_of found) ≡ racy → Finds purposes.Reading files files' path found → Printed out (check_text found) →
+    CheckEnds files files' made out path (if racy then status.Racy else status.Done)
+checked files files' made out path found true e d p = record { found = found; described = d; names = e; printed = p }
+checked files files' made out path found false e d p = record { found = found; described = d; names = e; printed = p }
+
+-- a site isn't refused, or is
+
+true≢false : true ≡ false → ⊥
+true≢false h = cc
+
+pub unrefused : (racy some : Bool) → (not racy && some) ≡ false → racy ≡ false → some ≡ false
+unrefused true some h off = absurd (true≢false off)
+unrefused false some h off = h
+
+pub refused : (racy some : Bool) → (not racy && some) ≡ true → (racy ≡ false) × (some ≡ true)
+refused true some h = absurd (true≢false (sym h))
+refused false some h = (refl, h)

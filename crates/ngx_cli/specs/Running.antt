@@ -1,5 +1,5 @@
 -- A run of a script, from its bytes to what is printed of it.
-use Rattle.std.specs.Prelude.{◌≡◌, ◌≢◌, ℕ, true, false, ◌||◌, is_some, List, [], ◌∷◌, ◌++◌, map, Contains, None, Some, Result, Ok, Err, if◌then◌else◌}
+use Rattle.std.specs.Prelude.{◌≡◌, ◌≢◌, ℕ, Bool, true, false, ◌||◌, is_some, List, [], ◌∷◌, ◌++◌, map, Contains, None, Some, Result, Ok, Err, if◌then◌else◌}
 use Rattle.file_tree.specs.Tree.{Trees}
 use Rattle.ngx_outside.specs.Views.{ConnView, Start, Logged, start_of, log_of, is_idle, nobody}
 use Rattle.ngx_outside.specs.Runs.{IsPrefixOf, Agree}
@@ -15,10 +15,11 @@ use Rattle.replay_run.specs.Scene.{Stage, Lane, AreHeld, empty_lane}
 use Rattle.replay_run.specs.Standing.{is_given}
 use Rattle.replay_run.specs.Plays.{Plays, sent_in}
 use Rattle.replay_run.specs.declared.lane.LinkEnds.{LinkEnds}
+use Rattle.conf_text.specs.declared.directive.Directive.{Directive}
 use Rattle.conf_text.specs.declared.fault.ConfFault.{ConfFault}
+use Rattle.conf_text.specs.declared.fault.FaultKind.TheVariants.{PatternTooBig}
 use Rattle.replay_confs.specs.Confs.{conf_tree}
-use Rattle.site_views.specs.Views.{SiteView}
-use Rattle.conf_inherit.specs.Pools.{site_built}
+use Rattle.conf_inherit.specs.Values.{has_items}
 use Rattle.conf_inherit.specs.declared.site.Purpose.TheVariants as purposes
 use Rattle.conf_inherit.specs.declared.site.Built.{Built}
 use Rattle.answers_meaning.specs.Answers.{responses, logs_in, close_in, answers}
@@ -30,7 +31,9 @@ use Rattle.report_text.specs.Report.{Report, run_text}
 use Rattle.report_text.specs.Lines.{ended}
 use Rattle.report_text.specs.Faults.{script_fault_line, conf_fault_line}
 use Rattle.ngx_cli.specs.Naming.{conf_names}
-use Rattle.ngx_cli.specs.Sites.{site_at}
+use Rattle.ngx_cli.specs.Checks.{check_text}
+use Rattle.ngx_cli.specs.Sites.{Configuration, configuration_of, conflicts_of, AreRaceless, AreRacesOf, site_at}
+use Rattle.ngx_cli.specs.declared.site.Found.{Found}
 use Rattle.ngx_cli.specs.declared.script.Outcome.{Outcome}
 use Rattle.ngx_cli.specs.declared.script.Outcome.TheVariants as outcome
 
@@ -41,9 +44,16 @@ main_path (conf ∷ confs) = conf.path
 
 -- The configurations of a script come to this: the site of the main one, which is to be served, with each include replaced
 -- by those that it names, or the first fault, with the path of its configuration.
-abbrev pub Describe : List Conf → Result SiteView (ConfFault × List ℕ) → Type 0
+abbrev pub Describe : List Conf → Result Configuration (ConfFault × List ℕ) → Type 0
 Describe confs outcome =
     site_at purposes.Serving (conf_tree confs) (conf_names confs) (main_path confs) ≡ outcome
+
+-- They were read, and these are the variables that are named of them.
+pub record AreFound (confs : List Conf) (found : Found) : Type 0 where
+  pub directives : List Directive
+  pub described : Describe confs (Ok (configuration_of found directives))
+  pub races : AreRacesOf found directives
+  pub raceless : conflicts_of found ≡ [] → AreRaceless found.built
 
 -- before a run nothing is held and nothing waits, at moment 0 and with the first tree
 pub record IsNew (s : Stage) : Type 0 where
@@ -140,19 +150,39 @@ pub record Ran (site : Built) (tree : List TreeLine) (events : List EventLine)
       Answered site (told_in events (told_first tree)) (last.view c) (last.lanes c)
       (sent_in events c)
 
--- a run on the site that a script's configurations describe
-pub record RanOn (script : Script) (text : List ℕ) : Type 0 where
-  pub site : Built
-  pub described : Describe script.confs (Ok (site_built site))
-  pub ran : Ran site script.tree script.events text
+-- A run on the site that a script's configurations describe. Unless it was asked for although variables are named, none is.
+pub record RanOn (racy : Bool) (script : Script) (text : List ℕ) : Type 0 where
+  pub found : Found
+  pub are : AreFound script.confs found
+  pub raceless : racy ≡ false → AreRaceless found.built
+  pub ran : Ran found.built script.tree script.events text
 
--- What a script's bytes come to, and what is printed: the first fault of the script; the first
--- fault of its configurations; or a run.
-abbrev pub Replays : List ℕ → Outcome → List ℕ → Type 0
-Replays bytes outcome.Done text = (script : Script) × (script_of bytes ≡ Ok script) ×
-    RanOn script text
-Replays bytes (outcome.ScriptFault fault) text = (script_of bytes ≡ Err fault) ×
+-- Variables are named of a script's configurations.
+pub record IsRacy (confs : List Conf) (text : List ℕ) : Type 0 where
+  pub found : Found
+  pub are : AreFound confs found
+  pub names : has_items (conflicts_of found) ≡ true
+  pub told : text ≡ check_text found
+
+-- what a script whose configurations were read comes to
+abbrev pub RunsOn : (racy : Bool) → Script → Outcome → List ℕ → Type 0
+RunsOn racy script outcome.Done text = RanOn racy script text
+RunsOn racy script outcome.Racy text = (racy ≡ false) × IsRacy script.confs text
+RunsOn racy script o text = ⊥
+
+-- What a script's bytes come to, and what is printed: the first fault of the script; the first fault of its configurations; a
+-- pattern of these that the maker refused; the variables that are named of them, unless a run was asked for all the same; or
+-- a run.
+abbrev pub Replays : (racy : Bool) → List ℕ → Outcome → List ℕ → Type 0
+Replays racy bytes outcome.Done text = (script : Script) × (script_of bytes ≡ Ok script) ×
+    RanOn racy script text
+Replays racy bytes outcome.Racy text = (script : Script) × (script_of bytes ≡ Ok script) ×
+    (racy ≡ false) × IsRacy script.confs text
+Replays racy bytes (outcome.ScriptFault fault) text = (script_of bytes ≡ Err fault) ×
     (text ≡ ended (script_fault_line fault))
-Replays bytes outcome.ConfFault text =
+Replays racy bytes outcome.ConfFault text =
     (script : Script) × (fault : ConfFault) × (at : List ℕ) × (script_of bytes ≡ Ok script) ×
     Describe script.confs (Err (fault, at)) × (text ≡ ended (conf_fault_line at fault))
+Replays racy bytes outcome.PatternFault text =
+    (script : Script) × (fault : ConfFault) × (at : List ℕ) × (script_of bytes ≡ Ok script) ×
+    (fault.kind ≡ PatternTooBig) × (text ≡ ended (conf_fault_line at fault))

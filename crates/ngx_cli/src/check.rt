@@ -1,16 +1,23 @@
 // The check of a configuration.
-ghost use Rattle.std.specs.Prelude.{◌≡◌, [], ◌++◌, ◌+◌, ◌-◌, ◌^◌, length, min, OnOk};
+ghost use Rattle.std.specs.Prelude.{◌≡◌, [], ◌++◌, ◌+◌, ◌-◌, ◌^◌, length, map, min, not, ◌&&◌, if◌then◌else◌, OnOk};
 ghost use Rattle.conf_inherit.specs.Pools.{site_built};
-ghost use Rattle.ngx_cli.specs.Commands.{CheckEnds, PutsText, counts_of, locations_of as locations_counted};
+ghost use Rattle.conf_inherit.specs.Values.{has_items};
+ghost use Rattle.race_places.specs.Places.{conflict_seen};
+ghost use Rattle.conf_races.specs.Runs.{run_path};
+ghost use Rattle.report_text.specs.Lines.{lines_text};
+ghost use Rattle.ngx_cli.specs.Sites.{conflicts_of, path_in};
+ghost use Rattle.ngx_cli.specs.Checks.{check_text, conflict_line, counts_of, locations_of as locations_counted};
+ghost use Rattle.ngx_cli.specs.Commands.{CheckEnds, Made, PutsText};
 
 use crate::command::{put_fault, put_text};
-use crate::site::site_at;
+use crate::site::{Found, SiteError, site_at};
 use crate::status::Status;
 use byte_text::{ByteText, OutOfMemory};
-use conf_include::ExpandError;
 use conf_inherit::{Built, Purpose};
 use ngx_outside::{Files, Sink};
-use report_text::counts_text;
+use ngx_pattern::PatternMaker;
+use race_places::Conflict;
+use report_text::{RaceReport, counts_text, race_text};
 use site_model::Server;
 use std::alloc::Global;
 
@@ -42,41 +49,106 @@ fn counts_line(site: &Built, out: &mut ByteText) -> Result<(), OutOfMemory>
     Ok(())
 }
 
-// Prints how many servers and locations a site has.
-fn put_counts<O: Sink>(alloc: Global, site: &Built, out: &mut O) -> Result<(), Status>
+// The lines of variables that are named, by the files of the runs of directives in which their places are.
+fn races_text(
+    races: &[Conflict],
+    files: &[u32],
+    paths: &[ByteText],
+    out: &mut ByteText,
+) -> Result<(), OutOfMemory>
+    ensures { OnOk result (out.new ≡ out.old ++ lines_text (map conflict_line
+        (map (conflict_seen (run_path (path_in paths.now) files.now)) races.now))) }
+{
+    for race in races {
+        let report = RaceReport {
+            server: race.server as u64,
+            name: race.name.as_slice(),
+            sets: race.sets.as_slice(),
+            reads: race.reads.as_slice(),
+            documents: race.documents,
+        };
+        race_text(&report, files, paths, out)?;
+    }
+    Ok(())
+}
+
+/// Appends what is printed of a configuration: its counts, and its variables that are named.
+pub(crate) fn found_text(found: &Found, out: &mut ByteText) -> Result<(), OutOfMemory>
+    ensures { OnOk result (out.new ≡ out.old ++ check_text found.now) }
+{
+    counts_line(&found.built, out)?;
+    let races = &found.races;
+    races_text(
+        races.conflicts.as_slice(),
+        races.files.as_slice(),
+        found.paths.as_slice(),
+        out,
+    )?;
+    Ok(())
+}
+
+/// Prints the counts of a configuration, and its variables that are named.
+pub(crate) fn put_found<O: Sink>(alloc: Global, found: &Found, out: &mut O) -> Result<(), Status>
     ensures { PutsText (record { before = O.seen out.old; after = O.seen out.new })
-        (counts_of (site_built site.now)) result }
+        (check_text found.now) result }
 {
     let mut text = ByteText::new(alloc);
-    match counts_line(site, &mut text) {
+    match found_text(found, &mut text) {
         Ok(()) => put_text(text.as_slice(), out),
         Err(OutOfMemory) => Err(Status::OutOfMemory),
     }
 }
 
-/// Reads a configuration, and prints what it comes to: its counts, or its first fault.
-pub(crate) fn run_check<F: Files, O: Sink>(
+/// Whether variables are named.
+fn is_racy(found: &Found) -> bool
+    ensures { result ≡ has_items (conflicts_of found.now) }
+{
+    !found.races.conflicts.is_empty()
+}
+
+/// Whether a site isn't to be run: variables are named, and it wasn't asked for all the same.
+pub(crate) fn is_refused(racy: bool, found: &Found) -> bool
+    ensures { result ≡ (not racy && has_items (conflicts_of found.now)) }
+{
+    !racy && is_racy(found)
+}
+
+/// What a check ends with.
+fn status_by(racy: bool) -> Status
+    ensures { result ≡ (if racy then Status.Racy else Status.Done) }
+{
+    if racy { Status::Racy } else { Status::Done }
+}
+
+/// Reads a configuration, and prints what it comes to: its counts and the variables that are named, or its first fault.
+pub(crate) fn run_check<F: Files, O: Sink, M: PatternMaker>(
     alloc: Global,
     path: &[u8],
     files: &mut F,
+    maker: &mut M,
     out: &mut O,
 ) -> Status
     ensures { CheckEnds (F.seen files.old) (F.seen files.new)
+        (record { before = M.refusals maker.old; after = M.refusals maker.new })
         (record { before = O.seen out.old; after = O.seen out.new }) path.now result }
 {
-    match site_at(alloc, Purpose::Reading, files, path) {
-        Ok(built) => match put_counts(alloc, &built, out) {
-            Ok(()) => Status::Done,
+    match site_at(alloc, Purpose::Reading, files, maker, path) {
+        Ok(found) => match put_found(alloc, &found, out) {
+            Ok(()) => status_by(is_racy(&found)),
             Err(status) => status,
         },
-        Err(ExpandError::Fault(placed)) => match put_fault(alloc, &placed, out) {
+        Err(SiteError::Fault(placed)) => match put_fault(alloc, &placed, out) {
             Ok(()) => Status::ConfFault,
             Err(status) => status,
         },
-        Err(ExpandError::Failed(placed)) => match put_fault(alloc, &placed, out) {
+        Err(SiteError::Failed(placed)) => match put_fault(alloc, &placed, out) {
             Ok(()) => Status::FilesFault,
             Err(status) => status,
         },
-        Err(ExpandError::OutOfMemory) => Status::OutOfMemory,
+        Err(SiteError::TooBig(placed)) => match put_fault(alloc, &placed, out) {
+            Ok(()) => Status::PatternFault,
+            Err(status) => status,
+        },
+        Err(SiteError::OutOfMemory) => Status::OutOfMemory,
     }
 }

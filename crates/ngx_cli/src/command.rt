@@ -4,19 +4,20 @@ ghost use Rattle.report_text.specs.Lines.{ended};
 ghost use Rattle.report_text.specs.Faults.{conf_fault_line};
 ghost use Rattle.site_service.specs.Serving.{AreNew, Outside};
 ghost use Rattle.command_line.specs.Words.{request_in};
-ghost use Rattle.ngx_cli.specs.Commands.{Ends, EndsWith, Output, ReplayEnds, ServeEnds, PutsText};
+ghost use Rattle.ngx_cli.specs.Commands.{Ends, EndsWith, FoundEnds, Made, Output, ReplayEnds, ServeEnds, PutsText};
 
-use crate::check::run_check;
+use crate::check::{is_refused, put_found, run_check};
 use crate::help::{put_help, put_version};
 use crate::script::{placed_fault_text, replay};
-use crate::site::site_at;
+use crate::site::{Found, SiteError, site_at};
 use crate::status::{Status, served_status, status_of};
 use crate::text::read_text;
 use byte_text::{ByteText, OutOfMemory};
 use command_line::{Command, command_of};
-use conf_include::{ExpandError, PlacedFault};
-use conf_inherit::Purpose;
+use conf_include::PlacedFault;
+use conf_inherit::{Built, Purpose};
 use ngx_outside::{Clock, Failed, FileFault, Files, Links, Sink};
+use ngx_pattern::PatternMaker;
 use site_service::serve_site;
 use std::alloc::Global;
 
@@ -32,9 +33,17 @@ pub(crate) fn put_text<O: Sink>(text: &[u8], out: &mut O) -> Result<(), Status>
 }
 
 // Runs a script and prints what it came to.
-fn run_script<F: Files, O: Sink>(alloc: Global, path: &[u8], files: &mut F, out: &mut O) -> Status
+fn run_script<F: Files, O: Sink, M: PatternMaker>(
+    alloc: Global,
+    path: &[u8],
+    racy: bool,
+    files: &mut F,
+    maker: &mut M,
+    out: &mut O,
+) -> Status
     ensures { ReplayEnds (F.seen files.old) (F.seen files.new)
-        (record { before = O.seen out.old; after = O.seen out.new }) path.now result }
+        (record { before = M.refusals maker.old; after = M.refusals maker.new })
+        (record { before = O.seen out.old; after = O.seen out.new }) path.now racy result }
 {
     let script = match read_text(alloc, files, path) {
         Ok(script) => script,
@@ -42,7 +51,7 @@ fn run_script<F: Files, O: Sink>(alloc: Global, path: &[u8], files: &mut F, out:
         Err(FileFault::OutOfMemory) => return Status::OutOfMemory,
     };
     let mut text = ByteText::new(alloc);
-    match replay(alloc, script.as_slice(), &mut text) {
+    match replay(alloc, script.as_slice(), racy, maker, &mut text) {
         Ok(outcome) => match put_text(text.as_slice(), out) {
             Ok(()) => status_of(outcome),
             Err(status) => status,
@@ -67,14 +76,50 @@ pub(crate) fn put_fault<O: Sink>(
     }
 }
 
-// Serves the site of a configuration.
-fn run_site<F: Files, L: Links, C: Clock, O: Sink>(
+// Serves the site of a configuration, if no variable of it is named, or all the same.
+fn serve_found<F: Files, L: Links, C: Clock, O: Sink>(
     alloc: Global,
-    path: &[u8],
+    found: Found,
     turns: u64,
+    racy: bool,
     files: &mut F,
     links: &mut L,
     clock: &mut C,
+    out: &mut O,
+) -> Status
+    requires links { AreNew (L.seen links.old) }
+    ensures { FoundEnds found racy (record {
+      files = F.seen files.old;
+      files' = F.seen files.new;
+      links = L.seen links.old;
+      links' = L.seen links.new;
+      clock = C.seen clock.old;
+      clock' = C.seen clock.new;
+    }) (record { before = O.seen out.old; after = O.seen out.new }) turns result }
+{
+    if is_refused(racy, &found) {
+        return match put_found(alloc, &found, out) {
+            Ok(()) => Status::Racy,
+            Err(status) => status,
+        };
+    }
+    let Built { site, patterns } = found.built;
+    match serve_site(alloc, site, patterns, files, links, clock, turns) {
+        Ok(ending) => served_status(ending),
+        Err(OutOfMemory) => Status::OutOfMemory,
+    }
+}
+
+// Serves the site of a configuration.
+fn run_site<F: Files, L: Links, C: Clock, O: Sink, M: PatternMaker>(
+    alloc: Global,
+    path: &[u8],
+    turns: u64,
+    racy: bool,
+    files: &mut F,
+    links: &mut L,
+    clock: &mut C,
+    maker: &mut M,
     out: &mut O,
 ) -> Status
     requires links { AreNew (L.seen links.old) }
@@ -85,40 +130,35 @@ fn run_site<F: Files, L: Links, C: Clock, O: Sink>(
       links' = L.seen links.new;
       clock = C.seen clock.old;
       clock' = C.seen clock.new;
-    }) (record { before = O.seen out.old; after = O.seen out.new }) path.now turns result }
+    }) (record { before = M.refusals maker.old; after = M.refusals maker.new })
+        (record { before = O.seen out.old; after = O.seen out.new }) path.now turns racy result }
 {
-    match site_at(alloc, Purpose::Serving, files, path) {
-        Ok(built) => match serve_site(
-            alloc,
-            built.site,
-            built.patterns,
-            files,
-            links,
-            clock,
-            turns,
-        ) {
-            Ok(ending) => served_status(ending),
-            Err(OutOfMemory) => Status::OutOfMemory,
-        },
-        Err(ExpandError::Fault(placed)) => match put_fault(alloc, &placed, out) {
+    match site_at(alloc, Purpose::Serving, files, maker, path) {
+        Ok(found) => serve_found(alloc, found, turns, racy, files, links, clock, out),
+        Err(SiteError::Fault(placed)) => match put_fault(alloc, &placed, out) {
             Ok(()) => Status::ConfFault,
             Err(status) => status,
         },
-        Err(ExpandError::Failed(placed)) => match put_fault(alloc, &placed, out) {
+        Err(SiteError::Failed(placed)) => match put_fault(alloc, &placed, out) {
             Ok(()) => Status::FilesFault,
             Err(status) => status,
         },
-        Err(ExpandError::OutOfMemory) => Status::OutOfMemory,
+        Err(SiteError::TooBig(placed)) => match put_fault(alloc, &placed, out) {
+            Ok(()) => Status::PatternFault,
+            Err(status) => status,
+        },
+        Err(SiteError::OutOfMemory) => Status::OutOfMemory,
     }
 }
 
 // What the words ask for is done.
-fn run<F: Files, L: Links, C: Clock, O: Sink>(
+fn run<F: Files, L: Links, C: Clock, O: Sink, M: PatternMaker>(
     alloc: Global,
     words: &[String],
     files: &mut F,
     links: &mut L,
     clock: &mut C,
+    maker: &mut M,
     out: &mut O,
 ) -> Status
     requires links { AreNew (L.seen links.old) }
@@ -129,50 +169,66 @@ fn run<F: Files, L: Links, C: Clock, O: Sink>(
       links' = L.seen links.new;
       clock = C.seen clock.old;
       clock' = C.seen clock.new;
-    }) (record { before = O.seen out.old; after = O.seen out.new }) result }
+    }) (record { before = M.refusals maker.old; after = M.refusals maker.new })
+        (record { before = O.seen out.old; after = O.seen out.new }) result }
 {
     match command_of(words) {
         None => Status::Usage,
         Some(Command::Help) => put_help(out),
         Some(Command::Version) => put_version(out),
-        Some(Command::Check { conf }) => run_check(alloc, conf.as_bytes(), files, out),
-        Some(Command::Replay { script }) => run_script(alloc, script.as_bytes(), files, out),
-        Some(Command::Serve { conf, turns }) => {
-            run_site(alloc, conf.as_bytes(), turns, files, links, clock, out)
+        Some(Command::Check { conf }) => run_check(alloc, conf.as_bytes(), files, maker, out),
+        Some(Command::Replay { script, racy }) => {
+            run_script(alloc, script.as_bytes(), racy, files, maker, out)
         }
+        Some(Command::Serve { conf, turns, racy }) => run_site(
+            alloc,
+            conf.as_bytes(),
+            turns,
+            racy,
+            files,
+            links,
+            clock,
+            maker,
+            out,
+        ),
     }
 }
 
-/// The program: does what its words ask for, with these files, links, clock and output, and answers the exit status of the
-/// process. No link was reported yet.
+/// The program: does what its words ask for, with these files, links, clock, maker of patterns and output, and answers the
+/// exit status of the process. No link was reported yet.
 ///
 /// The words are the program's name and one of these.
 ///
 /// - `--help` or `-h`, alone or in place of a command's path: what the program does, with its commands, is printed.
 /// - `--version` or `-V`: the program's name and version are printed.
-/// - `check CONF`: the configuration is read with what it includes, and `servers N locations M` is printed, M being the locations
-///   of all its servers, in each other or of a name too; nothing is printed of variables yet.
+/// - `check CONF`: the configuration is read with what it includes, and `servers N locations M` is printed, M being the
+///   locations of all its servers, in each other or of a name too; then a line for each variable that can show in which order
+///   subrequests run, `race SERVER $NAME set PLACES read PLACES`.
 /// - `replay SCRIPT`: the script is run on a new core of the site that its configuration describes, and what each connection
 ///   came to is printed.
 /// - `serve CONF`, or `serve CONF --turns N`: the site that the configuration describes is served on its addresses, until no
 ///   notice comes any more, or for N turns, from 1 to 1000000000. Serving prints nothing but faults.
+/// - `--racy` behind `replay SCRIPT` or `serve CONF`: all the same where variables can show in which order subrequests run.
+///   Without it, what `check` prints is printed then, and nothing is run or served.
 ///
 /// 0: done; of serving, no notice will come any more. 1: the configuration has a fault, which is printed. 2: the words are no
-/// command. 4: the files failed; where a configuration was read, that is printed. 5: the output failed. 6: listening or the
-/// call for the next notice failed. 7: memory ran out. 8: the script is outside its grammar, and its first fault is printed.
-/// 9: all turns were used.
+/// command. 3: variables can show in which order subrequests run, which are printed. 4: the files failed; where a
+/// configuration was read, that is printed. 5: the output failed. 6: listening or the call for the next notice failed. 7:
+/// memory ran out. 8: the script is outside its grammar, and its first fault is printed. 9: all turns were used. 10: the
+/// maker refused a pattern of the configuration, which is printed.
 ///
 /// On each connection of a run, and on each link that is served, the bytes emitted are a prefix of the concatenated
 /// responses that the meaning of serving gives the requests in the bytes that arrived on it, at its two ends. They are all of
 /// them where it is idle; of a link, unless a cause stopped it, once it is closed, and at the end of serving, unless it takes
 /// no more. A link is closed without such a cause only where its input ended, or where nothing that could still arrive would
 /// have been answered.
-pub fn ngx<F: Files, L: Links, C: Clock, O: Sink>(
+pub fn ngx<F: Files, L: Links, C: Clock, O: Sink, M: PatternMaker>(
     alloc: Global,
     words: &[String],
     files: &mut F,
     links: &mut L,
     clock: &mut C,
+    maker: &mut M,
     out: &mut O,
 ) -> u8
     requires links { AreNew (L.seen links.old) }
@@ -183,7 +239,8 @@ pub fn ngx<F: Files, L: Links, C: Clock, O: Sink>(
       links' = L.seen links.new;
       clock = C.seen clock.old;
       clock' = C.seen clock.new;
-    }) (record { before = O.seen out.old; after = O.seen out.new }) result }
+    }) (record { before = M.refusals maker.old; after = M.refusals maker.new })
+        (record { before = O.seen out.old; after = O.seen out.new }) result }
 {
-    run(alloc, words, files, links, clock, out).code()
+    run(alloc, words, files, links, clock, maker, out).code()
 }

@@ -13,5 +13,5 @@ mod text;
 pub use command::ngx;
 pub use laws::folders_have_their_names;
 pub use script::{Outcome, replay};
-pub use site::site_at;
+pub use site::{Found, SiteError, site_at};
 pub use status::Status;

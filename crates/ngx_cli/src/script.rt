@@ -6,22 +6,24 @@ ghost use Rattle.connection_core.specs.Core.{view_at, now_at, journal_at, conns_
 ghost use Rattle.report_text.specs.Report.{run_text, report_of};
 ghost use Rattle.report_text.specs.Lines.{ended};
 ghost use Rattle.report_text.specs.Faults.{conf_fault_line};
-ghost use Rattle.conf_inherit.specs.Pools.{site_built};
-ghost use Rattle.ngx_cli.specs.Sites.{OnFault};
-ghost use Rattle.ngx_cli.specs.Running.{main_path as path_of_main, Describe, report_in, Ran, Replays};
+ghost use Rattle.ngx_outside.specs.Causes.{Rose};
+ghost use Rattle.ngx_cli.specs.Sites.{OnFault, OnRefused};
+ghost use Rattle.ngx_cli.specs.Running.{main_path as path_of_main, AreFound, Describe, report_in, Ran, RunsOn, Replays};
 
-use crate::site::site_at;
+use crate::check::{found_text, is_refused};
+use crate::site::{Found, SiteError, site_at};
 use byte_text::{ByteText, OutOfMemory};
-use conf_include::{ExpandError, PlacedFault};
+use conf_include::PlacedFault;
 use conf_inherit::{Built, Purpose};
 use connection_core::{Hub, cores_are_sound};
 use ngx_outside::{
     StopCause, all_is_logged_when_idle, all_is_sent_when_idle, all_is_sent_when_shut,
     shut_is_exact, tracks_begin,
 };
+use ngx_pattern::PatternMaker;
 use replay_confs::ConfFiles;
 use replay_run::{Counts, Player, files_of, run_lines};
-use replay_text::{Conf, Confs, EventLine, ScriptError, ScriptFault, TreeLine, read};
+use replay_text::{Conf, Confs, EventLine, Script, ScriptError, ScriptFault, TreeLine, read};
 use report_text::{ConnReport, ConnState, conf_fault_text, conn_text, end_text, script_fault_text};
 use served_site::ServedSite;
 use std::alloc::Global;
@@ -35,6 +37,10 @@ pub enum Outcome {
     ScriptFault(ScriptFault),
     /// Its configurations have a fault.
     ConfFault,
+    /// The maker refused a pattern of its configurations.
+    PatternFault,
+    /// Variables of its configurations show in which order subrequests run.
+    Racy,
 }
 
 // The path of the main configuration.
@@ -48,19 +54,21 @@ fn main_path(confs: &[Conf]) -> &[u8]
 }
 
 // The site that a script's configurations describe.
-fn site_of(alloc: Global, confs: &Confs) -> Result<Built, ExpandError>
-    ensures ok { IfOk result (λ site. Describe confs.now (Ok (site_built site))) }
+fn site_of<M: PatternMaker>(alloc: Global, confs: &Confs, maker: &mut M) -> Result<Found, SiteError>
+    ensures ok { IfOk result (λ found. AreFound confs.now found) }
     ensures fault { IfErr result (λ e. OnFault e
         (λ fault at. Describe confs.now (Err (fault, at)))) }
+    ensures refused { IfErr result (λ e. OnRefused e (M.refusals maker.old) (M.refusals maker.new)) }
 {
     let mut files = ConfFiles::new(alloc, confs.as_slice());
     match site_at(
         alloc,
         Purpose::Serving,
         &mut files,
+        maker,
         main_path(confs.as_slice()),
     ) {
-        Ok(built) => Ok(built),
+        Ok(found) => Ok(found),
         Err(error) => Err(error),
     }
 }
@@ -150,11 +158,46 @@ pub(crate) fn placed_fault_text(placed: &PlacedFault, out: &mut ByteText) -> Res
     Ok(())
 }
 
-/// Runs a script, and appends what is printed of it: what each connection came to, or the first fault of the script or of
-/// its configurations. After want of memory `out` holds some part of the text.
-pub fn replay(alloc: Global, bytes: &[u8], out: &mut ByteText) -> Result<Outcome, OutOfMemory>
-    ensures { IfOk result (λ o. (text : List ℕ) × (out.new ≡ out.old ++ text) ×
-        Replays bytes.now o text) }
+// Runs a script on a site, if no variable of it is named, or all the same.
+fn run_found(
+    alloc: Global,
+    racy: bool,
+    found: Found,
+    script: &Script,
+    out: &mut ByteText,
+) -> Result<Outcome, OutOfMemory>
+    requires { AreFound script.now.confs found }
+    ensures { IfOk result (λ o. (text : List ℕ) × (out.new ≡ out.old ++ text)
+        × RunsOn racy script.now o text) }
+{
+    if is_refused(racy, &found) {
+        found_text(&found, out)?;
+        return Ok(Outcome::Racy);
+    }
+    run(
+        alloc,
+        found.built,
+        script.tree.as_slice(),
+        script.events.as_slice(),
+        out,
+    )?;
+    Ok(Outcome::Done)
+}
+
+/// Runs a script, and appends what is printed of it: what each connection came to, or the first fault of the script or of its
+/// configurations, or a pattern of these that the maker refused, or, unless it is to run all the same, the variables of these
+/// that show in which order subrequests run. After want of memory `out` holds some part of the text.
+pub fn replay<M: PatternMaker>(
+    alloc: Global,
+    bytes: &[u8],
+    racy: bool,
+    maker: &mut M,
+    out: &mut ByteText,
+) -> Result<Outcome, OutOfMemory>
+    ensures text { IfOk result (λ o. (text : List ℕ) × (out.new ≡ out.old ++ text) ×
+        Replays racy bytes.now o text) }
+    ensures refused { result ≡ Ok Outcome.PatternFault →
+        Rose (M.refusals maker.old) (M.refusals maker.new) }
 {
     let script = match read(alloc, bytes) {
         Ok(script) => script,
@@ -164,24 +207,19 @@ pub fn replay(alloc: Global, bytes: &[u8], out: &mut ByteText) -> Result<Outcome
         }
         Err(ScriptError::OutOfMemory) => return Err(OutOfMemory),
     };
-    match site_of(alloc, &script.confs) {
-        Ok(built) => {
-            run(
-                alloc,
-                built,
-                script.tree.as_slice(),
-                script.events.as_slice(),
-                out,
-            )?;
-            Ok(Outcome::Done)
-        }
-        Err(ExpandError::Fault(placed)) => {
+    match site_of(alloc, &script.confs, maker) {
+        Ok(found) => run_found(alloc, racy, found, &script, out),
+        Err(SiteError::Fault(placed)) => {
             placed_fault_text(&placed, out)?;
             Ok(Outcome::ConfFault)
         }
+        Err(SiteError::TooBig(placed)) => {
+            placed_fault_text(&placed, out)?;
+            Ok(Outcome::PatternFault)
+        }
         // A script's configurations are in memory: only a read of what they don't hold fails, and what stands there is asked
         // before.
-        Err(ExpandError::Failed(_)) => Err(OutOfMemory),
-        Err(ExpandError::OutOfMemory) => Err(OutOfMemory),
+        Err(SiteError::Failed(_)) => Err(OutOfMemory),
+        Err(SiteError::OutOfMemory) => Err(OutOfMemory),
     }
 }

@@ -1,17 +1,40 @@
 // The site of a configuration.
-ghost use Rattle.std.specs.Prelude.{◌≡◌, true, slice_index_or, []};
+ghost use Rattle.std.specs.Prelude.{◌≡◌, true, slice_index_or, [], IfOk, IfErr};
 ghost use Rattle.ngx_outside.specs.Records.{Adds};
 ghost use Rattle.ready_loop.specs.Seen.{Grown};
 ghost use Rattle.conf_include.specs.Listings.{Names, IsNaming};
-ghost use Rattle.ngx_cli.specs.Sites.{Describes, FailsIf, Reading, site_at as site_found};
+ghost use Rattle.ngx_cli.specs.declared.site.SiteError.TheVariants.{OutOfMemory as NoMemory};
+ghost use Rattle.ngx_cli.specs.Sites.{AreRaceless, AreRacesOf, conflicts_of, Describes, FailsIf, Reading, unread_by, site_at as site_found};
 
-use byte_text::{ByteText, ByteTexts};
+use byte_text::{ByteText, ByteTexts, OutOfMemory};
 use conf_check::ReadError;
-use conf_include::{ExpandError, PlacedFault, expand, folder_of};
+use conf_include::{ExpandError, Expanded, PlacedFault, expand, folder_of};
 use conf_inherit::{Built, Purpose, build};
+use conf_races::{FoundRaces, races};
 use ngx_outside::Files;
-use ngx_pattern::CrateMaker;
+use ngx_pattern::PatternMaker;
 use std::alloc::Global;
+
+/// A configuration that was read: its site with the site's patterns, its variables that can show in which order subrequests
+/// run, and the paths of its files by their numbers.
+#[derive(Drop)]
+pub struct Found {
+    pub built: Built,
+    pub races: FoundRaces,
+    pub paths: ByteTexts,
+}
+
+/// Why a configuration was not read.
+#[derive(Debug, Drop)]
+pub enum SiteError {
+    /// Its first fault.
+    Fault(PlacedFault),
+    /// The files failed, and their count of faults rose. The fault is of the kind `ReadFault`.
+    Failed(PlacedFault),
+    /// The maker refused a pattern, and its count of refusals rose. The fault is of the kind `PatternTooBig`.
+    TooBig(PlacedFault),
+    OutOfMemory,
+}
 
 // The path of a number; no bytes where there is none.
 fn path_at(alloc: Global, paths: ByteTexts, number: u32) -> ByteText
@@ -26,20 +49,53 @@ fn path_at(alloc: Global, paths: ByteTexts, number: u32) -> ByteText
     }
 }
 
+// Why files were not read.
+fn unread(error: ExpandError) -> SiteError
+    ensures { result ≡ unread_by error }
+{
+    match error {
+        ExpandError::Fault(placed) => SiteError::Fault(placed),
+        ExpandError::Failed(placed) => SiteError::Failed(placed),
+        ExpandError::OutOfMemory => SiteError::OutOfMemory,
+    }
+}
+
+// A site with the variables that the race check names of it.
+fn checked(alloc: Global, built: Built, read: Expanded) -> Result<Found, SiteError>
+    ensures site { IfOk result (λ found. found.built ≡ built) }
+    ensures paths { IfOk result (λ found. found.paths ≡ read.paths) }
+    ensures races { IfOk result (λ found. AreRacesOf found read.directives) }
+    ensures none { IfOk result (λ found. conflicts_of found ≡ [] → AreRaceless found.built) }
+    ensures memory { IfErr result (λ e. e ≡ NoMemory) }
+{
+    let Expanded { directives, paths } = read;
+    match races(alloc, &built.site, directives.into_vec()) {
+        Ok(races) => Ok(Found {
+            built,
+            races,
+            paths,
+        }),
+        Err(OutOfMemory) => Err(SiteError::OutOfMemory),
+    }
+}
+
 // The same, with the number of the newest tree asked for at the beginning alone.
 #[tactic(auto, unfolding(crate::specs::Sites::site_at))]
-fn site_read<F: Files>(
+fn site_read<F: Files, M: PatternMaker>(
     alloc: Global,
     purpose: Purpose,
     files: &mut F,
+    maker: &mut M,
     path: &[u8],
-) -> Result<Built, ExpandError>
+) -> Result<Found, SiteError>
     ensures exact { (F.seen files.old).tells ≡ true →
         (F.seen files.new).newest ≡ (F.seen files.old).newest → (names : Names) →
         IsNaming ((F.seen files.old).trees (F.seen files.old).newest) names →
         Describes result (site_found purpose
         ((F.seen files.old).trees (F.seen files.old).newest) names path.now) }
-    ensures cause { FailsIf result (F.seen files.old).faults (F.seen files.new).faults }
+    ensures none { IfOk result (λ found. conflicts_of found ≡ [] → AreRaceless found.built) }
+    ensures cause { FailsIf result (F.seen files.old).faults (F.seen files.new).faults
+        (M.refusals maker.old) (M.refusals maker.new) }
     ensures versions { Adds (F.seen files.old).newest (F.seen files.old).versions
         (F.seen files.new).versions }
     ensures tells { (F.seen files.new).tells ≡ (F.seen files.old).tells }
@@ -47,44 +103,53 @@ fn site_read<F: Files>(
 {
     let read = match expand(alloc, files, path) {
         Ok(read) => read,
-        Err(error) => return Err(error),
+        Err(error) => return Err(unread(error)),
     };
-    let mut maker = CrateMaker::new();
     let directives = read.directives.as_slice();
-    match build(alloc, &mut maker, purpose, folder_of(path), directives) {
-        Ok(built) => Ok(built),
+    match build(alloc, maker, purpose, folder_of(path), directives) {
+        Ok(built) => match checked(alloc, built, read) {
+            Ok(found) => Ok(found),
+            Err(error) => Err(error),
+        },
         Err(ReadError::Fault(fault)) => {
             let path = path_at(alloc, read.paths, fault.file);
-            Err(ExpandError::Fault(PlacedFault { fault, path }))
+            Err(SiteError::Fault(PlacedFault { fault, path }))
         }
-        Err(ReadError::TooBig(_)) => Err(ExpandError::OutOfMemory),
-        Err(ReadError::OutOfMemory) => Err(ExpandError::OutOfMemory),
+        Err(ReadError::TooBig(fault)) => {
+            let path = path_at(alloc, read.paths, fault.file);
+            Err(SiteError::TooBig(PlacedFault { fault, path }))
+        }
+        Err(ReadError::OutOfMemory) => Err(SiteError::OutOfMemory),
     }
 }
 
-/// The site that a configuration describes for this purpose, from its main file and the files that it includes, where the files' newest tree
-/// stays the newest until it is read. The number of the newest tree is asked for at the beginning and at the end.
+/// The site that a configuration describes for this purpose, from its main file and the files that it includes, where the
+/// files' newest tree stays the newest until it is read; and the variables that the race check names of it. The number of the
+/// newest tree is asked for at the beginning and at the end. Patterns are made by this maker.
 ///
 /// # Errors
 ///
 /// `Fault` for the first fault of its files' texts, or of its directives; of a site that is to be served then for the first
-/// directive that has no effect yet. `Failed` only where the files failed in this call.
-/// `OutOfMemory`.
-pub fn site_at<F: Files>(
+/// directive that has no effect yet. `Failed` only where the files failed in this call, and `TooBig` only where the maker
+/// refused a pattern in it. `OutOfMemory`.
+pub fn site_at<F: Files, M: PatternMaker>(
     alloc: Global,
     purpose: Purpose,
     files: &mut F,
+    maker: &mut M,
     path: &[u8],
-) -> Result<Built, ExpandError>
+) -> Result<Found, SiteError>
     ensures exact { (F.seen files.old).tells ≡ true →
         (F.seen files.new).newest ≡ (F.seen files.old).newest → (names : Names) →
         IsNaming ((F.seen files.old).trees (F.seen files.old).newest) names →
         Describes result (site_found purpose
         ((F.seen files.old).trees (F.seen files.old).newest) names path.now) }
-    ensures cause { FailsIf result (F.seen files.old).faults (F.seen files.new).faults }
+    ensures none { IfOk result (λ found. conflicts_of found ≡ [] → AreRaceless found.built) }
+    ensures cause { FailsIf result (F.seen files.old).faults (F.seen files.new).faults
+        (M.refusals maker.old) (M.refusals maker.new) }
     ensures reading { Reading (F.seen files.old) (F.seen files.new) }
 {
-    let outcome = site_read(alloc, purpose, files, path);
+    let outcome = site_read(alloc, purpose, files, maker, path);
     files.version();
     outcome
 }

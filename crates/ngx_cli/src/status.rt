@@ -13,6 +13,8 @@ pub enum Status {
     ConfFault,
     /// The words are no command.
     Usage,
+    /// Variables show in which order subrequests run, which was printed.
+    Racy,
     /// A call on the files failed.
     FilesFault,
     /// What was to be printed was not taken.
@@ -24,6 +26,8 @@ pub enum Status {
     TurnsUsed,
     /// The script is outside its grammar, and its first fault was printed.
     ScriptFault,
+    /// The maker refused a pattern of the configuration, which was printed.
+    PatternFault,
 }
 
 impl Status {
@@ -38,12 +42,14 @@ impl Status {
             Status::Done => 0,
             Status::ConfFault => 1,
             Status::Usage => 2,
+            Status::Racy => 3,
             Status::FilesFault => 4,
             Status::SinkFault => 5,
             Status::LinksFault => 6,
             Status::OutOfMemory => 7,
             Status::ScriptFault => 8,
             Status::TurnsUsed => 9,
+            Status::PatternFault => 10,
         }
     }
 }
@@ -55,6 +61,8 @@ pub fn status_of(outcome: Outcome) -> Status
     match outcome {
         Outcome::Done => Status::Done,
         Outcome::ConfFault => Status::ConfFault,
+        Outcome::Racy => Status::Racy,
+        Outcome::PatternFault => Status::PatternFault,
         Outcome::ScriptFault(_) => Status::ScriptFault,
     }
 }

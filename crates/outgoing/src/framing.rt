@@ -51,7 +51,8 @@ fn add_chunks(chunks: &mut ChunkState, out: &mut Vec<u8>, bytes: &[u8], room: us
     chunks.feed_within(bytes, out, room)
 }
 
-/// Adds as much of the body as so much room has place for, as it is framed, and answers how many bytes it took.
+/// Adds as much of the body as so much room has place for, as it is framed, and answers how many
+/// bytes it took.
 pub fn add(framing: &mut Option<ChunkState>, out: &mut Vec<u8>, bytes: &[u8], room: usize) -> usize
     requires { vec_len out.old + room ≤ vec_capacity out.old }
     ensures within { result ≤ length bytes.now }

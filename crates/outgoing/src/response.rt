@@ -11,12 +11,12 @@ use std::marker::Model;
 /// How many bytes may be pending, but for those of `put_all`.
 const MOST: usize = 65536;
 
-/// The room of the buffer. Bytes are moved down only where at least as many were written before them: so each byte is
-/// moved a bounded number of times, and the room behind them is enough.
+/// The room of the buffer. Bytes are moved down only where at least as many were written before
+/// them: so each byte is moved a bounded number of times, and the room behind them is enough.
 const ROOM: usize = 131072;
 
-/// Moves the bytes from `start` on down to the beginning, where they are no more than those before them, and answers
-/// where they begin then.
+/// Moves the bytes from `start` on down to the beginning, where they are no more than those before
+/// them, and answers where they begin then.
 fn moved_down(bytes: &mut Vec<u8>, start: usize) -> usize
     requires { start ≤ vec_len bytes.old }
     ensures items { drop result bytes.new.items ≡ drop start bytes.old.items }
@@ -47,8 +47,9 @@ fn reserved(alloc: Global, head: &[u8]) -> Result<Vec<u8>, OutOfMemory>
     Ok(bytes)
 }
 
-/// The bytes of a response that are written next, and the framing of the bytes of its body that come after them. Contracts
-/// see the bytes that are pending, and the bytes of the body that wait for their block to become whole (`Leaving`).
+/// The bytes of a response that are written next, and the framing of the bytes of its body that
+/// come after them. Contracts see the bytes that are pending, and the bytes of the body that wait
+/// for their block to become whole (`Leaving`).
 #[derive(Drop)]
 pub struct Outgoing {
     bytes: Vec<u8>,
@@ -65,15 +66,18 @@ impl Model for Outgoing {
 
     ghost view = { λ o. record { pending = drop o.start o.bytes.items; block = o.framing } };
 
-    ghost invariant = { λ o. IsReserved o.start (vec_len o.bytes) (vec_capacity o.bytes) o.framing };
+    ghost invariant = { λ o.
+        IsReserved o.start (vec_len o.bytes) (vec_capacity o.bytes) o.framing };
 }
 
 impl Outgoing {
-    /// The head of a response, before the first byte of its body; `chunked` says whether the body is framed. It takes all
-    /// the memory that later calls but `put_all` and `finish` need. No head has more than 65536 bytes.
+    /// The head of a response, before the first byte of its body; `chunked` says whether the body
+    /// is framed. It takes all the memory that later calls but `put_all` and `finish` need. No head
+    /// has more than 65536 bytes.
     pub fn new(alloc: Global, head: &[u8], chunked: bool) -> Result<Outgoing, OutOfMemory>
         ensures pending { IfOk result (λ outgoing. outgoing.pending ≡ head.now) }
-        ensures block { IfOk result (λ outgoing. outgoing.block ≡ (if chunked then Some [] else None)) }
+        ensures block { IfOk result (λ outgoing.
+            outgoing.block ≡ (if chunked then Some [] else None)) }
         ensures bounded { IfOk result (λ outgoing. length outgoing.pending ≤ most) }
     {
         let bytes = reserved(alloc, head)?;
@@ -92,14 +96,17 @@ impl Outgoing {
         &self.bytes.as_slice()[self.start..]
     }
 
-    /// Takes as many of the next bytes of the body as there is room for, and answers how many. Of a body in chunks
-    /// (RFC 9112, section 7.1) no byte is taken from the one on that would make a block whole for whose chunk there is no
-    /// room. It takes no memory. What is pending grows by no more than a chunk's 4104 bytes for each 4096 of the body.
+    /// Takes as many of the next bytes of the body as there is room for, and answers how many. Of a
+    /// body in chunks (RFC 9112, section 7.1) no byte is taken from the one on that would make a
+    /// block whole for whose chunk there is no room. It takes no memory. What is pending grows by
+    /// no more than a chunk's 4104 bytes for each 4096 of the body.
     pub fn put(&mut self, bytes: &[u8]) -> usize
         ensures within { result ≤ length bytes.now }
         ensures exact { (more : List ℕ)
-            → to_come self.new (drop result bytes.now ++ more) ≡ to_come self.old (bytes.now ++ more) }
-        ensures stops { result < length bytes.now → IsFull most self.new.block (length self.new.pending) }
+            → to_come self.new (drop result bytes.now ++ more)
+            ≡ to_come self.old (bytes.now ++ more) }
+        ensures stops { result < length bytes.now
+            → IsFull most self.new.block (length self.new.pending) }
         ensures bounded { length self.old.pending ≤ most → length self.new.pending ≤ most }
         ensures keeps { take (length self.old.pending) self.new.pending ≡ self.old.pending }
         ensures kind { is_some self.new.block ≡ is_some self.old.block }
@@ -123,7 +130,8 @@ impl Outgoing {
         self.start += count;
     }
 
-    /// Takes all these bytes of the body, whatever room there is. After want of memory all is as before.
+    /// Takes all these bytes of the body, whatever room there is. After want of memory all is as
+    /// before.
     pub fn put_all(&mut self, bytes: &[u8]) -> Result<(), OutOfMemory>
         ensures exact { OnOk result ((more : List ℕ)
             → to_come self.new more ≡ to_come self.old (bytes.now ++ more)) }
@@ -133,15 +141,16 @@ impl Outgoing {
         ensures err { OnErr result (self.new ≡ self.old) }
     {
         self.start = moved_down(&mut self.bytes, self.start);
-        // The chunk of a whole block has 513 bytes for each 512 of the body: so there is room for one more chunk than can
-        // become whole, and all bytes are taken.
+        // The chunk of a whole block has 513 bytes for each 512 of the body: so there is room for
+        // one more chunk than can become whole, and all bytes are taken.
         let room = bytes.len() + bytes.len() / 512 + 4104;
         self.bytes.reserve(room)?;
         add(&mut self.framing, &mut self.bytes, bytes, room);
         Ok(())
     }
 
-    /// Ends the body, and hands all that is still to be written to the queue. After want of memory the queue is as before.
+    /// Ends the body, and hands all that is still to be written to the queue. After want of memory
+    /// the queue is as before.
     pub fn finish(self, out: &mut ByteQueue) -> Result<(), OutOfMemory>
         ensures ok { OnOk result (out.new ≡ out.old ++ to_come self []) }
         ensures err { OnErr result (out.new ≡ out.old) }

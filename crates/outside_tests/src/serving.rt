@@ -9,9 +9,9 @@ ghost use Rattle.ready_loop.specs.Tellings.{Beside, alone, moments_told, of_link
 use byte_text::{ByteText, OutOfMemory};
 use http_types::Addr;
 use memory_outside::{FixedClock, LinkCall, ListClock, MemoryFiles, MemoryLinks, ScriptedNotice};
-use ngx_outside::{Clock, EventCore};
+use ngx_outside::Clock;
 use plain_core::PlainCore;
-use ready_loop::{Ending, serve};
+use ready_loop::{Ending, TimedCore, serve};
 use std::alloc::Global;
 use std::marker::Brand;
 use std::net::{IpAddr, Ipv4Addr};
@@ -51,7 +51,7 @@ fn core(alloc: Global) -> Result<PlainCore, OutOfMemory>
 }
 
 // Serves these notices on an address.
-fn ending<E: EventCore, C: Clock>(
+fn ending<E: TimedCore, C: Clock>(
     alloc: Global,
     core: &mut E,
     links: &mut MemoryLinks,
@@ -132,23 +132,36 @@ fn faults_end_the_loop_or_their_link_alone(rt: HostRuntime) -> Result<(), Fail> 
     Ok(())
 }
 
-// Whether the first peer's link is open after a minute in which it sent nothing.
-fn is_open_after<L: Ledger>(rt: &HostRuntime, blank: Blank) -> Result<bool, Fail>
+// Whether the first peer's link is open after turns at these moments. It opens in the first one, and sends nothing.
+fn is_open_after<L: Ledger>(rt: &HostRuntime, blank: Blank, moments: &[u64]) -> Result<bool, Fail>
     requires name { blank.name ≡ L.name }
     requires parts { blank.parts ≡ L.parts }
     requires some { 0 < L.parts }
 {
     let alloc = rt.alloc();
     let mut core = core(alloc)?;
-    let mut links = some_links(alloc, &[])?;
-    let mut clock = ListClock::<L>::new(blank, [0, 60].to_vec(alloc)?);
-    ending(alloc, &mut core, &mut links, &mut clock, 2)?;
+    let mut script = Vec::new(alloc);
+    script.push(opened(alloc, b"", false, 9)?)?;
+    for _moment in moments {
+        script.push(ScriptedNotice::Writable { id: 1, more: 0 })?;
+    }
+    let mut links = MemoryLinks::new(alloc, script, Vec::new(alloc));
+    let mut clock = ListClock::<L>::new(blank, moments.to_vec(alloc)?);
+    ending(
+        alloc,
+        &mut core,
+        &mut links,
+        &mut clock,
+        moments.len() as u64,
+    )?;
     Ok(links.is_open(1))
 }
 
 #[test]
 fn a_connection_that_is_given_up_is_closed(rt: HostRuntime) -> Result<(), Fail> {
-    assert!(rt; !is_open_after::<Brand>(&rt, Blank::new(1))?);
+    assert!(rt; is_open_after::<Brand>(&rt, Blank::new(1), &[0, 59])?);
+    assert!(rt; !is_open_after::<Brand>(&rt, Blank::new(1), &[0, 60])?);
+    assert!(rt; !is_open_after::<Brand>(&rt, Blank::new(1), &[0, u64::MAX])?);
     Ok(())
 }
 

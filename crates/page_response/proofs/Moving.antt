@@ -1,5 +1,5 @@
 -- Bytes that leave a family.
-use Rattle.std.proofs.Common.{◌≡◌, ℕ, zero, suc, ◌+◌, ◌≤◌, ◌&&◌, ◌==◌, Bool, true, false, cond, List, [], ◌∷◌, ◌++◌, length, take, drop, refl, sym, ap, ◌∙◌, subst, append_assoc, take-append-drop, arith}
+use Rattle.std.proofs.Common.{◌≡◌, ℕ, zero, suc, ◌+◌, ◌≤◌, ◌&&◌, ◌==◌, Bool, true, false, cond, List, [], ◌∷◌, ◌++◌, length, take, drop, refl, sym, ap, ◌∙◌, append_assoc, take-append-drop, arith}
 use Rattle.std.proofs.lemmas.Bool.Decides.{nat_tests}
 use Rattle.acts.specs.Vars.{Vars}
 use Rattle.file_tree.specs.Tree.{Tree, Trees}
@@ -9,15 +9,12 @@ use Rattle.request_meaning.specs.Serving.{World}
 use Rattle.family_meaning.specs.Line.{Left, before}
 use Rattle.family_order.specs.Items.{Family as Meant, leaving}
 use Rattle.family_rest.specs.Laws.{RowTellsStill}
-use Rattle.family_rest.specs.Reached.{Reached, forgetting}
-use Rattle.family_rest.specs.Reached.Reached.{Left as HasLeft, Forgot}
+use Rattle.family_rest.specs.Reached.{forgetting}
 use Rattle.family_rest.specs.Still.{still, subs_still}
 use Rattle.outgoing.specs.Leaving.{Leaving, framed_as, to_come}
-use Rattle.postpone_filter.specs.Row.{FirstGives, Piece, Row, front_of, is_open, used}
+use Rattle.postpone_filter.specs.Row.{FirstGives, Piece, front_of, is_open}
 use Rattle.postpone_filter.specs.Runs.{filled, giving}
-use Rattle.subrequests.specs.Families.{seen}
-use Rattle.subrequests.specs.Moved.{files, meant}
-use Rattle.page_response.specs.Pages.{AreClosed, IsReached, IsSame, left_in, nodes_asked}
+use Rattle.page_response.specs.Pages.{AreClosed, IsSame, left_in, nodes_asked}
 use Rattle.page_response.specs.declared.pages.Pages.{Pages}
 
 -- ---- texts

@@ -8,7 +8,7 @@ ghost use Rattle.request_meaning.specs.Serving.{World};
 ghost use Rattle.request_phases.specs.Rounds.{IsGround};
 ghost use Rattle.site_model.specs.declared.site.Site.{Site as SiteRow};
 ghost use Rattle.subrequests.specs.Moved.{IsFromAt, IsWhole, fits_at};
-ghost use Rattle.page_response.specs.Pages.{AreClosed, IsAllOver, IsReached, IsSame, bytes_left, pages_left, whole_length};
+ghost use Rattle.page_response.specs.Pages.{AreClosed, IsAllOver, IsReached, IsSame, bytes_left, nodes_asked, pages_left, whole_length};
 ghost use Rattle.page_response.specs.Ran.{RunsTo};
 
 use byte_text::{ByteQueue, OutOfMemory};
@@ -22,9 +22,9 @@ use request_phases::Ground;
 use std::alloc::Global;
 use subrequests::{Family, Ran};
 
-/// A page of parts, whose head was put: its family; the bytes that are written next, with the framing of those that come after
-/// them; its status; how many bytes of its body have left the family; and how many more steps it may take: far more than a page
-/// can need.
+/// A page of parts, whose head was put: its family; the bytes that are written next, with the
+/// framing of those that come after them; its status; how many bytes of its body have left the
+/// family; and how many more steps it may take: far more than a page can need.
 #[derive(Drop)]
 pub struct Pages {
     pub family: Family,
@@ -47,9 +47,11 @@ fn sum(a: u64, b: u64) -> Option<u64>
     a.checked_add(b)
 }
 
-/// Moves all bytes that wait, of an order in which no node goes on, after so many that have left it: how many these are then.
+/// Moves all bytes that wait, of an order in which no node goes on, after so many that have left
+/// it: how many these are then.
 fn put_rest(order: &mut Order, outgoing: &mut Outgoing, sent: u64) -> Result<u64, OutOfMemory>
-    ensures put { OnOk result (AreClosed order.old.pieces → (more : List ℕ) → to_come outgoing.new more
+    ensures put { OnOk result (AreClosed order.old.pieces → (more : List ℕ) →
+        to_come outgoing.new more
         ≡ to_come outgoing.old (filled (λ _. []) order.old.pieces ++ more)) }
     ensures log { IfOk result (λ total. AreClosed order.old.pieces →
         total ≡ sent + length (filled (λ _. []) order.old.pieces)) }
@@ -87,6 +89,8 @@ impl Pages {
         ensures outgoing { IfOk result (λ p. (p.outgoing.pending ≡ head.now)
             × (p.outgoing.block ≡ (if chunked then Some [] else None))) }
         ensures log { IfOk result (λ p. (p.status ≡ status) × (p.sent ≡ 0)) }
+        ensures bounded { IfOk result (λ p. length p.outgoing.pending ≤ most) }
+        ensures steps { IfOk result (λ p. p.steps ≡ 18446744073709551615) }
     {
         Ok(Pages {
             family,
@@ -97,14 +101,16 @@ impl Pages {
         })
     }
 
-    /// Moves bytes that leave the family first, as many as there is room for: whether more may be moved. It takes no memory.
+    /// Moves bytes that leave the family first, as many as there is room for: whether more may be
+    /// moved. It takes no memory.
     fn pump_one(&mut self) -> bool
         ensures same { (w : World) (patterns : List SetPattern) (site : SiteRow) (trees : Trees) →
             IsSame w patterns site trees self.old self.new }
         ensures reached { (w : World) (patterns : List SetPattern) (site : SiteRow) →
             IsReached w patterns site self.old → IsReached w patterns site self.new }
         ensures whole { IsWhole self.old.family → IsWhole self.new.family }
-        ensures bounded { length self.old.outgoing.pending ≤ most → length self.new.outgoing.pending ≤ most }
+        ensures bounded { length self.old.outgoing.pending ≤ most
+            → length self.new.outgoing.pending ≤ most }
         ensures others { (self.new.steps ≡ self.old.steps) × (self.new.status ≡ self.old.status)
             × (self.new.family.tree ≡ self.old.family.tree) }
     {
@@ -120,14 +126,16 @@ impl Pages {
         put == count
     }
 
-    /// Moves the bytes that leave the family first, as many as there is room for. It takes no memory.
+    /// Moves the bytes that leave the family first, as many as there is room for. It takes no
+    /// memory.
     fn pump(&mut self)
         ensures same { (w : World) (patterns : List SetPattern) (site : SiteRow) (trees : Trees) →
             IsSame w patterns site trees self.old self.new }
         ensures reached { (w : World) (patterns : List SetPattern) (site : SiteRow) →
             IsReached w patterns site self.old → IsReached w patterns site self.new }
         ensures whole { IsWhole self.old.family → IsWhole self.new.family }
-        ensures bounded { length self.old.outgoing.pending ≤ most → length self.new.outgoing.pending ≤ most }
+        ensures bounded { length self.old.outgoing.pending ≤ most
+            → length self.new.outgoing.pending ≤ most }
         ensures others { (self.new.steps ≡ self.old.steps) × (self.new.status ≡ self.old.status)
             × (self.new.family.tree ≡ self.old.family.tree) }
     {
@@ -138,8 +146,8 @@ impl Pages {
         }
     }
 
-    /// Runs a node on, and moves what leaves the family then; where more than a thousand subrequests are asked for, the page is
-    /// not to go on.
+    /// Runs a node on, and moves what leaves the family then; where more than a thousand
+    /// subrequests are asked for, the page is not to go on.
     ///
     /// # Errors
     /// `OutOfMemory`; the page is then not to go on.
@@ -179,7 +187,8 @@ impl Pages {
     /// `OutOfMemory`; the page is then not to go on.
     pub fn hear(&mut self, alloc: Global, at: u32, answer: JobAnswer<'_>) -> Result<(), OutOfMemory>
         requires whole { IsWhole self.old.family }
-        requires fits { fits_at self.old.family.tree (slice_get self.old.family.nodes.items at) answer ≡ true }
+        requires fits { fits_at self.old.family.tree
+            (slice_get self.old.family.nodes.items at) answer ≡ true }
         ensures same { OnOk result ((w : World) (patterns : List SetPattern) (site : SiteRow)
             (trees : Trees) → IsFromAt trees (slice_get self.old.family.nodes.items at) answer.entry
             → IsReached w patterns site self.old → IsSame w patterns site trees self.old self.new) }
@@ -188,7 +197,8 @@ impl Pages {
         ensures whole { OnOk result (IsWhole self.new.family) }
         ensures lowers { OnOk result (pages_left self.new < pages_left self.old) }
         ensures others { OnOk result ((self.new.status ≡ self.old.status)
-            × (self.new.family.tree ≡ self.old.family.tree) × (self.new.outgoing ≡ self.old.outgoing)) }
+            × (self.new.family.tree ≡ self.old.family.tree)
+            × (self.new.outgoing ≡ self.old.outgoing)) }
     {
         reached_stays_well();
         if self.steps == 0 {
@@ -207,13 +217,17 @@ impl Pages {
             bytes_left w patterns site trees self.old
             ≡ take count self.old.outgoing.pending ++ bytes_left w patterns site trees self.new }
         ensures log { (w : World) (patterns : List SetPattern) (site : SiteRow) (trees : Trees) →
-            whole_length w patterns site trees self.old ≡ whole_length w patterns site trees self.new }
+            whole_length w patterns site trees self.old
+            ≡ whole_length w patterns site trees self.new }
+        ensures nodes { (w : World) (patterns : List SetPattern) (site : SiteRow) (trees : Trees) →
+            nodes_asked w patterns site trees self.old ≡ nodes_asked w patterns site trees self.new }
         ensures reached { (w : World) (patterns : List SetPattern) (site : SiteRow) →
             IsReached w patterns site self.old → IsReached w patterns site self.new }
         ensures whole { IsWhole self.old.family → IsWhole self.new.family }
         ensures bounded { length self.new.outgoing.pending ≤ most }
         ensures lowers { 0 < count → pages_left self.new < pages_left self.old }
-        ensures others { (self.new.status ≡ self.old.status) × (self.new.family.tree ≡ self.old.family.tree) }
+        ensures others { (self.new.status ≡ self.old.status)
+            × (self.new.family.tree ≡ self.old.family.tree) }
     {
         self.outgoing.used(count);
         if self.steps > 0 {
@@ -222,7 +236,8 @@ impl Pages {
         }
     }
 
-    /// A page whose nodes are all over is put after what is kept for the peer, whole: how many bytes its body has.
+    /// A page whose nodes are all over is put after what is kept for the peer, whole: how many
+    /// bytes its body has.
     ///
     /// # Errors
     /// `OutOfMemory`.

@@ -1,5 +1,5 @@
 // The one connection.
-ghost use Rattle.std.specs.Prelude.{◌≡◌, ◌≤◌, ◌<◌, ◌+◌, ◌*◌, ◌++◌, ◌∷◌, ℕ, List, [], true, false, length, drop, OnOk, OnErr};
+ghost use Rattle.std.specs.Prelude.{◌≡◌, ◌≤◌, ◌<◌, ◌+◌, ◌*◌, ◌++◌, ◌∷◌, ℕ, List, [], true, false, length, drop, Some, OnOk, OnErr};
 ghost use Rattle.ngx_outside.specs.Views.{Start, Fresh, Ticked, Stopped};
 ghost use Rattle.plain_core.specs.Lines.{has_line, course_of};
 ghost use Rattle.plain_core.specs.Shown.{shown, starts_in, logs_in, work_of, price_of, is_live_at, is_absent_at, is_quiet_at, reads_at, can_run_at, is_shut_at, Arrives, Ends, Writes, Fails, Runs, Goes, LeftTaken, LeftLower, LeftKept, KeepsEnd, EndsBy, TakesNo, Leaves, crowd_of};
@@ -296,6 +296,17 @@ impl Conn {
         }
         self.life = Life::Absent;
         StepAnswer::Done { taken: 0 }
+    }
+
+    /// The moment at which it is given up, the type's last one where it never is.
+    pub(crate) fn quiet_until(&self) -> u64
+        ensures { (due : ℕ) → (shown self.now).deadline ≡ Some due → result ≤ due }
+    {
+        match self.life {
+            Life::Absent => u64::MAX,
+            Life::Live => self.due,
+            Life::Stopped(_) => u64::MAX,
+        }
     }
 
     /// The clock tells a moment.

@@ -5,6 +5,7 @@ use crate::state::State;
 use byte_text::ByteText;
 use file_tree::Ask;
 use ngx_outside::{Event, EventCore, StepAnswer, Want};
+use ready_loop::TimedCore;
 use std::alloc::Global;
 
 /// A core that holds at most one connection. Each line that arrives on it is a request: a node, 0, can run where a whole
@@ -72,5 +73,11 @@ impl EventCore for PlainCore {
 
     fn refused(&self) -> u64 {
         self.state.refused
+    }
+}
+
+impl TimedCore for PlainCore {
+    fn quiet_until(&self) -> u64 {
+        self.state.conn.quiet_until()
     }
 }

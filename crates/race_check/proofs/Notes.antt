@@ -3,7 +3,7 @@ use Rattle.std.proofs.Common.{◌≡◌, ℕ, ◌+◌, ◌<◌, ◌||◌, ◌&&�
 use Rattle.std.specs.List.{list_any}
 use Rattle.race_check.specs.declared.names.NameSet.{NameSet}
 use Rattle.race_check.specs.Names.{has, Notes}
-use Rattle.race_check.proofs.Lists.{next_at, any_map}
+use Rattle.race_check.proofs.Lists.{next_at, any_map, or_false}
 
 noted_both : (f g n o : Bool) → ((g && n) || ((f && n) || o)) ≡ (((f || g) && n) || o)
 noted_both true true true o = refl
@@ -49,3 +49,7 @@ all_noted s a b f none noted name = noted name ∙ ap (λ h. (f name && not h) |
 
 pub notes_at : {X : Type 0} (s a b : NameSet) (f : List ℕ → X → Bool) (x y : X) → x ≡ y → Notes s a b (λ n. f n x) → Notes s a b (λ n. f n y)
 notes_at s a b f x y e noted = λ n. noted n ∙ ap (λ x. (f n x && not (has s n)) || has a n) e
+
+-- the first thing of which something is noted
+pub first_noted : (s a b : NameSet) (f : List ℕ → Bool) → ((name : List ℕ) → has s name ≡ false) → ((name : List ℕ) → has a name ≡ false) → Notes s a b f → (name : List ℕ) → has b name ≡ f name
+first_noted s a b f none first noted name = all_noted s a b f none noted name ∙ ap (λ h. f name || h) (first name) ∙ or_false (f name)

@@ -3,8 +3,8 @@
 #![tactic(auto)]
 
 mod conflict;
+mod items;
 mod levels;
-mod looks;
 mod marks;
 mod names;
 mod reads;
@@ -13,6 +13,7 @@ mod texts;
 mod values;
 
 pub use conflict::{Named, named_in};
+pub use items::{step_names, target_names, text_names, tries_names};
 pub use levels::{block_numbers, level_numbers};
-pub use looks::{in_step, in_target, in_text, in_tries, sets_it};
+pub use names::NameSet;
 pub use values::{auth_sets_of, place_text, rules_of};

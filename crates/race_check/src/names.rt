@@ -6,10 +6,10 @@ use byte_text::OutOfMemory;
 use std::alloc::Global;
 use std::collections::HashSet;
 
-/// A set of names. Contracts see it by `has`.
+/// A set of names, each there once. Contracts see it by `has`.
 #[derive(Drop)]
 pub struct NameSet {
-    pub(crate) names: HashSet<Vec<u8>>,
+    pub names: HashSet<Vec<u8>>,
     alloc: Global,
 }
 

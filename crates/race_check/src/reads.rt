@@ -94,7 +94,7 @@ fn note_test(exposed: &mut NameSet, settled: &NameSet, test: &Test) -> Result<()
 
 /// Notes what a directive itself reads.
 #[tactic(auto, unfolding(race_meaning::specs::Reads::in_directive))]
-fn note_directive(
+pub fn note_directive(
     exposed: &mut NameSet,
     settled: &NameSet,
     step: &RewriteStep,

@@ -83,7 +83,7 @@ fn note_last(exposed: &mut NameSet, settled: &NameSet, last: &LastTry) -> Result
     }
 }
 
-fn note_tries(
+pub fn note_tries(
     exposed: &mut NameSet,
     settled: &NameSet,
     tries: &Option<Tries>,
@@ -101,7 +101,7 @@ fn note_tries(
     }
 }
 
-fn note_target(
+pub fn note_target(
     exposed: &mut NameSet,
     settled: &NameSet,
     target: &PageTarget,

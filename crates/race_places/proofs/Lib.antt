@@ -1,2 +1,3 @@
+mod Indexing
 mod Lines
 mod Placing

@@ -306,14 +306,37 @@ module _ (sets reads : List ℕ → List Line) (all : List Named) (first : List 
 
 -- ---- a server
 
+-- by lines that are the same for each name
+placed_by : (f g sets reads : List ℕ → List Line) → ((name : List ℕ) → f name ≡ sets name) → ((name : List ℕ) → g name ≡ reads name) → (named : List Named) (here : List Conflict) → ArePlaced f g named here → ArePlaced sets reads named here
+unfolding ArePlaced
+placed_by f g sets reads s r [] [] p = p
+placed_by f g sets reads s r [] (c ∷ cs) p = absurd p
+placed_by f g sets reads s r (n ∷ ns) [] p = absurd p
+placed_by f g sets reads s r (n ∷ ns) (c ∷ cs) p = (
+  record {
+    server = p.0.server;
+    name = p.0.name;
+    documents = p.0.documents;
+    set_at = subst (λ l. AreInOrder l c.sets.items) (s n.name) p.0.set_at;
+    read_at = subst (λ l. AreInOrder l c.reads.items) (r n.name) p.0.read_at;
+  },
+  placed_by f g sets reads s r ns cs p.1,
+)
+
 pub server_placed : (files : ℕ → List ℕ) (patterns : List Pattern) (site : Site) (s : Server) (lines : List LevelOrigins) (number : ℕ) (named : List Named)
     → HasNamed number (server_whole patterns site s) [] named
-    → (numbers : List ℕ) → numbers ≡ level_numbers s → (conflicts old : List Conflict) → old ≡ []
-    → (here : List Conflict) × ArePlaced (λ name. all_sets name (map (level_whole patterns site) numbers) lines) (λ name. all_reads name (map (level_whole patterns site) numbers) lines) named here × (conflicts ≡ old ++ here)
+    → (numbers : List ℕ) → numbers ≡ level_numbers s → (numbers' : List ℕ) → numbers' ≡ level_numbers s
+    → (set_at read_at : List ℕ → List Line)
+    → ((name : List ℕ) → set_at name ≡ all_sets name (map (level_whole patterns site) numbers) lines)
+    → ((name : List ℕ) → read_at name ≡ all_reads name (map (level_whole patterns site) numbers') lines)
+    → (conflicts old : List Conflict) → old ≡ []
+    → (here : List Conflict) × ArePlaced set_at read_at named here × (conflicts ≡ old ++ here)
     → AreConflicts number (server_whole patterns site s) (server_sources files (server_whole patterns site s) lines) (map (conflict_seen files) conflicts)
-server_placed files patterns site s lines number named h numbers l conflicts old none p =
+server_placed files patterns site s lines number named h numbers l numbers' l' set_at read_at is_set is_read conflicts old none p =
     let server : ServerView = server_whole patterns site s in
-    let at : map (level_whole patterns site) numbers ≡ levels server = ap (map (level_whole patterns site)) l ∙ levels_seen patterns site s in
-    let placed = subst (λ views. ArePlaced (λ name. all_sets name views lines) (λ name. all_reads name views lines) named p.0) at p.1 in
-    let these = subst (λ ns. ArePlaced (sets files server lines number) (reads files server lines number) ns p.0) h.2 placed in
-    subst (λ cs. AreConflicts number server (server_sources files server lines) (map (conflict_seen files) cs)) (sym (p.2 ∙ ap (λ o. o ++ p.0) none)) (are_conflicts files server lines number h.0 h.1 p.0 these)
+    let views : (ns : List ℕ) → ns ≡ level_numbers s → map (level_whole patterns site) ns ≡ levels server = λ ns e. ap (map (level_whole patterns site)) e ∙ levels_seen patterns site s in
+    let these = placed_by set_at read_at (sets files server lines number) (reads files server lines number)
+    (λ name. is_set name ∙ ap (λ v. all_sets name v lines) (views numbers l))
+    (λ name. is_read name ∙ ap (λ v. all_reads name v lines) (views numbers' l')) named p.0 p.1 in
+    let whole = subst (λ ns. ArePlaced (sets files server lines number) (reads files server lines number) ns p.0) h.2 these in
+    subst (λ cs. AreConflicts number server (server_sources files server lines) (map (conflict_seen files) cs)) (sym (p.2 ∙ ap (λ o. o ++ p.0) none)) (are_conflicts files server lines number h.0 h.1 p.0 whole)

@@ -1,12 +1,14 @@
 // The named variables with their places.
 ghost use Rattle.std.specs.Prelude.{◌≡◌, ◌++◌, [], ℕ, List, map, OnOk, IfOk};
 ghost use Rattle.site_views.specs.Pattern.{Pattern};
-ghost use Rattle.site_whole.specs.Whole.{level_whole, server_whole};
+ghost use Rattle.site_whole.specs.Whole.{server_whole};
 ghost use Rattle.race_meaning.specs.Conflicts.{AreConflicts};
 ghost use Rattle.race_check.specs.Told.{HasNamed};
-ghost use Rattle.race_places.specs.Places.{AreInOrder, IsPlaced, ArePlaced, level_by, all_reads, all_sets, server_sources, conflict_seen};
+ghost use Rattle.race_places.specs.Index.{at};
+ghost use Rattle.race_places.specs.Places.{AreInOrder, IsPlaced, ArePlaced, level_by, server_sources, conflict_seen};
 ghost use Rattle.race_places.specs.declared.told.Conflict.{Conflict as Told};
 
+use crate::index::LineIndex;
 use crate::lined::LinedLevel;
 use crate::places::{reads_of, sets_of};
 use byte_text::{ByteText, OutOfMemory};
@@ -27,61 +29,31 @@ pub struct Conflict {
     pub documents: bool,
 }
 
-fn sets_in_order(
-    alloc: Global,
-    site: &Site,
-    numbers: &[u32],
-    lines: &[LinedLevel],
-    name: &[u8],
-) -> Result<Vec<Line>, OutOfMemory>
-    ensures { IfOk result (λ sets. (patterns : List Pattern) → AreInOrder
-        (all_sets name.now (map (level_whole patterns site.now) numbers.now)
-        (map level_by lines.now))
-        sets.items) }
+/// The lines of a variable in the order of the text.
+fn lines_in_order(alloc: Global, index: &LineIndex, name: &[u8]) -> Result<Vec<Line>, OutOfMemory>
+    ensures { IfOk result (λ lines. AreInOrder (at index.now name.now) lines.items) }
 {
-    let sets = sets_of(alloc, site, numbers, lines, name)?;
-    Ok(in_order(sets))
-}
-
-fn reads_in_order(
-    alloc: Global,
-    site: &Site,
-    numbers: &[u32],
-    lines: &[LinedLevel],
-    name: &[u8],
-) -> Result<Vec<Line>, OutOfMemory>
-    ensures { IfOk result (λ reads. (patterns : List Pattern) → AreInOrder
-        (all_reads name.now (map (level_whole patterns site.now) numbers.now)
-        (map level_by lines.now))
-        reads.items) }
-{
-    let reads = reads_of(alloc, site, numbers, lines, name)?;
-    Ok(in_order(reads))
+    let lines = index.of(name).to_vec(alloc)?;
+    Ok(in_order(lines))
 }
 
 /// A named variable with its places.
 fn placed_one(
     alloc: Global,
-    site: &Site,
-    numbers: &[u32],
-    lines: &[LinedLevel],
+    sets: &LineIndex,
+    reads: &LineIndex,
     named: &Named,
 ) -> Result<Conflict, OutOfMemory>
-    ensures { IfOk result (λ conflict. (patterns : List Pattern) → IsPlaced
-        (λ name. all_sets name (map (level_whole patterns site.now) numbers.now)
-        (map level_by lines.now))
-        (λ name. all_reads name (map (level_whole patterns site.now) numbers.now)
-        (map level_by lines.now))
-        named.now conflict) }
+    ensures { IfOk result (λ conflict. IsPlaced (at sets.now) (at reads.now) named.now conflict) }
 {
     let name = ByteText::from_slice(alloc, named.name.as_slice())?;
-    let sets = sets_in_order(alloc, site, numbers, lines, named.name.as_slice())?;
-    let reads = reads_in_order(alloc, site, numbers, lines, named.name.as_slice())?;
+    let set_at = lines_in_order(alloc, sets, named.name.as_slice())?;
+    let read_at = lines_in_order(alloc, reads, named.name.as_slice())?;
     Ok(Conflict {
         server: named.server,
         name,
-        sets,
-        reads,
+        sets: set_at,
+        reads: read_at,
         documents: named.documents,
     })
 }
@@ -90,21 +62,15 @@ fn placed_one(
 fn push_placed(
     conflicts: &mut Vec<Conflict>,
     alloc: Global,
-    site: &Site,
-    numbers: &[u32],
-    lines: &[LinedLevel],
+    sets: &LineIndex,
+    reads: &LineIndex,
     all: &[Named],
 ) -> Result<(), OutOfMemory>
-    ensures { OnOk result ((patterns : List Pattern) → (here : List Told) × ArePlaced
-        (λ name. all_sets name (map (level_whole patterns site.now) numbers.now)
-        (map level_by lines.now))
-        (λ name. all_reads name (map (level_whole patterns site.now) numbers.now)
-        (map level_by lines.now))
-        all.now here
+    ensures { OnOk result ((here : List Told) × ArePlaced (at sets.now) (at reads.now) all.now here
         × (conflicts.new.items ≡ conflicts.old.items ++ here)) }
 {
     for named in all {
-        let conflict = placed_one(alloc, site, numbers, lines, named)?;
+        let conflict = placed_one(alloc, sets, reads, named)?;
         conflicts.push(conflict)?;
     }
     Ok(())
@@ -113,7 +79,7 @@ fn push_placed(
 /// The variables that are named in a server with their places, by the lines of the server's levels: its own, those of its
 /// locations, and those of its locations `@name`, each in the order of the text. So these are exactly the server's variables
 /// that can show in which order the subrequests of a page ran, in the order of their bytes, each with the lines where it is
-/// set and where it is read.
+/// set and where it is read. The levels are gone through once, for all variables.
 pub fn placed(
     alloc: Global,
     site: &Site,
@@ -131,14 +97,9 @@ pub fn placed(
         (map (conflict_seen files) conflicts.items)) }
 {
     let numbers = level_numbers(alloc, server)?;
+    let sets = sets_of(alloc, site, numbers.as_slice(), lines)?;
+    let reads = reads_of(alloc, site, numbers.as_slice(), lines)?;
     let mut conflicts = Vec::new(alloc);
-    push_placed(
-        &mut conflicts,
-        alloc,
-        site,
-        numbers.as_slice(),
-        lines,
-        named,
-    )?;
+    push_placed(&mut conflicts, alloc, &sets, &reads, named)?;
     Ok(conflicts)
 }

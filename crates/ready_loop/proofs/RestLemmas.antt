@@ -1,19 +1,19 @@
 -- When a connection rests, and that it goes on resting.
-use Rattle.std.proofs.Common.{◌≡◌, ◌≢◌, ℕ, ◌+◌, ◌<◌, ◌⊎◌, inl, inr, Bool, true, false, not, cond, ◌||◌, List, [], ◌∷◌, ◌++◌, map, length, take, get_or, Option, None, Some, refl, sym, ap, ◌∙◌, subst, arith}
-use Rattle.std.specs.Prelude.{nat_eq}
+use Rattle.std.proofs.Common.{◌≡◌, ◌≢◌, ℕ, ◌+◌, ◌<◌, ◌≤◌, ◌⊎◌, inl, inr, Bool, true, false, not, cond, ◌||◌, List, [], ◌∷◌, ◌++◌, map, length, take, get_or, Option, None, Some, refl, sym, ap, ◌∙◌, subst, arith}
+use Rattle.std.specs.Prelude.{nat_eq, nat_le}
 use Rattle.std.specs.List.{All, Contains, list_any}
 use Rattle.std.proofs.lemmas.Bool.{cases_eq}
 use Rattle.std.proofs.lemmas.Bool.Decides.{nat_tests}
 use Rattle.std.proofs.lemmas.List.Elements.{All-nil, All-cons, All-head, All-tail, All-contains}
 use Rattle.std.proofs.lemmas.List.Folds.{list_any_more, list_any_at}
 use Rattle.ngx_outside.specs.Linked.{LinkView}
-use Rattle.ngx_outside.specs.Views.{ConnView, Job, Ticked, GivesUp, Waits, no_bytes}
+use Rattle.ngx_outside.specs.Views.{ConnView, Job, Ticked, GivesUp, Waits, kept_moment, no_bytes}
 use Rattle.ngx_outside.specs.Wants.{wants_at, read_want, doable}
 use Rattle.ngx_outside.specs.declared.event.Want.{Want}
 use Rattle.ngx_outside.specs.declared.event.Want.TheVariants as want
 use Rattle.ready_loop.specs.Ids.{has}
 use Rattle.ready_loop.specs.declared.ids.Ids.{Ids}
-use Rattle.ready_loop.specs.Turns.{AtRest, IsRested, IsHeard, IsHeardBut, IsGivenUp, AllRest, RestsBut, ChangedAs}
+use Rattle.ready_loop.specs.Turns.{AtRest, IsRested, IsHeard, IsHeardBut, IsQuiet, AllRest, RestsBut, ChangedAs}
 use Rattle.ready_loop.specs.Seen.{Elsewhere}
 use Rattle.ready_loop.specs.Standing.{IsMatched}
 use Rattle.ready_loop.specs.declared.hear.Heard.{Heard}
@@ -175,57 +175,56 @@ has_more conn old new own others c h = go (cases_eq c conn)
     go (inl e) = subst (λ x. has new x ≡ true) (sym e) own
     go (inr ne) = others c ne ∙ h
 
--- it rests, or was given up, as long as neither it nor its link changes
-kept_resting : (heard tells may : Type 0) (v v' : ConnView) (l l' : LinkView) → v' ≡ v → (heard → tells) → (tells → l' ≡ l) → AtRest heard tells v l ⊎ (may × IsGivenUp v) → AtRest heard tells v' l' ⊎ (may × IsGivenUp v')
-kept_resting heard tells may v v' l l' e ht le (inl r) = inl (rest_same heard heard tells tells v v' l l' (λ k. k) (λ k. k) e (λ k. ap (λ (x : LinkView). x.due) (le (ht k))) (λ k. ap (λ (x : LinkView). x.full) (le k)) r)
-kept_resting heard tells may v v' l l' e ht le (inr u) = inr (u.0, (u.1.0, u.1.1, ap (λ (x : ConnView). x.cause) e ∙ u.1.2))
+-- it goes on resting as long as neither it nor its link changes
+rest_still : (heard tells tells' : Type 0) (v v' : ConnView) (l l' : LinkView) → v' ≡ v → (heard → tells) → (tells' → tells) → (tells → l' ≡ l) → AtRest heard tells v l → AtRest heard tells' v' l'
+rest_still heard tells tells' v v' l l' e ht tt1 le r = rest_same heard heard tells tells' v v' l l' (λ k. k) tt1 e (λ k. ap (λ (x : LinkView). x.due) (le (ht k))) (λ k. ap (λ (x : LinkView). x.full) (le (tt1 k))) r
+
+rests_still : (heard tells tells' : Type 0) (view view' : ℕ → ConnView) (link link' : ℕ → LinkView) → (heard → tells) → (tells' → tells) → ((c : ℕ) → view' c ≡ view c) → (tells → (c : ℕ) → link' c ≡ link c) → AllRest heard tells view link → AllRest heard tells' view' link'
+rests_still h t t' view view' link link' ht tl views links all c held = rest_still h t t' (view c) (view' c) (link c) (link' c) (views c) ht tl (λ k. links k c) (all c (ap (λ (x : ConnView). x.held) (sym (views c)) ∙ held))
 
 -- a connection was served, and the others rest
-pub rests_one : (heard heard1 tells tells1 may : Type 0) (conn : ℕ) (view view' : ℕ → ConnView) (link link' : ℕ → LinkView) → (heard → heard1) → (heard → tells) → (tells → tells1) → Elsewhere conn view view' → (tells1 → Elsewhere conn link link') →
-    ((view' conn).held ≡ true → AtRest heard1 tells1 (view' conn) (link' conn)) → ((c : ℕ) → c ≢ conn → (view c).held ≡ true → AtRest heard tells (view c) (link c) ⊎ (may × IsGivenUp (view c))) → AllRest heard tells may view' link'
-rests_one heard heard1 tells tells1 may conn view view' link link' hh ht tt1 views links own others c held = go (cases_eq c conn)
+pub rests_one : (heard heard1 tells tells1 : Type 0) (conn : ℕ) (view view' : ℕ → ConnView) (link link' : ℕ → LinkView) → (heard → heard1) → (heard → tells) → (tells → tells1) → Elsewhere conn view view' → (tells1 → Elsewhere conn link link') →
+    ((view' conn).held ≡ true → AtRest heard1 tells1 (view' conn) (link' conn)) → ((c : ℕ) → c ≢ conn → (view c).held ≡ true → AtRest heard tells (view c) (link c)) → AllRest heard tells view' link'
+rests_one heard heard1 tells tells1 conn view view' link link' hh ht tt1 views links own others c held = go (cases_eq c conn)
   where
-    go : (c ≡ conn) ⊎ (c ≡ conn → ⊥) → AtRest heard tells (view' c) (link' c) ⊎ (may × IsGivenUp (view' c))
+    go : (c ≡ conn) ⊎ (c ≡ conn → ⊥) → AtRest heard tells (view' c) (link' c)
     go (inl e) =
-        inl (subst (λ x. AtRest heard tells (view' x) (link' x)) (sym e)
-        (rest_same heard1 heard tells1 tells (view' conn) (view' conn) (link' conn) (link' conn) hh tt1 refl (λ k. refl) (λ k. refl) (own (subst (λ x. (view' x).held ≡ true) e held))))
-    go (inr ne) = kept_resting heard tells may (view c) (view' c) (link c) (link' c) (views c ne) ht (λ k. links (tt1 k) c ne) (others c ne (ap (λ (x : ConnView). x.held) (sym (views c ne)) ∙ held))
+        subst (λ x. AtRest heard tells (view' x) (link' x)) (sym e)
+        (rest_same heard1 heard tells1 tells (view' conn) (view' conn) (link' conn) (link' conn) hh tt1 refl (λ k. refl) (λ k. refl) (own (subst (λ x. (view' x).held ≡ true) e held)))
+    go (inr ne) = rest_still heard tells tells (view c) (view' c) (link c) (link' c) (views c ne) ht (λ k. k) (λ k. links (tt1 k) c ne) (others c ne (ap (λ (x : ConnView). x.held) (sym (views c ne)) ∙ held))
 
 -- all were served
-pub rests_all : (heard heard1 tells tells1 may : Type 0) (view : ℕ → ConnView) (link : ℕ → LinkView) → (heard → heard1) → (tells → tells1) → ((c : ℕ) → (view c).held ≡ true → AtRest heard1 tells1 (view c) (link c)) → AllRest heard tells may view link
-rests_all heard heard1 tells tells1 may view link hh tt1 all c held = inl (rest_same heard1 heard tells1 tells (view c) (view c) (link c) (link c) hh tt1 refl (λ k. refl) (λ k. refl) (all c held))
+pub rests_all : (heard heard1 tells tells1 : Type 0) (view : ℕ → ConnView) (link : ℕ → LinkView) → (heard → heard1) → (tells → tells1) → ((c : ℕ) → (view c).held ≡ true → AtRest heard1 tells1 (view c) (link c)) → AllRest heard tells view link
+rests_all heard heard1 tells tells1 view link hh tt1 all c held = rest_same heard1 heard tells1 tells (view c) (view c) (link c) (link c) hh tt1 refl (λ k. refl) (λ k. refl) (all c held)
 
-told_resting : (heard tells tells' may may' : Type 0) (v : ConnView) (l : LinkView) → (tells' → tells) → (may → may') → AtRest heard tells v l ⊎ (may × IsGivenUp v) → AtRest heard tells' v l ⊎ (may' × IsGivenUp v)
-told_resting heard tells tells' may may' v l t m (inl r) = inl (rest_same heard heard tells tells' v v l l (λ k. k) t refl (λ k. refl) (λ k. refl) r)
-told_resting heard tells tells' may may' v l t m (inr u) = inr (m u.0, u.1)
-
-pub rests_told : (heard tells tells' may may' : Type 0) (view : ℕ → ConnView) (link : ℕ → LinkView) → (tells' → tells) → (may → may') → AllRest heard tells may view link → AllRest heard tells' may' view link
-rests_told heard tells tells' may may' view link t m all c held = told_resting heard tells tells' may may' (view c) (link c) t m (all c held)
+-- what is known where the links tell is known where they still do
+pub rests_told : (heard tells tells' : Type 0) (view : ℕ → ConnView) (link : ℕ → LinkView) → (tells' → tells) → AllRest heard tells view link → AllRest heard tells' view link
+rests_told heard tells tells' view link t all = rests_all heard heard tells' tells view link (λ k. k) t all
 
 -- something was heard
-pub rests_heard : (notice : Heard) (heard tells tells' may : Type 0) (view view' : ℕ → ConnView) (link link' : ℕ → LinkView) → (heard → tells) → (tells' → tells) → ChangedAs notice view view' → (tells → ChangedAs notice link link') → AllRest heard tells may view link → RestsBut notice heard tells' may view' link'
-rests_heard (heard.At conn due) h t t' may view view' link link' ht tl views links all =
-    λ c ne held. told_resting h t t' may may (view' c) (link' c) tl (λ k. k) (kept_resting h t may (view c) (view' c) (link c) (link' c) (views c ne) ht (λ k. links k c ne) (all c (ap (λ (x : ConnView). x.held) (sym (views c ne)) ∙ held)))
-rests_heard heard.Nothing h t t' may view view' link link' ht tl views links all =
-    λ c held. told_resting h t t' may may (view' c) (link' c) tl (λ k. k) (kept_resting h t may (view c) (view' c) (link c) (link' c) (views c) ht (λ k. links k c) (all c (ap (λ (x : ConnView). x.held) (sym (views c)) ∙ held)))
-rests_heard heard.Ended h t t' may view view' link link' ht tl views links all =
-    λ c held. told_resting h t t' may may (view' c) (link' c) tl (λ k. k) (kept_resting h t may (view c) (view' c) (link c) (link' c) (views c) ht (λ k. links k c) (all c (ap (λ (x : ConnView). x.held) (sym (views c)) ∙ held)))
-rests_heard heard.Failed h t t' may view view' link link' ht tl views links all =
-    λ c held. told_resting h t t' may may (view' c) (link' c) tl (λ k. k) (kept_resting h t may (view c) (view' c) (link c) (link' c) (views c) ht (λ k. links k c) (all c (ap (λ (x : ConnView). x.held) (sym (views c)) ∙ held)))
+pub rests_heard : (notice : Heard) (heard tells tells' : Type 0) (view view' : ℕ → ConnView) (link link' : ℕ → LinkView) → (heard → tells) → (tells' → tells) → ChangedAs notice view view' → (tells → ChangedAs notice link link') → AllRest heard tells view link → RestsBut notice heard tells' view' link'
+rests_heard (heard.At conn due) h t t' view view' link link' ht tl views links all =
+    λ c ne held. rest_still h t t' (view c) (view' c) (link c) (link' c) (views c ne) ht tl (λ k. links k c ne) (all c (ap (λ (x : ConnView). x.held) (sym (views c ne)) ∙ held))
+rests_heard heard.Nothing h t t' view view' link link' ht tl views links all = rests_still h t t' view view' link link' ht tl views links all
+rests_heard heard.Ended h t t' view view' link link' ht tl views links all = rests_still h t t' view view' link link' ht tl views links all
+rests_heard heard.Failed h t t' view view' link link' ht tl views links all = rests_still h t t' view view' link link' ht tl views links all
 
--- a moment was told
-pub rests_ticked : (heard tells : Type 0) (moment : ℕ) (view view' : ℕ → ConnView) (link : ℕ → LinkView) → ((c : ℕ) → Ticked moment (view c) (view' c)) → AllRest heard tells (Unit {0}) view link → AllRest heard tells (Unit {0}) view' link
-rests_ticked h t moment view view' link ticked all c held = go (ticked c)
-  where
-    go : Ticked moment (view c) (view' c) → AtRest h t (view' c) (link c) ⊎ (Unit {0} × IsGivenUp (view' c))
-    go (GivesUp due timed is before s) = inr (tt, (due, moment, s.why))
-    go (Waits not same) = subst (λ v. AtRest h t v (link c) ⊎ (Unit {0} × IsGivenUp v)) (sym same) (all c (ap (λ (x : ConnView). x.held) (sym same) ∙ held))
+-- none is given up by a moment before all deadlines
+quiet_tick : (until moment : ℕ) (v v' : ConnView) → moment < until → ((due : ℕ) → v.deadline ≡ Some due → until ≤ due) → Ticked (kept_moment moment) v v' → v' ≡ v
+unfolding kept_moment
+quiet_tick until moment v v' before quiet (GivesUp due timed is past s) = absurd (let a = quiet due is in omega (arith, before, a, past))
+quiet_tick until moment v v' before quiet (Waits not same) = same
+
+-- a moment before all deadlines was told
+pub rests_ticked : (heard tells : Type 0) (until moment : ℕ) (view view' : ℕ → ConnView) (link : ℕ → LinkView) → moment < until → IsQuiet until view → ((c : ℕ) → Ticked (kept_moment moment) (view c) (view' c)) → AllRest heard tells view link → AllRest heard tells view' link
+rests_ticked h t until moment view view' link before quiet ticked all c held =
+    let same : view' c ≡ view c = quiet_tick until moment (view c) (view' c) before (quiet c) (ticked c) in
+    subst (λ v. AtRest h t v (link c)) (sym same) (all c (ap (λ (x : ConnView). x.held) (sym same) ∙ held))
 
 -- all that are held are remembered
 pub heard_at_start : (view : ℕ → ConnView) (is_open : ℕ → Bool) (link : ℕ → LinkView) (unread : Ids) (conns : List ℕ) → ((c : ℕ) → (view c).held ≡ true → Contains conns c) → IsMatched view is_open →
     All (λ c. has unread c ≡ true) conns → IsHeard is_open link unread
 heard_at_start view is_open link unread conns has_conn matched all c is_o is = All-contains (λ d. has unread d ≡ true) conns c all (has_conn c (matched c ∙ is_o))
 
-pub not_true : (b : Bool) → not b ≡ true → b ≡ false
-not_true true e = cc
-not_true false e = refl
+pub before_all : (until moment : ℕ) → nat_le until moment ≡ false → moment < until
+before_all until moment e = grind (arith, nat_tests)

@@ -7,7 +7,6 @@ use Rattle.file_tree.specs.declared.job.Ask.TheVariants.{Stat as AskStat, Read a
 use Rattle.ngx_outside.specs.Linked.{LinkView}
 use Rattle.ngx_outside.specs.Views.{ConnView, ask_in, no_bytes}
 use Rattle.ngx_outside.specs.Wants.{wants_at, doable}
-use Rattle.ngx_outside.specs.declared.event.StopCause.TheVariants as stop
 use Rattle.ngx_outside.specs.declared.event.Want.{Want}
 use Rattle.ngx_outside.specs.declared.event.Want.TheVariants.{Read, Run, Job, Write, Close}
 use Rattle.std.specs.Prelude.{length}
@@ -46,14 +45,14 @@ pub record AtRest (heard tells : Type 0) (v : ConnView) (l : LinkView) : Type 0 
   pub read : heard → v.room ≢ None → l.due ≡ false
   pub written : tells → v.pending ≢ [] → l.full ≡ true
 
--- a tick gave the connection up
-abbrev pub IsGivenUp : ConnView → Type 0
-IsGivenUp v = (due : ℕ) × (now : ℕ) × (v.cause ≡ Some (stop.Deadline due now))
+-- each connection that is held rests
+abbrev pub AllRest : (heard tells : Type 0) → (ℕ → ConnView) → (ℕ → LinkView) → Type 0
+AllRest heard tells view link = (c : ℕ) → (view c).held ≡ true →
+    AtRest heard tells (view c) (link c)
 
--- each connection that is held rests, or a tick gave it up, where that may be
-abbrev pub AllRest : (heard tells may : Type 0) → (ℕ → ConnView) → (ℕ → LinkView) → Type 0
-AllRest heard tells may view link = (c : ℕ) → (view c).held ≡ true →
-    AtRest heard tells (view c) (link c) ⊎ (may × IsGivenUp (view c))
+-- no deadline is earlier than this moment
+abbrev pub IsQuiet : ℕ → (ℕ → ConnView) → Type 0
+IsQuiet until view = (c due : ℕ) → (view c).deadline ≡ Some due → until ≤ due
 
 -- each link that is due is remembered as unread
 abbrev pub IsHeard : (ℕ → Bool) → (ℕ → LinkView) → Ids → Type 0
@@ -82,18 +81,13 @@ HeardCounts heard.Nothing before after = after ≡ next_count before
 HeardCounts heard.Ended before after = after ≡ before
 HeardCounts heard.Failed before after = after ≡ before
 
--- this moment was told last
-abbrev pub WasTold : Option Told → ℕ → Type 0
-WasTold None moment = ⊥
-WasTold (Some told) moment = told.moment ≡ moment
-
 -- all rest but the connection of which something was heard
-abbrev pub RestsBut : Heard → (heard tells may : Type 0) → (ℕ → ConnView) → (ℕ → LinkView) → Type 0
-RestsBut (heard.At conn due) known tells may view link = (c : ℕ) → c ≢ conn → (view c).held ≡ true →
-    AtRest known tells (view c) (link c) ⊎ (may × IsGivenUp (view c))
-RestsBut heard.Nothing known tells may view link = AllRest known tells may view link
-RestsBut heard.Ended known tells may view link = AllRest known tells may view link
-RestsBut heard.Failed known tells may view link = AllRest known tells may view link
+abbrev pub RestsBut : Heard → (heard tells : Type 0) → (ℕ → ConnView) → (ℕ → LinkView) → Type 0
+RestsBut (heard.At conn due) known tells view link = (c : ℕ) → c ≢ conn → (view c).held ≡ true →
+    AtRest known tells (view c) (link c)
+RestsBut heard.Nothing known tells view link = AllRest known tells view link
+RestsBut heard.Ended known tells view link = AllRest known tells view link
+RestsBut heard.Failed known tells view link = AllRest known tells view link
 
 -- nothing changed but at the connection of which something was heard
 abbrev pub ChangedAs : {V : Type 0} → Heard → (ℕ → V) → (ℕ → V) → Type 0

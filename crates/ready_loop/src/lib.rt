@@ -11,7 +11,9 @@ mod laws;
 mod links;
 mod service;
 mod ticks;
+mod timed;
 mod turn;
 
 pub use laws::{closed_unended_sent_all, closed_unstopped_sent_all, kept_begins, starts_were_told};
 pub use service::{Ending, serve};
+pub use timed::TimedCore;

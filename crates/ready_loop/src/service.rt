@@ -10,10 +10,11 @@ use crate::conns::{Memory, remember_all, serve_all};
 use crate::drain::Buffers;
 use crate::hear::Heard;
 use crate::ids::Ids;
+use crate::timed::TimedCore;
 use crate::turn::take_turn;
 use byte_text::{ByteText, OutOfMemory};
 use http_types::Addr;
-use ngx_outside::{Clock, EventCore, Failed, Files, Links};
+use ngx_outside::{Clock, Failed, Files, Links};
 use std::alloc::Global;
 
 /// How serving ended.
@@ -73,7 +74,7 @@ fn ending_by(heard: Heard) -> Option<Ending>
 }
 
 // Takes so many turns, or until no notice will come any more or the call for one failed.
-fn take_turns<E: EventCore, F: Files, L: Links, C: Clock>(
+fn take_turns<E: TimedCore, F: Files, L: Links, C: Clock>(
     core: &mut E,
     files: &mut F,
     links: &mut L,
@@ -125,7 +126,7 @@ fn take_turns<E: EventCore, F: Files, L: Links, C: Clock>(
 }
 
 // Serves what there is to do, then so many turns, and what a last tick left.
-fn serve_turns<E: EventCore, F: Files, L: Links, C: Clock>(
+fn serve_turns<E: TimedCore, F: Files, L: Links, C: Clock>(
     alloc: Global,
     core: &mut E,
     files: &mut F,
@@ -183,14 +184,14 @@ fn serve_turns<E: EventCore, F: Files, L: Links, C: Clock>(
 /// handled with all runs, file jobs, reads and writes that it makes possible; before it the core is told the clock's
 /// moment, and the number of the newest tree of the files where it rose. A link is read once for each report that it is
 /// readable, and one that was open at the call's start once besides; a turn looks at the connection of its notice alone.
-/// Where a moment is told that differs from the one before, and at the end, all connections are looked at, since a tick
+/// All connections are looked at only at the start, at the end, and where a deadline may have been due at a turn's tick, which
 /// may have given some up.
 ///
 /// At the end the links are told how many events the core has refused for want of memory.
 ///
 /// The connections that the core holds are to be those whose links are open, and are so at the end: a link whose
 /// connection is refused is closed at once.
-pub fn serve<E: EventCore, F: Files, L: Links, C: Clock>(
+pub fn serve<E: TimedCore, F: Files, L: Links, C: Clock>(
     alloc: Global,
     core: &mut E,
     files: &mut F,

@@ -5,7 +5,7 @@ ghost use Rattle.ngx_outside.specs.Views.{Course, Ticked, kept_moment};
 ghost use Rattle.ngx_outside.specs.Seen.{LinksSeen};
 ghost use Rattle.ready_loop.specs.Seen.{Grown, Tick};
 ghost use Rattle.ready_loop.specs.Standing.{Kept, Marks};
-ghost use Rattle.ready_loop.specs.Turns.{WasTold, tick_at};
+ghost use Rattle.ready_loop.specs.Turns.{tick_at};
 ghost use Rattle.ready_loop.specs.declared.ticks.Told.{Told};
 ghost use Rattle.ngx_outside.specs.Records.{Adds, FileAnswer, LinkAnswer};
 ghost use Rattle.ready_loop.specs.Tellings.{StandBeside, moments_told};
@@ -91,14 +91,4 @@ pub fn tick<E: EventCore, F: Files, C: Clock>(
     ticked(core, moment);
     let tree = tell_tree(core, files, tree_of(last));
     Told { tree, moment }
-}
-
-/// Whether another moment was told before, or none.
-pub fn is_late(last: Option<Told>, moment: u64) -> bool
-    ensures { result ≡ false → WasTold last moment }
-{
-    match last {
-        Some(told) => told.moment != moment,
-        None => true,
-    }
 }

@@ -6,23 +6,24 @@ ghost use Rattle.ngx_outside.specs.Causes.{Rose};
 ghost use Rattle.ngx_outside.specs.Views.{Course};
 ghost use Rattle.ready_loop.specs.Seen.{Tick};
 ghost use Rattle.ready_loop.specs.Standing.{IsMatched, Keeps, Kept, Marks};
-ghost use Rattle.ready_loop.specs.Turns.{AllRest, HeardAs, HeardCounts, IsHeard, RestsBut, WasTold, tick_at};
+ghost use Rattle.ready_loop.specs.Turns.{AllRest, HeardAs, HeardCounts, IsHeard, RestsBut, tick_at};
 ghost use Rattle.ready_loop.specs.Tellings.{StandBeside, moments_told};
 
 use crate::conns::{Memory, serve_all, serve_one};
 use crate::hear::{Heard, hear};
-use crate::ticks::{Told, is_late, tick};
+use crate::ticks::{Told, tick};
+use crate::timed::TimedCore;
 use byte_text::OutOfMemory;
 use ngx_outside::{Clock, EventCore, Files, Links};
 
-// Serves all connections where another moment was told before: some may have been given up.
-fn serve_late<E: EventCore, F: Files, L: Links>(
+// Serves all connections where a deadline may have been due: some may have been given up.
+fn serve_due<E: EventCore, F: Files, L: Links>(
     core: &mut E,
     files: &mut F,
     links: &mut L,
     memory: &mut Memory,
     conns: &mut Vec<u32>,
-    is_late: bool,
+    is_due: bool,
 ) -> Result<(), OutOfMemory>
     requires matched { IsMatched (E.seen core.old).view (L.seen links.old).is_open }
     requires known { (E.seen core.old).now.tree ≤ (F.seen files.old).newest }
@@ -34,9 +35,9 @@ fn serve_late<E: EventCore, F: Files, L: Links>(
         OnOk result (IsHeard (L.seen links.new).is_open (L.seen links.new).link memory.new.unread) }
     ensures rests { (h : Bool) → (h ≡ true → ((L.seen links.old).tells ≡ true) ×
         IsHeard (L.seen links.old).is_open (L.seen links.old).link memory.old.unread) →
-        AllRest (h ≡ true) ((L.seen links.old).tells ≡ true) (Unit {0}) (E.seen core.old).view
-        (L.seen links.old).link →
-        OnOk result (AllRest (h ≡ true) ((L.seen links.old).tells ≡ true) (is_late ≡ false)
+        (is_due ≡ false → AllRest (h ≡ true) ((L.seen links.old).tells ≡ true)
+        (E.seen core.old).view (L.seen links.old).link) →
+        OnOk result (AllRest (h ≡ true) ((L.seen links.old).tells ≡ true)
         (E.seen core.new).view (L.seen links.new).link) }
     ensures beside { OnOk result ((clock : Option (List ℕ)) →
         StandBeside (E.seen core.old).events (E.seen core.new).events (L.seen links.old).answers
@@ -55,7 +56,7 @@ fn serve_late<E: EventCore, F: Files, L: Links>(
         ((F.seen files.new).tells ≡ (F.seen files.old).tells)) }
     ensures grown { OnOk result ((F.seen files.old).newest ≤ (F.seen files.new).newest) }
 {
-    if is_late {
+    if is_due {
         serve_all(core, files, links, memory, conns)?;
     }
     Ok(())
@@ -77,11 +78,11 @@ fn serve_heard<E: EventCore, F: Files, L: Links>(
     ensures heard { (L.seen links.old).tells ≡ true →
         HeardAs heard (L.seen links.old).is_open (L.seen links.old).link memory.old.unread →
         OnOk result (IsHeard (L.seen links.new).is_open (L.seen links.new).link memory.new.unread) }
-    ensures rests { (h up : Bool) → (h ≡ true → ((L.seen links.old).tells ≡ true) ×
+    ensures rests { (h : Bool) → (h ≡ true → ((L.seen links.old).tells ≡ true) ×
         HeardAs heard (L.seen links.old).is_open (L.seen links.old).link memory.old.unread) →
-        RestsBut heard (h ≡ true) ((L.seen links.old).tells ≡ true) (up ≡ true)
+        RestsBut heard (h ≡ true) ((L.seen links.old).tells ≡ true)
         (E.seen core.old).view (L.seen links.old).link →
-        OnOk result (AllRest (h ≡ true) ((L.seen links.old).tells ≡ true) (up ≡ true)
+        OnOk result (AllRest (h ≡ true) ((L.seen links.old).tells ≡ true)
         (E.seen core.new).view (L.seen links.new).link) }
     ensures beside { OnOk result ((clock : Option (List ℕ)) →
         StandBeside (E.seen core.old).events (E.seen core.new).events (L.seen links.old).answers
@@ -117,7 +118,7 @@ pub struct Taken {
 }
 
 /// Takes a turn: the clock's moment is told, and one notice is handled with all that it makes possible.
-pub fn take_turn<E: EventCore, F: Files, L: Links, C: Clock>(
+pub fn take_turn<E: TimedCore, F: Files, L: Links, C: Clock>(
     core: &mut E,
     files: &mut F,
     links: &mut L,
@@ -145,10 +146,10 @@ pub fn take_turn<E: EventCore, F: Files, L: Links, C: Clock>(
         OnOk result (IsHeard (L.seen links.new).is_open (L.seen links.new).link memory.new.unread) }
     ensures rests { (h : Bool) → (h ≡ true → ((L.seen links.old).tells ≡ true) ×
         IsHeard (L.seen links.old).is_open (L.seen links.old).link memory.old.unread) →
-        AllRest (h ≡ true) ((L.seen links.old).tells ≡ true) (Unit {0}) (E.seen core.old).view
+        AllRest (h ≡ true) ((L.seen links.old).tells ≡ true) (E.seen core.old).view
         (L.seen links.old).link →
-        IfOk result (λ t. AllRest (h ≡ true) ((L.seen links.old).tells ≡ true)
-        (WasTold last t.told.moment) (E.seen core.new).view (L.seen links.new).link) }
+        OnOk result (AllRest (h ≡ true) ((L.seen links.old).tells ≡ true)
+        (E.seen core.new).view (L.seen links.new).link) }
     ensures known { IfOk result (λ t. ((E.seen core.new).now.tree ≡ t.told.tree) ×
         ((E.seen core.new).now.tree ≤ (F.seen files.new).newest)) }
     ensures ended { IfOk result (λ t. t.heard ≡ Heard.Ended → (L.seen links.new).over ≡ true) }
@@ -170,15 +171,9 @@ pub fn take_turn<E: EventCore, F: Files, L: Links, C: Clock>(
         ((F.seen files.new).tells ≡ (F.seen files.old).tells)) ×
         ((C.seen clock.new).tells ≡ (C.seen clock.old).tells)) }
 {
+    let until = core.quiet_until();
     let told = tick(core, files, clock, last);
-    serve_late(
-        core,
-        files,
-        links,
-        memory,
-        conns,
-        is_late(last, told.moment),
-    )?;
+    serve_due(core, files, links, memory, conns, until <= told.moment)?;
     let heard = hear(core, links);
     serve_heard(core, files, links, memory, heard)?;
     Ok(Taken { heard, told })

@@ -1,3 +1,4 @@
 pub mod EscapeLaws
 pub mod LineLaws
+pub mod PlaceLaws
 pub mod SentLaws

@@ -5,3 +5,4 @@ pub mod Kinds
 pub mod Faults
 pub mod Counts
 pub mod Laws
+pub mod Races

@@ -26,7 +26,7 @@ pub fn script_fault_text(fault: ScriptFault, out: &mut ByteText) -> Result<(), O
 
 /// A space, the file's path, and the line.
 #[tactic(auto, unfolding(crate::specs::Faults::place_text, crate::specs::Report::spaced))]
-fn put_place(path: &[u8], line: u64, out: &mut ByteText) -> Result<(), OutOfMemory>
+pub fn put_place(path: &[u8], line: u64, out: &mut ByteText) -> Result<(), OutOfMemory>
     ensures { OnOk result (out.new ≡ out.old ++ place_text path.now line) }
 {
     out.push(b' ')?;

@@ -1,4 +1,6 @@
 mod Padding
-mod Turns
+pub mod Turns
 mod Pieces
 mod Puts
+mod Composing
+mod Reaching

@@ -1,6 +1,6 @@
 -- A response is put.
-use Rattle.std.proofs.Common.{◌≡◌, ◌≤◌, ℕ, ◌+◌, ◌-◌, Bool, true, false, not, ◌&&◌, ◌||◌, cond, eqb, List, [], ◌∷◌, ◌++◌, length, drop, Option, None, Some, option_map, refl, sym, ap, ◌∙◌, subst, append_assoc, arith}
-use Rattle.std.specs.Prelude.{nat_lt, is_some, is_none, codes}
+use Rattle.std.proofs.Common.{◌≡◌, ◌≤◌, ℕ, ◌+◌, ◌-◌, Bool, true, false, not, ◌&&◌, ◌||◌, cond, List, [], ◌∷◌, ◌++◌, length, drop, Option, None, Some, option_map, refl, sym, ap, ◌∙◌, subst, append_assoc, arith}
+use Rattle.std.specs.Prelude.{is_none, codes}
 use Rattle.std.proofs.lemmas.List.{append-nil}
 use Rattle.acts.specs.Vars.{Vars}
 use Rattle.file_tree.specs.Tree.{Item, Trees, text_of}
@@ -19,7 +19,9 @@ use Rattle.site_whole.specs.Whole.{values_seen}
 use Rattle.request_meaning.specs.Serving.{World, Answer, Asked, Standing, Prepared, Body as MeantBody}
 use Rattle.request_meaning.specs.Serving.Body.{NoBody}
 use Rattle.request_meaning.specs.Answering.{sent, page, page_to, moved, answer_with, page_answer, closed_answer}
-use Rattle.request_meaning.specs.Responses.{response, reply_head, content_sent, keeps, stays_by, framing, may_stay, framed_body}
+use Rattle.request_meaning.specs.Responses.{response, reply_head, content_sent, keeps, stays_by, framing, may_stay, framed_body, is_chunked}
+use Rattle.http_types.specs.declared.words.Version.{Version}
+use Rattle.http_types.specs.declared.words.Version.TheVariants as versions
 use Rattle.family_meaning.specs.Flight.{stays_after}
 use Rattle.request_meaning.specs.Laws.{shipped}
 use Rattle.rewrite_code.specs.Places.{standing_seen}
@@ -86,34 +88,54 @@ and_true : (b : Bool) → (b && true) ≡ b
 and_true true = refl
 and_true false = refl
 
-by_length : (t : Terms) (a : Answer) → a.known ≡ true → may_stay (framing a.known (terms_seen t).version) ≡ true
-by_length t a e = ap (λ k. may_stay (framing k t.version)) e
+-- a body of known length, or none that is sent, isn't in chunks
+not_chunked : (known no_body : Bool) (version : Version) → (known || no_body) ≡ true → (is_chunked (framing known version) && not no_body) ≡ false
+not_chunked true true version e = refl
+not_chunked true false version e = refl
+not_chunked false true versions.V10 e = refl
+not_chunked false true versions.V11 e = refl
+not_chunked false false version e = cc
+
+unframed : (known no_body : Bool) (version : Version) (body : List ℕ) → (known || no_body) ≡ true → cond no_body [] (framed_body (framing known version) body) ≡ cond no_body [] body
+unframed true no_body version body e = refl
+unframed false true version body e = refl
+unframed false false version body e = cc
+
+-- whether the connection stays open
+pub stays_as : (t : Terms) (reply : Reply) (a : Answer) (site : Site) (l raw : Level) → reply.closes ≡ a.closes → reply.gone ≡ a.gone → reply.known ≡ a.known → l ≡ raw →
+    a.values ≡ values_seen site raw → stays_seen t l reply ≡ stays_after (terms_seen t) a
+unfolding keeps values_seen
+stays_as t reply a site l raw ec eg ek el ev =
+    rw el (rw ec (rw eg (rw ek
+    (ap (λ (v : Values). (t.head_keeps && stays_by t.before v && not (a.closes || a.gone)) && may_stay (framing a.known t.version)) (sym ev)))))
 
 -- a reply on whose body no filter acts
-pub record IsPlain (reply : Reply) (bytes : List ℕ) (p : Prepared) : Type 0 where
+pub record IsPlain (t : Terms) (reply : Reply) (bytes : List ℕ) (p : Prepared) : Type 0 where
   pub status : reply.status ≡ p.answer.status
   pub kind : option_map (λ k. k.now) reply.kind ≡ p.answer.kind
   pub len : reply.length ≡ p.answer.length
-  pub known : p.answer.known ≡ true
+  pub known : reply.known ≡ p.answer.known
+  pub framed : (p.answer.known || t.no_body) ≡ true
   pub modified : reply.modified ≡ p.answer.modified
   pub location : reply.location ≡ p.answer.location
   pub closes : reply.closes ≡ p.answer.closes
   pub gone : reply.gone ≡ p.answer.gone
   pub body : body_seen bytes None reply.body ≡ p.body
 
-both_plain : (known : Bool) (facts : Option Facts) → (known && is_none facts) ≡ true → (known ≡ true) × (facts ≡ None)
+both_plain : (told : Bool) (facts : Option Facts) → (told && is_none facts) ≡ true → (told ≡ true) × (facts ≡ None)
 both_plain true None e = (refl, refl)
 both_plain true (Some f) e = cc
 both_plain false facts e = cc
 
-pub plain_is : (reply : Reply) (bytes : List ℕ) (p : Prepared) → is_plain reply ≡ true → IsReply reply bytes p → IsPlain reply bytes p
-plain_is reply bytes p e h =
-    let b = both_plain reply.known reply.facts e in
+pub plain_is : (t : Terms) (reply : Reply) (bytes : List ℕ) (p : Prepared) → is_plain t reply ≡ true → IsReply reply bytes p → IsPlain t reply bytes p
+plain_is t reply bytes p e h =
+    let b = both_plain (reply.known || t.no_body) reply.facts e in
     record {
       status = h.status;
       kind = h.kind;
       len = h.len;
-      known = sym h.known ∙ b.0;
+      known = h.known;
+      framed = ap (λ k. k || t.no_body) (sym h.known) ∙ b.0;
       modified = h.modified;
       location = h.location;
       closes = h.closes;
@@ -121,16 +143,16 @@ plain_is reply bytes p e h =
       body = ap (λ f. body_seen bytes f reply.body) (sym b.1) ∙ h.body;
     }
 
-module _ (t : Terms) (reply : Reply) (bytes : List ℕ) (p : Prepared) (is : IsPlain reply bytes p) where
+module _ (t : Terms) (reply : Reply) (bytes : List ℕ) (p : Prepared) (is : IsPlain t reply bytes p) where
   head_is : (keep : Bool) → head_seen reply t keep ≡ reply_head p.answer t.moment t.version t.no_body keep
   unfolding reply_head
   head_is keep =
-      rw (sym is.status) (rw (sym is.kind) (rw (sym is.len) (rw (sym is.modified) (rw (sym is.location) (rw is.known refl)))))
+      rw (sym is.status) (rw (sym is.kind) (rw (sym is.len) (rw (sym is.modified) (rw (sym is.location) (rw (not_chunked p.answer.known t.no_body t.version is.framed) refl)))))
 
   -- what is put with the head, where the rest of the body is this
   content_is : (later : List ℕ) → cond t.no_body [] (plain_bytes p.body) ≡ content_now reply t ++ later →
       content_sent p.answer t.version t.no_body (plain_bytes p.body) ≡ content_now reply t ++ later
-  content_is later e = ap (λ k. cond t.no_body [] (framed_body (framing k t.version) (plain_bytes p.body))) is.known ∙ e
+  content_is later e = unframed p.answer.known t.no_body t.version (plain_bytes p.body) is.framed ∙ e
 
   abbrev whole : (gone keep : Bool) → List ℕ
   whole gone keep = cond gone [] (head_of (reply_head p.answer t.moment t.version t.no_body keep) ++ content_sent p.answer t.version t.no_body (plain_bytes p.body))
@@ -149,15 +171,6 @@ module _ (t : Terms) (reply : Reply) (bytes : List ℕ) (p : Prepared) (is : IsP
   response_is keep later e none =
       ap (λ b. cond b [] (head_of (head_seen reply t keep) ++ content_now reply t) ++ later) is.gone ∙ put_by p.answer.gone keep later e none
 
-  -- whether the connection stays open
-  stays_is : (site : Site) (l raw : Level) → l ≡ raw → p.answer.values ≡ values_seen site raw → stays_seen t l reply ≡ stays_after (terms_seen t) p.answer
-  unfolding keeps values_seen
-  stays_is site l raw el ev =
-      rw el (rw is.closes (rw is.gone (
-      sym (and_true (t.head_keeps && (nat_lt (t.before + 1) raw.requests && not (eqb raw.idle 0)) && not (p.answer.closes || p.answer.gone)))
-      ∙ ap (λ b. (t.head_keeps && (nat_lt (t.before + 1) raw.requests && not (eqb raw.idle 0)) && not (p.answer.closes || p.answer.gone)) && b) (sym (by_length t p.answer is.known))
-      ∙ ap (λ (v : Values). (t.head_keeps && stays_by t.before v && not (p.answer.closes || p.answer.gone)) && may_stay (framing p.answer.known t.version)) (sym ev))))
-
 -- ---- a file is sent, or none is
 
 content_by : (no_body gone : Bool) (body : Body) (known : Known) (trees : Trees) (meant : MeantBody) → body_seen (known_bytes known trees) None body ≡ meant → (gone ≡ true → meant ≡ NoBody) →
@@ -170,7 +183,7 @@ content_by false gone bodies.File (Nothing of) trees meant e g f = ap plain_byte
 content_by false true bodies.File (Told file) trees meant e g f = ap plain_bytes (g refl)
 content_by false false bodies.File (Told file) trees meant e g f = cc
 
-pub no_file : (t : Terms) (reply : Reply) (p : Prepared) (known : Known) (trees : Trees) → IsPlain reply (known_bytes known trees) p → (p.answer.gone ≡ true → p.body ≡ NoBody) →
+pub no_file : (t : Terms) (reply : Reply) (p : Prepared) (known : Known) (trees : Trees) → IsPlain t reply (known_bytes known trees) p → (p.answer.gone ≡ true → p.body ≡ NoBody) →
     file_known (sends_file t reply) known ≡ None → cond t.no_body [] (plain_bytes p.body) ≡ content_now reply t
 no_file t reply p known trees is bare e = content_by t.no_body reply.gone reply.body known trees p.body is.body (λ g. bare (sym is.gone ∙ g)) e
 
@@ -195,20 +208,20 @@ file_sent t reply known file e = sent_by t.no_body reply.gone reply.body known f
 -- ---- what is still to come then
 
 -- whether the connection closes after a reply
-kept_or : (closing keep stays : Bool) → keep ≡ stays → (closing || not keep) ≡ cond stays closing true
+pub kept_or : (closing keep stays : Bool) → keep ≡ stays → (closing || not keep) ≡ cond stays closing true
 kept_or true true stays e = ap (λ b. cond b true true) e
 kept_or false true stays e = ap (λ b. cond b false true) e
 kept_or true false stays e = ap (λ b. cond b true true) e
 kept_or false false stays e = ap (λ b. cond b false true) e
 
-module _ (site : Site) (number : ℕ) (t : Terms) (l : Level) (reply : Reply) (bytes : List ℕ) (p : Prepared) (vars : Vars) (is : IsPlain reply bytes p)
+module _ (site : Site) (number : ℕ) (t : Terms) (l : Level) (reply : Reply) (bytes : List ℕ) (p : Prepared) (vars : Vars) (is : IsPlain t reply bytes p)
     (el : l ≡ raw_level site number) (ev : p.answer.values ≡ values_seen site (raw_level site number)) (out out' : List ℕ) (closing closing' keep : Bool) (size : ℕ)
     (kept : keep ≡ stays_seen t l reply) (closed : closing' ≡ (closing || not keep)) (puts : out' ≡ out ++ put_now reply t keep) (sized : size ≡ length (content_now reply t)) where
   before : Rest
   before = prepared_rest (terms_seen t) p vars
 
   stays : keep ≡ stays_after (terms_seen t) p.answer
-  stays = kept ∙ stays_is t reply bytes p is site l (raw_level site number) el ev
+  stays = kept ∙ stays_as t reply p.answer site l (raw_level site number) is.closes is.gone is.known el ev
 
   -- all of the response is put
   pub over_follows : cond t.no_body [] (plain_bytes p.body) ≡ content_now reply t →
@@ -262,21 +275,29 @@ moved_follows site q q' r r' out out' closing c c' log log' number number' eq er
 
 -- ---- a reply is what was prepared
 
-known_length : (known : Known) (trees : Trees) → length (known_bytes known trees) ≡ known_len known
+pub known_length : (known : Known) (trees : Trees) → length (known_bytes known trees) ≡ known_len known
 known_length (Nothing of) trees = refl
 known_length (Told f) trees = padded_length f.len _
 
-pub replied : (patterns : List SetPattern) (g : Ground) (p : Phases) (known : Known) (trees : Trees) (len : ℕ) (o told : Outcome) (reply : Reply) →
-    is_plain reply ≡ true → len ≡ known_len known → told ≡ with_length len o →
+pub reply_is : (patterns : List SetPattern) (g : Ground) (p : Phases) (known : Known) (trees : Trees) (len : ℕ) (o told : Outcome) (reply : Reply) →
+    len ≡ known_len known → told ≡ with_length len o →
     ((w : World) (bytes : List ℕ) → w.members ≡ shipped → FitsFile told bytes → IsReply reply bytes (prepared_as w (asked_in p) (standing_seen g.site.now p.at) bytes told)) →
-    IsPlain reply (known_bytes known trees) (prepared_as (world_in patterns g shipped) (asked_in p) (standing_seen g.site.now p.at) (known_bytes known trees) o)
-replied patterns g p known trees len o told reply plain en et h =
+    IsReply reply (known_bytes known trees) (prepared_as (world_in patterns g shipped) (asked_in p) (standing_seen g.site.now p.at) (known_bytes known trees) o)
+reply_is patterns g p known trees len o told reply en et h =
     let b = known_bytes known trees in
     let w = world_in patterns g shipped in
     let fits : FitsFile told b = subst (λ x. FitsFile x b) (sym et) (fits_told b len o (known_length known trees ∙ sym en)) in
-    plain_is reply b (prepared_as w (asked_in p) (standing_seen g.site.now p.at) b o) plain
-    (subst (IsReply reply b) (ap (prepared_as w (asked_in p) (standing_seen g.site.now p.at) b) et ∙ same_outcome w (asked_in p) (standing_seen g.site.now p.at) b len o)
-    (h w b refl fits))
+    subst (IsReply reply b) (ap (prepared_as w (asked_in p) (standing_seen g.site.now p.at) b) et ∙ same_outcome w (asked_in p) (standing_seen g.site.now p.at) b len o)
+    (h w b refl fits)
+
+pub replied : (patterns : List SetPattern) (g : Ground) (p : Phases) (known : Known) (trees : Trees) (len : ℕ) (o told : Outcome) (t : Terms) (reply : Reply) →
+    is_plain t reply ≡ true → len ≡ known_len known → told ≡ with_length len o →
+    ((w : World) (bytes : List ℕ) → w.members ≡ shipped → FitsFile told bytes → IsReply reply bytes (prepared_as w (asked_in p) (standing_seen g.site.now p.at) bytes told)) →
+    IsPlain t reply (known_bytes known trees) (prepared_as (world_in patterns g shipped) (asked_in p) (standing_seen g.site.now p.at) (known_bytes known trees) o)
+replied patterns g p known trees len o told t reply plain en et h =
+    let b = known_bytes known trees in
+    let w = world_in patterns g shipped in
+    plain_is t reply b (prepared_as w (asked_in p) (standing_seen g.site.now p.at) b o) plain (reply_is patterns g p known trees len o told reply en et h)
 
 -- ---- how many bytes are put
 

@@ -30,7 +30,7 @@ in_turn m n k old new e =
     stays m n old new e = sym (ap (λ s. settled s.0 s.1) e) ∙ (settled_stays m old ∙ e)
 
 -- reads and writes of variables ask for no subrequest
-subs_settled : {A : Type 0} (tree : Tree) (inner : Child → Vars → Came Answer) (count : Child → Vars → ℕ) (m : Serving A) (vars : Vars) →
+pub subs_settled : {A : Type 0} (tree : Tree) (inner : Child → Vars → Came Answer) (count : Child → Vars → ℕ) (m : Serving A) (vars : Vars) →
     subs_in tree inner count m vars ≡ subs_in tree inner count (settled m vars).0 (settled m vars).1
 unfolding subs_in settled
 subs_settled tree inner count (Done a) vars = refl
@@ -58,6 +58,11 @@ finished_is : (w : World) (m : Serving Prepared) → finished w m ≡ (m >>= aft
 unfolding finished after_phases
 finished_is w m = refl
 
+-- what follows phases settles with them
+pub finished_settles : (w : World) (m n : Serving Prepared) (old new : Vars) → settled m old ≡ (n, new) → settled (finished w m) old ≡ settled (finished w n) new
+finished_settles w m n old new e =
+    ap (λ a. settled a old) (finished_is w m) ∙ (in_turn m n (after_phases w) old new e ∙ ap (λ a. settled a new) (sym (finished_is w n)))
+
 -- what settles is what is left
 pub act_settles : (w : World) (tree : Tree) (t : Terms) (m n : Serving Prepared) (old new : Vars) → settled m old ≡ (n, new) →
     act_rest w tree t m old ≡ act_rest w tree t n new
@@ -65,7 +70,7 @@ unfolding act_rest
 act_settles w tree t m n old new e =
     left_settled w tree t (finished w m) old
     ∙ (ap (λ s. left_rest w tree t s.0 s.1)
-    (ap (λ a. settled a old) (finished_is w m) ∙ (in_turn m n (after_phases w) old new e ∙ ap (λ a. settled a new) (sym (finished_is w n))))
+    (finished_settles w m n old new e)
     ∙ sym (left_settled w tree t (finished w n) new))
 
 -- a question to the files is answered by the tree

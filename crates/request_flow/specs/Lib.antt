@@ -3,3 +3,5 @@ pub mod Padded
 pub mod Rests
 pub mod Flows
 pub mod Sents
+pub mod Pages
+pub mod Reached

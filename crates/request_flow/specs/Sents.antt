@@ -11,6 +11,7 @@ use Rattle.site_model.specs.declared.site.Site.{Site}
 use Rattle.request_meaning.specs.Serving.{World, Answer, Prepared, Body as MeantBody}
 use Rattle.request_meaning.specs.Serving.Body.{NoBody, Plain, Filtered}
 use Rattle.request_meaning.specs.Replies.{Came}
+use Rattle.request_meaning.specs.Responses.{framing, may_stay}
 use Rattle.family_meaning.specs.Flight.{Terms}
 use Rattle.request_phases.specs.Rounds.{phases_left}
 use Rattle.request_phases.specs.declared.state.Outcome.{Outcome}
@@ -31,9 +32,9 @@ use Rattle.request_flow.specs.Rests.{Rest, came_rest, act_rest}
 
 -- ---- the head and what is put with it
 
--- the head of the response; the length of a reply is known, so that its end is told by it
-abbrev pub head_seen : Reply → CodeTerms → (keep : Bool) → ReplyHead
-head_seen r t keep =
+-- the head of the response
+abbrev pub head_with : Reply → CodeTerms → (chunked keep : Bool) → ReplyHead
+head_with r t chunked keep =
     record {
       status = r.status;
       moment = t.moment;
@@ -41,9 +42,13 @@ head_seen r t keep =
       length = r.length;
       modified = r.modified;
       location = r.location;
-      chunked = false;
+      chunked = chunked;
       keep = keep;
     }
+
+-- where the end of the body is told by its length, or it isn't sent
+abbrev pub head_seen : Reply → CodeTerms → (keep : Bool) → ReplyHead
+head_seen r t keep = head_with r t false keep
 
 -- what of the body is put with the head: all, but for a file
 abbrev pub sent_now : Body → List ℕ
@@ -59,15 +64,16 @@ content_now r t = if t.no_body then [] else sent_now r.body
 unfoldable pub put_now : Reply → CodeTerms → (keep : Bool) → List ℕ
 put_now r t keep = if r.gone then [] else head_of (head_seen r t keep) ++ content_now r t
 
--- Whether the connection stays open after a reply: where the request's head allows it, the level does, and no error closes it.
+-- Whether the connection stays open after a reply: where the request's head allows it, the level does, no error closes it, and
+-- the end of the body is told.
 abbrev pub stays_seen : CodeTerms → Level → Reply → Bool
 stays_seen t level r =
     t.head_keeps && (nat_lt (t.before + 1) level.requests && not (level.idle == 0))
-    && not (r.closes || r.gone)
+    && not (r.closes || r.gone) && may_stay (framing r.known t.version)
 
--- the length of a reply is known, and no filter acts on its body
-abbrev pub is_plain : Reply → Bool
-is_plain reply = reply.known && is_none reply.facts
+-- no filter acts on the body of a reply, and its length is known, or it isn't sent
+abbrev pub is_plain : CodeTerms → Reply → Bool
+is_plain t reply = (reply.known || t.no_body) && is_none reply.facts
 
 -- ---- what is known of the files
 

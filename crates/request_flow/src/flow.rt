@@ -1,6 +1,6 @@
 // A request in flight.
 ghost use Rattle.std.specs.Prelude.{◌≡◌, ◌≤◌};
-ghost use Rattle.request_flow.specs.Flows.{waits as waits_for, may_run as can_run, shown_by, stage_written, flow_written, shown_of, stage_server, stage_length};
+ghost use Rattle.request_flow.specs.Flows.{waits as waits_for, may_run as can_run, shown_by as shown_at, stage_written, flow_written, shown_of, stage_server, stage_length};
 
 use crate::asked::blank as blank_phases;
 use crate::blocks::Sending;
@@ -13,12 +13,13 @@ use std::alloc::Global;
 /// No more bytes than these are shown as pending.
 const SHOWN: usize = 65536;
 
-/// No more bytes than these are placed for a peer: what is shown as pending, and a buffer of the request's.
+/// No more bytes than these are placed for a peer: what is shown as pending, and a buffer of the
+/// request's.
 const PLACED: usize = 98304;
 
-/// What a response is made with, beside what is answered: the moment at which the request started, in seconds since 1970, its
-/// version, whether no body is sent (HEAD), how many requests came before on the connection, and whether its head lets the
-/// connection stay open (RFC 9112, 9.3).
+/// What a response is made with, beside what is answered: the moment at which the request started,
+/// in seconds since 1970, its version, whether no body is sent (HEAD), how many requests came
+/// before on the connection, and whether its head lets the connection stay open (RFC 9112, 9.3).
 #[derive(Clone, Copy, Debug, PartialEq, Eq)]
 pub struct Terms {
     pub moment: u64,
@@ -35,11 +36,12 @@ pub struct InPhases {
     /// The variables that its rewrite programs set.
     pub vars: VarTable,
     pub terms: Terms,
-    /// The number of the server that answers, and the length in bytes that the head states of the request's own body: what
-    /// the request is served over is found by them again.
+    /// The number of the server that answers, and the length in bytes that the head states of the
+    /// request's own body: what the request is served over is found by them again.
     pub server: u32,
     pub length: u64,
-    /// No more questions to the files than these may follow: far more than a configuration can make a request ask.
+    /// No more questions to the files than these may follow: far more than a configuration can make
+    /// a request ask.
     pub questions: u32,
 }
 
@@ -80,7 +82,8 @@ pub enum Stage {
         sending: Sending,
         left: u64,
     },
-    /// A block came, after which this many bytes are to come. Of the bytes for the peer this many are placed.
+    /// A block came, after which this many bytes are to come. Of the bytes for the peer this many
+    /// are placed.
     Came {
         sending: Sending,
         left: u64,
@@ -95,9 +98,9 @@ pub struct Flow {
     pub stage: Stage,
 }
 
-/// What became of a request that went on: how it goes on, if it isn't over; whether the connection closes after it; its
-/// status and the length of its body in bytes once it is over; and the number of the level that answers where its head was put
-/// now.
+/// What became of a request that went on: how it goes on, if it isn't over; whether the connection
+/// closes after it; its status and the length of its body in bytes once it is over; and the number
+/// of the level that answers where its head was put now.
 #[derive(Drop)]
 pub struct Onward {
     pub flow: Option<Flow>,
@@ -159,7 +162,8 @@ pub fn may_run(stage: &Stage) -> bool
     }
 }
 
-/// The number of the server that answers a request within its phases; 0 after them, where it doesn't matter.
+/// The number of the server that answers a request within its phases; 0 after them, where it
+/// doesn't matter.
 pub fn server_of(stage: &Stage) -> u32
     ensures { result ≡ stage_server stage.now }
 {
@@ -182,8 +186,8 @@ pub fn server_of(stage: &Stage) -> u32
     }
 }
 
-/// The length in bytes that the head of a request within its phases states of its own body; 0 after them, where it doesn't
-/// matter.
+/// The length in bytes that the head of a request within its phases states of its own body; 0 after
+/// them, where it doesn't matter.
 pub fn length_of(stage: &Stage) -> u64
     ensures { result ≡ stage_length stage.now }
 {
@@ -208,37 +212,45 @@ pub fn length_of(stage: &Stage) -> u64
 
 /// How many of the bytes that are kept for the peer are shown as pending.
 #[tactic(auto, unfolding(crate::specs::Flows::shown_most))]
+pub fn shown_by(stage: &Stage) -> usize
+    ensures { result ≡ shown_at stage.now }
+{
+    match stage {
+        Stage::Came {
+            sending: _,
+            left: _,
+            placed,
+        } => (*placed).min(SHOWN),
+        Stage::Asked {
+            request: _,
+            wait: _,
+        } => SHOWN,
+        Stage::Told {
+            request: _,
+            wait: _,
+            node: _,
+        } => SHOWN,
+        Stage::Reading {
+            sending: _,
+            left: _,
+        } => SHOWN,
+    }
+}
+
+/// The same, where a request is in flight or none is.
+#[tactic(auto, unfolding(crate::specs::Flows::shown_most))]
 pub fn shown(flow: &Option<Flow>) -> usize
     ensures { result ≡ shown_of flow.now }
 {
     match flow {
-        Some(flow) => match &flow.stage {
-            Stage::Came {
-                sending: _,
-                left: _,
-                placed,
-            } => (*placed).min(SHOWN),
-            Stage::Asked {
-                request: _,
-                wait: _,
-            } => SHOWN,
-            Stage::Told {
-                request: _,
-                wait: _,
-                node: _,
-            } => SHOWN,
-            Stage::Reading {
-                sending: _,
-                left: _,
-            } => SHOWN,
-        },
+        Some(flow) => shown_by(&flow.stage),
         None => SHOWN,
     }
 }
 
 /// Where this many of the placed bytes were written.
 fn stage_after(stage: Stage, count: usize) -> Stage
-    requires { count ≤ shown_by stage }
+    requires { count ≤ shown_at stage }
     ensures { result ≡ stage_written stage count }
 {
     match stage {
@@ -256,15 +268,23 @@ fn stage_after(stage: Stage, count: usize) -> Stage
 }
 
 /// The first of the bytes for the peer were written, of those that are placed.
+pub fn wrote(flow: Flow, count: usize) -> Flow
+    requires { count ≤ shown_at flow.stage }
+    ensures { result ≡ record { ask = flow.ask; stage = stage_written flow.stage count } }
+{
+    Flow {
+        ask: flow.ask,
+        stage: stage_after(flow.stage, count),
+    }
+}
+
+/// The same, where a request is in flight or none is.
 pub fn written(flow: Option<Flow>, count: usize) -> Option<Flow>
     requires { count ≤ shown_of flow }
     ensures { result ≡ flow_written flow count }
 {
     match flow {
-        Some(flow) => Some(Flow {
-            ask: flow.ask,
-            stage: stage_after(flow.stage, count),
-        }),
+        Some(flow) => Some(wrote(flow, count)),
         None => None,
     }
 }

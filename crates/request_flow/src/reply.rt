@@ -2,19 +2,23 @@
 ghost use Rattle.std.specs.Prelude.{◌≡◌, ◌≤◌, ◌+◌, ◌==◌, ◌++◌, ◌&&◌, [], nat_lt, not, length, IfOk, OnOk, option_map, if◌then◌else◌};
 ghost use Rattle.ngx_outside.specs.Views.{Start};
 ghost use Rattle.answers_meaning.specs.Answers.{refusal};
-ghost use Rattle.request_flow.specs.Sents.{head_seen, sent_now, content_now, put_now, stays_seen};
+ghost use Rattle.resp_head.specs.Head.{head_of};
+ghost use Rattle.request_meaning.specs.Responses.{framing, may_stay};
+ghost use Rattle.request_flow.specs.Sents.{head_seen, head_with, sent_now, content_now, put_now, stays_seen};
 
 use crate::flow::{InPhases, Terms, blank};
 use crate::slot::put;
 use byte_text::{ByteQueue, ByteText, OutOfMemory};
 use error_page::page_text;
+use http_types::Version;
 use ngx_pattern::PatternSet;
 use request_reply::{Body, Reply};
 use resp_head::{HeadWriter, ReplyHead};
 use site_model::Level;
 use std::alloc::Global;
 
-/// What requests work with, one after another: memory, the writer of their responses' heads, and what searches for patterns.
+/// What requests work with, one after another: memory, the writer of their responses' heads, and
+/// what searches for patterns.
 #[derive(Drop)]
 pub struct Workspace {
     pub alloc: Global,
@@ -60,19 +64,37 @@ impl Workspace {
 /// No more bytes than these are put at once.
 const OUTGOING: usize = 65536;
 
-/// Whether the values of a level let the connection stay open after a request that this many others came before
-/// (<https://nginx.org/en/docs/http/ngx_http_core_module.html#keepalive_requests>, `#keepalive_timeout`).
+/// Whether the values of a level let the connection stay open after a request that this many others
+/// came before (<https://nginx.org/en/docs/http/ngx_http_core_module.html#keepalive_requests>,
+/// `#keepalive_timeout`).
 fn allows(level: &Level, before: u64) -> bool
     ensures { result ≡ (nat_lt (before + 1) level.now.requests && not (level.now.idle == 0)) }
 {
     before < u64::from(level.requests).saturating_sub(1) && level.idle != 0
 }
 
+/// Whether the end of a body of known length or not is told before the connection closes (RFC 9112,
+/// section 6.3).
+fn tells_end(known: bool, version: Version) -> bool
+    ensures { result ≡ may_stay (framing known version) }
+{
+    if known {
+        return true;
+    }
+    match version {
+        Version::V10 => false,
+        Version::V11 => true,
+    }
+}
+
 /// Whether the connection stays open after a reply that this level answers.
 pub(crate) fn stays(terms: Terms, level: &Level, reply: &Reply<'_>) -> bool
     ensures { result ≡ stays_seen terms level.now reply.now }
 {
-    terms.head_keeps && allows(level, terms.before) && !(reply.closes || reply.gone)
+    terms.head_keeps
+        && allows(level, terms.before)
+        && !(reply.closes || reply.gone)
+        && tells_end(reply.known, terms.version)
 }
 
 /// What of a body is put with the head; a page is written into `page`.
@@ -120,8 +142,9 @@ fn put_parts(out: &mut ByteQueue, head: &[u8], body: &[u8]) -> Result<(), OutOfM
     Ok(())
 }
 
-/// Puts the head of a response, and its body where that isn't a file, after what is kept for the peer: how many bytes of the
-/// body these are. A connection that is closed at once is sent nothing. Where it doesn't fit, there is no memory for it.
+/// Puts the head of a response, and its body where that isn't a file, after what is kept for the
+/// peer: how many bytes of the body these are. A connection that is closed at once is sent nothing.
+/// Where it doesn't fit, there is no memory for it.
 #[tactic(auto, unfolding(crate::specs::Sents::put_now))]
 pub(crate) fn put_reply(
     space: &mut Workspace,
@@ -165,8 +188,41 @@ pub(crate) fn put_reply(
     Ok(size)
 }
 
-/// Puts the response to what is no request, or is refused: the built-in page of a code, after which the connection closes. How
-/// many bytes of the page these are.
+/// The head of a response whose body comes after it, in chunks or not.
+pub(crate) fn head_alone(
+    space: &mut Workspace,
+    reply: Reply<'_>,
+    terms: Terms,
+    chunked: bool,
+    keep: bool,
+) -> Result<ByteText, OutOfMemory>
+    ensures head { IfOk result (λ head. head ≡ head_of (head_with reply.entry terms chunked keep)) }
+    ensures kept { space.new.patterns ≡ space.old.patterns }
+{
+    let Reply {
+        status,
+        kind,
+        length,
+        modified,
+        location,
+        ..
+    } = reply;
+    let head = ReplyHead {
+        status,
+        moment: terms.moment,
+        kind: None,
+        length,
+        modified,
+        location,
+        chunked,
+        keep,
+    };
+    let head = ByteText::from_slice(space.alloc, space.heads.text_of_kind(&head, kind)?)?;
+    Ok(head)
+}
+
+/// Puts the response to what is no request, or is refused: the built-in page of a code, after which
+/// the connection closes. How many bytes of the page these are.
 #[tactic(auto, unfolding(answers_meaning::specs::Answers::refusal, answers_meaning::specs::Answers::refusal_head))]
 pub fn put_refusal(
     space: &mut Workspace,

@@ -8,12 +8,15 @@ ghost use Rattle.request_meaning.specs.Serving.{World};
 ghost use Rattle.request_phases.specs.Rounds.{IsGround, world_in};
 ghost use Rattle.request_flow.specs.Flows.{waits as waits_for, may_run as can_run, stage_fits, flow_rest, flow_fits, flow_left, stage_left, flow_most, tree_asked, heard_flow, file_length, stage_server, stage_length, IsServedBy};
 ghost use Rattle.request_flow.specs.Rests.{Follows};
+ghost use Rattle.request_flow.specs.Pages.{GoesTo, IfOn, IfPage, IsServed, IsTold, closing_of, tree_of_went};
+ghost use Rattle.request_flow.specs.Reached.{FlowReached, WentReached};
 ghost use Rattle.request_flow.specs.declared.flow.Stage.TheVariants.{Told as AtTold, Came as AtCame};
 
 use crate::blocks::{Sending, next_block};
 use crate::flow::{Flow, InPhases, Onward, Stage};
+use crate::page::Went;
 use crate::reply::Workspace;
-use crate::steps::{FileAt, Known, go_on};
+use crate::steps::{FileAt, Known, alone, go_on};
 use byte_text::{ByteQueue, OutOfMemory};
 use file_tree::{Ask, JobAnswer, Node};
 use request_phases::{Ground, Wait, resume};
@@ -49,23 +52,29 @@ fn run_told(
     heard: Heard,
     out: &mut ByteQueue,
     closing: bool,
-) -> Result<Onward, OutOfMemory>
+) -> Result<Went, OutOfMemory>
     requires ground { IsGround ground.now }
     requires unsent { out.old ≡ [] }
     ensures goes { (trees : Trees) →
         let w = world_in space.old.patterns ground.now shipped in
         let site = ground.now.site.now in
-        IfOk result (λ o. Follows site
+        IfOk result (λ went. GoesTo w space.old.patterns site trees
         (flow_rest w space.old.patterns site (Some (heard_flow heard)) trees)
-        (flow_rest w space.old.patterns site o.flow trees) out.old out.new closing o.closing o.log
-        o.level) }
-    ensures over { IfOk result (λ o. is_some o.log ≡ not (is_some o.flow)) }
-    ensures fits { IfOk result (λ o. flow_fits o.flow (length out.new) ≡ true) }
-    ensures lowers { IfOk result (λ o. length out.new + flow_left o.flow (length out.new)
-        < flow_most + 2 * heard.request.value.questions + 1) }
-    ensures by { IfOk result (λ o. IsServedBy heard.request.value.server heard.request.value.length o.flow) }
-    ensures asked { IfOk result (λ o. tree_asked o.flow ≤ tree_of heard.ask) }
-    ensures closes { IfOk result (λ o. closing ≡ true → o.closing ≡ true) }
+        out.old out.new closing went) }
+    ensures reached { let w = world_in space.old.patterns ground.now shipped in
+        let site = ground.now.site.now in
+        FlowReached w space.old.patterns site (Some (heard_flow heard))
+        → IfOk result (WentReached w space.old.patterns site) }
+    ensures over { IfOk result (λ went. IfOn went (λ o. is_some o.log ≡ not (is_some o.flow))) }
+    ensures fits { IfOk result (λ went. IfOn went (λ o. flow_fits o.flow (length out.new) ≡ true)) }
+    ensures lowers { IfOk result (λ went. IfOn went (λ o. length out.new
+        + flow_left o.flow (length out.new) < flow_most + 2 * heard.request.value.questions + 1)) }
+    ensures by { IfOk result (λ went.
+        IsServed heard.request.value.server heard.request.value.length went) }
+    ensures asked { IfOk result (λ went. tree_of_went went ≤ tree_of heard.ask) }
+    ensures put { IfOk result (λ went. IfPage went (λ p. out.new ≡ [])) }
+    ensures told { IfOk result (λ went. IfPage went (λ p. IsTold p.page)) }
+    ensures closes { IfOk result (λ went. closing ≡ true → closing_of went ≡ true) }
     ensures kept { space.new.patterns ≡ space.old.patterns }
 {
     let Heard {
@@ -90,8 +99,8 @@ fn run_told(
     }
 }
 
-/// A block of its file came: as many of its bytes are placed as there is room for. Once all are, the next block is asked, or
-/// the file is sent.
+/// A block of its file came: as many of its bytes are placed as there is room for. Once all are,
+/// the next block is asked, or the file is sent.
 #[tactic(auto, unfolding(crate::specs::Flows::placed_most))]
 fn run_came(
     ask: Ask,
@@ -114,6 +123,8 @@ fn run_came(
     ensures lowers { flow_left result.flow size < stage_left (AtCame sending left placed) size }
     ensures by { (server length : ℕ) → IsServedBy server length result.flow }
     ensures asked { tree_asked result.flow ≤ tree_of ask }
+    ensures reached { (w : World) (patterns : List SetPattern) (site : SiteRow) →
+        FlowReached w patterns site result.flow }
     ensures closes { closing ≡ true → result.closing ≡ true }
 {
     let placed = placed + (size - placed).min(PLACED - placed);
@@ -151,6 +162,75 @@ fn run_came(
     }
 }
 
+/// Runs a request on, to its next job or its end, or to its page.
+///
+/// # Errors
+/// `OutOfMemory`; the request is then not to be answered.
+pub fn run_any(
+    space: &mut Workspace,
+    ground: &Ground<'_>,
+    flow: Flow,
+    out: &mut ByteQueue,
+    closing: bool,
+) -> Result<Went, OutOfMemory>
+    requires ground { IsGround ground.now }
+    requires fits { flow_fits (Some flow) (length out.old) ≡ true }
+    requires runs { can_run flow.stage ≡ true }
+    ensures goes { (trees : Trees) →
+        let w = world_in space.old.patterns ground.now shipped in
+        let site = ground.now.site.now in
+        IfOk result (λ went. GoesTo w space.old.patterns site trees
+        (flow_rest w space.old.patterns site (Some flow) trees) out.old out.new closing went) }
+    ensures reached { let w = world_in space.old.patterns ground.now shipped in
+        let site = ground.now.site.now in
+        FlowReached w space.old.patterns site (Some flow)
+        → IfOk result (WentReached w space.old.patterns site) }
+    ensures over { IfOk result (λ went. IfOn went (λ o. is_some o.log ≡ not (is_some o.flow))) }
+    ensures fits { IfOk result (λ went. IfOn went (λ o. flow_fits o.flow (length out.new) ≡ true)) }
+    ensures lowers { IfOk result (λ went. IfOn went (λ o.
+        length out.new + flow_left o.flow (length out.new)
+        < length out.old + flow_left (Some flow) (length out.old))) }
+    ensures by { IfOk result (IsServed (stage_server flow.stage) (stage_length flow.stage)) }
+    ensures asked { IfOk result (λ went. tree_of_went went ≤ tree_of flow.ask) }
+    ensures put { IfOk result (λ went. IfPage went (λ p. out.new ≡ [])) }
+    ensures told { IfOk result (λ went. IfPage went (λ p. IsTold p.page)) }
+    ensures closes { IfOk result (λ went. closing ≡ true → closing_of went ≡ true) }
+    ensures kept { space.new.patterns ≡ space.old.patterns }
+{
+    let Flow { ask, stage } = flow;
+    match stage {
+        Stage::Told {
+            request,
+            wait,
+            node,
+        } => {
+            let heard = Heard {
+                ask,
+                request,
+                wait,
+                node,
+            };
+            Ok(run_told(space, ground, heard, out, closing)?)
+        }
+        Stage::Came {
+            sending,
+            left,
+            placed,
+        } => {
+            let onward = run_came(ask, sending, left, placed, out.len(), closing);
+            Ok(Went::On(onward))
+        }
+        Stage::Asked {
+            request: _,
+            wait: _,
+        } => unreachable!(),
+        Stage::Reading {
+            sending: _,
+            left: _,
+        } => unreachable!(),
+    }
+}
+
 /// Runs a request on, to its next job or its end.
 ///
 /// # Errors
@@ -181,39 +261,12 @@ pub fn run_on(
     ensures closes { IfOk result (λ o. closing ≡ true → o.closing ≡ true) }
     ensures kept { space.new.patterns ≡ space.old.patterns }
 {
-    let Flow { ask, stage } = flow;
-    match stage {
-        Stage::Told {
-            request,
-            wait,
-            node,
-        } => {
-            let heard = Heard {
-                ask,
-                request,
-                wait,
-                node,
-            };
-            Ok(run_told(space, ground, heard, out, closing)?)
-        }
-        Stage::Came {
-            sending,
-            left,
-            placed,
-        } => Ok(run_came(ask, sending, left, placed, out.len(), closing)),
-        Stage::Asked {
-            request: _,
-            wait: _,
-        } => unreachable!(),
-        Stage::Reading {
-            sending: _,
-            left: _,
-        } => unreachable!(),
-    }
+    let went = run_any(space, ground, flow, out, closing)?;
+    Ok(alone(went)?)
 }
 
-/// Its job is answered: what is at its path is told, or a block of its file is put after the bytes for the peer, not yet
-/// placed.
+/// Its job is answered: what is at its path is told, or a block of its file is put after the bytes
+/// for the peer, not yet placed.
 ///
 /// # Errors
 /// `OutOfMemory` where a block doesn't fit.
@@ -232,6 +285,9 @@ pub fn answered(flow: Flow, out: &mut ByteQueue, answer: JobAnswer<'_>) -> Resul
     ensures by { IfOk result (λ f. IsServedBy (stage_server flow.stage)
         (stage_length flow.stage) (Some f)) }
     ensures asked { IfOk result (λ f. tree_of f.ask ≡ tree_of flow.ask) }
+    ensures reached { (w : World) (patterns : List SetPattern) (site : SiteRow) →
+        FlowReached w patterns site (Some flow)
+        → IfOk result (λ f. FlowReached w patterns site (Some f)) }
 {
     let Flow { ask, stage } = flow;
     match (stage, answer) {

@@ -14,11 +14,15 @@ ghost use Rattle.site_model.specs.declared.site.Site.{Site as SiteRow};
 ghost use Rattle.request_meaning.specs.Serving.{World};
 ghost use Rattle.request_flow.specs.Flows.{flow_rest, file_rest, item_asked, flow_fits, flow_left, flow_most, asking_most, tree_asked, IsServedBy};
 ghost use Rattle.request_flow.specs.Rests.{Follows, opened_rest};
+ghost use Rattle.request_flow.specs.Pages.{GoesTo, IfOn, IfPage, IsServed, IsTold, closing_of, tree_of_went};
+ghost use Rattle.request_flow.specs.Reached.{FlowReached, StepReached, WentReached};
+ghost use Rattle.request_flow.specs.declared.page.Went.TheVariants.{On as WentOn};
 ghost use Rattle.request_flow.specs.Sents.{known_bytes, known_tree, known_len, with_length as told_length, step_rest, is_plain as plain_reply, sends_file, file_known};
 
 use crate::asked::{Opening, put_phases};
 use crate::blocks::{Sending, next_block};
 use crate::flow::{Flow, InPhases, Onward, Stage, Terms};
+use crate::page::{PageStart, Went, compose, composes};
 use crate::reply::{Workspace, put_reply, stays};
 use crate::slot::put;
 use byte_text::{ByteQueue, ByteText, OutOfMemory};
@@ -31,14 +35,14 @@ use site_model::Level;
 
 /// What a job told of its path, and how many bytes of it are a file's.
 #[derive(Drop)]
-pub(crate) struct FileAt {
-    pub(crate) ask: Ask,
-    pub(crate) len: u64,
+pub struct FileAt {
+    pub ask: Ask,
+    pub len: u64,
 }
 
 /// What is known of the files: nothing yet of the tree with this number, or what a job told.
 #[derive(Drop)]
-pub(crate) enum Known {
+pub enum Known {
     Nothing { of: u64 },
     Told(FileAt),
 }
@@ -61,7 +65,7 @@ fn tree_in(known: &Known) -> u64
     }
 }
 
-fn length_in(known: &Known) -> u64
+pub(crate) fn length_in(known: &Known) -> u64
     ensures { result ≡ known_len known.now }
 {
     match known {
@@ -71,7 +75,7 @@ fn length_in(known: &Known) -> u64
 }
 
 /// An answer with a file has the length that was told of it.
-fn with_length(len: u64, outcome: Outcome) -> Outcome
+pub(crate) fn with_length(len: u64, outcome: Outcome) -> Outcome
     ensures { result ≡ told_length len outcome }
 {
     match outcome {
@@ -80,11 +84,12 @@ fn with_length(len: u64, outcome: Outcome) -> Outcome
     }
 }
 
-/// Whether the length of a reply is known, and no filter acts on its body (`ssi`, `add_before_body`, `add_after_body`).
-fn is_plain(reply: &Reply<'_>) -> bool
-    ensures { result ≡ plain_reply reply.now }
+/// Whether no filter acts on the body of a reply (`ssi`, `add_before_body`, `add_after_body`), and
+/// its length is known, or it isn't sent.
+fn is_plain(terms: Terms, reply: &Reply<'_>) -> bool
+    ensures { result ≡ plain_reply terms reply.now }
 {
-    reply.known && reply.facts.is_none()
+    (reply.known || terms.no_body) && reply.facts.is_none()
 }
 
 /// Whether the body is sent that a reply has, and is a file.
@@ -114,7 +119,7 @@ fn file_if(sends: bool, known: Known) -> Option<FileAt>
     }
 }
 
-fn closes(closing: bool, keep: bool) -> bool
+pub(crate) fn closes(closing: bool, keep: bool) -> bool
     ensures { result ≡ (closing || not keep) }
 {
     closing || !keep
@@ -154,6 +159,8 @@ fn reading(number: u32, status: u16, file: FileAt, closing: bool) -> Onward
     ensures lowers { (count : ℕ) → count ≤ 65536 → count + flow_left result.flow count < flow_most }
     ensures by { (server length : ℕ) → IsServedBy server length result.flow }
     ensures asked { tree_asked result.flow ≡ tree_of file.ask }
+    ensures reached { (w : World) (patterns : List SetPattern) (site : SiteRow) →
+        FlowReached w patterns site result.flow }
 {
     let FileAt { ask, len } = file;
     Onward {
@@ -170,8 +177,8 @@ fn reading(number: u32, status: u16, file: FileAt, closing: bool) -> Onward
     }
 }
 
-/// Puts the head of the response to what phases decided, and its body where that isn't a file. Bodies on which a filter acts
-/// aren't served yet: there is no memory for them.
+/// Puts the head of the response to what phases decided, and its body where that isn't a file.
+/// Bodies on which a filter acts aren't served yet: there is no memory for them.
 fn answer(
     space: &mut Workspace,
     ground: &Ground<'_>,
@@ -195,6 +202,8 @@ fn answer(
         (length out.new) < flow_most) }
     ensures by { (server length : ℕ) → IfOk result (λ o. IsServedBy server length o.flow) }
     ensures asked { IfOk result (λ o. tree_asked o.flow ≤ known_tree known) }
+    ensures reached { (w : World) (patterns : List SetPattern) (site : SiteRow) →
+        IfOk result (λ o. FlowReached w patterns site o.flow) }
     ensures closes { IfOk result (λ o. closing ≡ true → o.closing ≡ true) }
     ensures kept { space.new.patterns ≡ space.old.patterns }
 {
@@ -203,7 +212,7 @@ fn answer(
     let terms = request.terms;
     let outcome = with_length(length_in(&known), outcome);
     let reply = reply_of(space.alloc, ground.site, &request.phases, outcome)?;
-    if !is_plain(&reply) {
+    if !is_plain(terms, &reply) {
         return Err(OutOfMemory);
     }
     let keep = stays(terms, level, &reply);
@@ -246,6 +255,9 @@ fn asks(
         < flow_most + 2 * request.value.questions + 1) }
     ensures by { IfOk result (λ o. IsServedBy request.value.server request.value.length o.flow) }
     ensures asked { IfOk result (λ o. tree_asked o.flow ≤ known_tree known) }
+    ensures reached { (w : World) (patterns : List SetPattern) (site : SiteRow) (len : ℕ) →
+        StepReached w patterns site request.value (ToAsk wait path) len
+        → IfOk result (λ o. FlowReached w patterns site o.flow) }
     ensures closes { IfOk result (λ o. closing ≡ true → o.closing ≡ true) }
 {
     if request.questions == 0 {
@@ -264,8 +276,64 @@ fn asks(
     })
 }
 
-/// Goes on with a request by a step of its phases: a question is asked, or the response is put. Subrequests aren't served yet:
-/// there is no memory for them.
+/// The answer of phases is put, or made a page.
+fn answers(
+    space: &mut Workspace,
+    ground: &Ground<'_>,
+    request: Box<InPhases>,
+    outcome: Outcome,
+    known: Known,
+    out: &mut ByteQueue,
+    closing: bool,
+) -> Result<Went, OutOfMemory>
+    requires { out.old ≡ [] }
+    ensures goes { (patterns : List SetPattern) (trees : Trees) →
+        let w = world_in patterns ground.now shipped in
+        let site = ground.now.site.now in
+        IfOk result (λ went. GoesTo w patterns site trees
+        (step_rest w patterns site (trees (known_tree known)) request.value (ToAnswer outcome)
+        (known_bytes known trees)) out.old out.new closing went) }
+    ensures reached { (w : World) (patterns : List SetPattern) (site : SiteRow) →
+        StepReached w patterns site request.value (ToAnswer outcome) (known_len known)
+        → IfOk result (WentReached w patterns site) }
+    ensures over { IfOk result (λ went. IfOn went (λ o. is_some o.log ≡ not (is_some o.flow))) }
+    ensures fits { IfOk result (λ went. IfOn went (λ o. flow_fits o.flow (length out.new) ≡ true)) }
+    ensures lowers { IfOk result (λ went. IfOn went (λ o. length out.new + flow_left o.flow
+        (length out.new) < flow_most)) }
+    ensures by { IfOk result (λ went. IsServed request.value.server request.value.length went) }
+    ensures asked { IfOk result (λ went. tree_of_went went ≤ known_tree known) }
+    ensures put { IfOk result (λ went. IfPage went (λ p. out.new ≡ [])) }
+    ensures told { IfOk result (λ went. IfPage went (λ p. IsTold p.page)) }
+    ensures closes { IfOk result (λ went. closing ≡ true → closing_of went ≡ true) }
+    ensures kept { space.new.patterns ≡ space.old.patterns }
+{
+    match composes(space.alloc, ground, &*request, &outcome) {
+        Ok(false) => {
+            let onward = answer(space, ground, &*request, outcome, known, out, closing);
+            space.keep(request);
+            Ok(Went::On(onward?))
+        }
+        Ok(true) => match compose(space, ground, &*request, outcome, known, closing) {
+            Ok(composed) => Ok(Went::Page(PageStart {
+                request,
+                page: composed.page,
+                closing: composed.closing,
+                level: composed.level,
+            })),
+            Err(OutOfMemory) => {
+                drop(request);
+                Err(OutOfMemory)
+            }
+        },
+        Err(OutOfMemory) => {
+            drop(request);
+            Err(OutOfMemory)
+        }
+    }
+}
+
+/// Goes on with a request by a step of its phases: a question is asked, or the response is put, or
+/// made a page. Subrequests that decide on access aren't served yet: there is no memory for them.
 pub(crate) fn go_on(
     space: &mut Workspace,
     ground: &Ground<'_>,
@@ -274,34 +342,36 @@ pub(crate) fn go_on(
     known: Known,
     out: &mut ByteQueue,
     closing: bool,
-) -> Result<Onward, OutOfMemory>
+) -> Result<Went, OutOfMemory>
     requires { out.old ≡ [] }
     ensures goes { (patterns : List SetPattern) (trees : Trees) →
         let w = world_in patterns ground.now shipped in
         let site = ground.now.site.now in
-        IfOk result (λ o. Follows site
+        IfOk result (λ went. GoesTo w patterns site trees
         (step_rest w patterns site (trees (known_tree known)) request.value step
-        (known_bytes known trees))
-        (flow_rest w patterns site o.flow trees) out.old out.new closing o.closing o.log o.level) }
-    ensures over { IfOk result (λ o. is_some o.log ≡ not (is_some o.flow)) }
-    ensures fits { IfOk result (λ o. flow_fits o.flow (length out.new) ≡ true) }
-    ensures lowers { IfOk result (λ o. length out.new + flow_left o.flow (length out.new)
-        < flow_most + 2 * request.value.questions + 1) }
-    ensures by { IfOk result (λ o. IsServedBy request.value.server request.value.length o.flow) }
-    ensures asked { IfOk result (λ o. tree_asked o.flow ≤ known_tree known) }
-    ensures closes { IfOk result (λ o. closing ≡ true → o.closing ≡ true) }
+        (known_bytes known trees)) out.old out.new closing went) }
+    ensures reached { (w : World) (patterns : List SetPattern) (site : SiteRow) →
+        StepReached w patterns site request.value step (known_len known)
+        → IfOk result (WentReached w patterns site) }
+    ensures over { IfOk result (λ went. IfOn went (λ o. is_some o.log ≡ not (is_some o.flow))) }
+    ensures fits { IfOk result (λ went. IfOn went (λ o. flow_fits o.flow (length out.new) ≡ true)) }
+    ensures lowers { IfOk result (λ went. IfOn went (λ o. length out.new + flow_left o.flow
+        (length out.new) < flow_most + 2 * request.value.questions + 1)) }
+    ensures by { IfOk result (λ went. IsServed request.value.server request.value.length went) }
+    ensures asked { IfOk result (λ went. tree_of_went went ≤ known_tree known) }
+    ensures put { IfOk result (λ went. IfPage went (λ p. out.new ≡ [])) }
+    ensures told { IfOk result (λ went. IfPage went (λ p. IsTold p.page)) }
+    ensures closes { IfOk result (λ went. closing ≡ true → closing_of went ≡ true) }
     ensures kept { space.new.patterns ≡ space.old.patterns }
 {
     match step {
-        Step::Asks { wait, path } => Ok(asks(request, wait, path, known, closing)?),
+        Step::Asks { wait, path } => Ok(Went::On(asks(request, wait, path, known, closing)?)),
         Step::Calls(_) => {
             drop(request);
             Err(OutOfMemory)
         }
         Step::Answers(outcome) => {
-            let onward = answer(space, ground, &*request, outcome, known, out, closing);
-            space.keep(request);
-            Ok(onward?)
+            Ok(answers(space, ground, request, outcome, known, out, closing)?)
         }
     }
 }
@@ -346,6 +416,8 @@ fn begun(
         (server_whole (patterns_seen space.old.patterns) site ground.now.server.now)
         opening.head) ≡ step_rest w space.old.patterns site (trees opening.tree) request.new
         step []) }
+    ensures reached { IfOk result (λ step. let w = world_in space.old.patterns ground.now shipped in
+        StepReached w space.old.patterns ground.now.site.now request.new step 0) }
     ensures questions { request.new.questions ≤ 4294967295 }
     ensures server { IfOk result (λ step. request.new.server ≡ server) }
     ensures length { IfOk result (λ step. request.new.length ≡ ground.now.length) }
@@ -369,8 +441,74 @@ fn begun(
     Ok(step)
 }
 
-/// Starts a main request: up to its first question to the files, or the whole response where it asks none. `server` is the
-/// number of the ground's server, which is kept for the caller.
+/// Starts a main request: up to its first question to the files, or the whole response where it
+/// asks none, or its page. `server` is the number of the ground's server, which is kept for the
+/// caller.
+///
+/// # Errors
+/// `OutOfMemory`; the request is then not to be answered.
+pub fn start_any(
+    space: &mut Workspace,
+    ground: &Ground<'_>,
+    server: u32,
+    opening: Opening,
+    out: &mut ByteQueue,
+) -> Result<Went, OutOfMemory>
+    requires ground { IsGround ground.now }
+    requires unsent { out.old ≡ [] }
+    ensures goes { (trees : Trees) →
+        let w = world_in space.old.patterns ground.now shipped in
+        let site = ground.now.site.now in
+        IfOk result (λ went. GoesTo w space.old.patterns site trees
+        (opened_rest w (trees opening.tree) (terms_at opening)
+        (main_at ground.now opening) (request_of
+        (server_whole (patterns_seen space.old.patterns) site ground.now.server.now)
+        opening.head)) out.old out.new false went) }
+    ensures reached { let w = world_in space.old.patterns ground.now shipped in
+        IfOk result (WentReached w space.old.patterns ground.now.site.now) }
+    ensures over { IfOk result (λ went. IfOn went (λ o. is_some o.log ≡ not (is_some o.flow))) }
+    ensures fits { IfOk result (λ went. IfOn went (λ o. flow_fits o.flow (length out.new) ≡ true)) }
+    ensures lowers { IfOk result (λ went. IfOn went (λ o. length out.new + flow_left o.flow
+        (length out.new) < asking_most)) }
+    ensures by { IfOk result (IsServed server ground.now.length) }
+    ensures asked { IfOk result (λ went. tree_of_went went ≤ opening.tree) }
+    ensures put { IfOk result (λ went. IfPage went (λ p. out.new ≡ [])) }
+    ensures told { IfOk result (λ went. IfPage went (λ p. IsTold p.page)) }
+    ensures kept { space.new.patterns ≡ space.old.patterns }
+{
+    let known = Known::Nothing { of: opening.tree };
+    let mut request = match space.room() {
+        Ok(request) => request,
+        Err(OutOfMemory) => {
+            drop(opening);
+            return Err(OutOfMemory);
+        }
+    };
+    let inside = &mut *request;
+    match begun(space, ground, server, opening, inside) {
+        Ok(step) => Ok(go_on(space, ground, request, step, known, out, false)?),
+        Err(OutOfMemory) => {
+            drop(request);
+            Err(OutOfMemory)
+        }
+    }
+}
+
+/// What went on alone. A page isn't served yet: there is no memory for one.
+pub(crate) fn alone(went: Went) -> Result<Onward, OutOfMemory>
+    ensures { IfOk result (λ o. went ≡ WentOn o) }
+{
+    match went {
+        Went::On(onward) => Ok(onward),
+        Went::Page(page) => {
+            drop(page);
+            Err(OutOfMemory)
+        }
+    }
+}
+
+/// Starts a main request: up to its first question to the files, or the whole response where it
+/// asks none. `server` is the number of the ground's server, which is kept for the caller.
 ///
 /// # Errors
 /// `OutOfMemory`; the request is then not to be answered.
@@ -401,21 +539,6 @@ pub fn start(
     ensures asked { IfOk result (λ o. tree_asked o.flow ≤ opening.tree) }
     ensures kept { space.new.patterns ≡ space.old.patterns }
 {
-    let alloc = space.alloc;
-    let known = Known::Nothing { of: opening.tree };
-    let mut request = match space.room() {
-        Ok(request) => request,
-        Err(OutOfMemory) => {
-            drop(opening);
-            return Err(OutOfMemory);
-        }
-    };
-    let inside = &mut *request;
-    match begun(space, ground, server, opening, inside) {
-        Ok(step) => Ok(go_on(space, ground, request, step, known, out, false)?),
-        Err(OutOfMemory) => {
-            drop(request);
-            Err(OutOfMemory)
-        }
-    }
+    let went = start_any(space, ground, server, opening, out)?;
+    Ok(alone(went)?)
 }

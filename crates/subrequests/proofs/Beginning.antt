@@ -1,5 +1,5 @@
 -- A family of one node.
-use Rattle.std.proofs.Common.{◌≡◌, ℕ, zero, suc, ◌≤◌, ◌==◌, ◌&&◌, Bool, true, false, cond, not, List, [], ◌∷◌, ◌++◌, length, slice_get, Some, None, refl, sym, ap, ◌∙◌, subst, arith}
+use Rattle.std.proofs.Common.{◌≡◌, ℕ, zero, suc, ◌≤◌, ◌==◌, ◌&&◌, Bool, true, false, cond, not, List, [], ◌∷◌, length, slice_get, Some, refl, sym, ap, ◌∙◌, subst, arith}
 use Rattle.std.proofs.lemmas.Bool.Decides.{nat_tests}
 use Rattle.acts.specs.Vars.{Vars}
 use Rattle.acts.specs.Act.{settled}
@@ -10,14 +10,14 @@ use Rattle.site_model.specs.declared.site.Site.{Site}
 use Rattle.postpone_filter.specs.Row.{Row, begun, is_open}
 use Rattle.request_meaning.specs.Serving.{World, Serving, Answer}
 use Rattle.request_phases.specs.declared.state.Phases.{Phases}
-use Rattle.family_order.specs.Acts.{Goes}
-use Rattle.family_order.specs.Items.{Stance, Family, IsAlike, alone, doing, with_stance}
+use Rattle.family_order.specs.Items.{Family, alone, doing, with_stance}
 use Rattle.family_order.specs.Items.Stance.{Going}
 use Rattle.family_order.specs.Laws.{ShowsTheSame}
-use Rattle.subrequests.specs.Families.{IsSound, goes_on_at, node_act, seen, stance_in}
+use Rattle.node_turn.specs.Stages.{node_act}
+use Rattle.subrequests.specs.Families.{IsSound, goes_on_at, seen, stance_in}
 use Rattle.subrequests.specs.Moved.{Opening}
-use Rattle.subrequests.specs.Nodes.{lent, of_method}
-use Rattle.subrequests.specs.declared.node.Node.{Node}
+use Rattle.node_turn.specs.Nodes.{lent, of_method}
+use Rattle.node_turn.specs.declared.node.Node.{Node}
 use Rattle.subrequests.proofs.Steps as steps
 
 -- a main request that is lent to the phases from which it was taken
@@ -61,13 +61,13 @@ module _ (row : Row) (nodes : List Node) (n : Node) (first : row ≡ begun) (one
 
 module _ (laws : ShowsTheSame) (w : World) (tree : Tree) (ps : List SetPattern) (site : Site) (main : Main) (row : Row) (nodes : List Node) (texts : ℕ → List ℕ) (vars : Vars) (n : Node) (m : Serving Answer)
     (first : row ≡ begun) (one : nodes ≡ n ∷ []) (left : n.left ≡ 50) where
-  pub begins : settled m vars ≡ (node_act w ps site main n (texts 0), vars) → Goes w tree (alone 0 1 (Going 50 m)) vars (seen w ps site main row nodes texts) vars
-  begins e =
+  pub begins : (table : Vars) → settled m table ≡ (node_act w ps site main n (texts 0), vars) → Opening w tree 0 (alone 0 1 (Going 50 m)) table (seen w ps site main row nodes texts) vars
+  begins table e =
       let f : Family = record { row = row; output = []; stance = λ j. Going 50 m; root = 0 } in
-      (subst (λ (r : Row). Opening w tree 0 (record { row = r; output = []; stance = λ j. Going 50 m; root = 0 }) vars (seen w ps site main row nodes texts) vars) first
+      subst (λ (r : Row). Opening w tree 0 (record { row = r; output = []; stance = λ j. Going 50 m; root = 0 }) table (seen w ps site main row nodes texts) vars) first
       (steps.alike (laws.others f (with_stance 0 (Going 50 m) f.stance) (λ j h. same (j == 0)))
-      (steps.then (steps.thinks w tree laws 0 50 f (open_first row nodes n first one) m (node_act w ps site main n (texts 0)) vars vars e)
-      (steps.alike (laws.others (doing 0 (Going 50 (node_act w ps site main n (texts 0))) f) (stance_in w ps site main nodes texts) (λ j h. is j (only row nodes n first one j h))) steps.stays)))).goes
+      (steps.then (steps.thinks w tree laws 0 50 f (open_first row nodes n first one) m (node_act w ps site main n (texts 0)) table vars e)
+      (steps.alike (laws.others (doing 0 (Going 50 (node_act w ps site main n (texts 0))) f) (stance_in w ps site main nodes texts) (λ j h. is j (only row nodes n first one j h))) steps.stays)))
     where
       same : (b : Bool) → Going 50 m ≡ cond b (Going 50 m) (Going 50 m)
       same true = refl

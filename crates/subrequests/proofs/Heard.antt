@@ -1,5 +1,5 @@
 -- A node is told what it asked for: its family keeps what is still to come.
-use Rattle.std.proofs.Common.{◌≡◌, ℕ, ◌+◌, ◌==◌, Bool, true, false, cond, List, [], ◌++◌, set, slice_get, Option, None, Some, refl, sym, ap, ◌∙◌, subst, arith}
+use Rattle.std.proofs.Common.{◌≡◌, ℕ, ◌+◌, ◌==◌, Bool, true, false, cond, List, ◌++◌, set, slice_get, Some, refl, sym, ap, ◌∙◌, arith}
 use Rattle.acts.specs.Vars.{Vars}
 use Rattle.acts.specs.Act.{Stat}
 use Rattle.file_tree.specs.Tree.{IsFrom, Item, Nothing, Tree, Trees, tree_of}
@@ -10,19 +10,20 @@ use Rattle.ngx_variables.specs.declared.request.Main.{Main}
 use Rattle.site_model.specs.declared.site.Site.{Site}
 use Rattle.postpone_filter.specs.Row.{Row, is_open}
 use Rattle.request_meaning.specs.Serving.{World, Serving, Answer}
-use Rattle.family_order.specs.Acts.{Does, Goes}
+use Rattle.family_order.specs.Acts.{Goes}
 use Rattle.family_order.specs.Acts.Acts.{Learns}
 use Rattle.family_order.specs.Acts.Goes.{Stays, Acting, Alike}
-use Rattle.family_order.specs.Items.{Stance, Family, IsAlike, IsWell, with_stance, doing}
+use Rattle.family_order.specs.Items.{Family, IsAlike, IsWell, with_stance, doing}
 use Rattle.family_order.specs.Items.Stance.{Going}
 use Rattle.family_order.specs.Laws.{ShowsTheSame}
 use Rattle.family_rest.specs.Laws.{QuietIsExact, RowTellsStill}
-use Rattle.family_rest.specs.Still.{still, subs_still}
-use Rattle.subrequests.specs.Families.{node_act, text_in, text_at, texts_of, stance_of, stance_in, seen}
+use Rattle.family_rest.specs.Still.{subs_still}
+use Rattle.node_turn.specs.Stages.{node_act, text_in}
+use Rattle.subrequests.specs.Families.{text_at, texts_of, stance_of, stance_in, seen}
 use Rattle.subrequests.specs.Moved.{Keeps}
-use Rattle.subrequests.specs.Taken.{Hears}
-use Rattle.subrequests.specs.Taken.Hears.{Learned, Came}
-use Rattle.subrequests.specs.declared.node.Node.{Node}
+use Rattle.subrequests.specs.Told.{Hears}
+use Rattle.subrequests.specs.Told.Hears.{Learned, Came}
+use Rattle.node_turn.specs.declared.node.Node.{Node}
 use Rattle.subrequests.proofs.Members.{eq_self, same_number, other_number}
 use Rattle.subrequests.proofs.Sets.{get_set_same, get_set_other}
 use Rattle.subrequests.proofs.Steps as steps

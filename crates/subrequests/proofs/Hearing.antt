@@ -1,5 +1,5 @@
 -- Answers to the jobs of a node.
-use Rattle.std.proofs.Common.{◌≡◌, ℕ, zero, suc, ◌+◌, ◌-◌, ◌≤◌, ◌==◌, true, List, [], ◌∷◌, ◌++◌, length, take, drop, Option, None, Some, refl, sym, ap, ◌∙◌, subst, append_assoc, take-append-drop, drop-drop, length-drop, arith}
+use Rattle.std.proofs.Common.{◌≡◌, ℕ, zero, suc, ◌+◌, ◌-◌, ◌≤◌, true, List, [], ◌∷◌, ◌++◌, length, take, drop, None, Some, refl, sym, ap, ◌∙◌, subst, append_assoc, take-append-drop, drop-drop, length-drop, arith}
 use Rattle.std.proofs.lemmas.Bool.{eqb-true}
 use Rattle.std.specs.Borrow.{Bor}
 use Rattle.acts.specs.Act.{Done, Write, ◌>>=◌}
@@ -18,13 +18,13 @@ use Rattle.request_phases.specs.declared.state.Wait.{Wait}
 use Rattle.file_tree.specs.declared.job.JobAnswer.{JobAnswer}
 use Rattle.request_phases.specs.declared.state.Phases.{Phases}
 use Rattle.page_body.specs.declared.page.Page.{Page}
-use Rattle.subrequests.specs.Families.{asks_from, item_asked, node_act, text_in}
-use Rattle.subrequests.specs.Nodes.{asked_path, lent, page_at, padded, placed_act, served_act, served_as, stage_act, told_item}
-use Rattle.subrequests.specs.Taken.{Hears}
-use Rattle.subrequests.specs.Taken.Hears.{Learned, Came}
-use Rattle.subrequests.specs.declared.node.Body.{Body}
-use Rattle.subrequests.specs.declared.node.Node.{Node}
-use Rattle.subrequests.specs.declared.node.Stage.TheVariants as stages
+use Rattle.node_turn.specs.Stages.{asks_from, item_asked, node_act, text_in}
+use Rattle.node_turn.specs.Nodes.{asked_path, lent, page_at, padded, placed_act, served_act, served_as, stage_act, told_item}
+use Rattle.subrequests.specs.Told.{Hears}
+use Rattle.subrequests.specs.Told.Hears.{Learned, Came}
+use Rattle.node_turn.specs.declared.node.Body.{Body}
+use Rattle.node_turn.specs.declared.node.Node.{Node}
+use Rattle.node_turn.specs.declared.node.Stage.TheVariants as stages
 
 -- ---- a block
 

@@ -1,11 +1,7 @@
-mod Phased
-mod Paged
-mod Serving
-mod Placing
 mod Sets
 mod Steps
 mod Members
-mod Numbers
+pub mod Numbers
 mod Hearing
 mod Heard
 mod Wholes

@@ -1,10 +1,9 @@
 -- A node of a family of nodes, and another in its place.
-use Rattle.std.proofs.Common.{◌≡◌, ◌≢◌, ◌≤◌, ◌<◌, ℕ, zero, suc, ◌==◌, Bool, true, false, cond, not, List, [], ◌∷◌, ◌++◌, length, drop, set, slice_get, Option, None, Some, refl, sym, ap, ◌∙◌, subst, unwrap_or}
+use Rattle.std.proofs.Common.{◌≡◌, ◌≢◌, ◌≤◌, ◌<◌, ℕ, suc, ◌==◌, Bool, true, false, cond, not, List, [], ◌∷◌, ◌++◌, length, drop, set, slice_get, Option, None, Some, refl, sym, ap, ◌∙◌, subst, unwrap_or}
 use Rattle.std.proofs.lemmas.Bool.{eqb-true}
 use Rattle.acts.specs.Vars.{Vars}
 use Rattle.acts.specs.Act.{Done, Inner, settled}
 use Rattle.file_tree.specs.Tree.{Tree, Trees, text_of}
-use Rattle.file_tree.specs.declared.job.Ask.{Ask}
 use Rattle.ngx_pattern.specs.Pattern.{Pattern as SetPattern}
 use Rattle.ngx_variables.specs.declared.request.Main.{Main}
 use Rattle.site_model.specs.declared.site.Site.{Site}
@@ -15,13 +14,14 @@ use Rattle.request_phases.specs.declared.state.Phases.{Phases}
 use Rattle.family_order.specs.Items.{Stance, Family, IsAlike, with_stance, doing, placing, opening, ending}
 use Rattle.family_order.specs.Items.Stance.{Going}
 use Rattle.family_order.specs.Laws.{ShowsTheSame}
-use Rattle.subrequests.specs.Families.{node_act, text_in, text_at, texts_of, item_asked, stance_of, stance_in, seen, is_asking, goes_on_at, IsSound}
+use Rattle.node_turn.specs.Stages.{node_act, text_in, item_asked, is_asking}
+use Rattle.subrequests.specs.Families.{text_at, texts_of, stance_of, stance_in, seen, goes_on_at, IsSound}
 use Rattle.subrequests.specs.Moved.{Opening}
-use Rattle.subrequests.specs.Nodes.{asked_path, lent, stage_act}
-use Rattle.subrequests.specs.Turns.{Works, PlacesAs}
-use Rattle.subrequests.specs.declared.node.Node.{Node}
-use Rattle.subrequests.specs.declared.node.Stage.{Stage}
-use Rattle.subrequests.specs.declared.node.Stage.TheVariants as at_stage
+use Rattle.node_turn.specs.Nodes.{asked_path, lent, stage_act}
+use Rattle.node_turn.specs.Turns.{Works, PlacesAs}
+use Rattle.node_turn.specs.declared.node.Node.{Node}
+use Rattle.node_turn.specs.declared.node.Stage.{Stage}
+use Rattle.node_turn.specs.declared.node.Stage.TheVariants as at_stage
 use Rattle.subrequests.proofs.Sets.{get_before, get_kept, get_last, get_set_same, get_set_other, length_set, length_snoc}
 use Rattle.subrequests.proofs.Steps as steps
 

@@ -1,11 +1,11 @@
 -- Jobs and nodes that can run, by number.
-use Rattle.std.proofs.Common.{◌≡◌, ◌≢◌, ℕ, zero, suc, ◌+◌, ◌<◌, ◌==◌, Bool, true, false, cond, List, [], ◌∷◌, length, drop, slice_get, Option, None, Some, refl, sym, ap, ◌∙◌, subst, arith}
+use Rattle.std.proofs.Common.{◌≡◌, ◌≢◌, ℕ, zero, suc, ◌+◌, ◌<◌, ◌==◌, Bool, true, false, cond, List, [], ◌∷◌, slice_get, None, Some, refl, sym, ap, ◌∙◌, arith}
 use Rattle.std.proofs.lemmas.Bool.{eqb-true}
-use Rattle.file_tree.specs.declared.job.Ask.{Ask}
-use Rattle.ngx_outside.specs.Views.{Job, ask_in}
+use Rattle.ngx_outside.specs.Views.{ask_in}
 use Rattle.postpone_filter.specs.Row.{Row}
-use Rattle.subrequests.specs.Wants.{is_waiting, jobs_from, job_of, first_job, first_of, can_run, is_among, ready_from, runs_at}
-use Rattle.subrequests.specs.declared.node.Node.{Node}
+use Rattle.node_turn.specs.Stages.{can_run}
+use Rattle.subrequests.specs.Wants.{is_waiting, jobs_from, job_of, first_job, first_of, is_among, ready_from, runs_at}
+use Rattle.node_turn.specs.declared.node.Node.{Node}
 use Rattle.subrequests.proofs.Steps as steps
 
 same_no : {A : Type 0} (b : Bool) → b ≡ true → b ≡ false → A

@@ -1,19 +1,19 @@
 -- A subrequest's node does what its script says.
-use Rattle.std.proofs.Common.{◌≡◌, ℕ, List, [], true, false, None, refl, sym, ap, ◌∙◌, subst}
+use Rattle.std.proofs.Common.{◌≡◌, ℕ, List, [], true, false, None, ap, ◌∙◌}
 use Rattle.http_types.specs.declared.words.Method.{Method}
 use Rattle.http_types.specs.declared.words.Method.TheVariants.{Get as GetMethod}
 use Rattle.ngx_variables.specs.declared.request.Main.{Main}
 use Rattle.ngx_variables.specs.declared.request.Request.{Request}
 use Rattle.ngx_variables.specs.declared.request.Role.TheVariants.{Content}
 use Rattle.request_meaning.specs.Phases.{rounds}
-use Rattle.request_meaning.specs.Replies.{child_asked, most_changes, script, served}
+use Rattle.request_meaning.specs.Replies.{child_asked, script, served}
 use Rattle.request_meaning.specs.Serving.{Asked, World}
 use Rattle.request_meaning.specs.Serving.From.{Start}
 use Rattle.request_phases.specs.Rounds.{asked_from, handled_seen}
 use Rattle.request_phases.specs.declared.state.Phases.{Phases}
 use Rattle.ssi_exec.specs.Scenes.{child_seen}
 use Rattle.ssi_exec.specs.declared.document.Child.{Child}
-use Rattle.subrequests.specs.Nodes.{lent, of_method, served_as}
+use Rattle.node_turn.specs.Nodes.{lent, of_method, served_as}
 
 pub record IsAsked (p : Phases) (path args : List ℕ) : Type 0 where
   pub request : p.at.request ≡ record { method = GetMethod; path = path; args = args; groups = []; place = None; role = Content }

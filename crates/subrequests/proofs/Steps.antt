@@ -4,7 +4,7 @@ use Rattle.std.proofs.lemmas.Bool.Decides.{nat_tests}
 use Rattle.acts.specs.Vars.{Vars, look}
 use Rattle.acts.specs.Act.{Done, Get, Write, Inner, settled}
 use Rattle.file_tree.specs.Tree.{Tree}
-use Rattle.postpone_filter.specs.Row.{Row, is_open, appended, with_child, ended}
+use Rattle.postpone_filter.specs.Row.{is_open, appended}
 use Rattle.request_meaning.specs.Serving.{World, Serving, Answer, Child}
 use Rattle.request_meaning.specs.Replies.{script}
 use Rattle.family_order.specs.Acts.{Does, Acts, Goes}
@@ -15,8 +15,8 @@ use Rattle.family_order.specs.Items.Stance.{Going}
 use Rattle.family_order.specs.Laws.{ShowsTheSame}
 use Rattle.family_rest.specs.Opened.{opened_by, opened_going}
 use Rattle.subrequests.specs.Moved.{Opening}
-use Rattle.subrequests.specs.Turns.{Works, PlacesAs}
-use Rattle.subrequests.specs.Turns.Works.{Rests as WorksRest, Reads as WorksRead, Placed as WorksPlaced, Merges as WorksMerge}
+use Rattle.node_turn.specs.Turns.{Works, PlacesAs}
+use Rattle.node_turn.specs.Turns.Works.{Rests as WorksRest, Reads as WorksRead, Placed as WorksPlaced, Merges as WorksMerge}
 
 then_goes : {w : World} {tree : Tree} {a b c : Family} {v v' v'' : Vars} → Goes w tree a v b v' → Goes w tree b v' c v'' → Goes w tree a v c v''
 then_goes Stays h = h

@@ -13,19 +13,19 @@ use Rattle.request_meaning.specs.Laws.{shipped}
 use Rattle.request_meaning.specs.Serving.{World, Answer}
 use Rattle.request_phases.specs.Rounds.{world_in}
 use Rattle.request_phases.specs.declared.ground.Ground.{Ground}
-use Rattle.request_phases.specs.declared.state.Phases.{Phases}
 use Rattle.family_order.specs.Acts.{IsOver}
 use Rattle.family_order.specs.Items.Stance.{Going}
 use Rattle.family_order.specs.Laws.{ShowsTheSame}
-use Rattle.subrequests.specs.Families.{AreDone, IsSound, goes_on_at, is_ending, is_placing, is_serving, is_turning, node_act, over_node, seen}
+use Rattle.node_turn.specs.Stages.{is_ending, is_placing, is_serving, is_turning, node_act, can_place}
+use Rattle.subrequests.specs.Families.{AreDone, IsSound, goes_on_at, over_node, seen}
 use Rattle.subrequests.specs.Moved.{IsFromAt, Opening, OverrunsBy, Steps, files, fits_at, is_at, meant}
-use Rattle.subrequests.specs.Nodes.{answer_seen, asked_path, lent, stage_act}
-use Rattle.subrequests.specs.Wants.{can_place, runs_at}
-use Rattle.subrequests.specs.declared.answered.Answered.{Answered}
+use Rattle.node_turn.specs.Nodes.{answer_seen, asked_path, lent, stage_act}
+use Rattle.subrequests.specs.Wants.{runs_at}
+use Rattle.node_turn.specs.declared.answered.Answered.{Answered}
 use Rattle.subrequests.specs.declared.family.Family.{Family}
-use Rattle.subrequests.specs.declared.node.Node.{Node}
-use Rattle.subrequests.specs.declared.node.Stage.{Stage}
-use Rattle.subrequests.specs.declared.node.Stage.TheVariants as stages
+use Rattle.node_turn.specs.declared.node.Node.{Node}
+use Rattle.node_turn.specs.declared.node.Stage.{Stage}
+use Rattle.node_turn.specs.declared.node.Stage.TheVariants as stages
 use Rattle.subrequests.proofs.Members as members
 use Rattle.subrequests.proofs.Sets.{length_set}
 use Rattle.subrequests.proofs.Steps as steps

@@ -1,142 +1,19 @@
 -- A family as its nodes keep it.
-use Rattle.std.specs.Prelude.{◌≡◌, ℕ, ◌==◌, ◌≤◌, ◌&&◌, min, Bool, true, false, not, List, [], ◌∷◌, length, drop, slice_get, Option, None, Some}
+use Rattle.std.specs.Prelude.{◌≡◌, ℕ, ◌-◌, ◌≤◌, Bool, true, false, not, List, [], ◌∷◌, ◌++◌, length, slice_get, Option, None, Some}
 use Rattle.std.specs.List.{list_all}
-use Rattle.file_tree.specs.Tree.{Item, Trees, text_of}
-use Rattle.file_tree.specs.declared.job.Ask.{Ask}
-use Rattle.file_tree.specs.declared.job.Ask.TheVariants as asks
+use Rattle.file_tree.specs.Tree.{Trees}
 use Rattle.ngx_pattern.specs.Pattern.{Pattern as SetPattern}
 use Rattle.ngx_variables.specs.declared.request.Main.{Main}
 use Rattle.site_model.specs.declared.site.Site.{Site}
 use Rattle.postpone_filter.specs.Row.{Row, is_open}
-use Rattle.request_meaning.specs.Serving.{World, Serving, Answer}
+use Rattle.request_meaning.specs.Replies.{script}
+use Rattle.request_meaning.specs.Serving.{World}
 use Rattle.family_order.specs.Items.{Stance, Family}
 use Rattle.family_order.specs.Items.Stance.{Going, Hidden}
-use Rattle.subrequests.specs.Nodes.{asked_path, hand, lent, stage_act}
-use Rattle.subrequests.specs.declared.node.Node.{Node}
-use Rattle.subrequests.specs.declared.node.Stage.{Stage}
-use Rattle.subrequests.specs.declared.node.Stage.TheVariants.{Begins, Asks, Told, Places, Serves, Reads, Ends}
-
--- ---- nodes
-
--- the files are asked what is at a path
-abbrev pub is_asking : Stage → Bool
-is_asking (Begins ssi) = false
-is_asking (Asks wait ssi) = true
-is_asking (Told wait file ssi) = false
-is_asking (Places b) = false
-is_asking (Serves b) = false
-is_asking (Reads b) = false
-is_asking (Ends answered) = false
-
--- a block of its file is asked
-abbrev pub is_reading : Stage → Bool
-is_reading (Begins ssi) = false
-is_reading (Asks wait ssi) = false
-is_reading (Told wait file ssi) = false
-is_reading (Places b) = false
-is_reading (Serves b) = false
-is_reading (Reads b) = true
-is_reading (Ends answered) = false
-
--- its phases go on next
-abbrev pub is_turning : Stage → Bool
-is_turning (Begins ssi) = true
-is_turning (Asks wait ssi) = false
-is_turning (Told wait file ssi) = true
-is_turning (Places b) = false
-is_turning (Serves b) = false
-is_turning (Reads b) = false
-is_turning (Ends answered) = false
-
--- bytes are placed next
-abbrev pub is_placing : Stage → Bool
-is_placing (Begins ssi) = false
-is_placing (Asks wait ssi) = false
-is_placing (Told wait file ssi) = false
-is_placing (Places b) = true
-is_placing (Serves b) = false
-is_placing (Reads b) = false
-is_placing (Ends answered) = false
-
--- the bytes that are placed next
-abbrev pub hand_at : Stage → List ℕ
-hand_at (Begins ssi) = []
-hand_at (Asks wait ssi) = []
-hand_at (Told wait file ssi) = []
-hand_at (Places b) = hand b
-hand_at (Serves b) = []
-hand_at (Reads b) = []
-hand_at (Ends answered) = []
-
--- the next part of its page is taken up next
-abbrev pub is_serving : Stage → Bool
-is_serving (Begins ssi) = false
-is_serving (Asks wait ssi) = false
-is_serving (Told wait file ssi) = false
-is_serving (Places b) = false
-is_serving (Serves b) = true
-is_serving (Reads b) = false
-is_serving (Ends answered) = false
-
--- it has come to its answer
-abbrev pub is_ending : Stage → Bool
-is_ending (Begins ssi) = false
-is_ending (Asks wait ssi) = false
-is_ending (Told wait file ssi) = false
-is_ending (Places b) = false
-is_ending (Serves b) = false
-is_ending (Reads b) = false
-is_ending (Ends answered) = true
-
--- what a node still does, where the file that it reads still has this text
-abbrev pub node_act : World → List SetPattern → Site → Main → Node → (text : List ℕ) → Serving Answer
-node_act w patterns site main n text = stage_act w patterns site (lent main n.phases) n.left (asked_path n.ask) n.stage text
-
--- the job of a node that asks for this path of the tree with this number, if it asks for one
-abbrev pub ask_or : Option (List ℕ) → (of : ℕ) → Ask → Ask
-ask_or None of ask = ask
-ask_or (Some path) of ask = asks.Stat path of
-
--- and from where on its file is read next
-abbrev pub start_or : Option (List ℕ) → ℕ → ℕ
-start_or None start = start
-start_or (Some path) start = 0
-
--- no more bytes of a file are asked at once
-unfoldable pub block_most : ℕ
-block_most = 16384
-
--- the job that asks for the next block of a file, of which this many bytes are left
-abbrev pub block_of : Ask → (start left : ℕ) → Ask
-block_of (asks.Stat path of) start left = asks.Read path start (min left block_most) of
-block_of (asks.Read path begin count of) start left = asks.Read path start (min left block_most) of
-
--- a job asks for a block of its file from there on
-abbrev pub asks_from : Ask → (start : ℕ) → Bool
-asks_from (asks.Stat path of) start = false
-asks_from (asks.Read path begin count of) start = begin == start
-
--- what is where a job asks
-abbrev pub item_asked : Trees → Ask → Item
-item_asked trees (asks.Stat path of) = trees of path
-item_asked trees (asks.Read path start count of) = trees of path
-
--- the bytes of its file that are to be read
-abbrev pub text_in : Trees → Node → List ℕ
-text_in trees n = drop n.start (text_of (item_asked trees n.ask))
-
--- the main request to which a node belongs
-abbrev pub main_of : Main → Node → Main
-main_of main n = (lent main n.phases).main
-
--- The same node: as deep, and of the same parent, with as many subrequests.
-pub record IsSameNode (old new : Node) : Type 0 where
-  pub parent : new.parent ≡ old.parent
-  pub left : new.left ≡ old.left
-  pub children : new.children ≡ old.children
-  pub over : new.over ≡ old.over
-
--- ---- the family
+use Rattle.ssi_exec.specs.Scenes.{child_seen}
+use Rattle.ssi_exec.specs.declared.document.Child.{Child}
+use Rattle.node_turn.specs.Stages.{is_ending, main_of, node_act, text_in}
+use Rattle.node_turn.specs.declared.node.Node.{Node}
 
 -- What the node with a number still does, where the file that it reads still has this text.
 abbrev pub stance_of : World → List SetPattern → Site → Main → (text : List ℕ) → Option Node → Stance
@@ -175,3 +52,12 @@ pub record IsSound (row : Row) (nodes : List Node) : Type 0 where
   pub few : length nodes ≤ 1001
   pub count : row.nodes ≡ length nodes
   pub going : (j : ℕ) → is_open j row.pieces ≡ goes_on_at (slice_get nodes j)
+
+-- The nodes have one more: that of a subrequest, for which one of them asks.
+pub record IsPushed (old new : List Node) (asking : Node) (child : Child) : Type 0 where
+  pub member : Node
+  pub items : new ≡ old ++ member ∷ []
+  pub left : member.left ≡ asking.left - 1
+  pub over : member.over ≡ false
+  pub acts : (w : World) (patterns : List SetPattern) (site : Site) (main : Main) (text : List ℕ) →
+      node_act w patterns site main member text ≡ script w member.left (child_seen (main_of main asking) child)

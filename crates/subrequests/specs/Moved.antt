@@ -1,15 +1,14 @@
 -- What becomes of a family by its nodes.
 use Rattle.std.specs.Prelude.{◌≡◌, ℕ, ◌+◌, ◌&&◌, ◌==◌, not, Bool, true, false, List, [], length, slice_get, Option, None, Some}
-use Rattle.acts.specs.Act.{Inner}
+use Rattle.acts.specs.Act.{Inner, settled}
 use Rattle.acts.specs.Vars.{Vars}
-use Rattle.file_tree.specs.Tree.{IsFrom, Tree, Trees, is_fitting, text_of, tree_of}
-use Rattle.file_tree.specs.declared.job.Ask.{Ask}
+use Rattle.file_tree.specs.Tree.{IsFrom, Tree, Trees, is_fitting, tree_of}
 use Rattle.file_tree.specs.declared.job.JobAnswer.{JobAnswer}
 use Rattle.ngx_pattern.specs.Pattern.{Pattern as SetPattern}
 use Rattle.site_model.specs.declared.site.Site.{Site}
 use Rattle.request_meaning.specs.Laws.{shipped}
 use Rattle.request_meaning.specs.Replies.{most_depth}
-use Rattle.request_meaning.specs.Serving.{World, Answer}
+use Rattle.request_meaning.specs.Serving.{World, Serving, Answer}
 use Rattle.request_phases.specs.Rounds.{asked_in, prepared_as, world_in}
 use Rattle.request_phases.specs.declared.state.Outcome.{Outcome}
 use Rattle.request_phases.specs.declared.state.Phases.{Phases}
@@ -22,11 +21,12 @@ use Rattle.family_rest.specs.Opened.{opened_going}
 use Rattle.family_rest.specs.Still.{still, subs_still}
 use Rattle.ssi_exec.specs.Scenes.{child_seen}
 use Rattle.ssi_exec.specs.declared.document.Child.{Child}
-use Rattle.subrequests.specs.Families.{IsSound, item_asked, main_of, node_act, seen, texts_of}
-use Rattle.subrequests.specs.Nodes.{after_phases, bytes_for}
+use Rattle.node_turn.specs.Stages.{main_of, node_act}
+use Rattle.subrequests.specs.Families.{IsSound, seen, texts_of}
+use Rattle.node_turn.specs.Nodes.{after_phases, bytes_for}
 use Rattle.subrequests.specs.declared.family.Family.{Family}
-use Rattle.subrequests.specs.declared.node.Node.{Node}
-use Rattle.subrequests.specs.declared.node.Stage.{Stage}
+use Rattle.node_turn.specs.declared.node.Node.{Node}
+use Rattle.node_turn.specs.declared.node.Stage.{Stage}
 
 -- The family that the meaning has, where the files that are read still have these texts, by node; and those of these trees.
 abbrev pub meant : World → List SetPattern → Site → (texts : ℕ → List ℕ) → Family → Meant
@@ -96,13 +96,14 @@ abbrev pub fits_at : (tree : ℕ) → Option Node → JobAnswer → Bool
 fits_at tree None answer = false
 fits_at tree (Some n) answer = is_fitting n.ask answer && (not n.over && (tree_of n.ask == tree))
 
--- It begins with the body of what phases decided, which it settles as: the main request alone, which may open fifty levels.
+-- It begins with the body of what phases decided: a main request alone, which may open fifty levels, comes to it without a subrequest
+-- where its acts settle as that body does.
 abbrev pub BeginsWith : Ground → Phases → Vars → Outcome → Family → Type 0
-BeginsWith g p vars outcome f = (patterns : List SetPattern) (tree : Tree) (texts : ℕ → List ℕ) →
+BeginsWith g p vars outcome f = (patterns : List SetPattern) (tree : Tree) (texts : ℕ → List ℕ) (first : Serving Answer) (table : Vars) →
     let w = world_in patterns g shipped in
     let site = g.site.now in
-    Goes w tree (alone 0 1 (Going most_depth (after_phases w most_depth [] (prepared_as w (asked_in p) (standing_seen site p.at) (bytes_for outcome (texts 0)) outcome)))) vars
-    (meant w patterns site texts f) f.vars
+    settled first table ≡ settled (after_phases w most_depth [] (prepared_as w (asked_in p) (standing_seen site p.at) (bytes_for outcome (texts 0)) outcome)) vars
+    → Opening w tree 0 (alone 0 1 (Going most_depth first)) table (meant w patterns site texts f) f.vars
 
 -- All its nodes are over but that of the main request, which has come to its answer.
 abbrev pub IsDone : List SetPattern → Ground → Family → Type 0

@@ -1,17 +1,15 @@
 -- What a family waits for, and which of its nodes can run.
-use Rattle.std.specs.Prelude.{◌≡◌, ◌≢◌, ℕ, suc, ◌-◌, ◌==◌, ◌&&◌, ◌||◌, nat_lt, not, is_none, Bool, true, false, List, [], ◌∷◌, length, Option, None, Some, slice_get, if◌then◌else◌}
+use Rattle.std.specs.Prelude.{◌≡◌, ◌≢◌, ℕ, suc, ◌==◌, ◌&&◌, ◌||◌, not, Bool, true, false, List, [], ◌∷◌, Option, None, Some, slice_get, if◌then◌else◌}
 use Rattle.file_tree.specs.Tree.{tree_of}
 use Rattle.file_tree.specs.declared.job.Ask.{Ask}
 use Rattle.ngx_outside.specs.Views.{Job}
-use Rattle.postpone_filter.specs.Row.{Row, room}
-use Rattle.subrequests.specs.Families.{is_asking, is_ending, is_placing, is_reading, is_serving, is_turning}
+use Rattle.postpone_filter.specs.Row.{Row}
+use Rattle.node_turn.specs.Stages.{can_run, is_asking, is_ending, is_placing, is_reading, is_serving, is_turning}
 use Rattle.subrequests.specs.Moved.{is_at}
 use Rattle.subrequests.specs.declared.family.Family.{Family}
 use Rattle.subrequests.specs.declared.family.Next.{Next}
 use Rattle.subrequests.specs.declared.family.Next.TheVariants.{Turns, Places, Takes, Ends, Waits}
-use Rattle.subrequests.specs.declared.node.Node.{Node}
-use Rattle.subrequests.specs.declared.node.Stage.{Stage}
-use Rattle.subrequests.specs.declared.node.Stage.TheVariants as stages
+use Rattle.node_turn.specs.declared.node.Node.{Node}
 
 -- its job, which asks the tree with this number, waits for an answer
 abbrev pub is_waiting : (tree : ℕ) → Node → Bool
@@ -37,17 +35,6 @@ first_of (n ∷ numbers) = Some n
 abbrev pub first_job : List Job → Option ℕ
 first_job [] = None
 first_job (job ∷ jobs) = Some job.node
-
--- bytes of it can be placed, or none is left to place
-abbrev pub can_place : (room : ℕ) → Stage → Bool
-can_place room (stages.Places b) = b.from == length b.bytes || nat_lt 0 room
-can_place room other = true
-
--- It can run: it waits neither for its job nor for the end of a subrequest, it isn't at its end, and there is room for what it
--- places.
-abbrev pub can_run : Row → (at : ℕ) → Node → Bool
-can_run row at n =
-    not n.over && ((is_turning n.stage || (is_serving n.stage && is_none n.waits)) || (is_placing n.stage && can_place (room at row.pieces) n.stage))
 
 unfoldable pub ready_from : Row → ℕ → List Node → List ℕ
 ready_from row at [] = []

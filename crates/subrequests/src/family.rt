@@ -1,5 +1,5 @@
 // A request and its subrequests.
-ghost use Rattle.std.specs.Prelude.{◌≡◌, ◌≢◌, ◌+◌, ℕ, List, [], length, IfOk, OnOk, Some, None, true, false, ◌||◌, nat_lt, slice_get, if◌then◌else◌};
+ghost use Rattle.std.specs.Prelude.{◌≡◌, ◌≢◌, ◌<◌, ◌+◌, ℕ, List, [], length, IfOk, OnOk, Some, None, true, false, ◌||◌, nat_lt, slice_get, if◌then◌else◌};
 ghost use Rattle.http_types.specs.declared.words.Method.TheVariants.{Get as GetMethod};
 ghost use Rattle.ngx_variables.specs.declared.request.Role.TheVariants.{Content as ContentRole};
 ghost use Rattle.file_tree.specs.Tree.{Trees, text_of};
@@ -12,20 +12,17 @@ ghost use Rattle.request_phases.specs.Rounds.{IsGround};
 ghost use Rattle.request_phases.specs.declared.ground.Ground.{Ground as GroundView};
 ghost use Rattle.site_model.specs.declared.site.Site.{Site as SiteRow};
 ghost use Rattle.ssi_exec.specs.Scenes.{child_seen};
-ghost use Rattle.subrequests.specs.Families.{AreDone, goes_on_at, is_ending, is_placing, is_serving, is_turning, item_asked, node_act};
+ghost use Rattle.node_turn.specs.Stages.{is_ending, is_placing, is_serving, is_turning, item_asked, node_act};
+ghost use Rattle.subrequests.specs.Families.{AreDone, IsPushed, goes_on_at, over_node};
 ghost use Rattle.std.specs.List.{list_all};
-ghost use Rattle.subrequests.specs.Families.{over_node};
-ghost use Rattle.subrequests.specs.Nodes.{of_method};
+ghost use Rattle.node_turn.specs.Nodes.{of_method};
+ghost use Rattle.node_turn.specs.declared.node.Node.{Node as NodeView};
 ghost use Rattle.subrequests.specs.Moved.{BeginsWith, Comes, IsDone, IsFromAt, IsWhole, Keeps, OpensAt, OverrunsBy, SameFiles, Steps, files, fits_at, meant, stands};
 ghost use Rattle.subrequests.specs.Wants.{Stands, StandsAt, runs_at};
 ghost use Rattle.subrequests.specs.Ran.{RunsTo, StepsTo};
 ghost use Rattle.subrequests.specs.declared.family.Stepped.TheVariants.{On as GoesOn, Rests as RestsNow};
 
 use crate::hear::hears;
-use crate::lend::lend;
-use crate::node::{Node, Stage};
-use crate::phase::answering;
-use crate::turn::{Turn, places, takes, turns};
 use byte_text::{ByteText, OutOfMemory};
 use family_order::shows_the_same;
 use family_rest::{quiet_is_exact, row_tells_still};
@@ -33,6 +30,7 @@ use file_tree::{Ask, JobAnswer};
 use http_types::{Addr, Method, Version};
 use ngx_pattern::PatternSet;
 use ngx_variables::{Groups, LocalDate, Main, Request, Role, VarTable};
+use node_turn::{Node, Stage, Turn, answering, lend, places, takes, turns};
 use postpone_filter::Order;
 use req_head::HeadFields;
 use request_phases::{Ground, Outcome, Phases};
@@ -42,9 +40,10 @@ use ssi_values::Table;
 use std::alloc::Global;
 use std::net::{IpAddr, Ipv4Addr};
 
-/// A request and its subrequests: the main request, which is lent to the node that runs; the table of variables, which all share;
-/// the order in which their bytes leave; the nodes by their numbers, of which the request's own is 0; and the number of the tree of
-/// files from which they are answered.
+/// A request and its subrequests: the main request, which is lent to the node that runs; the table
+/// of variables, which all share; the order in which their bytes leave; the nodes by their numbers,
+/// of which the request's own is 0; and the number of the tree of files from which they are
+/// answered.
 #[derive(Drop)]
 pub struct Family {
     pub main: Main,
@@ -80,7 +79,8 @@ pub(crate) enum Stepped {
 /// What became of a node that ran.
 #[derive(Clone, Copy, Debug, PartialEq, Eq)]
 pub enum Ran {
-    /// It rests: it asks a job, waits for a subrequest, has a full buffer, or has come to its answer.
+    /// It rests: it asks a job, waits for a subrequest, has a full buffer, or has come to its
+    /// answer.
     Rests,
     /// It asks for one subrequest more than the thousand that are opened for one response.
     TooMany,
@@ -167,8 +167,10 @@ fn blank_main(alloc: Global, method: Method) -> Main
     }
 }
 
-/// The phases of a subrequest before they begin: it comes from inside, is asked with GET, and no level holds for it yet
-/// (<https://nginx.org/en/docs/dev/development_guide.html#http_subrequests>). Of its main request it has the method alone.
+/// The phases of a subrequest before they begin: it comes from inside, is asked with GET, and no
+/// level holds for it yet
+/// (<https://nginx.org/en/docs/dev/development_guide.html#http_subrequests>). Of its main request
+/// it has the method alone.
 fn child_phases(alloc: Global, level: u32, method: Method, path: ByteText, args: ByteText) -> Phases
     ensures main { result.main.method ≡ method }
     ensures asked { (result.at.request ≡ record {
@@ -248,6 +250,36 @@ fn child_node(
     }
 }
 
+/// Whether a node may open this subrequest, where there are so many nodes. One with a stub isn't
+/// served yet.
+fn may_open(node: &Node, count: usize, child: &Child) -> bool
+    ensures plain { result ≡ true → child.now.stub ≡ None }
+    ensures deep { result ≡ true → node.now.left ≢ 0 }
+    ensures few { result ≡ true → count < 1001 }
+{
+    child.stub.is_none() && node.left > 0 && count < MOST_NODES
+}
+
+/// Puts the node of a subrequest, which the node with this number asks for, behind the nodes.
+fn push_child(
+    alloc: Global,
+    level: u32,
+    nodes: &mut Vec<Node>,
+    at: u32,
+    child: Child,
+) -> Result<(), OutOfMemory>
+    ensures { OnOk result ((n : NodeView) → slice_get nodes.old.items at ≡ Some n
+        → IsPushed nodes.old.items nodes.new.items n child) }
+{
+    let Some(node) = nodes.get(at as usize) else {
+        return Err(OutOfMemory);
+    };
+    let left = node.left.saturating_sub(1);
+    let method = copied(&node.phases.main.method)?;
+    nodes.push(child_node(alloc, level, method, at, left, child))?;
+    Ok(())
+}
+
 /// Whether a node is over.
 fn is_over(node: &Node) -> bool
     ensures { result ≡ over_node node.now }
@@ -309,7 +341,8 @@ fn put_end(node: &mut Node, id: u32)
 }
 
 impl Family {
-    /// A main request whose phases came to an answer: its body is to come. `ask` is the job that told of its file.
+    /// A main request whose phases came to an answer: its body is to come. `ask` is the job that
+    /// told of its file.
     ///
     /// # Errors
     /// `OutOfMemory`.
@@ -323,9 +356,11 @@ impl Family {
         tree: u64,
     ) -> Result<Family, OutOfMemory>
         ensures begins { IfOk result (λ f. BeginsWith ground.now phases vars outcome f) }
-        ensures files { IfOk result (λ f. (trees : Trees) → files trees f 0 ≡ text_of (item_asked trees ask)) }
+        ensures files { IfOk result (λ f. (trees : Trees) →
+            files trees f 0 ≡ text_of (item_asked trees ask)) }
         ensures whole { IfOk result (λ f. IsWhole f) }
         ensures tree { IfOk result (λ f. f.tree ≡ tree) }
+        ensures one { IfOk result (λ f. length f.nodes.items ≡ 1) }
     {
         shows_the_same();
         let mut phases = phases;
@@ -403,7 +438,8 @@ impl Family {
     fn place_at(&mut self, alloc: Global, at: u32) -> bool
         requires whole { IsWhole self.old }
         requires there { stands is_placing self.old at }
-        ensures steps { (patterns : List SetPattern) (g : GroundView) → Steps patterns g self.old self.new }
+        ensures steps { (patterns : List SetPattern) (g : GroundView) →
+            Steps patterns g self.old self.new }
         ensures whole { IsWhole self.new }
         ensures tree { self.new.tree ≡ self.old.tree }
         ensures rests { result ≡ false →
@@ -415,7 +451,8 @@ impl Family {
         goes_on(placed.all, self.order.room(at))
     }
 
-    /// A node takes up the next part of its page: whether that is no subrequest, or one that may be opened.
+    /// A node takes up the next part of its page: whether that is no subrequest, or one that may be
+    /// opened.
     fn take_at(&mut self, alloc: Global, ground: &Ground<'_>, at: u32) -> Result<bool, OutOfMemory>
         requires whole { IsWhole self.old }
         requires there { stands is_serving self.old at }
@@ -444,7 +481,7 @@ impl Family {
         }
     }
 
-    /// A subrequest of a node opens, where the node has come to. One with a stub isn't served yet: there is no memory for it.
+    /// A subrequest of a node opens, where the node has come to.
     fn open_at(
         &mut self,
         alloc: Global,
@@ -454,27 +491,22 @@ impl Family {
     ) -> Result<(), OutOfMemory>
         requires whole { IsWhole self.old }
         requires there { goes_on_at (slice_get self.old.nodes.items at) ≡ true }
-        ensures opens { (patterns : List SetPattern) → OnOk result (OpensAt patterns ground.now at child self.old self.new) }
+        ensures opens { (patterns : List SetPattern) → OnOk result
+            (OpensAt patterns ground.now at child self.old self.new) }
         ensures files { OnOk result (SameFiles self.old self.new) }
-        ensures grows { OnOk result (length self.new.nodes.items ≡ length self.old.nodes.items + 1) }
+        ensures grows { OnOk result
+            (length self.new.nodes.items ≡ length self.old.nodes.items + 1) }
         ensures whole { OnOk result (IsWhole self.new) }
         ensures tree { OnOk result (self.new.tree ≡ self.old.tree) }
         ensures main { OnOk result (self.new.main ≡ self.old.main) }
     {
         shows_the_same();
-        if child.stub.is_some() || self.nodes.len() >= MOST_NODES {
+        if !may_open(&self.nodes[at as usize], self.nodes.len(), &child) {
             return Err(OutOfMemory);
         }
-        let waited = child.waited;
-        let node = &mut self.nodes[at as usize];
-        if node.left == 0 {
-            return Err(OutOfMemory);
-        }
-        let method = copied(&node.phases.main.method)?;
-        let opened = child_node(alloc, ground.server.level, method, at, node.left - 1, child);
         let id = self.order.add_child(alloc, at)?;
-        put_child(node, id, waited);
-        self.nodes.push(opened)?;
+        put_child(&mut self.nodes[at as usize], id, child.waited);
+        push_child(alloc, ground.server.level, &mut self.nodes, at, child)?;
         Ok(())
     }
 
@@ -483,7 +515,8 @@ impl Family {
         requires whole { IsWhole self.old }
         requires there { stands is_ending self.old at }
         requires child { at ≢ 0 }
-        ensures steps { (patterns : List SetPattern) (g : GroundView) → Steps patterns g self.old self.new }
+        ensures steps { (patterns : List SetPattern) (g : GroundView) →
+            Steps patterns g self.old self.new }
         ensures whole { IsWhole self.new }
         ensures over { (j : ℕ) → goes_on_at (slice_get self.old.nodes.items j) ≡ false
             → goes_on_at (slice_get self.new.nodes.items j) ≡ false }
@@ -500,7 +533,8 @@ impl Family {
     /// A node has one subrequest less that goes on.
     fn tell(&mut self, at: u32, child: u32)
         requires whole { IsWhole self.old }
-        ensures steps { (patterns : List SetPattern) (g : GroundView) → Steps patterns g self.old self.new }
+        ensures steps { (patterns : List SetPattern) (g : GroundView) →
+            Steps patterns g self.old self.new }
         ensures whole { IsWhole self.new }
         ensures over { (j : ℕ) → goes_on_at (slice_get self.old.nodes.items j) ≡ false
             → goes_on_at (slice_get self.new.nodes.items j) ≡ false }
@@ -522,14 +556,15 @@ impl Family {
         requires fits { fits_at self.old.tree (slice_get self.old.nodes.items at) answer ≡ true }
         ensures keeps { OnOk result ((w : World) (patterns : List SetPattern) (site : SiteRow)
             (trees : Trees) → IsFromAt trees (slice_get self.old.nodes.items at) answer.entry
-            → IsWell (meant w patterns site (files trees self.old) self.old) → Keeps w (trees self.old.tree) (meant w patterns site (files trees self.old) self.old)
+            → IsWell (meant w patterns site (files trees self.old) self.old)
+            → Keeps w (trees self.old.tree) (meant w patterns site (files trees self.old) self.old)
             (meant w patterns site (files trees self.new) self.new) self.old.vars) }
         ensures comes { OnOk result ((w : World) (patterns : List SetPattern) (site : SiteRow)
             (texts : ℕ → List ℕ) → Comes w patterns site self.old self.new texts) }
         ensures whole { OnOk result (IsWhole self.new) }
         ensures size { OnOk result (length self.new.nodes.items ≡ length self.old.nodes.items) }
-        ensures others { OnOk result ((self.new.tree ≡ self.old.tree) × (self.new.vars ≡ self.old.vars)
-            × (self.new.order ≡ self.old.order)) }
+        ensures others { OnOk result ((self.new.tree ≡ self.old.tree)
+            × (self.new.vars ≡ self.old.vars) × (self.new.order ≡ self.old.order)) }
     {
         shows_the_same();
         quiet_is_exact();
@@ -546,10 +581,12 @@ impl Family {
         next_of(self.nodes.as_slice(), at)
     }
 
-    /// A node that has come to its answer is over where no subrequest of it goes on, and then its parent may be, and so on.
+    /// A node that has come to its answer is over where no subrequest of it goes on, and then its
+    /// parent may be, and so on.
     fn end_up(&mut self, at: u32)
         requires whole { IsWhole self.old }
-        ensures steps { (patterns : List SetPattern) (g : GroundView) → Steps patterns g self.old self.new }
+        ensures steps { (patterns : List SetPattern) (g : GroundView) →
+            Steps patterns g self.old self.new }
         ensures whole { IsWhole self.new }
         ensures over { (j : ℕ) → goes_on_at (slice_get self.old.nodes.items j) ≡ false
             → goes_on_at (slice_get self.new.nodes.items j) ≡ false }
@@ -605,8 +642,9 @@ impl Family {
         }
     }
 
-    /// Runs a node on: until it asks a job, waits for a subrequest, has a full buffer, or has come to its answer; or until more
-    /// than a thousand subrequests are asked for, after which the family isn't to go on.
+    /// Runs a node on: until it asks a job, waits for a subrequest, has a full buffer, or has come
+    /// to its answer; or until more than a thousand subrequests are asked for, after which the
+    /// family isn't to go on.
     ///
     /// # Errors
     /// `OutOfMemory`; the family is then not to go on.

@@ -7,15 +7,14 @@ ghost use Rattle.ngx_variables.specs.declared.request.Main.{Main as MainView};
 ghost use Rattle.request_meaning.specs.Serving.{World};
 ghost use Rattle.request_phases.specs.declared.state.Phases.{Phases as PhasesView};
 ghost use Rattle.site_model.specs.declared.site.Site.{Site as SiteRow};
-ghost use Rattle.subrequests.specs.Families.{IsSameNode, asks_from, is_asking, is_reading, node_act, text_in};
-ghost use Rattle.subrequests.specs.Nodes.{asked_path, lent, stage_act};
-ghost use Rattle.subrequests.specs.Taken.{Hears};
-ghost use Rattle.subrequests.specs.declared.node.Stage.TheVariants.{Reads as ReadsView, Told as ToldView};
+ghost use Rattle.node_turn.specs.Stages.{IsSameNode, asks_from, is_asking, is_reading, node_act, text_in};
+ghost use Rattle.node_turn.specs.Nodes.{asked_path, lent, stage_act};
+ghost use Rattle.subrequests.specs.Told.{Hears};
+ghost use Rattle.node_turn.specs.declared.node.Stage.TheVariants.{Reads as ReadsView, Told as ToldView};
 
-use crate::node::{Body, Node, Source, Stage};
-use crate::slot::{put, take};
 use byte_text::{ByteText, OutOfMemory};
 use file_tree::{Ask, JobAnswer, Node as FileNode};
+use node_turn::{Body, Node, Source, Stage, put, take};
 use request_phases::Wait;
 use ssi_values::Table;
 use std::alloc::Global;
@@ -54,7 +53,8 @@ fn reads_from(ask: &Ask, start: u64) -> bool
     }
 }
 
-/// Where these bytes of its file came to a body that asked for them: bytes that are placed next, or that its page takes up.
+/// Where these bytes of its file came to a body that asked for them: bytes that are placed next, or
+/// that its page takes up.
 fn came(alloc: Global, body: Body, bytes: &[u8]) -> Result<Stage, OutOfMemory>
     requires { length bytes.now ≤ body.source.left }
     ensures { IfOk result (λ stage. (w : World) (patterns : List SetPattern) (site : SiteRow)

@@ -1,17 +1,11 @@
-//! The tree of a request and its subrequests (<https://nginx.org/en/docs/dev/development_guide.html#http_subrequests>): each node goes
-//! on with its phases, its file and its page by itself, and the bytes of all leave in the written order.
+//! The tree of a request and its subrequests
+//! (<https://nginx.org/en/docs/dev/development_guide.html#http_subrequests>): each node goes on
+//! with its phases, its file and its page by itself, and the bytes of all leave in the written
+//! order.
 #![tactic(auto)]
 
-mod answered;
 mod family;
 mod hear;
-mod lend;
-mod node;
-mod page;
-mod phase;
-mod slot;
-mod turn;
 mod wants;
 
 pub use family::{Family, Ran};
-pub use node::{Body, Node, Source, Stage};

@@ -3,12 +3,13 @@ ghost use Rattle.std.specs.Prelude.{◌≡◌, ◌==◌, option_copied};
 ghost use Rattle.file_tree.specs.Tree.{tree_of};
 ghost use Rattle.ngx_outside.specs.Views.{ask_in};
 ghost use Rattle.subrequests.specs.Moved.{IsWhole};
-ghost use Rattle.subrequests.specs.Wants.{can_run as can_go, first_job as job_first, first_of, is_among, is_waiting as waits_for, jobs_of, ready_of};
+ghost use Rattle.node_turn.specs.Stages.{can_run as can_go};
+ghost use Rattle.subrequests.specs.Wants.{first_job as job_first, first_of, is_among, is_waiting as waits_for, jobs_of, ready_of};
 
 use crate::family::Family;
 use crate::hear::waits;
-use crate::node::{Node, Stage};
 use file_tree::Ask;
+use node_turn::{Node, Stage};
 use postpone_filter::Order;
 
 /// Whether a job asks the tree with this number.

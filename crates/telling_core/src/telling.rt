@@ -8,6 +8,7 @@ use byte_text::OutOfMemory;
 use file_tree::Ask;
 use memory_outside::Answers;
 use ngx_outside::{Event, EventCore, StepAnswer, Want};
+use ready_loop::TimedCore;
 use std::alloc::Global;
 
 /// A core that does as the core within does, and keeps each event that it is given, with its bytes, so that a run over it
@@ -86,5 +87,11 @@ impl<E: EventCore + Drop> EventCore for TellingCore<E> {
 
     fn refused(&self) -> u64 {
         self.core.refused()
+    }
+}
+
+impl<E: TimedCore + Drop> TimedCore for TellingCore<E> {
+    fn quiet_until(&self) -> u64 {
+        self.core.quiet_until()
     }
 }

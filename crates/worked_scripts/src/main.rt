@@ -3,6 +3,7 @@
 
 use memory_outside::{FixedClock, MemoryLinks};
 use ngx_cli::ngx;
+use ngx_pattern::CrateMaker;
 use std::alloc::Global;
 use std::process::ExitCode;
 use std::{env, io};
@@ -31,7 +32,10 @@ fn main(rt: HostRuntime) -> io::Result<ExitCode> {
         let words = words_for(alloc, script)?;
         let mut links = MemoryLinks::new(alloc, Vec::new(alloc), Vec::new(alloc));
         let mut clock = FixedClock { moment: 0 };
-        let status = ngx(alloc, &words, &mut files, &mut links, &mut clock, &mut out);
+        let mut maker = CrateMaker::new();
+        let status = ngx(
+            alloc, &words, &mut files, &mut links, &mut clock, &mut maker, &mut out,
+        );
         println!(rt; "-- status {status}")?;
     }
     Ok(ExitCode::SUCCESS)

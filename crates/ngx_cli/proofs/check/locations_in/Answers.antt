@@ -1,6 +1,6 @@
 use Rattle.std.proofs.Common.{◌-◌, ◌^◌, ◌∙◌, ap, sym, arith}
 use Rattle.std.specs.Prelude.{min}
-use Rattle.ngx_cli.specs.Commands.{locations_of}
+use Rattle.ngx_cli.specs.Checks.{locations_of}
 use Rattle.ngx_cli.proofs.CountLaws.{counts_step, counts_end, whole_servers}
 use Rattle.ngx_cli.proofs.check.locations_in.Goals as goal
 

@@ -1,7 +1,7 @@
 use Rattle.std.proofs.Common.{◌≡◌, [], ◌+◌, ◌-◌, ◌^◌, ◌≤◌, drop}
 use Rattle.std.specs.Prelude.{map, min}
 use Rattle.conf_inherit.specs.Pools.{server_built}
-use Rattle.ngx_cli.specs.Commands.{locations_of}
+use Rattle.ngx_cli.specs.Checks.{locations_of}
 use Rattle.ngx_cli.proofs.check.locations_in.Given as goal
 
 -- the count so far, with the locations of the servers that are left

@@ -1,38 +1,30 @@
-use Rattle.std.proofs.Common.{◌≡◌, [], Ok, Err, ap, sym, subst}
-use Rattle.std.proofs.lemmas.List.{append-nil}
+use Rattle.std.proofs.Common.{◌≡◌, [], Ok, Err, refl, ap, sym, subst}
 use Rattle.site_service.specs.Serving.{Outside}
-use Rattle.conf_inherit.specs.Pools.{site_built}
 use Rattle.conf_inherit.specs.declared.site.Purpose.TheVariants as purposes
-use Rattle.ngx_cli.specs.Commands.{Output, Describes, ServeEnds}
+use Rattle.ngx_cli.specs.declared.site.SiteError.TheVariants as error
+use Rattle.ngx_cli.specs.Commands.{Output, Made, Describes, Finds, OfFirst, ServeEnds}
 use Rattle.report_text.specs.Lines.{ended}
 use Rattle.report_text.specs.Faults.{conf_fault_line}
-use Rattle.ngx_cli.proofs.Endings.{served, unput_serving, fault_described, is_fault_line, is_files_line}
+use Rattle.ngx_cli.proofs.Endings.{found_ends, unput_serving, fault_described, is_files_line, is_maker_line}
 use Rattle.ngx_cli.proofs.command.run_site.Goals as goal
 
-pub returns-in-Ok-serve_site : goal.returns-in-Ok-serve_site
-returns-in-Ok-serve_site g c =
-    let f = g.F.Files in
-    let k = g.L.Links in
-    let t = g.C.Clock in
-    let u = g.O.Sink in
-    let a = c.in-Ok.ensures in
-    let s = c.in-Ok-serve_site.ensures in
-    let e = c.in-Ok-serve_site.ending in
-    let path = c.args.path.now in
-    let site = c.in-Ok.built in
+pub returns-in-Ok : goal.returns-in-Ok
+returns-in-Ok g c =
+    let reading = g.F.Files.seen c.site_at.new.files in
     let o : Outside = record {
-      files = f.seen c.args.files.now;
-      files' = f.seen c.serve_site.new.files;
-      links = k.seen c.args.links.now;
-      links' = k.seen c.serve_site.new.links;
-      clock = t.seen c.args.clock.now;
-      clock' = t.seen c.serve_site.new.clock;
+      files = g.F.Files.seen c.args.files.now;
+      files' = g.F.Files.seen c.serve_found.new.files;
+      links = g.L.Links.seen c.args.links.now;
+      links' = g.L.Links.seen c.serve_found.new.links;
+      clock = g.C.Clock.seen c.args.clock.now;
+      clock' = g.C.Clock.seen c.serve_found.new.clock;
     } in
-    let out : Output = record { before = u.seen c.args.out.now; after = u.seen c.args.out.now } in
-    let described : Describes purposes.Serving o.files (f.seen c.site_at.new.files) path (Ok (site_built site)) = record { reads = a.reading; is = a.exact } in
-    subst (ServeEnds o out path c.args.turns) (sym c.served_status.ensures)
-    (served o out path c.args.turns e site (f.seen c.site_at.new.files) described s.serving (λ tells. sym (append-nil (u.seen c.args.out.now).written))
-    (λ is. s.ended (ap Ok is)) (λ is. s.listen_fault (ap Ok is)) (λ is. s.next_fault (ap Ok is)))
+    let made : Made = record { before = g.M.PatternMaker.refusals c.args.maker.now; after = g.M.PatternMaker.refusals c.site_at.new.maker } in
+    let out : Output = record { before = g.O.Sink.seen c.args.out.now; after = g.O.Sink.seen c.serve_found.new.out } in
+    let path = c.args.path.now in
+    let found = c.in-Ok.found in
+    let finds : Finds purposes.Serving o.files reading path found = record { described = record { reads = c.in-Ok.ensures.reading; is = c.in-Ok.ensures.exact }; raceless = c.in-Ok.ensures.none } in
+    found_ends found c.args.racy o reading made out path c.args.turns finds c.serve_found.result c.serve_found.ensures
 
 pub returns-in-Err-Fault : goal.returns-in-Err-Fault
 returns-in-Err-Fault g c =
@@ -44,11 +36,12 @@ returns-in-Err-Fault g c =
       clock = g.C.Clock.seen c.args.clock.now;
       clock' = g.C.Clock.seen c.args.clock.now;
     } in
+    let made : Made = record { before = g.M.PatternMaker.refusals c.args.maker.now; after = g.M.PatternMaker.refusals c.site_at.new.maker } in
     let out : Output = record { before = g.O.Sink.seen c.args.out.now; after = g.O.Sink.seen c.put_fault.new.out } in
     let path = c.args.path.now in
     let placed = c.in-Err-Fault.placed in
-    let described : Describes purposes.Serving o.files o.files' path (Err (placed.fault, placed.path)) = fault_described purposes.Serving o.files o.files' path c.in-Err-Fault.field-0 placed c.in-Err-Fault.field-0-is c.in-Err-Fault.ensures.reading c.in-Err-Fault.ensures.exact in
-    unput_serving o out path c.args.turns (ended (conf_fault_line placed.path placed.fault)) c.in-Err-put_fault.status (is_fault_line purposes.Serving o.files o.files' path placed described) c.in-Err-put_fault.ensures
+    let described : Describes purposes.Serving o.files o.files' path (Err (error.Fault placed)) = fault_described purposes.Serving o.files o.files' path c.in-Err-Fault.field-0 placed c.in-Err-Fault.field-0-is c.in-Err-Fault.ensures.reading c.in-Err-Fault.ensures.exact in
+    unput_serving o made out path c.args.turns c.args.racy (ended (conf_fault_line placed.path placed.fault)) c.in-Err.status (OfFirst placed described refl) c.in-Err.ensures
 
 pub returns-in-Err-Failed : goal.returns-in-Err-Failed
 returns-in-Err-Failed g c =
@@ -60,7 +53,24 @@ returns-in-Err-Failed g c =
       clock = g.C.Clock.seen c.args.clock.now;
       clock' = g.C.Clock.seen c.args.clock.now;
     } in
+    let made : Made = record { before = g.M.PatternMaker.refusals c.args.maker.now; after = g.M.PatternMaker.refusals c.site_at.new.maker } in
     let out : Output = record { before = g.O.Sink.seen c.args.out.now; after = g.O.Sink.seen c.put_fault-in-Err-Failed.new.out } in
     let path = c.args.path.now in
     let placed = c.in-Err-Failed.placed in
-    unput_serving o out path c.args.turns (ended (conf_fault_line placed.path placed.fault)) c.in-Err-put_fault-2.status (is_files_line purposes.Serving o.files o.files' path c.in-Err-Failed.field-0 placed c.in-Err-Failed.field-0-is c.in-Err-Failed.ensures.cause) c.in-Err-put_fault-2.ensures
+    unput_serving o made out path c.args.turns c.args.racy (ended (conf_fault_line placed.path placed.fault)) c.in-Err-put_fault.status (is_files_line purposes.Serving o.files o.files' made path c.in-Err-Failed.field-0 placed c.in-Err-Failed.field-0-is c.in-Err-Failed.ensures.cause) c.in-Err-put_fault.ensures
+
+pub returns-in-Err-TooBig : goal.returns-in-Err-TooBig
+returns-in-Err-TooBig g c =
+    let o : Outside = record {
+      files = g.F.Files.seen c.args.files.now;
+      files' = g.F.Files.seen c.site_at.new.files;
+      links = g.L.Links.seen c.args.links.now;
+      links' = g.L.Links.seen c.args.links.now;
+      clock = g.C.Clock.seen c.args.clock.now;
+      clock' = g.C.Clock.seen c.args.clock.now;
+    } in
+    let made : Made = record { before = g.M.PatternMaker.refusals c.args.maker.now; after = g.M.PatternMaker.refusals c.site_at.new.maker } in
+    let out : Output = record { before = g.O.Sink.seen c.args.out.now; after = g.O.Sink.seen c.put_fault-in-Err-TooBig.new.out } in
+    let path = c.args.path.now in
+    let placed = c.in-Err-TooBig.placed in
+    unput_serving o made out path c.args.turns c.args.racy (ended (conf_fault_line placed.path placed.fault)) c.in-Err-put_fault-2.status (is_maker_line purposes.Serving o.files o.files' made path c.in-Err-TooBig.field-0 placed c.in-Err-TooBig.field-0-is c.in-Err-TooBig.ensures.cause) c.in-Err-put_fault-2.ensures

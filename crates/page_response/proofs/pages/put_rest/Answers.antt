@@ -1,4 +1,4 @@
-use Rattle.std.proofs.Common.{◌≡◌, ◌+◌, ◌++◌, List, ℕ, [], length, take, refl, sym, ap, ◌∙◌, subst, append_assoc, arith}
+use Rattle.std.proofs.Common.{◌≡◌, ◌++◌, [], length, take, refl, sym, ap, ◌∙◌, append_assoc, arith}
 use Rattle.outgoing.specs.Leaving.{to_come}
 use Rattle.postpone_filter.specs.Runs.{filled}
 use Rattle.page_response.proofs.Moving as moving

@@ -1,16 +1,14 @@
-use Rattle.std.proofs.Common.{refl, map, ◌∙◌, subst}
-use Rattle.site_whole.specs.Whole.{level_whole}
-use Rattle.race_places.specs.Places.{AreInOrder, level_by, all_sets, all_reads}
+use Rattle.std.proofs.Common.{refl, ◌∙◌, subst}
+use Rattle.race_places.specs.Index.{at}
+use Rattle.race_places.specs.Places.{AreInOrder}
 use Rattle.race_places.proofs.told.placed_one.Goals as goal
 
 pub returns : goal.returns
-returns c = λ patterns.
-    let views = map (level_whole patterns c.args.site.now) c.args.numbers.now in
-    let lines = map level_by c.args.lines.now in
+returns c =
     record {
       server = refl;
       name = c.in_ok-name.ensures ∙ c.as_slice.ensures;
       documents = refl;
-      set_at = subst (λ n. AreInOrder (all_sets n views lines) c.in_ok-sets.sets.items) c.as_slice-2.ensures (c.in_ok-sets.ensures patterns);
-      read_at = subst (λ n. AreInOrder (all_reads n views lines) c.in_ok-reads.reads.items) c.as_slice-3.ensures (c.in_ok-reads.ensures patterns);
+      set_at = subst (λ n. AreInOrder (at c.args.sets.now n) c.in_ok-set_at.set_at.items) c.as_slice-2.ensures c.in_ok-set_at.ensures;
+      read_at = subst (λ n. AreInOrder (at c.args.reads.now n) c.in_ok-read_at.read_at.items) c.as_slice-3.ensures c.in_ok-read_at.ensures;
     }

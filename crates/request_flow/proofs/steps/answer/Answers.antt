@@ -25,7 +25,7 @@ returns-in-None-clause-goes c = λ patterns trees.
     let t = c.args.request.now.terms in
     let reply = c.in_ok-reply.reply in
     let made = prepared_as w (asked_in p) s bytes c.args.outcome in
-    let is = puts.replied patterns g p known trees c.length_in.result c.args.outcome c.with_length-outcome.result reply
+    let is = puts.replied patterns g p known trees c.length_in.result c.args.outcome c.with_length-outcome.result t reply
     (sym c.is_plain.ensures ∙ c.if-not-is_plain.false) c.length_in.ensures c.with_length-outcome.ensures c.in_ok-reply.ensures in
     puts.moved_follows site _ _ _ _ c.args.out.now c.put_reply.new.out c.args.closing _ _ _ _ _ _
     (done_rest w (trees (known_tree known)) (terms_seen t) made bytes reply.body c.args.request.now.vars is.body)
@@ -50,7 +50,7 @@ returns-in-Some-clause-goes c = λ patterns trees.
     let reply = c.in_ok-reply.reply in
     let made = prepared_as w (asked_in p) s bytes c.args.outcome in
     let file = c.in-Some.file in
-    let is = puts.replied patterns g p known trees c.length_in.result c.args.outcome c.with_length-outcome.result reply
+    let is = puts.replied patterns g p known trees c.length_in.result c.args.outcome c.with_length-outcome.result t reply
     (sym c.is_plain.ensures ∙ c.if-not-is_plain.false) c.length_in.ensures c.with_length-outcome.ensures c.in_ok-reply.ensures in
     let sent = puts.file_sent t reply known file (ap (λ b. file_known b known) (sym c.sends_file.ensures) ∙ (sym c.file_if-file.ensures ∙ c.in-Some.is)) in
     let item = item_asked trees file.ask in

@@ -1,4 +1,5 @@
-use Rattle.std.proofs.Common.{[], sym, ap, ◌∙◌}
+use Rattle.std.proofs.Common.{[], sym, ap, ◌∙◌, subst}
+use Rattle.acts.specs.Act.{settled}
 use Rattle.pattern_search.specs.Found.{patterns_seen}
 use Rattle.site_whole.specs.Whole.{server_whole}
 use Rattle.answers_meaning.specs.Asking.{request_of}
@@ -9,7 +10,10 @@ use Rattle.request_meaning.specs.Serving.From.{Start}
 use Rattle.request_phases.specs.Rounds.{world_in, phases_left, asked_from}
 use Rattle.request_phases.specs.declared.state.Phases.{Phases}
 use Rattle.request_flow.specs.Openings.{main_at, terms_seen}
-use Rattle.request_flow.specs.Rests.{act_rest, opened_rest}
+use Rattle.request_flow.specs.Reached.{Settles}
+use Rattle.request_flow.specs.Rests.{act_rest, finished, opened_rest}
+use Rattle.request_flow.proofs.Padding.{padded_none}
+use Rattle.request_flow.proofs.Reaching.{goes_on, starts}
 use Rattle.request_flow.proofs.Turns.{act_settles}
 use Rattle.request_flow.proofs.steps.begun.Goals as goal
 
@@ -30,3 +34,22 @@ returns-clause-goes c = λ trees.
     ∙ (ap (λ v. act_rest w tree t (rounds w 10 (outside main request)) v) (sym (c.put.ensures ∙ c.new.ensures))
     ∙ (ap (λ (p : Phases). act_rest w tree t (rounds w p.changes (asked_from p Start)) vars) (sym (c.in_ok-put_phases.ensures patterns site))
     ∙ act_settles w tree t (rounds w p.changes (asked_from p Start)) (phases_left w patterns site [] c.begin.new.phases c.in_ok-step.step) vars c.begin.new.vars (c.in_ok-step.ensures.does [] shipped)))
+
+pub returns-clause-reached : goal.returns-clause-reached
+returns-clause-reached c = λ text.
+    let g = c.args.ground.now in
+    let site = g.site.now in
+    let patterns = c.args.space.now.patterns in
+    let w = world_in patterns g shipped in
+    let opening = c.args.opening in
+    let main = main_at g opening in
+    let request = request_of (server_whole (patterns_seen patterns) site g.server.now) opening.head in
+    let p = c.put_phases.new.phases in
+    let vars = c.put.new.slot in
+    let q = c.begin.new.phases in
+    let step = c.in_ok-step.step in
+    subst (λ b. Settles w (finished w (phases_left w patterns site b q step)) c.begin.new.vars) (sym (padded_none text))
+    (goes_on w (rounds w 10 (outside main request)) (phases_left w patterns site [] q step) [] c.begin.new.vars (starts w main request)
+    (ap (λ v. settled (rounds w 10 (outside main request)) v) (sym (c.put.ensures ∙ c.new.ensures))
+    ∙ (ap (λ (p : Phases). settled (rounds w p.changes (asked_from p Start)) vars) (sym (c.in_ok-put_phases.ensures patterns site))
+    ∙ c.in_ok-step.ensures.does [] shipped)))

@@ -1,9 +1,3 @@
-use Rattle.std.proofs.Common.{sym, ap, ◌∙◌, refl}
-use Rattle.request_meaning.specs.Phases.{rounds}
-use Rattle.request_meaning.specs.Replies.{child_asked, script, served}
-use Rattle.request_meaning.specs.Serving.{Asked}
-use Rattle.ssi_exec.specs.Scenes.{child_seen}
-use Rattle.subrequests.specs.Nodes.{of_method, served_as}
 use Rattle.subrequests.proofs.Opening as opening
 use Rattle.subrequests.proofs.family.child_node.Goals as goal
 

@@ -1,6 +1,6 @@
 use Rattle.std.proofs.Common.{◌++◌, ◌-◌, length, sym, ap, ◌∙◌}
 use Rattle.acts.specs.Act.{Done, Write}
-use Rattle.subrequests.specs.Nodes.{answer_seen, later, padded, page_at, served_act}
+use Rattle.node_turn.specs.Nodes.{answer_seen, later, padded, page_at, served_act}
 use Rattle.subrequests.proofs.Hearing as hearing
 use Rattle.subrequests.proofs.hear.came.Goals as goal
 

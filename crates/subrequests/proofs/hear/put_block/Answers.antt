@@ -1,6 +1,6 @@
 use Rattle.std.proofs.Common.{◌++◌, drop, sym, ap, ◌∙◌}
 use Rattle.file_tree.specs.Tree.{text_of}
-use Rattle.subrequests.specs.Families.{item_asked}
+use Rattle.node_turn.specs.Stages.{item_asked}
 use Rattle.subrequests.proofs.Hearing as hearing
 use Rattle.subrequests.proofs.hear.put_block.Goals as goal
 

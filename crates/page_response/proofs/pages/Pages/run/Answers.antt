@@ -1,12 +1,11 @@
-use Rattle.std.proofs.Common.{◌≡◌, ◌+◌, ◌-◌, ◌<◌, ◌∙◌, ◌++◌, length, sym, ap, refl, subst, arith}
-use Rattle.file_tree.specs.Tree.{Nothing, Trees}
+use Rattle.std.proofs.Common.{◌≡◌, ◌+◌, ◌-◌, ◌∙◌, ◌++◌, length, sym, ap, refl, subst, arith}
+use Rattle.file_tree.specs.Tree.{Nothing}
 use Rattle.family_rest.specs.Still.{still, subs_still}
-use Rattle.race_meaning.specs.Named.{IsRaceless}
 use Rattle.request_meaning.specs.Laws.{shipped}
 use Rattle.request_phases.specs.Rounds.{world_in}
 use Rattle.subrequests.specs.Moved.{files, meant}
 use Rattle.subrequests.specs.Ran as ran
-use Rattle.page_response.specs.Pages.{IsReached, step_weight}
+use Rattle.page_response.specs.Pages.{step_weight}
 use Rattle.page_response.specs.declared.pages.Pages.{Pages}
 use Rattle.page_response.proofs.Moving as moving
 use Rattle.page_response.proofs.pages.Pages.run.Goals as goal

@@ -1,4 +1,4 @@
-use Rattle.std.proofs.Common.{◌≤◌, ◌-◌, length, drop, ap, ◌∙◌, length-drop, arith}
+use Rattle.std.proofs.Common.{◌≤◌, length, ap, ◌∙◌, length-drop, arith}
 use Rattle.outgoing.specs.Leaving.{most}
 use Rattle.page_response.specs.Pages.{left_in, step_weight}
 use Rattle.page_response.proofs.Moving as moving

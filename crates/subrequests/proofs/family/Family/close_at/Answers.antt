@@ -2,8 +2,9 @@ use Rattle.std.proofs.Common.{true, set, refl, sym, ap, ◌∙◌, subst}
 use Rattle.request_meaning.specs.Laws.{shipped}
 use Rattle.request_phases.specs.Rounds.{world_in}
 use Rattle.postpone_filter.specs.Row.{Row, is_open}
-use Rattle.subrequests.specs.Families.{is_ending, node_act, seen, stance_of}
-use Rattle.subrequests.specs.declared.node.Node.{Node}
+use Rattle.node_turn.specs.Stages.{is_ending, node_act}
+use Rattle.subrequests.specs.Families.{seen, stance_of}
+use Rattle.node_turn.specs.declared.node.Node.{Node}
 use Rattle.subrequests.specs.Moved.{Opening}
 use Rattle.subrequests.proofs.Members as members
 use Rattle.subrequests.proofs.Sets.{get_set_other}

@@ -1,5 +1,4 @@
-use Rattle.std.proofs.Common.{set, refl, sym, ap, ◌∙◌, subst}
-use Rattle.file_tree.specs.Tree.{tree_of}
+use Rattle.std.proofs.Common.{set, refl, ◌∙◌, subst}
 use Rattle.subrequests.specs.Families.{seen, texts_of}
 use Rattle.subrequests.specs.Moved.{Keeps}
 use Rattle.subrequests.proofs.Heard as heard

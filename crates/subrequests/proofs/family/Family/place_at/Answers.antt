@@ -1,8 +1,9 @@
-use Rattle.std.proofs.Common.{set, take, refl, sym, ap, ◌∙◌, subst}
+use Rattle.std.proofs.Common.{set, take, sym, ap, ◌∙◌, subst}
 use Rattle.request_meaning.specs.Laws.{shipped}
 use Rattle.request_phases.specs.Rounds.{world_in}
-use Rattle.postpone_filter.specs.Row.{Row, appended, is_open}
-use Rattle.subrequests.specs.Families.{hand_at, is_placing, node_act, seen}
+use Rattle.postpone_filter.specs.Row.{Row, is_open}
+use Rattle.node_turn.specs.Stages.{hand_at, is_placing, node_act}
+use Rattle.subrequests.specs.Families.{seen}
 use Rattle.subrequests.specs.Moved.{Opening}
 use Rattle.subrequests.proofs.Members as members
 use Rattle.subrequests.proofs.Wholes as wholes

@@ -9,10 +9,11 @@ use Rattle.family_order.specs.Items.Stance.{Going}
 use Rattle.request_meaning.specs.Serving.{Answer, Serving}
 use Rattle.ssi_exec.specs.Scenes.{child_seen}
 use Rattle.subrequests.specs.Moved.{Opening, meant}
-use Rattle.subrequests.specs.declared.node.Node.{Node}
+use Rattle.node_turn.specs.declared.node.Node.{Node}
 use Rattle.subrequests.proofs.Steps as steps
-use Rattle.subrequests.specs.Families.{goes_on_at, is_serving, main_of, node_act, seen, texts_of}
-use Rattle.subrequests.specs.Taken.{TakesTo}
+use Rattle.node_turn.specs.Stages.{is_serving, main_of, node_act}
+use Rattle.subrequests.specs.Families.{goes_on_at, seen, texts_of}
+use Rattle.node_turn.specs.Taken.{TakesTo}
 use Rattle.subrequests.proofs.Members as members
 use Rattle.subrequests.proofs.Sets.{get_set_same, length_set}
 use Rattle.subrequests.proofs.Taking as taking

@@ -1,8 +1,8 @@
 use Rattle.std.proofs.Common.{refl, sym, ap, arith}
 use Rattle.request_meaning.specs.Laws.{shipped}
 use Rattle.request_phases.specs.Rounds.{world_in}
-use Rattle.subrequests.specs.Families.{node_act}
-use Rattle.subrequests.specs.declared.node.Node.{Node}
+use Rattle.node_turn.specs.Stages.{node_act}
+use Rattle.node_turn.specs.declared.node.Node.{Node}
 use Rattle.subrequests.proofs.Heard as heard
 use Rattle.subrequests.proofs.Members as members
 use Rattle.subrequests.proofs.Steps as steps

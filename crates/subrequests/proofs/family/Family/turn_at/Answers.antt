@@ -2,7 +2,8 @@ use Rattle.std.proofs.Common.{set, refl, sym, subst}
 use Rattle.ngx_variables.specs.declared.request.Main.{Main}
 use Rattle.request_meaning.specs.Laws.{shipped}
 use Rattle.request_phases.specs.Rounds.{world_in}
-use Rattle.subrequests.specs.Families.{is_turning, seen}
+use Rattle.node_turn.specs.Stages.{is_turning}
+use Rattle.subrequests.specs.Families.{seen}
 use Rattle.subrequests.specs.Moved.{Opening}
 use Rattle.subrequests.proofs.Members as members
 use Rattle.subrequests.proofs.Wholes as wholes

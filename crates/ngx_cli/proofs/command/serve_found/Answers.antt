@@ -1,0 +1,26 @@
+use Rattle.std.proofs.Common.{◌≡◌, [], false, Ok, refl, ap, sym, subst, ◌∙◌}
+use Rattle.std.proofs.lemmas.List.{append-nil}
+use Rattle.site_service.specs.Serving.{Outside}
+use Rattle.conf_inherit.specs.Values.{has_items}
+use Rattle.ngx_cli.specs.Sites.{conflicts_of}
+use Rattle.ngx_cli.specs.Checks.{check_text}
+use Rattle.ngx_cli.specs.Commands.{Output, FoundEnds}
+use Rattle.ngx_cli.proofs.Endings.{served, unput_found, unrefused, refused}
+use Rattle.ngx_cli.proofs.command.serve_found.Goals as goal
+
+pub returns-in-Ok-serve_site : goal.returns-in-Ok-serve_site
+returns-in-Ok-serve_site g c =
+    let o : Outside = record {
+      files = g.F.Files.seen c.args.files.now;
+      files' = g.F.Files.seen c.serve_site.new.files;
+      links = g.L.Links.seen c.args.links.now;
+      links' = g.L.Links.seen c.serve_site.new.links;
+      clock = g.C.Clock.seen c.args.clock.now;
+      clock' = g.C.Clock.seen c.serve_site.new.clock;
+    } in
+    let out : Output = record { before = g.O.Sink.seen c.args.out.now; after = g.O.Sink.seen c.args.out.now } in
+    let s = c.in-Ok-serve_site.ensures in
+    subst (FoundEnds c.args.found c.args.racy o out c.args.turns) (sym c.served_status.ensures)
+    (served c.args.found c.args.racy o out c.args.turns c.in-Ok-serve_site.ending
+    (record { names = unrefused c.args.racy (has_items (conflicts_of c.args.found)) (sym c.is_refused.ensures ∙ c.if-is_refused.false); serving = s.serving; printed = λ tells. sym (append-nil (g.O.Sink.seen c.args.out.now).written) })
+    (λ is. s.ended (ap Ok is)) (λ is. s.listen_fault (ap Ok is)) (λ is. s.next_fault (ap Ok is)))

@@ -1,0 +1,4 @@
+mod Phased
+mod Paged
+mod Serving
+mod Placing

@@ -1,0 +1,49 @@
+-- A page as a node keeps it.
+use Rattle.std.proofs.Common.{◌≡◌, ℕ, List, sym, ap, ◌∙◌}
+use Rattle.ngx_pattern.specs.Pattern.{Pattern as SetPattern}
+use Rattle.site_model.specs.declared.site.Server.{Server}
+use Rattle.site_whole.specs.Whole.{values_seen, server_whole}
+use Rattle.request_meaning.specs.Documents.{Doc}
+use Rattle.request_meaning.specs.Laws.{shipped}
+use Rattle.request_meaning.specs.Serving.{World, Serving, Answer}
+use Rattle.request_phases.specs.Rounds.{world_in}
+use Rattle.request_phases.specs.declared.ground.Ground.{Ground}
+use Rattle.request_phases.specs.declared.state.Phases.{Phases}
+use Rattle.rewrite_code.specs.Places.{standing_seen}
+use Rattle.ssi_exec.specs.Scenes.{doc_seen, values_of, IsAt}
+use Rattle.ssi_exec.specs.declared.document.Document.{Document}
+use Rattle.ssi_exec.specs.declared.document.Scene.{Scene}
+use Rattle.family_meaning.specs.Suspended.{document_rest}
+use Rattle.request_meaning.specs.Bodies.{machines}
+use Rattle.ssi_text.specs.Marks.{marks}
+use Rattle.page_body.specs.Pages.{IsOf, page_rest, waiting, stages_of}
+use Rattle.page_body.specs.declared.page.Page.{Page}
+use Rattle.node_turn.specs.Nodes.{answer_seen, doc_at, page_at}
+use Rattle.node_turn.specs.Turns.{IsSceneOf}
+use Rattle.node_turn.specs.declared.answered.Answered.{Answered}
+
+-- a page with a document
+abbrev page_doc : World → Answer → Doc → Page → List ℕ → Serving Answer
+page_doc w answer d page bytes = document_rest w answer d (marks (waiting page)) (machines w page.facts) (stages_of page) bytes
+
+module _ (g : Ground) (p : Phases) (left : ℕ) (scene : Scene) (is : IsSceneOf g p left scene) where
+  pub values_are : values_of scene ≡ (standing_seen g.site.now p.at).values
+  values_are = ap (λ s. values_seen s scene.level.now) is.site ∙ ap (values_seen g.site.now) is.level
+
+  doc_is : (d : Document) → doc_seen scene d ≡ doc_at g.site.now p left d
+  doc_is d =
+      ap (λ m. record (doc_seen scene d) { main = m }) is.main
+      ∙ (ap (λ r. record (doc_seen scene d) { main = p.main; request = r }) is.request
+      ∙ (ap (λ v. record (doc_seen scene d) { main = p.main; request = p.at.request; values = v }) values_are
+      ∙ ap (λ l. record (doc_seen scene d) { main = p.main; request = p.at.request; values = (standing_seen g.site.now p.at).values; left = l }) is.levels))
+
+  pub page_is : (w : World) (answer : Answer) (page : Page) (bytes : List ℕ) → page_rest w answer scene page bytes ≡ page_at w g.site.now p left answer page bytes
+  unfolding page_rest page_at
+  page_is w answer page bytes = ap (λ d. page_doc w answer d page bytes) (doc_is page.document)
+
+  pub is_of : (a : Answered) → IsOf scene (answer_seen g.site.now p a)
+  is_of a = record { main = sym is.main; request = sym is.request; values = sym values_are }
+
+  pub is_at : (patterns : List SetPattern) → IsAt scene (world_in patterns g shipped)
+  unfolding server_whole
+  is_at patterns = record { visible = ap (λ (s : Server). s.visible) (sym is.server); merge = ap (λ (s : Server). s.merge) (sym is.server) }

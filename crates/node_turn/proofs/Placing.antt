@@ -1,0 +1,44 @@
+-- Bytes of a node that are placed.
+use Rattle.std.proofs.Common.{◌≤◌, ℕ, ◌+◌, List, ◌++◌, length, take, drop, Option, None, Some, sym, ap, ◌∙◌, append_assoc, take-append-drop, drop-drop, drop_of_length-le}
+use Rattle.acts.specs.Vars.{Vars}
+use Rattle.acts.specs.Act.{Done, Write}
+use Rattle.site_model.specs.declared.site.Site.{Site}
+use Rattle.request_meaning.specs.Serving.{World, Serving, Answer}
+use Rattle.request_phases.specs.declared.state.Phases.{Phases}
+use Rattle.page_body.specs.declared.page.Page.{Page}
+use Rattle.node_turn.specs.Nodes.{page_at, placed_act, served_act}
+use Rattle.node_turn.specs.Turns.{Works, PlacesAs}
+use Rattle.node_turn.specs.Turns.Works.{Rests, Placed}
+use Rattle.node_turn.proofs.Serving.{same_work, both}
+
+module _ (w : World) (site : Site) (p : Phases) (left : ℕ) (answer : Answer) where
+  pub placed_so : (page : Option Page) (bytes : List ℕ) (from count : ℕ) (later : List ℕ) →
+      PlacesAs (take count (drop from bytes)) (placed_act w site p left answer page (drop from bytes) later) (placed_act w site p left answer page (drop (from + count) bytes) later)
+  placed_so None bytes from count later =
+      let h = drop from bytes in
+      record {
+        more = drop count h ++ later;
+        rest = Done answer;
+        writes = ap (λ t. Write t (Done answer)) (ap (λ t. t ++ later) (sym (take-append-drop count h)) ∙ append_assoc (take count h) (drop count h) later);
+        works = λ vars. same_work (ap (λ t. Write (t ++ later) (Done answer)) (drop-drop count from bytes));
+      }
+  placed_so (Some page) bytes from count later =
+      let h = drop from bytes in
+      let rest = page_at w site p left answer page later in
+      record {
+        more = drop count h;
+        rest = rest;
+        writes = ap (λ t. Write t rest) (sym (take-append-drop count h));
+        works = λ vars. same_work (ap (λ t. Write t rest) (drop-drop count from bytes));
+      }
+
+  -- all of them are
+  pub all_so : (page : Option Page) (bytes : List ℕ) (from : ℕ) (later : List ℕ) (vars : Vars) → length bytes ≤ from →
+      Works vars (placed_act w site p left answer page (drop from bytes) later) (served_act w site p left answer page later)
+  all_so None bytes from later vars e = same_work (ap (λ t. Write (t ++ later) (Done answer)) (drop_of_length-le bytes e))
+  all_so (Some page) bytes from later vars e =
+      both (same_work (ap (λ t. Write t (page_at w site p left answer page later)) (drop_of_length-le bytes e))) (Placed Rests)
+
+-- and then the node goes on
+pub then_works : (some : List ℕ) (old mid new : Serving Answer) → PlacesAs some old mid → ((vars : Vars) → Works vars mid new) → PlacesAs some old new
+then_works some old mid new h g = record { more = h.more; rest = h.rest; writes = h.writes; works = λ vars. both (h.works vars) (g vars) }

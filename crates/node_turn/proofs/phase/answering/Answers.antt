@@ -1,0 +1,73 @@
+use Rattle.std.proofs.Common.{◌++◌, List, ℕ, refl, sym, ap, ◌∙◌}
+use Rattle.acts.specs.Act.{Done, Write, settled}
+use Rattle.error_page.specs.Page.{page_of}
+use Rattle.request_meaning.specs.Laws.{shipped}
+use Rattle.rewrite_code.specs.Places.{standing_seen}
+use Rattle.request_phases.specs.Rounds.{asked_in, prepared_as, world_in}
+use Rattle.request_reply.specs.Replies.{sent_as}
+use Rattle.node_turn.specs.Nodes.{answer_seen, body_then, bytes_for, padded}
+use Rattle.node_turn.proofs.Phased as phased
+use Rattle.node_turn.proofs.phase.answering.Goals as goal
+
+pub returns-in-Nothing : goal.returns-in-Nothing
+returns-in-Nothing c = λ patterns path text vars.
+    let g = c.args.ground.now in
+    let site = g.site.now in
+    let p = c.args.phases.now in
+    let w = world_in patterns g shipped in
+    let o = c.args.outcome in
+    let bytes = bytes_for o text in
+    let made = prepared_as w (asked_in p) (standing_seen site p.at) bytes o in
+    let parts = c.in_ok-answered.ensures site p bytes made (phased.is_for w site p bytes o) (phased.reply_so w site p text c.in_ok-reply.reply o c.args.outcome refl refl c.in_ok-reply.ensures) in
+    phased.answers_so w c.args.left c.args.ssi made (answer_seen site p c.in_ok-answered.field-0.answered) bytes c.in_ok-answered.field-0.facts c.in_ok-answered.field-0.body _ vars parts.0 parts.1 c.in-Nothing.is
+    ∙ phased.bare_so w c.args.left c.args.ssi (answer_seen site p c.in_ok-answered.field-0.answered) vars
+
+pub returns-in_ok-page_text-in-Page : goal.returns-in_ok-page_text-in-Page
+returns-in_ok-page_text-in-Page c = λ patterns path text vars.
+    let g = c.args.ground.now in
+    let site = g.site.now in
+    let p = c.args.phases.now in
+    let w = world_in patterns g shipped in
+    let o = c.args.outcome in
+    let bytes = bytes_for o text in
+    let made = prepared_as w (asked_in p) (standing_seen site p.at) bytes o in
+    let answer = answer_seen site p c.in_ok-answered.field-0.answered in
+    let parts = c.in_ok-answered.ensures site p bytes made (phased.is_for w site p bytes o) (phased.reply_so w site p text c.in_ok-reply.reply o c.args.outcome refl refl c.in_ok-reply.ensures) in
+    phased.answers_so w c.args.left c.args.ssi made answer bytes c.in_ok-answered.field-0.facts c.in_ok-answered.field-0.body _ vars parts.0 parts.1 c.in-Page.is
+    ∙ (phased.plain_so w c.args.left c.args.ssi answer (page_of c.in-Page.code) vars
+    ∙ ap (λ m. (m, vars)) (ap (λ b. Write b (Done answer)) (sym (phased.none_behind c.page_text.new.out text ∙ (c.in_ok-page_text-in-Page.ensures ∙ ap (λ b. b ++ page_of c.in-Page.code) c.new-bytes.ensures)))
+    ∙ sym (c.plain.ensures g p c.args.left patterns path text)))
+
+pub returns-in_ok-sent-in-Text : goal.returns-in_ok-sent-in-Text
+returns-in_ok-sent-in-Text c = λ patterns path text vars.
+    let g = c.args.ground.now in
+    let site = g.site.now in
+    let p = c.args.phases.now in
+    let w = world_in patterns g shipped in
+    let o = c.args.outcome in
+    let bytes = bytes_for o text in
+    let made = prepared_as w (asked_in p) (standing_seen site p.at) bytes o in
+    let answer = answer_seen site p c.in_ok-answered.field-0.answered in
+    let facts = c.in_ok-answered.field-0.facts in
+    let parts = c.in_ok-answered.ensures site p bytes made (phased.is_for w site p bytes o) (phased.reply_so w site p text c.in_ok-reply.reply o c.args.outcome refl refl c.in_ok-reply.ensures) in
+    phased.answers_so w c.args.left c.args.ssi made answer bytes facts c.in_ok-answered.field-0.body _ vars parts.0 parts.1 c.in-Text.is
+    ∙ (ap (λ b. settled (body_then w c.args.left c.args.ssi answer (sent_as facts b)) vars) (sym (phased.none_behind c.in-Text.text text))
+    ∙ c.in_ok-sent-in-Text.ensures g p c.args.left patterns path text vars c.scene_of-scene.ensures)
+
+pub returns-in_ok-sent-in-File : goal.returns-in_ok-sent-in-File
+returns-in_ok-sent-in-File c = λ patterns path text vars.
+    let g = c.args.ground.now in
+    let site = g.site.now in
+    let p = c.args.phases.now in
+    let w = world_in patterns g shipped in
+    let o = c.args.outcome in
+    let bytes = bytes_for o text in
+    let made = prepared_as w (asked_in p) (standing_seen site p.at) bytes o in
+    let answer = answer_seen site p c.in_ok-answered.field-0.answered in
+    let facts = c.in_ok-answered.field-0.facts in
+    let len = c.file_len-len.result in
+    let parts = c.in_ok-answered.ensures site p bytes made (phased.is_for w site p bytes o) (phased.reply_so w site p text c.in_ok-reply.reply o c.args.outcome refl refl c.in_ok-reply.ensures) in
+    phased.answers_so w c.args.left c.args.ssi made answer bytes facts c.in_ok-answered.field-0.body _ vars parts.0 parts.1 c.in-File.is
+    ∙ (ap (λ b. settled (body_then w c.args.left c.args.ssi answer (sent_as facts b)) vars)
+    (sym (ap (λ (x : List ℕ). x ++ padded len text) c.new-none.ensures ∙ c.file_len-len.ensures text))
+    ∙ c.in_ok-sent-in-File.ensures g p c.args.left patterns path text vars c.scene_of-scene.ensures)

@@ -1,0 +1,31 @@
+use Rattle.std.proofs.Common.{ap, ◌∙◌, sym}
+use Rattle.acts.specs.Act.{settled}
+use Rattle.request_meaning.specs.Laws.{shipped}
+use Rattle.request_meaning.specs.Phases.{rounds}
+use Rattle.request_meaning.specs.Serving.From.{Start}
+use Rattle.request_phases.specs.Rounds.{asked_from, phases_left, world_in}
+use Rattle.request_phases.specs.declared.state.Phases.{Phases}
+use Rattle.node_turn.specs.Nodes.{after_phases, padded, path_or, served_as, stage_act}
+use Rattle.node_turn.proofs.Phased as phased
+use Rattle.node_turn.proofs.phase.begins.Goals as goal
+
+pub returns-clause-turns : goal.returns-clause-turns
+returns-clause-turns c = λ path text.
+    let g = c.args.ground.now in
+    let site = g.site.now in
+    let ps = c.args.patterns.now in
+    let w = world_in ps g shipped in
+    let main = c.args.main.now in
+    let old = c.args.vars.now in
+    let new = c.begin.new.vars in
+    let q = c.begin.new.phases in
+    let step = c.in_ok-step.step in
+    let turned = c.in_ok-turned.turned in
+    let left = c.args.left in
+    let given = c.lend.new.phases in
+    ap (λ (p : Phases). settled (served_as w left c.args.ssi (rounds w p.changes (asked_from p Start))) old) (sym c.lend.ensures.phases)
+    ∙ (phased.in_turn (rounds w given.changes (asked_from given Start)) (phases_left w ps site (padded 0 text) q step) (after_phases w left c.args.ssi) old new
+    (c.in_ok-step.ensures.does (padded 0 text) shipped)
+    ∙ (c.in_ok-turned.ensures.turns ps path text new
+    ∙ ap (λ p. (stage_act w ps site p left (path_or turned.path path) turned.stage text, new))
+    (sym (phased.given_back main c.lend.new.main c.args.phases.now given q c.lend-2.new.phases c.lend.ensures.phases c.in_ok-step.ensures.main c.lend-2.ensures.phases))))

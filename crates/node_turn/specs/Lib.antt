@@ -1,0 +1,5 @@
+pub mod Nodes
+pub mod Stages
+pub mod Turns
+pub mod Served
+pub mod Taken

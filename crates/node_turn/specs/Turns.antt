@@ -1,0 +1,46 @@
+-- How a node goes on by itself.
+use Rattle.std.specs.Prelude.{◌≡◌, ℕ, List, [], ◌++◌, Option}
+use Rattle.acts.specs.Vars.{Vars, look}
+use Rattle.acts.specs.Act.{Get, Write, settled}
+use Rattle.ngx_pattern.specs.Pattern.{Pattern as SetPattern}
+use Rattle.site_model.specs.Levels.{raw_level}
+use Rattle.rewrite_code.specs.Places.{standing_seen}
+use Rattle.request_meaning.specs.Laws.{shipped}
+use Rattle.request_meaning.specs.Serving.{Serving, Answer}
+use Rattle.request_phases.specs.Rounds.{asked_in, prepared_as, world_in}
+use Rattle.request_phases.specs.declared.ground.Ground.{Ground}
+use Rattle.request_phases.specs.declared.state.Outcome.{Outcome}
+use Rattle.request_phases.specs.declared.state.Phases.{Phases}
+use Rattle.ssi_exec.specs.declared.document.Scene.{Scene}
+use Rattle.node_turn.specs.Nodes.{after_phases, bytes_for, stage_act}
+use Rattle.node_turn.specs.declared.node.Stage.{Stage}
+
+-- what the document of a request in its phases shares with it
+pub record IsSceneOf (g : Ground) (p : Phases) (left : ℕ) (scene : Scene) : Type 0 where
+  pub main : scene.main.now ≡ p.main
+  pub request : scene.request.now ≡ p.at.request
+  pub site : scene.site.now ≡ g.site.now
+  pub level : scene.level.now ≡ raw_level g.site.now p.at.level
+  pub server : scene.server.now ≡ g.server.now
+  pub levels : scene.left ≡ left
+
+-- The body that follows what phases decided settles as the act of this stage, whatever the file is and whatever is set.
+abbrev pub AnswersAs : Ground → Phases → (left : ℕ) → Vars → Outcome → Stage → Type 0
+AnswersAs g p left ssi outcome stage = (patterns : List SetPattern) (path text : List ℕ) (vars : Vars) →
+    let w = world_in patterns g shipped in
+    settled (after_phases w left ssi (prepared_as w (asked_in p) (standing_seen g.site.now p.at) (bytes_for outcome text) outcome)) vars
+    ≡ (stage_act w patterns g.site.now p left path stage text, vars)
+
+-- A node reads variables one by one, has placed nothing, or has one text to place in place of two.
+pub data Works (vars : Vars) : Serving Answer → Serving Answer → Type 0 where
+  Rests : {m : Serving Answer} → Works vars m m
+  Reads : {name : List ℕ} {k : Option (List ℕ) → Serving Answer} {m : Serving Answer} → Works vars (k (look vars name)) m → Works vars (Get name k) m
+  Placed : {k m : Serving Answer} → Works vars k m → Works vars (Write [] k) m
+  Merges : {first second : List ℕ} {k m : Serving Answer} → Works vars (Write (first ++ second) k) m → Works vars (Write first (Write second k)) m
+
+-- Bytes are placed: some of what the act writes next, after which it does the rest, up to another act of its own.
+pub record PlacesAs (some : List ℕ) (old new : Serving Answer) : Type 0 where
+  pub more : List ℕ
+  pub rest : Serving Answer
+  pub writes : old ≡ Write (some ++ more) rest
+  pub works : (vars : Vars) → Works vars (Write more rest) new

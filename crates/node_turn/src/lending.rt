@@ -1,0 +1,17 @@
+// The main request, which a family keeps once: it is lent to the node that runs.
+ghost use Rattle.std.specs.Prelude.{◌≡◌};
+ghost use Rattle.node_turn.specs.Nodes.{of_method, lent};
+
+use crate::slot::swap;
+use ngx_variables::Main;
+use request_phases::Phases;
+
+/// Lets the main requests of a family and of a node's phases change places, but for their methods:
+/// the method is a node's own. What is lent so is given back by the same.
+pub fn lend(main: &mut Main, phases: &mut Phases)
+    ensures main { main.new ≡ of_method main.old.method phases.old.main }
+    ensures phases { phases.new ≡ lent main.old phases.old }
+{
+    swap(main, &mut phases.main);
+    swap(&mut main.method, &mut phases.main.method);
+}

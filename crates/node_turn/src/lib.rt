@@ -1,0 +1,20 @@
+//! The turns of one node of a request's tree
+//! (<https://nginx.org/en/docs/dev/development_guide.html#http_subrequests>): its phases, its file,
+//! its page. A turn is all that the node does by itself until it asks for a job, places bytes or
+//! opens a subrequest.
+#![tactic(auto)]
+
+mod answered;
+mod lending;
+mod node;
+mod page;
+mod phase;
+mod slot;
+mod turn;
+
+pub use answered::Answered;
+pub use lending::lend;
+pub use node::{Body, Node, Source, Stage};
+pub use phase::answering;
+pub use slot::{put, take};
+pub use turn::{Placed, Turn, places, takes, turns};

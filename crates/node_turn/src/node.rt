@@ -1,0 +1,75 @@
+// A node of a family.
+ghost use Rattle.std.specs.Prelude.{◌≤◌, length};
+
+use crate::answered::Answered;
+use byte_text::ByteText;
+use file_tree::{Ask, Node as FileNode};
+use page_body::Page;
+use request_phases::{Phases, Wait};
+use ssi_values::Table;
+
+/// What a body comes from: a text, and then this many bytes of a file.
+#[derive(Drop)]
+pub struct Source {
+    pub text: ByteText,
+    pub left: u64,
+}
+
+/// The body of a node: what is answered beside it; bytes that are placed next, from `from` on; what
+/// comes after them; and the page that filters make of that, where some act on it.
+#[derive(Drop)]
+pub struct Body {
+    pub answered: Answered,
+    pub bytes: ByteText,
+    pub from: usize,
+    pub source: Source,
+    pub page: Option<Page>,
+    ghost within: { from ≤ length bytes },
+}
+
+/// How far a node is. Until its body begins it has the variables with which its document begins.
+#[derive(Drop)]
+pub enum Stage {
+    /// Its phases haven't begun.
+    Begins(Table),
+    /// The files are asked what is at a path.
+    Asks {
+        wait: Wait,
+        ssi: Table,
+    },
+    /// They told it.
+    Told {
+        wait: Wait,
+        file: FileNode,
+        ssi: Table,
+    },
+    /// Bytes of its body are placed next.
+    Places(Body),
+    /// The next part of its page is taken up, or the next block of its file is asked.
+    Serves(Body),
+    /// A block of its file is asked.
+    Reads(Body),
+    /// It has come to its answer.
+    Ends(Answered),
+}
+
+/// A node of a family.
+#[derive(Drop)]
+pub struct Node {
+    /// Its parent's number; the main request has its own.
+    pub parent: u32,
+    /// How many levels of subrequests it may still open.
+    pub left: u32,
+    /// How many of its subrequests aren't over, and the number of the one for whose end it waits,
+    /// if there is one.
+    pub children: u32,
+    pub waits: Option<u32>,
+    /// Its phases, in which the main request's method alone counts.
+    pub phases: Phases,
+    /// Its job, or its last one, and from which byte on its file is read next.
+    pub ask: Ask,
+    pub start: u64,
+    pub stage: Stage,
+    /// It has come to its answer, and so have all its subrequests.
+    pub over: bool,
+}

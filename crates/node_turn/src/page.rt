@@ -1,0 +1,207 @@
+// The body of a node, part by part.
+ghost use Rattle.std.specs.Prelude.{◌≡◌, ℕ, ◌++◌, true, false, List, [], IfOk, Some};
+ghost use Rattle.acts.specs.Vars.{Vars};
+ghost use Rattle.ngx_pattern.specs.Pattern.{Pattern as SetPattern};
+ghost use Rattle.request_meaning.specs.Laws.{shipped};
+ghost use Rattle.request_meaning.specs.Serving.{Answer, Serving, World};
+ghost use Rattle.request_phases.specs.Rounds.{world_in};
+ghost use Rattle.request_phases.specs.declared.ground.Ground.{Ground as GroundView};
+ghost use Rattle.request_phases.specs.declared.state.Phases.{Phases as PhasesView};
+ghost use Rattle.ssi_exec.specs.declared.document.Scene.{Scene as SceneView};
+ghost use Rattle.acts.specs.Act.{Done};
+ghost use Rattle.page_body.specs.Pages.{Does, page_rest, stop_of, waits};
+ghost use Rattle.node_turn.specs.Nodes.{answer_seen, from_source, hand, later, page_at, served_act};
+ghost use Rattle.node_turn.specs.Served.{ServesTo, is_spent as source_spent};
+ghost use Rattle.node_turn.specs.Turns.{IsSceneOf};
+
+use crate::answered::Answered;
+use crate::node::{Body, Source, Stage};
+use byte_text::{ByteText, OutOfMemory};
+use ngx_variables::VarTable;
+use page_body::{Doing, Page};
+use ssi_exec::{Child, Scene};
+use std::alloc::Global;
+
+/// What a body comes to where its next part is taken up.
+#[derive(Drop)]
+pub(crate) enum Served {
+    /// The node goes on.
+    On(Stage),
+    /// The body of a subrequest stands here, and the node goes on.
+    Opens(Child, Stage),
+    /// A block of its file is to be asked.
+    Wants(Body),
+}
+
+/// A body of which these bytes are placed next.
+fn body_of(answered: Answered, bytes: ByteText, source: Source, page: Option<Page>) -> Body
+    ensures others { (result.answered ≡ answered) × (result.source ≡ source)
+        × (result.page ≡ page) }
+    ensures hand { hand result ≡ bytes }
+{
+    Body {
+        answered,
+        bytes,
+        from: 0,
+        source,
+        page,
+    }
+}
+
+/// Whether nothing more comes.
+fn is_spent(source: &Source) -> bool
+    ensures { result ≡ source_spent source.now }
+{
+    source.text.is_empty() && source.left == 0
+}
+
+/// A page that takes the text of its source.
+fn fed(alloc: Global, page: Page, text: &[u8]) -> Result<Page, OutOfMemory>
+    requires { waits page ≡ false }
+    ensures { IfOk result (λ fed. (scene : SceneView) (w : World) (answer : Answer)
+        (bytes : List ℕ) → w.members ≡ shipped → page_rest w answer scene page (text.now ++ bytes)
+        ≡ page_rest w answer scene fed bytes) }
+{
+    let mut page = page;
+    page.feed(alloc, text)?;
+    Ok(page)
+}
+
+/// A page that comes to its end.
+fn finished(alloc: Global, page: Page) -> Result<Page, OutOfMemory>
+    requires { waits page ≡ false }
+    ensures { IfOk result (λ done. (scene : SceneView) (w : World) (answer : Answer)
+        → w.members ≡ shipped → page_rest w answer scene page []
+        ≡ page_rest w answer scene done []) }
+{
+    let mut page = page;
+    page.finish(alloc)?;
+    Ok(page)
+}
+
+/// More of what a page is made of: its text; else a block of its file is to be asked; else it has
+/// come to its end.
+fn more(
+    alloc: Global,
+    scene: &Scene<'_>,
+    answered: Answered,
+    source: Source,
+    page: Page,
+) -> Result<Served, OutOfMemory>
+    requires { waits page ≡ false }
+    ensures { IfOk result (λ served. (g : GroundView) (p : PhasesView) (levels : ℕ)
+        (patterns : List SetPattern) (path file : List ℕ) (vars : Vars)
+        → IsSceneOf g p levels scene.now
+        → ServesTo g p levels patterns path file vars
+        (page_at (world_in patterns g shipped) g.site.now p levels
+        (answer_seen g.site.now p answered) page (from_source source file)) served) }
+{
+    let none = ByteText::new(alloc);
+    if !source.text.is_empty() {
+        let page = fed(alloc, page, source.text.as_slice())?;
+        let source = Source {
+            text: ByteText::new(alloc),
+            left: source.left,
+        };
+        return Ok(Served::On(Stage::Serves(body_of(answered, none, source, Some(page)))));
+    }
+    if !is_spent(&source) {
+        return Ok(Served::Wants(body_of(answered, none, source, Some(page))));
+    }
+    let page = finished(alloc, page)?;
+    Ok(Served::On(Stage::Serves(body_of(answered, none, source, Some(page)))))
+}
+
+/// What is done for the next part of a page.
+fn done(
+    alloc: Global,
+    scene: &Scene<'_>,
+    answered: Answered,
+    source: Source,
+    page: Page,
+    doing: Doing,
+) -> Result<Served, OutOfMemory>
+    requires { stop_of doing ≡ Some false → waits page ≡ false }
+    ensures { IfOk result (λ served. (g : GroundView) (p : PhasesView) (levels : ℕ)
+        (patterns : List SetPattern) (path file : List ℕ) (vars : Vars) (old : Serving Answer)
+        (captures : List ℕ → List ℕ → Serving Answer) → IsSceneOf g p levels scene.now
+        → let w = world_in patterns g shipped in let answer = answer_seen g.site.now p answered in
+        let new = page_at w g.site.now p levels answer page (from_source source file) in
+        Does p.main vars doing old new captures
+        → (stop_of doing ≡ Some true → source_spent source ≡ true → old ≡ Done answer)
+        → ServesTo g p levels patterns path file vars old served) }
+{
+    match doing {
+        Doing::Nothing => {
+            let body = body_of(answered, ByteText::new(alloc), source, Some(page));
+            Ok(Served::On(Stage::Serves(body)))
+        }
+        Doing::Writes(text) => {
+            let body = body_of(answered, text, source, Some(page));
+            Ok(Served::On(Stage::Places(body)))
+        }
+        Doing::Includes(child) => {
+            let body = body_of(answered, ByteText::new(alloc), source, Some(page));
+            Ok(Served::Opens(child, Stage::Serves(body)))
+        }
+        Doing::Captures { .. } => Err(OutOfMemory),
+        Doing::NeedsMore => Ok(more(alloc, scene, answered, source, page)?),
+        Doing::Over => {
+            if !is_spent(&source) {
+                return Err(OutOfMemory);
+            }
+            Ok(Served::On(Stage::Ends(answered)))
+        }
+    }
+}
+
+/// Takes up the next part of a page.
+fn page_serves(
+    alloc: Global,
+    scene: &Scene<'_>,
+    vars: &VarTable,
+    answered: Answered,
+    source: Source,
+    page: Page,
+) -> Result<Served, OutOfMemory>
+    ensures { IfOk result (λ served. (g : GroundView) (p : PhasesView) (levels : ℕ)
+        (patterns : List SetPattern) (path file : List ℕ) → IsSceneOf g p levels scene.now
+        → ServesTo g p levels patterns path file vars.now
+        (page_at (world_in patterns g shipped) g.site.now p levels
+        (answer_seen g.site.now p answered) page (from_source source file)) served) }
+{
+    let mut page = page;
+    let doing = page.next(alloc, scene, vars)?;
+    Ok(done(alloc, scene, answered, source, page, doing)?)
+}
+
+/// Goes on with a body of which nothing is at hand.
+pub(crate) fn serves(
+    alloc: Global,
+    scene: &Scene<'_>,
+    vars: &VarTable,
+    body: Body,
+) -> Result<Served, OutOfMemory>
+    ensures { IfOk result (λ served. (g : GroundView) (p : PhasesView) (levels : ℕ)
+        (patterns : List SetPattern) (path file : List ℕ) → IsSceneOf g p levels scene.now
+        → ServesTo g p levels patterns path file vars.now
+        (served_act (world_in patterns g shipped) g.site.now p levels
+        (answer_seen g.site.now p body.answered) body.page (later body file)) served) }
+{
+    let Body {
+        answered,
+        bytes,
+        from: _,
+        source,
+        page,
+    } = body;
+    match page {
+        Some(page) => Ok(page_serves(alloc, scene, vars, answered, source, page)?),
+        None => {
+            if is_spent(&source) {
+                return Ok(Served::On(Stage::Ends(answered)));
+            }
+            Ok(Served::Wants(body_of(answered, bytes, source, None)))
+        }
+    }
+}

@@ -1,0 +1,302 @@
+// The phases of a node.
+ghost use Rattle.std.specs.Prelude.{◌≡◌, ◌++◌, ℕ, List, true, is_some, IfOk, None, Some};
+ghost use Rattle.acts.specs.Act.{settled};
+ghost use Rattle.acts.specs.Vars.{Vars};
+ghost use Rattle.ngx_pattern.specs.Pattern.{Pattern as SetPattern};
+ghost use Rattle.request_meaning.specs.Laws.{shipped};
+ghost use Rattle.request_phases.specs.Rounds.{IsGround, world_in};
+ghost use Rattle.acts.specs.Act.{Done, Write};
+ghost use Rattle.request_phases.specs.Rounds.{phases_left};
+ghost use Rattle.request_phases.specs.declared.ground.Ground.{Ground as GroundView};
+ghost use Rattle.request_phases.specs.declared.state.Phases.{Phases as PhasesView};
+ghost use Rattle.request_reply.specs.Replies.{sent_as};
+ghost use Rattle.page_body.specs.Pages.{filtered_rest};
+ghost use Rattle.node_turn.specs.Nodes.{answer_seen, body_then, bytes_for, len_of as told_len, lent, padded, path_or, served_as, stage_act, told_length};
+ghost use Rattle.node_turn.specs.Turns.{IsSceneOf, AnswersAs};
+ghost use Rattle.node_turn.specs.Stages.{is_asking};
+ghost use Rattle.node_turn.specs.declared.node.Stage.TheVariants.{Begins as BeginsView, Told as ToldView};
+
+use crate::answered::{Answered, Parted, apart};
+use crate::lending::lend;
+use crate::node::{Body, Source, Stage};
+use byte_text::{ByteText, OutOfMemory};
+use error_page::page_text;
+use file_tree::{Ask, Node as FileNode};
+use filter_api::Facts;
+use ngx_pattern::PatternSet;
+use ngx_variables::{Main, VarTable};
+use page_body::Page;
+use request_phases::{Ground, Outcome, Phases, Step, Wait, begin, resume};
+use request_reply::{Body as ReplyBody, reply_of};
+use ssi_exec::Scene;
+use ssi_values::Table;
+use std::alloc::Global;
+
+/// An answer with a file has the length that was told of it.
+fn with_length(len: u64, outcome: Outcome) -> Outcome
+    ensures { result ≡ told_length len outcome }
+{
+    match outcome {
+        Outcome::File { len: _, date } => Outcome::File { len, date },
+        other => other,
+    }
+}
+
+/// The length of what is at a path, where that is a file.
+fn len_of(file: FileNode) -> u64
+    ensures { result ≡ told_len file }
+{
+    match file {
+        FileNode::File { len, date: _ } => len,
+        FileNode::Folder => 0,
+        FileNode::Locked => 0,
+        FileNode::Missing => 0,
+    }
+}
+
+/// How many bytes of a file are to come for what phases decided.
+#[tactic(auto, unfolding(crate::specs::Nodes::padded))]
+fn file_len(outcome: &Outcome) -> u64
+    ensures { (text : List ℕ) → padded result text ≡ bytes_for outcome.now text }
+{
+    match outcome {
+        Outcome::File { len, date: _ } => *len,
+        Outcome::Text { code: _, text: _ } => 0,
+        Outcome::Page(_) => 0,
+        Outcome::Redirect { code: _, to: _ } => 0,
+        Outcome::Close => 0,
+    }
+}
+
+/// What a document of a request in its phases shares with it.
+pub(crate) fn scene_of<'a>(ground: &Ground<'a>, phases: &'a Phases, left: u32) -> Scene<'a>
+    ensures { IsSceneOf ground.now phases.now left result }
+{
+    Scene {
+        main: &phases.main,
+        request: &phases.at.request,
+        site: ground.site,
+        level: ground.site.level(phases.at.level),
+        server: ground.server,
+        left,
+    }
+}
+
+/// A body that is sent as it is: these bytes, and then this many of a file.
+fn plain(alloc: Global, answered: Answered, bytes: ByteText, left: u64) -> Stage
+    ensures { (g : GroundView) (p : PhasesView) (levels : ℕ) (patterns : List SetPattern)
+        (path text : List ℕ) → stage_act (world_in patterns g shipped) patterns g.site.now p levels
+        path result text
+        ≡ Write (bytes ++ padded left text) (Done (answer_seen g.site.now p answered)) }
+{
+    Stage::Places(Body {
+        answered,
+        bytes,
+        from: 0,
+        source: Source {
+            text: ByteText::new(alloc),
+            left,
+        },
+        page: None,
+    })
+}
+
+/// A body on which filters act: a text, and then this many bytes of a file.
+fn paged(
+    alloc: Global,
+    scene: &Scene<'_>,
+    answered: Answered,
+    facts: Facts,
+    ssi: Table,
+    text: ByteText,
+    left: u64,
+) -> Result<Stage, OutOfMemory>
+    ensures { IfOk result (λ stage. (g : GroundView) (p : PhasesView) (levels : ℕ)
+        (patterns : List SetPattern) (path file : List ℕ) → IsSceneOf g p levels scene.now
+        → let w = world_in patterns g shipped in let answer = answer_seen g.site.now p answered in
+        filtered_rest w levels ssi answer facts (text ++ padded left file)
+        ≡ stage_act w patterns g.site.now p levels path stage file) }
+{
+    let page = Page::new(alloc, &facts, ssi)?;
+    Ok(Stage::Places(Body {
+        answered,
+        bytes: ByteText::new(alloc),
+        from: 0,
+        source: Source { text, left },
+        page: Some(page),
+    }))
+}
+
+/// The body of a text or a file, as it is sent.
+fn sent(
+    alloc: Global,
+    scene: &Scene<'_>,
+    answered: Answered,
+    facts: Option<Facts>,
+    ssi: Table,
+    text: ByteText,
+    left: u64,
+) -> Result<Stage, OutOfMemory>
+    ensures { IfOk result (λ stage. (g : GroundView) (p : PhasesView) (levels : ℕ)
+        (patterns : List SetPattern) (path file : List ℕ) (vars : Vars)
+        → IsSceneOf g p levels scene.now
+        → let w = world_in patterns g shipped in let answer = answer_seen g.site.now p answered in
+        settled (body_then w levels ssi answer (sent_as facts (text ++ padded left file))) vars
+        ≡ (stage_act w patterns g.site.now p levels path stage file, vars)) }
+{
+    match facts {
+        None => Ok(plain(alloc, answered, text, left)),
+        Some(facts) => Ok(paged(alloc, scene, answered, facts, ssi, text, left)?),
+    }
+}
+
+/// Begins the body of what phases decided.
+///
+/// # Errors
+/// `OutOfMemory`.
+pub fn answering(
+    alloc: Global,
+    ground: &Ground<'_>,
+    phases: &Phases,
+    left: u32,
+    ssi: Table,
+    outcome: Outcome,
+) -> Result<Stage, OutOfMemory>
+    ensures { IfOk result (λ stage. AnswersAs ground.now phases.now left ssi outcome stage) }
+{
+    let len = file_len(&outcome);
+    let reply = reply_of(alloc, ground.site, phases, outcome)?;
+    let Parted {
+        answered,
+        facts,
+        body,
+    } = apart(alloc, reply)?;
+    let scene = scene_of(ground, phases, left);
+    match body {
+        ReplyBody::Nothing => Ok(Stage::Ends(answered)),
+        ReplyBody::Page(code) => {
+            let mut bytes = ByteText::new(alloc);
+            page_text(code, &mut bytes)?;
+            Ok(plain(alloc, answered, bytes, 0))
+        }
+        ReplyBody::Text(text) => Ok(sent(alloc, &scene, answered, facts, ssi, text, 0)?),
+        ReplyBody::File => {
+            let none = ByteText::new(alloc);
+            Ok(sent(alloc, &scene, answered, facts, ssi, none, len)?)
+        }
+    }
+}
+
+/// A node whose phases went on: how far it is, and the path for which it asks.
+#[derive(Drop)]
+pub(crate) struct Turned {
+    pub(crate) stage: Stage,
+    pub(crate) path: Option<ByteText>,
+}
+
+/// What becomes of a node by a step of its phases. Subrequests ask for none that decides on access:
+/// there is no memory for one.
+fn after_step(
+    alloc: Global,
+    ground: &Ground<'_>,
+    phases: &Phases,
+    left: u32,
+    ssi: Table,
+    step: Step,
+    len: u64,
+) -> Result<Turned, OutOfMemory>
+    ensures turns { IfOk result (λ turned. (patterns : List SetPattern) (path text : List ℕ)
+        (vars : Vars) → let w = world_in patterns ground.now shipped in
+        let site = ground.now.site.now in
+        settled (served_as w left ssi
+        (phases_left w patterns site (padded len text) phases.now step)) vars
+        ≡ (
+          stage_act w patterns site phases.now left (path_or turned.path path) turned.stage text,
+          vars,
+        )) }
+    ensures asks { IfOk result (λ turned. is_some turned.path ≡ true
+        → is_asking turned.stage ≡ true) }
+{
+    match step {
+        Step::Asks { wait, path } => Ok(Turned {
+            stage: Stage::Asks { wait, ssi },
+            path: Some(path),
+        }),
+        Step::Calls(_) => Err(OutOfMemory),
+        Step::Answers(outcome) => {
+            let outcome = with_length(len, outcome);
+            Ok(Turned {
+                stage: answering(alloc, ground, phases, left, ssi, outcome)?,
+                path: None,
+            })
+        }
+    }
+}
+
+/// Begins the phases of a node, to whose main request `main` is lent meanwhile.
+pub(crate) fn begins(
+    alloc: Global,
+    ground: &Ground<'_>,
+    patterns: &mut PatternSet,
+    main: &mut Main,
+    vars: &mut VarTable,
+    phases: &mut Phases,
+    left: u32,
+    ssi: Table,
+) -> Result<Turned, OutOfMemory>
+    requires { IsGround ground.now }
+    ensures turns { IfOk result (λ turned. (path text : List ℕ) →
+        let w = world_in patterns.old ground.now shipped in let site = ground.now.site.now in
+        settled (stage_act w patterns.old site (lent main.old phases.old) left path
+        (BeginsView ssi) text) vars.old
+        ≡ (
+          stage_act w patterns.old site (lent main.old phases.new) left
+              (path_or turned.path path) turned.stage text,
+          vars.new,
+        )) }
+    ensures asks { IfOk result (λ turned. is_some turned.path ≡ true
+        → is_asking turned.stage ≡ true) }
+    ensures main { IfOk result (λ turned. main.new ≡ main.old) }
+    ensures kept { patterns.new ≡ patterns.old }
+{
+    lend(main, phases);
+    let step = begin(alloc, ground, patterns, phases, vars)?;
+    let turned = after_step(alloc, ground, phases, left, ssi, step, 0)?;
+    lend(main, phases);
+    Ok(turned)
+}
+
+/// Goes on with the phases of a node, by what is at the path for which it asked.
+pub(crate) fn resumes(
+    alloc: Global,
+    ground: &Ground<'_>,
+    patterns: &mut PatternSet,
+    main: &mut Main,
+    vars: &mut VarTable,
+    phases: &mut Phases,
+    left: u32,
+    wait: Wait,
+    file: FileNode,
+    ssi: Table,
+) -> Result<Turned, OutOfMemory>
+    requires { IsGround ground.now }
+    ensures turns { IfOk result (λ turned. (path text : List ℕ) →
+        let w = world_in patterns.old ground.now shipped in let site = ground.now.site.now in
+        settled (stage_act w patterns.old site (lent main.old phases.old) left path
+        (ToldView wait file ssi) text) vars.old
+        ≡ (
+          stage_act w patterns.old site (lent main.old phases.new) left
+              (path_or turned.path path) turned.stage text,
+          vars.new,
+        )) }
+    ensures asks { IfOk result (λ turned. is_some turned.path ≡ true
+        → is_asking turned.stage ≡ true) }
+    ensures main { IfOk result (λ turned. main.new ≡ main.old) }
+    ensures kept { patterns.new ≡ patterns.old }
+{
+    lend(main, phases);
+    let step = resume(alloc, ground, wait, file, patterns, phases, vars)?;
+    let turned = after_step(alloc, ground, phases, left, ssi, step, len_of(file))?;
+    lend(main, phases);
+    Ok(turned)
+}

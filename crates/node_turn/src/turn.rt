@@ -1,0 +1,305 @@
+// A node goes on by itself.
+ghost use Rattle.std.specs.Prelude.{◌≡◌, ◌≤◌, ◌+◌, ◌==◌, ℕ, List, IfOk, OnOk, true, false, take, length};
+ghost use Rattle.acts.specs.Act.{settled};
+ghost use Rattle.acts.specs.Vars.{Vars};
+ghost use Rattle.file_tree.specs.Tree.{Trees};
+ghost use Rattle.ngx_pattern.specs.Pattern.{Pattern as SetPattern};
+ghost use Rattle.ngx_variables.specs.declared.request.Main.{Main as MainView};
+ghost use Rattle.postpone_filter.specs.Row.{Row, appended, is_open, room};
+ghost use Rattle.request_meaning.specs.Laws.{shipped};
+ghost use Rattle.request_meaning.specs.Serving.{Answer, Serving, World};
+ghost use Rattle.request_phases.specs.Rounds.{IsGround, world_in};
+ghost use Rattle.request_phases.specs.declared.ground.Ground.{Ground as GroundView};
+ghost use Rattle.request_phases.specs.declared.state.Phases.{Phases as PhasesView};
+ghost use Rattle.site_model.specs.declared.site.Site.{Site as SiteRow};
+ghost use Rattle.node_turn.specs.Stages.{IsSameNode, ask_or, block_of, hand_at, is_asking, is_placing, is_serving, is_turning, item_asked, main_of, node_act, start_or, can_run};
+ghost use Rattle.node_turn.specs.Nodes.{answer_seen, asked_path, hand, later, lent, placed_act, served_act, stage_act};
+ghost use Rattle.node_turn.specs.Served.{ServesTo};
+ghost use Rattle.node_turn.specs.Taken.{TakesTo};
+ghost use Rattle.node_turn.specs.Turns.{PlacesAs, Works};
+ghost use Rattle.node_turn.specs.declared.node.Stage.TheVariants.{Places as PlacesView, Reads as ReadsView};
+
+use crate::lending::lend;
+use crate::node::{Body, Node, Stage};
+use crate::page::{Served, serves};
+use crate::phase::{Turned, begins, resumes, scene_of};
+use crate::slot::{put, take};
+use byte_text::{ByteText, OutOfMemory};
+use file_tree::Ask;
+use ngx_pattern::PatternSet;
+use ngx_variables::{Main, VarTable};
+use postpone_filter::Order;
+use request_phases::{Ground, Phases};
+use ssi_exec::Child;
+use ssi_values::Table;
+use std::alloc::Global;
+
+/// What phases came to is the node's, which asks the files of the tree with this number.
+fn put_turned(node: &mut Node, turned: Turned, of: u64)
+    ensures { node.new ≡ record node.old {
+      stage = turned.stage;
+      ask = ask_or turned.path of node.old.ask;
+      start = start_or turned.path node.old.start;
+    } }
+{
+    let Turned { stage, path } = turned;
+    put(&mut node.stage, stage);
+    if let Some(path) = path {
+        put(&mut node.ask, Ask::Stat { path, of });
+        node.start = 0;
+    }
+}
+
+/// Takes the stage of a node out.
+fn stage_of(alloc: Global, node: &mut Node) -> Stage
+    ensures stage { result ≡ node.old.stage }
+    ensures node { node.new ≡ record node.old { stage = node.new.stage } }
+{
+    take(&mut node.stage, Stage::Begins(Table::new(alloc)))
+}
+
+/// A node goes on with its phases, up to a question to the files, of the tree with the number `of`,
+/// or to its body.
+///
+/// # Errors
+/// `OutOfMemory`; the node is then not to go on.
+pub fn turns(
+    alloc: Global,
+    ground: &Ground<'_>,
+    patterns: &mut PatternSet,
+    main: &mut Main,
+    vars: &mut VarTable,
+    node: &mut Node,
+    of: u64,
+) -> Result<(), OutOfMemory>
+    requires ground { IsGround ground.now }
+    requires turning { is_turning node.old.stage ≡ true }
+    ensures acts { OnOk result ((text : List ℕ) →
+        let w = world_in patterns.old ground.now shipped in let site = ground.now.site.now in
+        settled (node_act w patterns.old site main.old node.old text) vars.old
+        ≡ (node_act w patterns.old site main.old node.new text, vars.new)) }
+    ensures node { OnOk result (IsSameNode node.old node.new) }
+    ensures file { OnOk result (is_asking node.new.stage ≡ false →
+        (node.new.ask ≡ node.old.ask) × (node.new.start ≡ node.old.start)) }
+    ensures main { OnOk result (main.new ≡ main.old) }
+    ensures kept { patterns.new ≡ patterns.old }
+{
+    let left = node.left;
+    match stage_of(alloc, node) {
+        Stage::Begins(ssi) => {
+            let phases = &mut node.phases;
+            let turned = begins(alloc, ground, patterns, main, vars, phases, left, ssi)?;
+            put_turned(node, turned, of);
+            Ok(())
+        }
+        Stage::Told { wait, file, ssi } => {
+            let phases = &mut node.phases;
+            let turned = resumes(
+                alloc, ground, patterns, main, vars, phases, left, wait, file, ssi,
+            )?;
+            put_turned(node, turned, of);
+            Ok(())
+        }
+        _ => unreachable!(),
+    }
+}
+
+/// How many bytes of a node were placed, and whether all were that were at hand.
+#[derive(Clone, Copy)]
+pub struct Placed {
+    pub count: usize,
+    pub all: bool,
+}
+
+/// A body of which this many more bytes were placed.
+fn advanced(body: Body, count: usize) -> Body
+    requires { body.from + count ≤ length body.bytes }
+    ensures from { result.from ≡ body.from + count }
+    ensures bytes { result.bytes ≡ body.bytes }
+    ensures others { (result.answered ≡ body.answered) × (result.source ≡ body.source) ×
+        (result.page ≡ body.page) }
+{
+    let mut body = body;
+    body.from += count;
+    body
+}
+
+/// How far a node is with a body of which bytes were placed.
+fn stage_after(body: Body) -> Stage
+    ensures works { (w : World) (patterns : List SetPattern) (site : SiteRow) (p : PhasesView)
+        (levels : ℕ) (path text : List ℕ) (vars : Vars) → Works vars
+        (placed_act w site p levels (answer_seen site p body.answered) body.page (hand body)
+        (later body text)) (stage_act w patterns site p levels path result text) }
+    ensures waits { (body.from == length body.bytes) ≡ false → result ≡ PlacesView body }
+{
+    if body.from == body.bytes.len() {
+        return Stage::Serves(body);
+    }
+    Stage::Places(body)
+}
+
+/// Bytes of a node are placed, as many as its buffer has room for: how many, and whether all were
+/// that were at hand.
+pub fn places(alloc: Global, order: &mut Order, id: u32, node: &mut Node) -> Placed
+    requires { is_placing node.old.stage ≡ true }
+    ensures row { order.new ≡ appended id (take result.count (hand_at node.old.stage)) order.old }
+    ensures opened { (j : ℕ) → is_open j order.new.pieces ≡ is_open j order.old.pieces }
+    ensures acts { (w : World) (patterns : List SetPattern) (site : SiteRow) (main : MainView)
+        (text : List ℕ) → PlacesAs (take result.count (hand_at node.old.stage))
+        (node_act w patterns site main node.old text)
+        (node_act w patterns site main node.new text) }
+    ensures node { IsSameNode node.old node.new }
+    ensures file { (node.new.ask ≡ node.old.ask) × (node.new.start ≡ node.old.start) }
+    ensures rests { (row : Row) (at : ℕ) → result.all ≡ false → room at row.pieces ≡ 0
+        → can_run row at node.new ≡ false }
+{
+    match stage_of(alloc, node) {
+        Stage::Places(body) => {
+            let count = order.append(id, &body.bytes.as_slice()[body.from..]);
+            let body = advanced(body, count);
+            let all = body.from == body.bytes.len();
+            put(&mut node.stage, stage_after(body));
+            Placed { count, all }
+        }
+        _ => unreachable!(),
+    }
+}
+
+/// What a node comes to where the next part of its page is taken up.
+#[derive(Drop)]
+pub enum Turn {
+    /// It goes on, or waits for a block of its file.
+    On,
+    /// The body of a subrequest stands here, and it goes on.
+    Opens(Child),
+}
+
+/// No more bytes of a file are asked at once.
+const BLOCK: u64 = 16384;
+
+/// The job that asks for the next block of the file that a job was about, of which this many bytes
+/// are left.
+#[tactic(auto, unfolding(crate::specs::Stages::block_most))]
+fn next_block(ask: Ask, start: u64, left: u64) -> Ask
+    ensures { result ≡ block_of ask start left }
+{
+    let count = left.min(BLOCK);
+    match ask {
+        Ask::Stat { path, of } => Ask::Read {
+            path,
+            start,
+            count,
+            of,
+        },
+        Ask::Read {
+            path,
+            start: _,
+            count: _,
+            of,
+        } => Ask::Read {
+            path,
+            start,
+            count,
+            of,
+        },
+    }
+}
+
+/// A node asks for the next block of its file.
+fn put_block(alloc: Global, node: &mut Node, body: Body)
+    ensures { node.new ≡ record node.old {
+      stage = ReadsView body;
+      ask = block_of node.old.ask node.old.start body.source.left;
+    } }
+{
+    let none = Ask::Stat {
+        path: ByteText::new(alloc),
+        of: 0,
+    };
+    let ask = next_block(take(&mut node.ask, none), node.start, body.source.left);
+    put(&mut node.ask, ask);
+    put(&mut node.stage, Stage::Reads(body));
+}
+
+/// The next part of the page of a request in its phases.
+fn served(
+    alloc: Global,
+    ground: &Ground<'_>,
+    phases: &Phases,
+    left: u32,
+    vars: &VarTable,
+    body: Body,
+) -> Result<Served, OutOfMemory>
+    ensures { IfOk result (λ served. (patterns : List SetPattern) (path file : List ℕ) →
+        ServesTo ground.now phases.now left patterns path file vars.now
+        (served_act (world_in patterns ground.now shipped) ground.now.site.now phases.now left
+        (answer_seen ground.now.site.now phases.now body.answered) body.page (later body file))
+        served) }
+{
+    let scene = scene_of(ground, phases, left);
+    Ok(serves(alloc, &scene, vars, body)?)
+}
+
+/// What a node comes to by the next part of its page.
+fn put_served(alloc: Global, node: &mut Node, served: Served) -> Turn
+    ensures acts { (g : GroundView) (patterns : List SetPattern) (main : MainView)
+        (text : List ℕ) (vars : Vars) (old : Serving Answer) →
+        ServesTo g (lent main node.old.phases) node.old.left patterns (asked_path node.old.ask) text
+        vars old served
+        → TakesTo (main_of main node.old) vars old
+        (node_act (world_in patterns g shipped) patterns g.site.now main node.new text) result }
+    ensures node { IsSameNode node.old node.new }
+    ensures phases { node.new.phases ≡ node.old.phases }
+    ensures start { node.new.start ≡ node.old.start }
+    ensures file { (trees : Trees) → item_asked trees node.new.ask ≡ item_asked trees node.old.ask }
+{
+    match served {
+        Served::On(stage) => {
+            put(&mut node.stage, stage);
+            Turn::On
+        }
+        Served::Opens(child, stage) => {
+            put(&mut node.stage, stage);
+            Turn::Opens(child)
+        }
+        Served::Wants(body) => {
+            put_block(alloc, node, body);
+            Turn::On
+        }
+    }
+}
+
+/// A node takes up the next part of its page.
+///
+/// # Errors
+/// `OutOfMemory`; the node is then not to go on.
+pub fn takes(
+    alloc: Global,
+    ground: &Ground<'_>,
+    main: &mut Main,
+    vars: &VarTable,
+    node: &mut Node,
+) -> Result<Turn, OutOfMemory>
+    requires { is_serving node.old.stage ≡ true }
+    ensures acts { IfOk result (λ turn. (patterns : List SetPattern) (text : List ℕ) →
+        let w = world_in patterns ground.now shipped in let site = ground.now.site.now in
+        TakesTo (main_of main.old node.old) vars.now
+        (node_act w patterns site main.old node.old text)
+        (node_act w patterns site main.old node.new text) turn) }
+    ensures node { IfOk result (λ turn. IsSameNode node.old node.new) }
+    ensures method { IfOk result (λ turn. main_of main.old node.new ≡ main_of main.old node.old) }
+    ensures start { IfOk result (λ turn. node.new.start ≡ node.old.start) }
+    ensures file { IfOk result (λ turn. (trees : Trees) →
+        item_asked trees node.new.ask ≡ item_asked trees node.old.ask) }
+    ensures main { IfOk result (λ turn. main.new ≡ main.old) }
+{
+    match stage_of(alloc, node) {
+        Stage::Serves(body) => {
+            lend(main, &mut node.phases);
+            let served = served(alloc, ground, &node.phases, node.left, vars, body)?;
+            lend(main, &mut node.phases);
+            Ok(put_served(alloc, node, served))
+        }
+        _ => unreachable!(),
+    }
+}

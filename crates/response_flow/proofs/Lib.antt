@@ -1,0 +1,4 @@
+mod Begins
+mod Goes
+mod Writing
+mod Wanting

@@ -1,0 +1,65 @@
+use Rattle.std.proofs.Common.{◌≡◌, true, List, [], Some, None, sym, ap, subst}
+use Rattle.ngx_pattern.specs.Pattern.{Pattern as SetPattern}
+use Rattle.race_meaning.specs.Named.{IsRaceless}
+use Rattle.request_meaning.specs.Laws.{shipped}
+use Rattle.request_phases.specs.Rounds.{world_in}
+use Rattle.subrequests.specs.Wants.{is_among}
+use Rattle.request_flow.specs.Flows.{flow_rest, may_run}
+use Rattle.request_flow.specs.Pages.{GoesTo, IfPage, IsServed, start_rest}
+use Rattle.request_flow.specs.Reached.{PageReached, WentReached}
+use Rattle.request_flow.specs.Rests.{Follows}
+use Rattle.response_flow.specs.Continues.{RunsOn}
+use Rattle.response_flow.specs.Flights.{FlightServedBy, IsReachedBy, flight_length, flight_server, ready_by, rest_of}
+use Rattle.response_flow.specs.declared.flight.Flight.{Flight}
+use Rattle.response_flow.proofs.Goes as goes
+use Rattle.response_flow.proofs.Wanting.{alone_runs}
+use Rattle.response_flow.proofs.run.run_on.Goals as goal
+
+pub run_any-requires-clause-runs : goal.run_any-requires-clause-runs
+run_any-requires-clause-runs c =
+    alone_runs (may_run c.in-Alone.flow.stage) c.args.at (subst (λ (f : Flight). is_among c.args.at (ready_by f) ≡ true) c.in-Alone.is c.requires.runs)
+
+pub returns-in-On-clause-runs : goal.returns-in-On-clause-runs
+returns-in-On-clause-runs c = λ trees raceless reached.
+    let site = c.args.ground.now.site.now in
+    let patterns = c.args.space.now.patterns in
+    let w = world_in patterns c.args.ground.now shipped in
+    let flow = c.in-Alone.flow in
+    let out = c.args.out.now in
+    goes.said site (flow_rest w patterns site (Some flow) trees) _ _ _ out c.run_any.new.out c.args.closing _ _ _ _ _ _
+    (ap (rest_of w patterns site trees) c.in-Alone.is) (c.alone.ensures.rest w patterns site trees) c.alone.ensures.others.0 c.alone.ensures.others.1 c.alone.ensures.others.2
+    (subst (λ x. GoesTo w patterns site trees (flow_rest w patterns site (Some flow) trees) out c.run_any.new.out c.args.closing x) c.in-On.is (c.in_ok-onward-in-Alone.ensures.goes trees))
+
+pub returns-in-On-clause-reached : goal.returns-in-On-clause-reached
+returns-in-On-clause-reached c = λ reached.
+    let site = c.args.ground.now.site.now in
+    let patterns = c.args.space.now.patterns in
+    let w = world_in patterns c.args.ground.now shipped in
+    c.alone.ensures.reached w patterns site
+    (subst (WentReached w patterns site) c.in-On.is (c.in_ok-onward-in-Alone.ensures.reached (subst (IsReachedBy w patterns site) c.in-Alone.is reached)))
+
+pub returns-in-On-clause-by : goal.returns-in-On-clause-by
+returns-in-On-clause-by c =
+    subst (λ (f : Flight). FlightServedBy (flight_server f) (flight_length f) c.alone.result.flight) (sym c.in-Alone.is)
+    (c.alone.ensures.by _ _ (subst (IsServed _ _) c.in-On.is c.in_ok-onward-in-Alone.ensures.by))
+
+pub returns-in_ok-opens-in-Page-2-clause-runs : goal.returns-in_ok-opens-in-Page-2-clause-runs
+returns-in_ok-opens-in-Page-2-clause-runs c = λ trees raceless reached.
+    let g = c.args.ground.now in
+    let site = g.site.now in
+    let patterns = c.args.space.now.patterns in
+    let w = world_in patterns g shipped in
+    let flow = c.in-Alone.flow in
+    let p = c.in-Page-2.page in
+    let out = c.args.out.now in
+    let before = rest_of w patterns site trees c.args.flight in
+    let ran = c.in_ok-onward-in-Alone.ensures in
+    let put = subst (λ x. IfPage x (λ q. c.run_any.new.out ≡ [])) c.in-Page-2.is ran.put in
+    let follows = subst (λ x. GoesTo w patterns site trees (flow_rest w patterns site (Some flow) trees) out c.run_any.new.out c.args.closing x) c.in-Page-2.is (ran.goes trees) in
+    subst (λ (ps : List SetPattern). IsRaceless (world_in ps g shipped).server → PageReached (world_in ps g shipped) ps site p
+    → Follows site before (start_rest (world_in ps g shipped) ps site trees p) out [] c.args.closing p.closing None (Some p.level)
+    → RunsOn (world_in ps g shipped) ps site trees before out c.opens.new.out c.args.closing c.in_ok-opens-in-Page-2.field-0) ran.kept
+    (c.in_ok-opens-in-Page-2.ensures.runs trees before out c.args.closing)
+    raceless (subst (WentReached w patterns site) c.in-Page-2.is (ran.reached (subst (IsReachedBy w patterns site) c.in-Alone.is reached)))
+    (subst (λ r. Follows site r (start_rest w patterns site trees p) out [] c.args.closing p.closing None (Some p.level)) (ap (rest_of w patterns site trees) (sym c.in-Alone.is))
+    (subst (λ o. Follows site (flow_rest w patterns site (Some flow) trees) (start_rest w patterns site trees p) out o c.args.closing p.closing None (Some p.level)) put follows))

@@ -1,0 +1,140 @@
+-- A response in flight: what is still to come of it, what it waits for, and how far it is.
+use Rattle.std.specs.Prelude.{◌≡◌, ℕ, ◌≤◌, ◌+◌, ◌-◌, ◌*◌, ◌^◌, Bool, true, ◌&&◌, List, [], ◌∷◌, length, take, is_none, Option, None, Some, if◌then◌else◌}
+use Rattle.file_tree.specs.Tree.{Trees}
+use Rattle.ngx_outside.specs.Views.{Job, no_bytes}
+use Rattle.ngx_pattern.specs.Pattern.{Pattern as SetPattern}
+use Rattle.site_model.specs.declared.site.Site.{Site}
+use Rattle.request_meaning.specs.Serving.{World}
+use Rattle.outgoing.specs.Leaving.{most}
+use Rattle.subrequests.specs.Moved.{IsWhole}
+use Rattle.subrequests.specs.Wants as family
+use Rattle.page_response.specs.Pages.{IsReached, bytes_left, nodes_asked, pages_left, whole_length}
+use Rattle.page_response.specs.declared.pages.Pages.{Pages}
+use Rattle.request_flow.specs.Flows.{IsServedBy, flow_fits, flow_left, flow_rest, may_run, shown_by, shown_most, stage_length, stage_server, tree_asked, jobs_of as flow_jobs}
+use Rattle.request_flow.specs.Reached.{FlowReached}
+use Rattle.request_flow.specs.Rests.{Rest, no_rest}
+use Rattle.response_flow.specs.declared.flight.Flight.{Flight}
+use Rattle.response_flow.specs.declared.flight.Flight.TheVariants.{Alone, Page}
+
+-- ---- what is still to come
+
+-- of a page whose head was put
+abbrev pub page_left : World → List SetPattern → Site → Trees → Pages → Rest
+page_left w patterns site trees p =
+    record {
+      bytes = bytes_left w patterns site trees p;
+      stays = true;
+      logs = (p.status, whole_length w patterns site trees p) ∷ [];
+      values = None;
+      subs = nodes_asked w patterns site trees p - 1;
+    }
+
+abbrev pub rest_of : World → List SetPattern → Site → Trees → Flight → Rest
+rest_of w patterns site trees (Alone flow) = flow_rest w patterns site (Some flow) trees
+rest_of w patterns site trees (Page p) = page_left w patterns site trees p.pages.value
+
+-- what is still to come of the response in flight, if one is
+abbrev pub flight_rest : World → List SetPattern → Site → Option Flight → Trees → Rest
+flight_rest w patterns site None trees = no_rest
+flight_rest w patterns site (Some flight) trees = rest_of w patterns site trees flight
+
+-- steps have led to it
+abbrev pub IsReachedBy : World → List SetPattern → Site → Flight → Type 0
+IsReachedBy w patterns site (Alone flow) = FlowReached w patterns site (Some flow)
+IsReachedBy w patterns site (Page p) = IsReached w patterns site p.pages.value
+
+abbrev pub FlightReached : World → List SetPattern → Site → Option Flight → Type 0
+FlightReached w patterns site None = Unit {0}
+FlightReached w patterns site (Some flight) = IsReachedBy w patterns site flight
+
+-- ---- what it waits for
+
+-- the bytes that are written next, where these are kept for the peer
+abbrev pub pending_by : Flight → List ℕ → List ℕ
+pending_by (Alone flow) out = take (shown_by flow.stage) out
+pending_by (Page p) out = p.pages.value.outgoing.pending
+
+abbrev pub pending_of : Option Flight → List ℕ → List ℕ
+pending_of None out = take shown_most out
+pending_of (Some flight) out = pending_by flight out
+
+abbrev pub jobs_by : Flight → List Job
+jobs_by (Alone flow) = flow_jobs (Some flow)
+jobs_by (Page p) = family.jobs_of p.pages.value.family
+
+abbrev pub jobs_of : Option Flight → List Job
+jobs_of None = []
+jobs_of (Some flight) = jobs_by flight
+
+-- The nodes of a page that can run. Where none can, none asks the files and nothing is to be written, the page is shown to go on
+-- by its first node.
+abbrev pub is_stuck : Pages → Bool
+is_stuck p = no_bytes p.outgoing.pending && (is_none (family.first_job (family.jobs_of p.family)) && is_none (family.first_of (family.ready_of p.family)))
+
+abbrev pub page_ready : Pages → List ℕ
+page_ready p = if is_stuck p then 0 ∷ [] else family.ready_of p.family
+
+abbrev pub ready_by : Flight → List ℕ
+ready_by (Alone flow) = if may_run flow.stage then 0 ∷ [] else []
+ready_by (Page p) = page_ready p.pages.value
+
+abbrev pub ready_of : Option Flight → List ℕ
+ready_of None = []
+ready_of (Some flight) = ready_by flight
+
+-- ---- what fits
+
+-- Once a response is over no more bytes are kept than these: far more than the buffers of the nodes of a page have with their
+-- framing.
+unfoldable pub most_kept : ℕ
+most_kept = 2 ^ 26
+
+-- what is kept for the peer is in the queue of a page as long as it is in flight
+abbrev pub IsFitting : Flight → (size : ℕ) → Type 0
+IsFitting (Alone flow) size = flow_fits (Some flow) size ≡ true
+IsFitting (Page p) size = (size ≡ 0) × IsWhole p.pages.value.family × (length p.pages.value.outgoing.pending ≤ most)
+
+abbrev pub FlightFits : Option Flight → (size : ℕ) → Type 0
+FlightFits None size = size ≤ most_kept
+FlightFits (Some flight) size = IsFitting flight size
+
+-- the number of the tree of which its jobs ask
+abbrev pub tree_by : Flight → ℕ
+tree_by (Alone flow) = tree_asked (Some flow)
+tree_by (Page p) = p.pages.value.family.tree
+
+abbrev pub flight_tree : Option Flight → ℕ
+flight_tree None = 0
+flight_tree (Some flight) = tree_by flight
+
+-- ---- what is left to do
+
+-- what is left of a page is less than this
+unfoldable pub page_most : ℕ
+page_most = 65537 * 2 ^ 64 + 2 ^ 26
+
+abbrev pub left_by : Flight → (size : ℕ) → ℕ
+left_by (Alone flow) size = page_most + flow_left (Some flow) size
+left_by (Page p) size = most_kept + pages_left p.pages.value
+
+abbrev pub flight_left : Option Flight → (size : ℕ) → ℕ
+flight_left None size = 0
+flight_left (Some flight) size = left_by flight size
+
+-- ---- by what it is served
+
+abbrev pub flight_server : Flight → ℕ
+flight_server (Alone flow) = stage_server flow.stage
+flight_server (Page p) = p.server
+
+abbrev pub flight_length : Flight → ℕ
+flight_length (Alone flow) = stage_length flow.stage
+flight_length (Page p) = p.length
+
+abbrev pub IsServed : (server length : ℕ) → Flight → Type 0
+IsServed server length (Alone flow) = IsServedBy server length (Some flow)
+IsServed server length (Page p) = (p.server ≡ server) × (p.length ≡ length)
+
+abbrev pub FlightServedBy : (server length : ℕ) → Option Flight → Type 0
+FlightServedBy server length None = Unit {0}
+FlightServedBy server length (Some flight) = IsServed server length flight

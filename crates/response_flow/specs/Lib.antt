@@ -1,0 +1,4 @@
+pub mod Flights
+pub mod Continues
+pub mod Opens
+pub mod Writes

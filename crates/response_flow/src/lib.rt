@@ -1,0 +1,14 @@
+//! The response to a main request from its head to its last byte: what its phases reply at once,
+//! the blocks of a file, or a page of parts that it makes with its subrequests.
+#![tactic(auto)]
+
+mod answer;
+mod flight;
+mod open;
+mod run;
+mod wants;
+
+pub use answer::answered;
+pub use flight::{Flight, Onward, PageFlow, Ran, length_of, server_of};
+pub use run::{run_on, start};
+pub use wants::{ask, first_job, first_ready, is_ready, pending, written};

@@ -1,0 +1,106 @@
+// A page begins.
+ghost use Rattle.std.specs.Prelude.{◌≡◌, IfOk, List};
+ghost use Rattle.file_tree.specs.Tree.{Trees, text_of};
+ghost use Rattle.node_turn.specs.Stages.{item_asked};
+ghost use Rattle.request_flow.specs.Sents.{known_tree};
+ghost use Rattle.ngx_pattern.specs.Pattern.{Pattern as SetPattern};
+ghost use Rattle.request_flow.specs.Pages.{IsTold};
+ghost use Rattle.response_flow.specs.Opens.{Opens, known_text};
+
+use crate::flight::PageFlow;
+use byte_text::{ByteText, OutOfMemory};
+use family_rest::{reached_stays_well, row_tells_still, steps_keep_still};
+use file_tree::Ask;
+use page_response::Pages;
+use race_meaning::shipped_are_fit;
+use request_flow::{InPhases, Known, PageHead, PageStart};
+use request_phases::Ground;
+use std::alloc::Global;
+use subrequests::Family;
+
+/// The job that told what is known of the files; where nothing is known yet, one that asks nothing.
+/// The number of the tree.
+struct Source {
+    ask: Ask,
+    tree: u64,
+}
+
+fn source_of(alloc: Global, known: Known) -> Source
+    ensures text { (trees : Trees) → text_of (item_asked trees result.ask) ≡ known_text known trees }
+    ensures tree { result.tree ≡ known_tree known }
+{
+    match known {
+        Known::Nothing { of } => Source {
+            ask: Ask::Stat {
+                path: ByteText::new(alloc),
+                of,
+            },
+            tree: of,
+        },
+        Known::Told(file) => {
+            let tree = match &file.ask {
+                Ask::Stat { path: _, of } => *of,
+                Ask::Read {
+                    path: _,
+                    start: _,
+                    count: _,
+                    of,
+                } => *of,
+            };
+            Source {
+                ask: file.ask,
+                tree,
+            }
+        }
+    }
+}
+
+/// Begins the page of a request on whose body filters act.
+///
+/// # Errors
+/// `OutOfMemory`.
+pub(crate) fn opened(
+    alloc: Global,
+    ground: &Ground<'_>,
+    start: PageStart,
+) -> Result<PageFlow, OutOfMemory>
+    requires told { IsTold start.page }
+    ensures opens { (patterns : List SetPattern) → IfOk result (λ p.
+        Opens patterns ground.now start p.pages.value) }
+    ensures by { IfOk result (λ p. (p.server ≡ start.request.value.server)
+        × (p.length ≡ start.request.value.length)) }
+{
+    reached_stays_well();
+    row_tells_still();
+    steps_keep_still();
+    shipped_are_fit();
+    let PageStart {
+        request,
+        page,
+        closing: _,
+        level: _,
+    } = start;
+    let PageHead {
+        outcome,
+        known,
+        head,
+        chunked,
+        status,
+    } = page;
+    let InPhases {
+        phases,
+        vars,
+        terms: _,
+        server,
+        length,
+        questions: _,
+    } = Box::into_inner(request);
+    let Source { ask, tree } = source_of(alloc, known);
+    let family = Family::begin(alloc, ground, phases, vars, outcome, ask, tree)?;
+    let pages = Pages::begin(alloc, family, head.as_slice(), chunked, status)?;
+    Ok(PageFlow {
+        pages: Box::new(alloc, pages)?,
+        server,
+        length,
+    })
+}

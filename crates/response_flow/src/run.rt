@@ -1,0 +1,312 @@
+// A response goes on.
+ghost use Rattle.std.specs.Prelude.{◌≡◌, ◌≤◌, ◌<◌, ◌+◌, not, [], Bool, List, ℕ, true, false, length, is_some, option_map, IfOk, None, Some};
+ghost use Rattle.file_tree.specs.Tree.{Trees};
+ghost use Rattle.ngx_pattern.specs.Pattern.{Pattern as SetPattern};
+ghost use Rattle.pattern_search.specs.Found.{patterns_seen};
+ghost use Rattle.race_meaning.specs.Named.{IsRaceless};
+ghost use Rattle.site_model.specs.declared.site.Site.{Site as SiteRow};
+ghost use Rattle.site_whole.specs.Whole.{server_whole};
+ghost use Rattle.answers_meaning.specs.Asking.{request_of};
+ghost use Rattle.request_meaning.specs.Laws.{shipped};
+ghost use Rattle.request_meaning.specs.Serving.{World};
+ghost use Rattle.request_phases.specs.Rounds.{IsGround, world_in};
+ghost use Rattle.subrequests.specs.Moved.{IsWhole};
+ghost use Rattle.subrequests.specs.Wants.{is_among};
+ghost use Rattle.outgoing.specs.Leaving.{most};
+ghost use Rattle.page_response.specs.Pages.{IsAllOver, IsReached, pages_left};
+ghost use Rattle.request_flow.specs.Flows.{asking_most, flow_fits, flow_left, flow_rest, tree_asked};
+ghost use Rattle.request_flow.specs.Flows.{IsServedBy};
+ghost use Rattle.request_flow.specs.Openings.{main_at, terms_at};
+ghost use Rattle.request_flow.specs.Pages.{IsTold, start_rest};
+ghost use Rattle.request_flow.specs.Reached.{FlowReached, PageReached};
+ghost use Rattle.request_flow.specs.Rests.{Follows, Rest, opened_rest};
+ghost use Rattle.request_flow.specs.Sents.{known_tree};
+ghost use Rattle.response_flow.specs.Continues.{Continues, IfOn, RunsOn};
+ghost use Rattle.response_flow.specs.declared.flight.Flight.TheVariants.{Alone as AloneFlight};
+ghost use Rattle.response_flow.specs.Flights.{FlightFits, FlightReached, FlightServedBy, flight_left, flight_length, flight_rest, flight_server, flight_tree, most_kept, page_left, page_most, ready_of};
+
+use crate::flight::{Flight, Onward, PageFlow, Ran};
+use crate::open::opened;
+use byte_text::{ByteQueue, OutOfMemory};
+use family_rest::row_tells_still;
+use page_response::Pages;
+use request_flow::{
+    Flow, Onward as FlowOnward, Opening, PageStart, Went, Workspace, run_any, start_any,
+};
+use request_phases::Ground;
+use subrequests::Ran as FamilyRan;
+
+/// No more bytes are kept for a peer once a response is over.
+const MOST_KEPT: usize = 67108864;
+
+fn alone_flight(flow: Option<Flow>) -> Option<Flight>
+    ensures { result ≡ option_map (λ flow. AloneFlight flow) flow }
+{
+    match flow {
+        Some(flow) => Some(Flight::Alone(flow)),
+        None => None,
+    }
+}
+
+/// What went on alone.
+fn alone(onward: FlowOnward) -> Onward
+    ensures rest { (w : World) (patterns : List SetPattern) (site : SiteRow) (trees : Trees) →
+        flight_rest w patterns site result.flight trees
+        ≡ flow_rest w patterns site onward.flow trees }
+    ensures others { (result.closing ≡ onward.closing) × (result.log ≡ onward.log)
+        × (result.level ≡ onward.level) × (is_some result.flight ≡ is_some onward.flow) }
+    ensures reached { (w : World) (patterns : List SetPattern) (site : SiteRow) →
+        FlowReached w patterns site onward.flow → FlightReached w patterns site result.flight }
+    ensures fits { (size : ℕ) → flow_fits onward.flow size ≡ true → FlightFits result.flight size }
+    ensures left { (size : ℕ) → flight_left result.flight size ≤ page_most + flow_left onward.flow size }
+    ensures by { (server length : ℕ) → IsServedBy server length onward.flow
+        → FlightServedBy server length result.flight }
+    ensures tree { flight_tree result.flight ≡ tree_asked onward.flow }
+{
+    let FlowOnward {
+        flow,
+        closing,
+        log,
+        level,
+    } = onward;
+    Onward {
+        flight: alone_flight(flow),
+        closing,
+        log,
+        level,
+    }
+}
+
+/// A page that is over: what is still unsent of it is kept for the peer. `level` is the number of
+/// the level that answers where its head was put now.
+#[tactic(auto, unfolding(crate::specs::Flights::most_kept))]
+fn ends(
+    pages: Pages,
+    out: &mut ByteQueue,
+    closing: bool,
+    level: Option<u32>,
+) -> Result<Onward, OutOfMemory>
+    requires whole { IsWhole pages.family }
+    requires unsent { out.old ≡ [] }
+    ensures ends { (w : World) (patterns : List SetPattern) (site : SiteRow) (trees : Trees)
+        (before : Rest) (from : List ℕ) (first : Bool) → IsAllOver w patterns site trees pages
+        → Continues site before (page_left w patterns site trees pages) from [] first closing None level
+        → IfOk result (λ o. Continues site before (flight_rest w patterns site o.flight trees)
+        from out.new first o.closing o.log o.level) }
+    ensures over { IfOk result (λ o. (o.flight ≡ None) × (is_some o.log ≡ true)) }
+    ensures closes { IfOk result (λ o. o.closing ≡ closing) }
+    ensures kept { IfOk result (λ o. length out.new ≤ most_kept) }
+{
+    row_tells_still();
+    let status = pages.status;
+    let size = pages.finish(out)?;
+    if out.len() > MOST_KEPT {
+        return Err(OutOfMemory);
+    }
+    Ok(Onward {
+        flight: None,
+        closing,
+        log: Some((status, size)),
+        level,
+    })
+}
+
+/// Runs a node of a page on. `level` is the number of the level that answers where its head was put
+/// now.
+fn run_page(
+    space: &mut Workspace,
+    ground: &Ground<'_>,
+    page: PageFlow,
+    at: u32,
+    out: &mut ByteQueue,
+    closing: bool,
+    level: Option<u32>,
+) -> Result<Ran, OutOfMemory>
+    requires ground { IsGround ground.now }
+    requires unsent { out.old ≡ [] }
+    requires whole { IsWhole page.pages.value.family }
+    requires bounded { length page.pages.value.outgoing.pending ≤ most }
+    ensures runs { (trees : Trees) (before : Rest) (from : List ℕ) (first : Bool) →
+        let w = world_in space.old.patterns ground.now shipped in
+        let site = ground.now.site.now in
+        IfOk result (λ ran. IsRaceless w.server
+        → IsReached w space.old.patterns site page.pages.value
+        → Continues site before (page_left w space.old.patterns site trees page.pages.value) from []
+        first closing None level
+        → RunsOn w space.old.patterns site trees before from out.new first ran) }
+    ensures reached { let w = world_in space.old.patterns ground.now shipped in
+        IsReached w space.old.patterns ground.now.site.now page.pages.value
+        → IfOk result (λ ran. IfOn ran (λ o.
+        FlightReached w space.old.patterns ground.now.site.now o.flight)) }
+    ensures over { IfOk result (λ ran. IfOn ran (λ o. is_some o.log ≡ not (is_some o.flight))) }
+    ensures fits { IfOk result (λ ran. IfOn ran (λ o. FlightFits o.flight (length out.new))) }
+    ensures lowers { IfOk result (λ ran. IfOn ran (λ o.
+        length out.new + flight_left o.flight (length out.new)
+        < most_kept + pages_left page.pages.value)) }
+    ensures by { IfOk result (λ ran. IfOn ran (λ o.
+        FlightServedBy page.server page.length o.flight)) }
+    ensures asked { IfOk result (λ ran. IfOn ran (λ o.
+        flight_tree o.flight ≤ page.pages.value.family.tree)) }
+    ensures closes { IfOk result (λ ran. IfOn ran (λ o. o.closing ≡ closing)) }
+    ensures kept { space.new.patterns ≡ space.old.patterns }
+{
+    let PageFlow {
+        pages,
+        server,
+        length,
+    } = page;
+    let mut pages = pages;
+    let inside = &mut *pages;
+    match inside.run(space.alloc, ground, &mut space.patterns, at) {
+        Ok(FamilyRan::Rests) => {
+            if pages.family.is_done() {
+                return Ok(Ran::On(ends(Box::into_inner(pages), out, closing, level)?));
+            }
+            Ok(Ran::On(Onward {
+                flight: Some(Flight::Page(PageFlow {
+                    pages,
+                    server,
+                    length,
+                })),
+                closing,
+                log: None,
+                level,
+            }))
+        }
+        Ok(FamilyRan::TooMany) => {
+            drop(pages);
+            Ok(Ran::TooMany)
+        }
+        Err(OutOfMemory) => {
+            drop(pages);
+            Err(OutOfMemory)
+        }
+    }
+}
+
+/// A page begins, and its first node runs.
+fn opens(
+    space: &mut Workspace,
+    ground: &Ground<'_>,
+    start: PageStart,
+    out: &mut ByteQueue,
+) -> Result<Ran, OutOfMemory>
+    requires ground { IsGround ground.now }
+    requires unsent { out.old ≡ [] }
+    requires told { IsTold start.page }
+    ensures runs { (trees : Trees) (before : Rest) (from : List ℕ) (first : Bool) →
+        let w = world_in space.old.patterns ground.now shipped in
+        let site = ground.now.site.now in
+        IfOk result (λ ran. IsRaceless w.server → PageReached w space.old.patterns site start
+        → Follows site before (start_rest w space.old.patterns site trees start) from []
+        first start.closing None (Some start.level)
+        → RunsOn w space.old.patterns site trees before from out.new first ran) }
+    ensures reached { let w = world_in space.old.patterns ground.now shipped in
+        PageReached w space.old.patterns ground.now.site.now start
+        → IfOk result (λ ran. IfOn ran (λ o.
+        FlightReached w space.old.patterns ground.now.site.now o.flight)) }
+    ensures over { IfOk result (λ ran. IfOn ran (λ o. is_some o.log ≡ not (is_some o.flight))) }
+    ensures fits { IfOk result (λ ran. IfOn ran (λ o. FlightFits o.flight (length out.new))) }
+    ensures lowers { IfOk result (λ ran. IfOn ran (λ o.
+        length out.new + flight_left o.flight (length out.new) < page_most)) }
+    ensures by { IfOk result (λ ran. IfOn ran (λ o. FlightServedBy
+        start.request.value.server start.request.value.length o.flight)) }
+    ensures asked { IfOk result (λ ran. IfOn ran (λ o.
+        flight_tree o.flight ≤ known_tree start.page.known)) }
+    ensures closes { IfOk result (λ ran. IfOn ran (λ o. o.closing ≡ start.closing)) }
+    ensures kept { space.new.patterns ≡ space.old.patterns }
+{
+    let closing = start.closing;
+    let level = start.level;
+    let page = opened(space.alloc, ground, start)?;
+    Ok(run_page(space, ground, page, 0, out, closing, Some(level))?)
+}
+
+/// Starts a main request: up to its first question to the files, or the whole response where it
+/// asks none, or as far as its page runs by itself. `server` is the number of the ground's server,
+/// which is kept for the caller.
+///
+/// # Errors
+/// `OutOfMemory`; the request is then not to be answered.
+pub fn start(
+    space: &mut Workspace,
+    ground: &Ground<'_>,
+    server: u32,
+    opening: Opening,
+    out: &mut ByteQueue,
+) -> Result<Ran, OutOfMemory>
+    requires ground { IsGround ground.now }
+    requires unsent { out.old ≡ [] }
+    ensures runs { (trees : Trees) →
+        let w = world_in space.old.patterns ground.now shipped in
+        let site = ground.now.site.now in
+        IfOk result (λ ran. IsRaceless w.server → RunsOn w space.old.patterns site trees
+        (opened_rest w (trees opening.tree) (terms_at opening)
+        (main_at ground.now opening) (request_of
+        (server_whole (patterns_seen space.old.patterns) site ground.now.server.now)
+        opening.head)) out.old out.new false ran) }
+    ensures reached { let w = world_in space.old.patterns ground.now shipped in
+        IfOk result (λ ran. IfOn ran (λ o.
+        FlightReached w space.old.patterns ground.now.site.now o.flight)) }
+    ensures over { IfOk result (λ ran. IfOn ran (λ o. is_some o.log ≡ not (is_some o.flight))) }
+    ensures fits { IfOk result (λ ran. IfOn ran (λ o. FlightFits o.flight (length out.new))) }
+    ensures lowers { IfOk result (λ ran. IfOn ran (λ o.
+        length out.new + flight_left o.flight (length out.new) < page_most + asking_most)) }
+    ensures by { IfOk result (λ ran. IfOn ran (λ o.
+        FlightServedBy server ground.now.length o.flight)) }
+    ensures asked { IfOk result (λ ran. IfOn ran (λ o. flight_tree o.flight ≤ opening.tree)) }
+    ensures kept { space.new.patterns ≡ space.old.patterns }
+{
+    match start_any(space, ground, server, opening, out)? {
+        Went::On(onward) => Ok(Ran::On(alone(onward))),
+        Went::Page(page) => Ok(opens(space, ground, page, out)?),
+    }
+}
+
+/// Runs a node of a request on that can run, to its next job or its end: the only one of a request
+/// alone is 0.
+///
+/// # Errors
+/// `OutOfMemory`; the request is then not to be answered.
+pub fn run_on(
+    space: &mut Workspace,
+    ground: &Ground<'_>,
+    flight: Flight,
+    at: u32,
+    out: &mut ByteQueue,
+    closing: bool,
+) -> Result<Ran, OutOfMemory>
+    requires ground { IsGround ground.now }
+    requires fits { FlightFits (Some flight) (length out.old) }
+    requires runs { is_among at (ready_of (Some flight)) ≡ true }
+    ensures runs { (trees : Trees) →
+        let w = world_in space.old.patterns ground.now shipped in
+        let site = ground.now.site.now in
+        IfOk result (λ ran. IsRaceless w.server
+        → FlightReached w space.old.patterns site (Some flight)
+        → RunsOn w space.old.patterns site trees
+        (flight_rest w space.old.patterns site (Some flight) trees) out.old out.new closing ran) }
+    ensures reached { let w = world_in space.old.patterns ground.now shipped in
+        FlightReached w space.old.patterns ground.now.site.now (Some flight)
+        → IfOk result (λ ran. IfOn ran (λ o.
+        FlightReached w space.old.patterns ground.now.site.now o.flight)) }
+    ensures over { IfOk result (λ ran. IfOn ran (λ o. is_some o.log ≡ not (is_some o.flight))) }
+    ensures fits { IfOk result (λ ran. IfOn ran (λ o. FlightFits o.flight (length out.new))) }
+    ensures lowers { IfOk result (λ ran. IfOn ran (λ o.
+        length out.new + flight_left o.flight (length out.new)
+        < length out.old + flight_left (Some flight) (length out.old))) }
+    ensures by { IfOk result (λ ran. IfOn ran (λ o.
+        FlightServedBy (flight_server flight) (flight_length flight) o.flight)) }
+    ensures asked { IfOk result (λ ran. IfOn ran (λ o.
+        flight_tree o.flight ≤ flight_tree (Some flight))) }
+    ensures closes { IfOk result (λ ran. IfOn ran (λ o. closing ≡ true → o.closing ≡ true)) }
+    ensures kept { space.new.patterns ≡ space.old.patterns }
+{
+    match flight {
+        Flight::Alone(flow) => match run_any(space, ground, flow, out, closing)? {
+            Went::On(onward) => Ok(Ran::On(alone(onward))),
+            Went::Page(page) => Ok(opens(space, ground, page, out)?),
+        },
+        Flight::Page(page) => Ok(run_page(space, ground, page, at, out, closing, None)?),
+    }
+}

@@ -1,0 +1,188 @@
+// What a response waits for, and what is written of it.
+ghost use Rattle.std.specs.Prelude.{◌≡◌, ◌≤◌, ◌<◌, ◌+◌, ℕ, List, take, length, option_copied, is_some, Some};
+ghost use Rattle.file_tree.specs.Tree.{Trees};
+ghost use Rattle.ngx_outside.specs.Views.{ask_in};
+ghost use Rattle.ngx_pattern.specs.Pattern.{Pattern as SetPattern};
+ghost use Rattle.request_meaning.specs.Serving.{World};
+ghost use Rattle.site_model.specs.declared.site.Site.{Site as SiteRow};
+ghost use Rattle.subrequests.specs.Moved.{IsWhole};
+ghost use Rattle.subrequests.specs.Wants.{first_job as job_first, first_of, is_among};
+ghost use Rattle.request_flow.specs.Flows.{shown_most};
+ghost use Rattle.response_flow.specs.Flights.{FlightFits, FlightReached, FlightServedBy, flight_left, flight_length, flight_rest, flight_server, flight_tree, is_stuck as is_stuck_page, jobs_of, pending_of, ready_of};
+ghost use Rattle.response_flow.specs.Flights.{page_left};
+ghost use Rattle.response_flow.specs.Writes.{Writes, with_bytes};
+ghost use Rattle.outgoing.specs.Leaving.{most};
+ghost use Rattle.page_response.specs.Pages.{IsReached, nodes_asked, pages_left};
+
+use crate::flight::{Flight, PageFlow};
+use byte_text::ByteQueue;
+use file_tree::Ask;
+use page_response::Pages;
+use request_flow::{may_run, shown_by, waits, wrote};
+
+/// No more bytes than these are shown as pending.
+const SHOWN: usize = 65536;
+
+fn first_bytes(out: &ByteQueue, most: usize) -> &[u8]
+    ensures { result.now ≡ take most out.now }
+{
+    let bytes = out.front();
+    &bytes[..most.min(bytes.len())]
+}
+
+/// The bytes that are written next, where these are kept for the peer.
+#[tactic(auto, unfolding(request_flow::specs::Flows::shown_most))]
+pub fn pending<'a>(flight: &'a Option<Flight>, out: &'a ByteQueue) -> &'a [u8]
+    ensures { result.now ≡ pending_of flight.now out.now }
+{
+    match flight {
+        None => first_bytes(out, SHOWN),
+        Some(Flight::Alone(flow)) => first_bytes(out, shown_by(&flow.stage)),
+        Some(Flight::Page(page)) => page.pages.outgoing.pending(),
+    }
+}
+
+/// The job of a node; none where it has no job that waits.
+pub fn ask(flight: &Option<Flight>, at: u32) -> Option<&Ask>
+    ensures { option_copied result ≡ ask_in (jobs_of flight.now) at }
+{
+    match flight {
+        None => None,
+        Some(Flight::Alone(flow)) => {
+            if at == 0 && waits(&flow.stage) {
+                return Some(&flow.ask);
+            }
+            None
+        }
+        Some(Flight::Page(page)) => page.pages.family.ask(at),
+    }
+}
+
+/// The first node whose job waits for an answer.
+pub fn first_job(flight: &Option<Flight>) -> Option<u32>
+    requires { (size : ℕ) × FlightFits flight.now size }
+    ensures { result ≡ job_first (jobs_of flight.now) }
+{
+    match flight {
+        None => None,
+        Some(Flight::Alone(flow)) => {
+            if waits(&flow.stage) {
+                return Some(0);
+            }
+            None
+        }
+        Some(Flight::Page(page)) => page.pages.family.first_job(),
+    }
+}
+
+/// Whether nothing of a page can go on that isn't over: that never comes about.
+fn is_stuck(pages: &Pages) -> bool
+    requires { IsWhole pages.now.family }
+    ensures { result ≡ is_stuck_page pages.now }
+{
+    pages.outgoing.pending().is_empty()
+        && (pages.family.first_job().is_none() && pages.family.first_ready().is_none())
+}
+
+/// The first node that can run.
+pub fn first_ready(flight: &Option<Flight>) -> Option<u32>
+    requires { (size : ℕ) × FlightFits flight.now size }
+    ensures { result ≡ first_of (ready_of flight.now) }
+{
+    match flight {
+        None => None,
+        Some(Flight::Alone(flow)) => {
+            if may_run(&flow.stage) {
+                return Some(0);
+            }
+            None
+        }
+        Some(Flight::Page(page)) => {
+            if is_stuck(&*page.pages) {
+                return Some(0);
+            }
+            page.pages.family.first_ready()
+        }
+    }
+}
+
+/// Whether a node can run.
+#[tactic(auto, unfolding(subrequests::specs::Wants::is_among))]
+pub fn is_ready(flight: &Option<Flight>, at: u32) -> bool
+    requires { (size : ℕ) × FlightFits flight.now size }
+    ensures { result ≡ is_among at (ready_of flight.now) }
+{
+    match flight {
+        None => false,
+        Some(Flight::Alone(flow)) => 0 == at && may_run(&flow.stage),
+        Some(Flight::Page(page)) => {
+            if is_stuck(&*page.pages) {
+                return 0 == at;
+            }
+            page.pages.family.is_ready(at)
+        }
+    }
+}
+
+/// The first of the pending bytes of a page were written. It takes no memory.
+fn page_written(page: PageFlow, count: usize) -> PageFlow
+    requires some { 0 < count }
+    requires count { count ≤ length page.pages.value.outgoing.pending }
+    requires bounded { length page.pages.value.outgoing.pending ≤ most }
+    ensures rest { (w : World) (patterns : List SetPattern) (site : SiteRow) (trees : Trees) →
+        page_left w patterns site trees page.pages.value ≡ with_bytes
+        (take count page.pages.value.outgoing.pending)
+        (page_left w patterns site trees result.pages.value) }
+    ensures reached { (w : World) (patterns : List SetPattern) (site : SiteRow) →
+        IsReached w patterns site page.pages.value → IsReached w patterns site result.pages.value }
+    ensures whole { IsWhole page.pages.value.family → IsWhole result.pages.value.family }
+    ensures bounded { length result.pages.value.outgoing.pending ≤ most }
+    ensures lowers { pages_left result.pages.value < pages_left page.pages.value }
+    ensures by { (result.server ≡ page.server) × (result.length ≡ page.length) }
+    ensures tree { result.pages.value.family.tree ≡ page.pages.value.family.tree }
+{
+    let PageFlow {
+        pages,
+        server,
+        length,
+    } = page;
+    let mut pages = pages;
+    let inside = &mut *pages;
+    inside.written(count);
+    PageFlow {
+        pages,
+        server,
+        length,
+    }
+}
+
+/// The first of the pending bytes were written. It takes no memory.
+pub fn written(flight: Option<Flight>, out: &mut ByteQueue, count: usize) -> Option<Flight>
+    requires some { 0 < count }
+    requires count { count ≤ length (pending_of flight out.old) }
+    requires fits { FlightFits flight (length out.old) }
+    ensures writes { (w : World) (patterns : List SetPattern) (site : SiteRow) (trees : Trees) →
+        Writes (flight_rest w patterns site flight trees) (flight_rest w patterns site result trees)
+        out.old out.new (take count (pending_of flight out.old)) }
+    ensures reached { (w : World) (patterns : List SetPattern) (site : SiteRow) →
+        FlightReached w patterns site flight → FlightReached w patterns site result }
+    ensures fits { FlightFits result (length out.new) }
+    ensures lowers { length out.new + flight_left result (length out.new)
+        < length out.old + flight_left flight (length out.old) }
+    ensures by { (server length : ℕ) → FlightServedBy server length flight
+        → FlightServedBy server length result }
+    ensures tree { flight_tree result ≡ flight_tree flight }
+    ensures kind { is_some result ≡ is_some flight }
+{
+    match flight {
+        None => {
+            out.used(count);
+            None
+        }
+        Some(Flight::Alone(flow)) => {
+            out.used(count);
+            Some(Flight::Alone(wrote(flow, count)))
+        }
+        Some(Flight::Page(page)) => Some(Flight::Page(page_written(page, count))),
+    }
+}
