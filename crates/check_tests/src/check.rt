@@ -126,9 +126,9 @@ fn what_has_no_effect_yet_is_told_so(rt: HostRuntime) -> Result<(), Fail> {
                 b"auth_request_set",
             ),
             (
-                b"http { keepalive_timeout 5;\nssi on; server { } }",
+                b"http { ssi on;\nauth_request /q; server { } }",
                 2,
-                b"ssi",
+                b"auth_request",
             ),
         ],
     )
@@ -155,6 +155,8 @@ fn what_has_an_effect_is_served(rt: HostRuntime) -> Result<(), Fail> {
             b"http { server { server_name a; } server { listen 80 default_server; server_name *.b c.* ''; merge_slashes off; } }",
             b"http { server { location ^~ /a { location /a/b { location = /a/b/c { } } } location = / { } location @d { } } }",
             b"http { server { server_name b ~x; location ~ x { location ~* /a { } } return 302; } }",
+            b"http { ssi on; ssi_types a/b; ssi_silent_errors on; ssi_value_length 9; subrequest_output_buffer_size 9; server { } }",
+            b"http { server { add_before_body /a; location / { addition_types *; add_after_body /b; } } }",
             b"http { server { set $a 1; rewrite ^ /b last; if ($a) { return 444; } location / { if ($a ~ b) { root c; break; } } } }",
         ],
     )

@@ -153,7 +153,10 @@ fn a_site_is_read(rt: HostRuntime) -> Result<(), Fail> {
                 b"http { root /w; server { location /a { alias b$uri/; } location /c { root d; } location /e { } } }",
                 b"80 /w text/html text/plain text/plain 1000 75000\n/a b$/</a text/html text/plain text/plain 1000 75000\n/c d text/html text/plain text/plain 1000 75000\n/e /w text/html text/plain text/plain 1000 75000\n",
             ),
-            (b"http { root a; server { ssi on; } }", b"ssi"),
+            (
+                b"http { root a; server { auth_request /q; } }",
+                b"auth_request",
+            ),
         ],
     )
 }

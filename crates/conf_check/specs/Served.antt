@@ -5,7 +5,7 @@ use Rattle.conf_text.specs.declared.fault.FaultKind.{FaultKind}
 use Rattle.conf_text.specs.declared.fault.FaultKind.TheVariants.{NotServed}
 use Rattle.conf_text.specs.declared.fault.ConfFault.{ConfFault}
 use Rattle.conf_table.specs.declared.rule.Feature.{Feature}
-use Rattle.conf_table.specs.declared.rule.Feature.TheVariants.{Core, Matching, Content as Contents, Access, Deadlines, Rewriting}
+use Rattle.conf_table.specs.declared.rule.Feature.TheVariants.{Core, Matching, Content as Contents, Access, Includes, Addition, Deadlines, Rewriting}
 use Rattle.conf_table.specs.declared.rule.DirectiveRule.{DirectiveRule}
 use Rattle.conf_table.specs.Table.{entry_of}
 use Rattle.conf_block.specs.declared.role.Content.{Content}
@@ -13,7 +13,7 @@ use Rattle.conf_block.specs.Forest.{Forest, End, Branch}
 use Rattle.conf_block.specs.Roles.{content_inside, are_directives}
 use Rattle.conf_check.specs.Gives.{sound, faulty, ◌>>◌}
 
--- The features that this server has: a directive of another has no effect yet.
+-- The features that this server has: all that the table names.
 abbrev pub has_feature : Feature → Bool
 has_feature Core = true
 has_feature Matching = true
@@ -21,7 +21,8 @@ has_feature Contents = true
 has_feature Access = true
 has_feature Deadlines = true
 has_feature Rewriting = true
-has_feature _ = false
+has_feature Includes = true
+has_feature Addition = true
 
 -- a directive by whose feature it is served
 abbrev pub served_by : Option DirectiveRule → Bool

@@ -42,7 +42,8 @@ fn stands_once(name: &[u8]) -> bool
 
 /// Keeps the name if one alone of its directives may stand in a level.
 fn add_name<'a>(names: &mut Vec<&'a [u8]>, name: &'a [u8]) -> Result<(), OutOfMemory>
-    ensures { OnOk result (map (λ n. n.now) names.new.items ≡ with_name (stands_once (entry_of name.now)) (map (λ n. n.now) names.old.items) name.now) }
+    ensures { OnOk result (map (λ n. n.now) names.new.items
+        ≡ with_name (stands_once (entry_of name.now)) (map (λ n. n.now) names.old.items) name.now) }
 {
     if !stands_once(name) {
         return Ok(());
@@ -63,7 +64,10 @@ fn key_by(role: Role, directive: &Directive) -> Option<Key<'_>>
 
 /// Keeps what a location is found by, if it is found so.
 fn add_location(locations: &mut LocationSet, key: Option<Key<'_>>) -> Result<(), OutOfMemory>
-    ensures { OnOk result ((kind : Like) (text : List ℕ) → has_location locations.new kind text ≡ (list_any (same_key kind text) (in_front_key (option_map (λ k. (k.kind, k.text.now)) key.entry) []) || has_location locations.old kind text)) }
+    ensures { OnOk result ((kind : Like) (text : List ℕ) → has_location locations.new kind text
+        ≡ (list_any (same_key kind text)
+        (in_front_key (option_map (λ k. (k.kind, k.text.now)) key.entry) [])
+        || has_location locations.old kind text)) }
 {
     match key {
         None => Ok(()),
@@ -76,7 +80,8 @@ impl<'a> Before<'a> {
     pub fn new(alloc: Global) -> Self
         ensures names { result.names.items ≡ [] }
         ensures addrs { (q : End) → has_end result.addrs.keys q ≡ false }
-        ensures locations { (kind : Like) (text : List ℕ) → has_location result.locations kind text ≡ false }
+        ensures locations { (kind : Like) (text : List ℕ) →
+            has_location result.locations kind text ≡ false }
     {
         Before {
             names: Vec::new(alloc),
@@ -86,7 +91,8 @@ impl<'a> Before<'a> {
     }
 
     pub fn has_name(&self, name: &[u8]) -> bool
-        ensures { result ≡ list_any (λ n. bytes_eq n name.now) (map (λ n. n.now) self.now.names.items) }
+        ensures { result ≡ list_any (λ n. bytes_eq n name.now)
+            (map (λ n. n.now) self.now.names.items) }
     {
         for kept in &self.names {
             if *kept == name {
@@ -110,8 +116,11 @@ impl<'a> Before<'a> {
 
     /// The directive stands before the next.
     pub fn add(&mut self, directive: &'a Directive) -> Result<(), OutOfMemory>
-        ensures { OnOk result ((earlier : List Line) → Remembers (map (λ n. n.now) self.old.names.items) self.old.addrs.keys self.old.locations earlier
-            → Remembers (map (λ n. n.now) self.new.names.items) self.new.addrs.keys self.new.locations (earlier ++ directive.now ∷ [])) }
+        ensures { OnOk result ((earlier : List Line) →
+            Remembers (map (λ n. n.now) self.old.names.items) self.old.addrs.keys
+            self.old.locations earlier →
+            Remembers (map (λ n. n.now) self.new.names.items) self.new.addrs.keys
+            self.new.locations (earlier ++ directive.now ∷ [])) }
     {
         let name = directive.name.as_slice();
         let role = role_of(name);

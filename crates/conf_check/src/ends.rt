@@ -45,7 +45,8 @@ impl Ends {
     }
 
     pub fn add(&mut self, addr: Addr) -> Result<(), OutOfMemory>
-        ensures { OnOk result ((q : End) → has_end self.new.keys q ≡ (same_addr addr q || has_end self.old.keys q)) }
+        ensures { OnOk result ((q : End) →
+            has_end self.new.keys q ≡ (same_addr addr q || has_end self.old.keys q)) }
     {
         let _new = self.keys.insert(key_of(addr))?;
         Ok(())
@@ -53,7 +54,8 @@ impl Ends {
 
     /// One address more, if there is one.
     pub fn add_any(&mut self, addr: Option<Addr>) -> Result<(), OutOfMemory>
-        ensures { OnOk result ((q : End) → has_end self.new.keys q ≡ with_end addr (has_end self.old.keys) q) }
+        ensures { OnOk result ((q : End) →
+            has_end self.new.keys q ≡ with_end addr (has_end self.old.keys) q) }
     {
         match addr {
             None => Ok(()),

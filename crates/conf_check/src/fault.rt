@@ -102,17 +102,21 @@ fn is_counted(rule: &DirectiveRule, directive: &Directive) -> bool
     rule.least as usize <= count && within(count, rule.greatest) && rule.block == directive.block
 }
 
-/// Whether an address stands in the level before, or has a default server before and is to have another.
+/// Whether an address stands in the level before, or has a default server before and is to have
+/// another.
 fn is_taken(marked: &Ends, before: &Before<'_>, addr: Addr, words: &[ByteText]) -> bool
-    ensures { (earlier : List End) → ((addr : End) → has_end before.now.addrs.keys addr ≡ list_any (λ a. same_addr a addr) earlier)
-        → result ≡ (list_any (λ a. same_addr a addr) earlier || (is_marked words.now && has_end marked.now.keys addr)) }
+    ensures { (earlier : List End) → ((addr : End) → has_end before.now.addrs.keys addr
+        ≡ list_any (λ a. same_addr a addr) earlier) →
+        result ≡ (list_any (λ a. same_addr a addr) earlier
+        || (is_marked words.now && has_end marked.now.keys addr)) }
 {
     before.has_addr(addr) || (is_marked(words) && marked.has(addr))
 }
 
 fn listen_fault(marked: &Ends, before: &Before<'_>, words: &[ByteText]) -> Option<FaultKind>
-    ensures { (earlier : List End) → ((addr : End) → has_end before.now.addrs.keys addr ≡ list_any (λ a. same_addr a addr) earlier)
-        → result ≡ listen_fault (has_end marked.now.keys) (address words.now) earlier words.now }
+    ensures { (earlier : List End) → ((addr : End) → has_end before.now.addrs.keys addr
+        ≡ list_any (λ a. same_addr a addr) earlier) →
+        result ≡ listen_fault (has_end marked.now.keys) (address words.now) earlier words.now }
 {
     match listened_by(words) {
         None => Some(FaultKind::BadValue),
@@ -130,8 +134,9 @@ fn listen_fault(marked: &Ends, before: &Before<'_>, words: &[ByteText]) -> Optio
 
 /// A location like one before it, or a modifier that is none.
 fn location_fault(before: &Before<'_>, words: &[ByteText]) -> Option<FaultKind>
-    ensures { (earlier : List Place) → ((kind : Like) (text : List ℕ) → has_location before.now.locations kind text ≡ list_any (same_key kind text) earlier)
-        → result ≡ location_fault (key words.now) earlier words.now }
+    ensures { (earlier : List Place) → ((kind : Like) (text : List ℕ) →
+        has_location before.now.locations kind text ≡ list_any (same_key kind text) earlier) →
+        result ≡ location_fault (key words.now) earlier words.now }
 {
     match key_of(words) {
         None => {
@@ -164,7 +169,8 @@ fn unless(right: bool) -> Option<FaultKind>
 
 /// Whether the first word is the text of a folder.
 fn is_folder(alloc: Global, known: &TextSet, words: &[ByteText]) -> Result<bool, OutOfMemory>
-    ensures { IfOk result (λ r. r ≡ first_word (is_folder_text (holds known.now.keys)) words.now) }
+    ensures { IfOk result
+        (λ r. r ≡ first_word (is_folder_text (holds known.now.keys)) words.now) }
 {
     match words {
         [] => Ok(false),
@@ -229,7 +235,8 @@ fn set_fault(
 }
 
 fn is_step(reading: &Reading) -> bool
-    ensures { (condition : Option RawCondition) → reading.now ≡ if_by condition → result ≡ is_some condition }
+    ensures { (condition : Option RawCondition) → reading.now ≡ if_by condition →
+        result ≡ is_some condition }
 {
     match reading {
         Reading::Step(_) => true,
@@ -260,8 +267,11 @@ fn value_fault(
     before: &Before<'_>,
     directive: &Directive,
 ) -> Result<Option<FaultKind>, OutOfMemory>
-    ensures { IfOk result (λ kind. (earlier : List Line) → Remembers (map (λ n. n.now) before.now.names.items) before.now.addrs.keys before.now.locations earlier
-        → kind ≡ value_fault (holds around.entry.known.now.keys) (has_end around.entry.marked.now.keys) role earlier directive.now) }
+    ensures { IfOk result (λ kind. (earlier : List Line) →
+        Remembers (map (λ n. n.now) before.now.names.items) before.now.addrs.keys
+        before.now.locations earlier →
+        kind ≡ value_fault (holds around.entry.known.now.keys)
+        (has_end around.entry.marked.now.keys) role earlier directive.now) }
 {
     let words = directive.args.as_slice();
     match role {
@@ -279,7 +289,10 @@ fn value_fault(
 
 /// Whether `root` and `alias` would stand beside each other.
 fn is_beside(role: Role, before: &Before<'_>) -> bool
-    ensures { (earlier : List Line) → Remembers (map (λ n. n.now) before.now.names.items) before.now.addrs.keys before.now.locations earlier → result ≡ is_beside role earlier }
+    ensures { (earlier : List Line) →
+        Remembers (map (λ n. n.now) before.now.names.items) before.now.addrs.keys
+        before.now.locations earlier →
+        result ≡ is_beside role earlier }
 {
     match role {
         Role::Root => before.has_name(b"alias"),
@@ -291,8 +304,11 @@ fn is_beside(role: Role, before: &Before<'_>) -> bool
 /// Whether another of its name, or one that doesn't stand beside it, stands before.
 fn is_again(rule: &DirectiveRule, before: &Before<'_>, name: &[u8]) -> bool
     requires { entry_of name.now ≡ Some rule.now }
-    ensures { (earlier : List Line) → Remembers (map (λ n. n.now) before.now.names.items) before.now.addrs.keys before.now.locations earlier
-        → result ≡ ((not rule.now.many && is_named name.now earlier) || is_beside (role name.now) earlier) }
+    ensures { (earlier : List Line) →
+        Remembers (map (λ n. n.now) before.now.names.items) before.now.addrs.keys
+        before.now.locations earlier →
+        result ≡ ((not rule.now.many && is_named name.now earlier)
+        || is_beside (role name.now) earlier) }
 {
     (!rule.many && before.has_name(name)) || is_beside(role_of(name), before)
 }
@@ -307,8 +323,11 @@ fn rule_fault(
     directive: &Directive,
 ) -> Result<Option<FaultKind>, OutOfMemory>
     requires { entry_of directive.now.name ≡ Some rule.now }
-    ensures { IfOk result (λ kind. (earlier : List Line) → Remembers (map (λ n. n.now) before.now.names.items) before.now.addrs.keys before.now.locations earlier
-        → kind ≡ rule_fault (holds around.entry.known.now.keys) (has_end around.entry.marked.now.keys) (Some rule.now) here earlier directive.now) }
+    ensures { IfOk result (λ kind. (earlier : List Line) →
+        Remembers (map (λ n. n.now) before.now.names.items) before.now.addrs.keys
+        before.now.locations earlier →
+        kind ≡ rule_fault (holds around.entry.known.now.keys)
+        (has_end around.entry.marked.now.keys) (Some rule.now) here earlier directive.now) }
 {
     let name = directive.name.as_slice();
     let role = role_of(name);
@@ -334,8 +353,11 @@ pub fn own_fault(
     before: &Before<'_>,
     directive: &Directive,
 ) -> Result<Option<FaultKind>, OutOfMemory>
-    ensures { IfOk result (λ kind. (earlier : List Line) → Remembers (map (λ n. n.now) before.now.names.items) before.now.addrs.keys before.now.locations earlier
-        → kind ≡ own_fault (holds around.entry.known.now.keys) (has_end around.entry.marked.now.keys) here earlier directive.now) }
+    ensures { IfOk result (λ kind. (earlier : List Line) →
+        Remembers (map (λ n. n.now) before.now.names.items) before.now.addrs.keys
+        before.now.locations earlier →
+        kind ≡ own_fault (holds around.entry.known.now.keys)
+        (has_end around.entry.marked.now.keys) here earlier directive.now) }
 {
     match entry(directive.name.as_slice()) {
         None => Ok(Some(FaultKind::Unknown)),

@@ -37,7 +37,8 @@ fn some_server(http: &[Directive]) -> Result<(), ReadError>
 
 /// The names of the variables that some directive sets.
 pub fn names_in(alloc: Global, directives: &[Directive]) -> Result<TextSet, OutOfMemory>
-    ensures { IfOk result (λ names. holds names.keys ≡ is_set_in (Content.Directives Place.Top) (forest_of directives.now)) }
+    ensures { IfOk result (λ names. holds names.keys
+        ≡ is_set_in (Content.Directives Place.Top) (forest_of directives.now)) }
 {
     let mut names = TextSet::new(alloc);
     add_names(
@@ -72,10 +73,8 @@ fn check_all<M: PatternMaker>(
 
 /// Looks for the first directive that has no effect yet, in the order of the text.
 ///
-/// Today servers have an effect, by their addresses and names, with locations that are found by a text: where files are, of
-/// which types they are, their index, what `try_files` finds, pages of errors, the size of bodies, access by address, what
-/// `return` answers that doesn't redirect, how long a connection is kept and a peer may take; and what needs none, as it is
-/// accepted without effect.
+/// Each directive that the table names has an effect, or needs none, as it is accepted without effect; but those whose effect
+/// is a subrequest, `auth_request` and `auth_request_set`, have none yet.
 ///
 /// # Errors
 ///
@@ -92,9 +91,9 @@ pub fn check_effects(alloc: Global, directives: &[Directive]) -> Result<(), Conf
 /// # Errors
 ///
 /// `Fault` for the first fault in the order of the text, where at one directive come an unknown name, a place where it
-/// may not stand, a wrong number of words or a block, a second one where one alone may stand, a wrong value, and a pattern that is
-/// none; then `NoServer`, at the beginning of the main file. `TooBig` for a pattern that the maker refused, where there was no fault
-/// before it. And `OutOfMemory`.
+/// may not stand, a wrong number of words or a block, a second one where one alone may stand, a wrong value, and a pattern
+/// that is none; then `NoServer`, at the beginning of the main file. `TooBig` for a pattern that the maker refused, where there
+/// was no fault before it. And `OutOfMemory`.
 pub fn check<M: PatternMaker>(
     alloc: Global,
     maker: &mut M,

@@ -43,8 +43,11 @@ fn fault_in(
     before: &Before<'_>,
     directive: &Directive,
 ) -> Result<Option<FaultKind>, OutOfMemory>
-    ensures { IfOk result (λ kind. (earlier : List Line) → Remembers (map (λ n. n.now) before.now.names.items) before.now.addrs.keys before.now.locations earlier
-        → kind ≡ fault_in (holds around.entry.known.now.keys) (has_end around.entry.marked.now.keys) here earlier directive.now) }
+    ensures { IfOk result (λ kind. (earlier : List Line) →
+        Remembers (map (λ n. n.now) before.now.names.items) before.now.addrs.keys
+        before.now.locations earlier →
+        kind ≡ fault_in (holds around.entry.known.now.keys)
+        (has_end around.entry.marked.now.keys) here earlier directive.now) }
 {
     match here {
         Content::Directives(_) | Content::Closed => {
@@ -81,8 +84,8 @@ fn default_by(here: Content, directive: &Directive) -> Option<Addr>
     }
 }
 
-/// The directives of a level that stands here, and those in their blocks, with their patterns; `marked` are the addresses that have a default
-/// server.
+/// The directives of a level that stands here, and those in their blocks, with their patterns; `marked` are the addresses that
+/// have a default server.
 pub fn check_level<M: PatternMaker>(
     alloc: Global,
     maker: &mut M,

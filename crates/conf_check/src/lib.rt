@@ -1,5 +1,5 @@
-//! The first fault of a configuration, in the order of its text, its regular expressions too, and its first directive that has no effect
-//! yet.
+//! The first fault of a configuration, in the order of its text, its regular expressions too, and its first directive that has
+//! no effect yet.
 #![tactic(auto)]
 
 mod before;

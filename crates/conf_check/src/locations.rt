@@ -41,7 +41,8 @@ impl LocationSet {
     }
 
     pub fn add(&mut self, kind: Kind, text: &[u8]) -> Result<(), OutOfMemory>
-        ensures { OnOk result ((k : Like) (t : List ℕ) → has_location self.new k t ≡ (same_key k t (kind, text.now) || has_location self.old k t)) }
+        ensures { OnOk result ((k : Like) (t : List ℕ) → has_location self.new k t
+            ≡ (same_key k t (kind, text.now) || has_location self.old k t)) }
     {
         match kind {
             Kind::Prefix => self.prefix.add(text),

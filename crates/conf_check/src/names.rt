@@ -54,7 +54,8 @@ fn set_by(
 }
 
 fn add_name(names: &mut TextSet, name: Option<ByteText>) -> Result<(), OutOfMemory>
-    ensures { OnOk result ((q : List ℕ) → holds names.new.keys q ≡ (is_it name q || holds names.old.keys q)) }
+    ensures { OnOk result ((q : List ℕ) →
+        holds names.new.keys q ≡ (is_it name q || holds names.old.keys q)) }
 {
     match name {
         None => Ok(()),
@@ -69,7 +70,8 @@ pub fn add_names(
     level: &[Directive],
     names: &mut TextSet,
 ) -> Result<(), OutOfMemory>
-    ensures { OnOk result ((q : List ℕ) → holds names.new.keys q ≡ (is_set_in here (forest_of level.now) q || holds names.old.keys q)) }
+    ensures { OnOk result ((q : List ℕ) → holds names.new.keys q
+        ≡ (is_set_in here (forest_of level.now) q || holds names.old.keys q)) }
 {
     let mut rest = level;
     while let Some(branch) = first_branch(rest) {

@@ -18,7 +18,7 @@ fn has_feature(feature: Feature) -> bool
     match feature {
         Feature::Core | Feature::Matching | Feature::Content => true,
         Feature::Access | Feature::Deadlines | Feature::Rewriting => true,
-        _ => false,
+        Feature::Includes | Feature::Addition => true,
     }
 }
 

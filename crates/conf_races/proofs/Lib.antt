@@ -1,3 +1,4 @@
+mod GrowLaws
 mod LineLaws
 mod LevelLaws
 mod ServerLaws

@@ -101,13 +101,12 @@ module _ (files : ℕ → List ℕ) (known : List ℕ → Bool) (outer : Outer) 
 abbrev views_of : List Pattern → Site → List ServerView
 views_of patterns site = map (server_whole patterns site) site.servers.items
 
-pub races_seen : (files : ℕ → List ℕ) (patterns : List Pattern) (site : Site) (ds : List Directive) (known : List ℕ → Bool) (outer start : Outer) (http : Forest) (cs : List Conflict) → known ≡ set_in ds → outer ≡ outer_over http start → start ≡ nowhere → http ≡ http_in (forest_of ds)
-    → AreRaces files known outer 1 (views_of patterns site) (blocks_of (codes "server") http) cs → RacesBy files ds (whole patterns site).servers cs
+pub races_seen : (files : ℕ → List ℕ) (patterns : List Pattern) (site : Site) (ds : List Directive) (known : List ℕ → Bool) (http : Forest) (cs : List Conflict) → known ≡ set_in ds → http ≡ http_in (forest_of ds)
+    → AreRaces files known (outer_over http nowhere) 1 (views_of patterns site) (blocks_of (codes "server") http) cs → RacesBy files ds (whole patterns site).servers cs
 unfolding whole
-races_seen files patterns site ds known outer start http cs k o n h t =
-    let by_names = subst (λ k. AreRaces files k outer 1 (views_of patterns site) (blocks_of (codes "server") http) cs) k t in
-    let by_lines = subst (λ o. AreRaces files (set_in ds) o 1 (views_of patterns site) (blocks_of (codes "server") http) cs) (o ∙ ap (outer_over http) n) by_names in
-    subst (λ f. RacesIn files ds f (views_of patterns site) cs) h by_lines
+races_seen files patterns site ds known http cs k h t =
+    let by_names = subst (λ k. AreRaces files k (outer_over http nowhere) 1 (views_of patterns site) (blocks_of (codes "server") http) cs) k t in
+    subst (λ f. RacesIn files ds f (views_of patterns site) cs) h by_names
 
 pub none_seen : (files : ℕ → List ℕ) (patterns : List Pattern) (site : Site) (known : List ℕ → Bool) (outer : Outer) (blocks : List Block) (cs : List Conflict) → AreRaces files known outer 1 (views_of patterns site) blocks cs → cs ≡ []
     → (s : ServerView) → Contains (whole patterns site).servers s → IsRaceless s

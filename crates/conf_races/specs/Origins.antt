@@ -1,5 +1,5 @@
 -- Where the values and the directives of the levels of a server are, by the directives of the configuration.
-use Rattle.std.specs.Prelude.{ℕ, Bool, true, false, List, [], ◌∷◌, ◌++◌, map, flat_map, Option, None, option_map, codes, if◌then◌else◌}
+use Rattle.std.specs.Prelude.{◌≡◌, ℕ, Bool, true, false, List, [], ◌∷◌, ◌++◌, map, flat_map, Option, None, option_map, codes, if◌then◌else◌}
 use Rattle.source_lines.specs.declared.line.Line.{Line}
 use Rattle.conf_text.specs.declared.directive.Directive.{Directive}
 use Rattle.conf_block.specs.Forest.{Forest, End, Branch}
@@ -8,7 +8,7 @@ use Rattle.conf_block.specs.Locations.{is_found}
 use Rattle.rewrite_compile.specs.Programs.{parts_of, line_at}
 use Rattle.conf_inherit.specs.Programs.{blocks_in}
 use Rattle.conf_inherit.specs.Values.{either, own_or, has_items}
-use Rattle.race_places.specs.Places.{Origins, LevelOrigins}
+use Rattle.race_places.specs.Places.{Origins, LevelOrigins, list_at}
 use Rattle.conf_races.specs.declared.outer.OuterLines.{OuterLines}
 
 abbrev pub line_of : Directive → Line
@@ -34,13 +34,21 @@ pub record Outer : Type 0 where
   pub pages : List Line
   pub auth_sets : List Line
 
-abbrev pub outer_by : OuterLines → Outer
-outer_by o = record {
+abbrev pub outer_by : List (List Line) → OuterLines → Outer
+outer_by lists o = record {
   place = o.place;
-  index = o.index.items;
-  pages = o.pages.items;
-  auth_sets = o.auth_sets.items;
+  index = list_at lists o.index;
+  pages = list_at lists o.pages;
+  auth_sets = list_at lists o.auth_sets;
 }
+
+-- lists to which others were added
+abbrev pub Grows : (old new : List (List Line)) → Type 0
+Grows old new = (more : List (List Line)) × (new ≡ old ++ more)
+
+-- by these lists, and whatever is added to them, these numbers are these lines
+abbrev pub Means : List (List Line) → OuterLines → Outer → Type 0
+Means lists o outer = (later : List (List Line)) → Grows lists later → outer_by later o ≡ outer
 
 abbrev pub nowhere : Outer
 nowhere = record { place = None; index = []; pages = []; auth_sets = [] }

@@ -5,37 +5,34 @@ ghost use Rattle.conf_block.specs.Forest.{forest_of};
 ghost use Rattle.rewrite_compile.specs.Readings.{reading_by};
 ghost use Rattle.rewrite_compile.specs.Programs.{parts_of};
 ghost use Rattle.conf_inherit.specs.Programs.{leads, blocks_in};
+ghost use Rattle.source_lines.specs.declared.line.Line.{Line as Place};
 ghost use Rattle.race_places.specs.Places.{origins_by};
-ghost use Rattle.conf_races.specs.Origins.{outer_by, origins_in, block_origins, led_lines, program_lines};
+ghost use Rattle.conf_races.specs.Origins.{Grows, outer_by, origins_in, block_origins, led_lines, program_lines};
 
 use crate::lines::{first_line, line_of};
-use crate::outer::{OuterLines, copied, outer_over};
+use crate::outer::{OuterLines, outer_over};
 use byte_text::OutOfMemory;
 use conf_block::first_branch;
 use conf_text::Directive;
 use conf_values::TextSet;
+use race_places::{HeldLines, LineList};
 use rewrite_compile::{RawStep, Reading, reading_by};
-use source_lines::{LevelLines, Line};
+use source_lines::Line;
 use std::alloc::Global;
 
 /// The lines of a level in which the values of these lines hold, and of its program.
-pub fn level_lines(
-    alloc: Global,
-    outer: &OuterLines,
-    level: &[Directive],
-    program: Vec<Line>,
-) -> Result<LevelLines, OutOfMemory>
-    ensures { IfOk result (λ lines. origins_by lines ≡ origins_in (outer_by outer.now)
-        (forest_of level.now) program.items) }
+pub fn level_lines(outer: OuterLines, level: &[Directive], program: Vec<Line>) -> HeldLines
+    ensures { (lists : List (List Place)) → origins_by lists result
+        ≡ origins_in (outer_by lists outer) (forest_of level.now) program.items }
 {
-    Ok(LevelLines {
+    HeldLines {
         place: outer.place,
-        index: copied(alloc, outer.index.as_slice())?,
+        index: outer.index,
         tries: first_line(level, b"try_files"),
-        pages: copied(alloc, outer.pages.as_slice())?,
-        auth_sets: copied(alloc, outer.auth_sets.as_slice())?,
+        pages: outer.pages,
+        auth_sets: outer.auth_sets,
         program,
-    })
+    }
 }
 
 /// What a directive is to a rewrite program: whether it has a part in one, and whether its block has.
@@ -136,42 +133,48 @@ pub fn push_program(
 
 /// Adds the lines of the block of an `if`, which is a level in which the values of these lines hold.
 fn push_block(
-    blocks: &mut Vec<LevelLines>,
+    blocks: &mut Vec<HeldLines>,
+    lists: &mut Vec<LineList>,
     alloc: Global,
-    outer: &OuterLines,
+    outer: OuterLines,
     is_if: bool,
     block: &[Directive],
 ) -> Result<(), OutOfMemory>
-    ensures { OnOk result (map origins_by blocks.new.items ≡ map origins_by blocks.old.items
-        ++ map (block_origins (outer_by outer.now))
+    ensures grows { OnOk result (Grows lists.old.items lists.new.items) }
+    ensures lines { OnOk result ((later : List (List Place)) → Grows lists.new.items later
+        → map (origins_by later) blocks.new.items ≡ map (origins_by later) blocks.old.items
+        ++ map (block_origins (outer_by later outer))
         (if is_if then forest_of block.now ∷ [] else [])) }
 {
     if !is_if {
         return Ok(());
     }
-    let inner = outer_over(alloc, block, outer)?;
-    blocks.push(level_lines(alloc, &inner, block, Vec::new(alloc))?)?;
+    let inner = outer_over(lists, alloc, block, outer)?;
+    blocks.push(level_lines(inner, block, Vec::new(alloc)))?;
     Ok(())
 }
 
 /// Adds the lines of the blocks of `if`s in a level, each of which is a level in which the values of these lines hold.
 pub fn push_blocks(
-    blocks: &mut Vec<LevelLines>,
+    blocks: &mut Vec<HeldLines>,
+    lists: &mut Vec<LineList>,
     alloc: Global,
     known: &TextSet,
-    outer: &OuterLines,
+    outer: OuterLines,
     level: &[Directive],
 ) -> Result<(), OutOfMemory>
-    ensures { OnOk result (map origins_by blocks.new.items ≡ map origins_by blocks.old.items
-        ++ map (block_origins (outer_by outer.now))
+    ensures grows { OnOk result (Grows lists.old.items lists.new.items) }
+    ensures lines { OnOk result ((later : List (List Place)) → Grows lists.new.items later
+        → map (origins_by later) blocks.new.items ≡ map (origins_by later) blocks.old.items
+        ++ map (block_origins (outer_by later outer))
         (blocks_in (holds known.now.keys) (forest_of level.now))) }
 {
     let mut rest = level;
     while let Some(branch) = first_branch(rest) {
         let led = led_of(alloc, known, branch.directive)?;
-        push_block(blocks, alloc, outer, led.block, branch.block)?;
+        push_block(blocks, lists, alloc, outer, led.block, branch.block)?;
         let block = block_if(led.block, branch.block);
-        push_blocks(blocks, alloc, known, outer, block)?;
+        push_blocks(blocks, lists, alloc, known, outer, block)?;
         rest = branch.beside;
     }
     Ok(())

@@ -10,7 +10,7 @@ ghost use Rattle.race_meaning.specs.Conflicts.{AreConflicts};
 ghost use Rattle.race_meaning.specs.Named.{IsRaceless};
 ghost use Rattle.race_places.specs.Places.{server_sources, conflict_seen};
 ghost use Rattle.race_places.specs.declared.told.Conflict.{Conflict as Told};
-ghost use Rattle.conf_races.specs.Origins.{outer_by, server_origins};
+ghost use Rattle.conf_races.specs.Origins.{Outer, Means, nowhere, outer_over, server_origins};
 ghost use Rattle.conf_races.specs.Races.{first_body, behind, AreRaces, RacesBy, RacesOf, conflicts_seen};
 
 use crate::outer::{OuterLines, nowhere, outer_over};
@@ -22,7 +22,7 @@ use conf_check::names_in;
 use conf_text::Directive;
 use conf_values::TextSet;
 use race_check::named_in;
-use race_places::{Conflict, placed};
+use race_places::{Conflict, LineList, placed};
 use site_model::{Server, Site};
 use std::alloc::Global;
 
@@ -40,35 +40,47 @@ fn next_server(level: &[Directive]) -> (&[Directive], &[Directive])
     }
 }
 
+/// Where the values are stated that hold around servers, and the lists that the numbers in that stand for.
+#[derive(Drop)]
+struct Around {
+    lists: Vec<LineList>,
+    lines: OuterLines,
+}
+
+/// Where the values are stated that hold in `http`.
+fn around_servers(alloc: Global, http: &[Directive]) -> Result<Around, OutOfMemory>
+    ensures { IfOk result (λ around.
+        Means around.lists.items around.lines (outer_over (forest_of http.now) nowhere)) }
+{
+    let mut lists = Vec::new(alloc);
+    let lines = outer_over(&mut lists, alloc, http, nowhere())?;
+    Ok(Around { lists, lines })
+}
+
 /// The variables that are named in a server with this block.
 fn races_in(
     alloc: Global,
     known: &TextSet,
-    outer: &OuterLines,
+    around: &Around,
     site: &Site,
     server: &Server,
     number: usize,
     block: &[Directive],
 ) -> Result<Vec<Conflict>, OutOfMemory>
-    ensures { IfOk result (λ conflicts. (files : ℕ → List ℕ) (patterns : List Pattern)
+    ensures { IfOk result (λ conflicts. (outer : Outer)
+        → Means around.now.lists.items around.now.lines outer
+        → (files : ℕ → List ℕ) (patterns : List Pattern)
         → AreConflicts number (server_whole patterns site.now server.now)
         (server_sources files (server_whole patterns site.now server.now)
-        (server_origins (holds known.now.keys) (outer_by outer.now) (forest_of block.now)))
+        (server_origins (holds known.now.keys) outer (forest_of block.now)))
         (map (conflict_seen files) conflicts.items)) }
 {
     let named = named_in(alloc, site, server, number)?;
     if named.is_empty() {
         return Ok(Vec::new(alloc));
     }
-    let lines = server_lines(alloc, known, outer, block)?;
-    let conflicts = placed(
-        alloc,
-        site,
-        server,
-        number,
-        lines.as_slice(),
-        named.as_slice(),
-    )?;
+    let lines = server_lines(alloc, known, around.lists.as_slice(), around.lines, block)?;
+    let conflicts = placed(alloc, site, server, number, &lines, named.as_slice())?;
     Ok(conflicts)
 }
 
@@ -76,12 +88,14 @@ fn races_in(
 fn races_of(
     alloc: Global,
     known: &TextSet,
-    outer: &OuterLines,
+    around: &Around,
     site: &Site,
     http: &[Directive],
 ) -> Result<Vec<Conflict>, OutOfMemory>
-    ensures { IfOk result (λ conflicts. (files : ℕ → List ℕ) (patterns : List Pattern)
-        → AreRaces files (holds known.now.keys) (outer_by outer.now) 1
+    ensures { IfOk result (λ conflicts. (outer : Outer)
+        → Means around.now.lists.items around.now.lines outer
+        → (files : ℕ → List ℕ) (patterns : List Pattern)
+        → AreRaces files (holds known.now.keys) outer 1
         (map (server_whole patterns site.now) site.now.servers.items)
         (blocks_of (codes "server") (forest_of http.now))
         (map (conflict_seen files) conflicts.items)) }
@@ -92,7 +106,7 @@ fn races_of(
     for server in &site.servers {
         number += 1;
         let (block, beside) = next_server(rest);
-        let mut here = races_in(alloc, known, outer, site, server, number, block)?;
+        let mut here = races_in(alloc, known, around, site, server, number, block)?;
         conflicts.append(&mut here)?;
         rest = beside;
     }
@@ -124,8 +138,8 @@ fn races_by(
 {
     let known = names_in(alloc, directives)?;
     let http = http_in(directives);
-    let outer = outer_over(alloc, http, &nowhere(alloc))?;
-    let conflicts = races_of(alloc, &known, &outer, site, http)?;
+    let around = around_servers(alloc, http)?;
+    let conflicts = races_of(alloc, &known, &around, site, http)?;
     Ok(conflicts)
 }
 

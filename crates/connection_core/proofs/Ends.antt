@@ -1,23 +1,18 @@
 -- A connection is held, or let go.
 use Rattle.std.proofs.Common.{◌≡◌, ◌≢◌, inl, inr, ℕ, ◌+◌, ◌<◌, ◌≤◌, Bool, true, false, cond, eqb, not, ◌&&◌, ◌||◌, List, [], ◌∷◌, ◌++◌, length, get_or, refl, sym, ap, ◌∙◌, subst, arith, length-append, suc, zero}
-use Rattle.std.specs.Borrow.{Bor}
-use Rattle.std.specs.Prelude.{nat_lt, ◌↔◌, ◌⊎◌, Option, None, Some, IfSome, option_copied}
+use Rattle.std.specs.Prelude.{nat_lt, ◌↔◌, ◌⊎◌, None}
 use Rattle.std.specs.List.{AllByRecursion, Contains, insert, remove}
 use Rattle.std.specs.List.Sorted.{IsStrictlyIncreasing}
 use Rattle.std.proofs.lemmas.Bool.Decides.{nat_tests}
 use Rattle.std.proofs.lemmas.List.Sums.{sum_by-append}
-use Rattle.ngx_outside.specs.Views.{ConnView, Start, StepsOwn, OneSteps, OpensIf, Fresh, nobody, ask_in}
+use Rattle.ngx_outside.specs.Views.{ConnView, Start, StepsOwn, OneSteps, OpensIf, Fresh, nobody}
 use Rattle.ngx_outside.specs.Wants.{wants_at, first_doable}
 use Rattle.http_types.specs.declared.words.Addr.{Addr}
-use Rattle.file_tree.specs.Tree.{tree_of}
-use Rattle.file_tree.specs.declared.job.Ask.{Ask}
 use Rattle.ngx_outside.specs.declared.event.Event.{Event}
 use Rattle.ngx_outside.specs.declared.event.StepAnswer.{StepAnswer}
 use Rattle.ngx_outside.specs.declared.event.Event.TheVariants as ev
 use Rattle.ngx_outside.specs.declared.event.StepAnswer.TheVariants.{Done, Skipped, OutOfMemory}
 use Rattle.http_connection.specs.declared.conn.Conn.{Conn}
-use Rattle.request_flow.specs.declared.flow.Flow.{Flow}
-use Rattle.request_flow.specs.Flows.{jobs_of, waits, tree_asked}
 use Rattle.ngx_pattern.specs.Pattern.{Pattern as SetPattern}
 use Rattle.site_model.specs.declared.site.Site.{Site}
 use Rattle.http_connection.specs.Conn.{view_of, left_of, asked_of, price, weight, fresh_course, StepsConn}
@@ -81,10 +76,10 @@ put_beside serves c at ids ids' conns conns' x g e f q ne =
     ap (λ l. view_in serves l conns' q) (e ∙ ids_put c at ids conns g) ∙ ap (λ l. view_in serves (b.front ++ c ∷ b.back) l q) (f ∙ conns_put c at ids conns x g) ∙ elsewhere serves b.front g.front c x b.back g.back q g.even ne
     ∙ sym (ap (λ l. view_in serves l conns q) b.whole ∙ ap (λ l. view_in serves (b.front ++ b.back) l q) g.whole)
 
-pub put_steps : (serves : Serves) (c at : ℕ) (ids ids' : List ℕ) (conns conns' : List Conn) (x : Conn) (g : Gap c at ids conns) → ids' ≡ insert ids at c → conns' ≡ insert conns at x → (local peer : Addr) → Fresh (fresh_course serves.patterns serves.served.site local peer) (view_of serves x) →
-    (now : Start) (taken : ℕ) → OneSteps c (StepsOwn (fresh_course serves.patterns serves.served.site local peer) now (ev.Opened c local peer) (Done taken)) (view_in serves ids conns) (view_in serves ids' conns')
+pub put_steps : (serves : Serves) (c at : ℕ) (ids ids' : List ℕ) (conns conns' : List Conn) (x : Conn) (g : Gap c at ids conns) → ids' ≡ insert ids at c → conns' ≡ insert conns at x → (local peer : Addr) → Fresh (fresh_course serves.served.raceless serves.patterns serves.served.site local peer) (view_of serves x) →
+    (now : Start) (taken : ℕ) → OneSteps c (StepsOwn (fresh_course serves.served.raceless serves.patterns serves.served.site local peer) now (ev.Opened c local peer) (Done taken)) (view_in serves ids conns) (view_in serves ids' conns')
 put_steps serves c at ids ids' conns conns' x g e f local peer fresh now taken = record {
-  own = (ap (λ (v : ConnView). v.held) (put_before serves c at ids conns g.belongs), subst (λ v. Fresh (fresh_course serves.patterns serves.served.site local peer) v) (sym (put_after serves c at ids ids' conns conns' x g e f)) fresh);
+  own = (ap (λ (v : ConnView). v.held) (put_before serves c at ids conns g.belongs), subst (λ v. Fresh (fresh_course serves.served.raceless serves.patterns serves.served.site local peer) v) (sym (put_after serves c at ids ids' conns conns' x g e f)) fresh);
   others = put_beside serves c at ids ids' conns conns' x g e f;
 }
 
@@ -261,20 +256,6 @@ known_at tree c at ids conns s known =
 pub known_later : (tree later : ℕ) (conns : List Conn) → tree ≤ later → AllKnown tree conns → AllKnown later conns
 known_later tree later [] h a = tt
 known_later tree later (x ∷ conns) h a = (let b = a.0 in omega (arith, h, b), known_later tree later conns h a.1)
-
--- a job asks of the tree of its connection's request
-pub asks_known : (flow : Option Flow) (node tree : ℕ) (job : Option (Bor Ask)) → option_copied job ≡ ask_in (jobs_of flow) node → tree_asked flow ≤ tree → IfSome job (λ ask. tree_of ask.now ≤ tree)
-asks_known flow node tree None e h = tt
-asks_known None node tree (Some ask) e h = cc
-asks_known (Some flow) node tree (Some ask) e h = by (waits flow.stage) e
-  where
-    at : (t : Bool) → Some ask.now ≡ cond t (Some flow.ask) None → tree_of ask.now ≤ tree
-    at true f = let g = ap tree_of (let i : ask.now ≡ flow.ask = cc in i) in omega (arith, g, h)
-    at false f = cc
-
-    by : (t : Bool) → Some ask.now ≡ ask_in (cond t (record { node = 0; ask = flow.ask } ∷ []) []) node → tree_of ask.now ≤ tree
-    by true f = at (eqb 0 node) f
-    by false f = cc
 
 -- nobody wants anything
 pub no_wants : (c : ℕ) (due full : Bool) → first_doable due full (wants_at c nobody) ≡ None

@@ -11,7 +11,7 @@ use Rattle.ngx_outside.specs.declared.event.StepAnswer.{StepAnswer}
 use Rattle.ngx_outside.specs.declared.event.StepAnswer.TheVariants.{Done, Skipped, OutOfMemory}
 use Rattle.http_connection.specs.declared.conn.Conn.{Conn}
 use Rattle.http_connection.specs.Conn.{view_of, left_of, price, ended_by, StepsConn}
-use Rattle.http_connection.specs.Rests.{Serves}
+use Rattle.http_connection.specs.Rests.{Serves, IsReachedIn, TellsRaceless}
 use Rattle.connection_core.specs.Table.{view_in, journal_in, left_in, is_own, price_each, Below, StandsAt, BelongsAt, Placed, Replaced}
 use Rattle.connection_core.proofs.Tables.{there, elsewhere, nowhere, none_of_two}
 use Rattle.connection_core.proofs.Rows.{Parted, parted_at}
@@ -87,11 +87,11 @@ beside serves c at ids conns conns' Does s r q ne =
 
 -- one connection has changed
 pub one_steps : (serves : Serves) (c at : ℕ) (ids : List ℕ) (conns conns' : List Conn) (now : Start) (e : Event) (a : StepAnswer) (s : Seat c at ids conns) →
-    Replaced at conns (λ old new. StepsConn serves now e a old new) s.placed conns' → (course : Course) → OneSteps c (StepsOwn course now e a) (view_in serves ids conns) (view_in serves ids conns')
-one_steps serves c at ids conns conns' now e a s r course = record {
+    Replaced at conns (λ old new. StepsConn serves now e a old new) s.placed conns' → TellsRaceless serves → IsReachedIn serves s.placed.here.flight → (course : Course) → OneSteps c (StepsOwn course now e a) (view_in serves ids conns) (view_in serves ids conns')
+one_steps serves c at ids conns conns' now e a s r told led course = record {
   own =
       subst (λ v. StepsOwn course now e a v (view_in serves ids conns' c)) (sym (seen serves c at ids conns s))
-      (subst (λ v. StepsOwn course now e a (view_of serves s.placed.here) v) (sym (changed serves c at ids conns conns' (λ old new. StepsConn serves now e a old new) s r)) (r.does.own course));
+      (subst (λ v. StepsOwn course now e a (view_of serves s.placed.here) v) (sym (changed serves c at ids conns conns' (λ old new. StepsConn serves now e a old new) s r)) (r.does.own told led course));
   others = beside serves c at ids conns conns' (λ old new. StepsConn serves now e a old new) s r;
 }
 

@@ -6,3 +6,6 @@ pub mod Ends
 pub mod Steps
 pub mod Shown
 pub mod Ticks
+pub mod Reached
+pub mod Told
+pub mod Asked

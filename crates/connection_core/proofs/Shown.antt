@@ -57,8 +57,8 @@ logged_in serves (id ∷ ids) [] c = refl
 logged_in serves (id ∷ ids) (conn ∷ conns) c =
     elim (eqb id c) as (λ t. map log_of (cond t conn.journal.items (journal_in ids conns c)) ≡ (cond t (view_of serves conn) (view_in serves ids conns c)).logs) [ true ↦ refl | false ↦ logged_in serves ids conns c ]
 
-pub raceless_in : (serves : Serves) (ids : List ℕ) (conns : List Conn) (c : ℕ) → (view_in serves ids conns c).raceless ≡ true
-raceless_in serves [] conns c = refl
-raceless_in serves (id ∷ ids) [] c = refl
-raceless_in serves (id ∷ ids) (conn ∷ conns) c =
-    elim (eqb id c) as (λ t. (cond t (view_of serves conn) (view_in serves ids conns c)).raceless ≡ true) [ true ↦ refl | false ↦ raceless_in serves ids conns c ]
+pub raceless_in : (serves : Serves) (ids : List ℕ) (conns : List Conn) (c : ℕ) → serves.served.raceless ≡ true → (view_in serves ids conns c).raceless ≡ true
+raceless_in serves [] conns c h = refl
+raceless_in serves (id ∷ ids) [] c h = refl
+raceless_in serves (id ∷ ids) (conn ∷ conns) c h =
+    elim (eqb id c) as (λ t. (cond t (view_of serves conn) (view_in serves ids conns c)).raceless ≡ true) [ true ↦ h | false ↦ raceless_in serves ids conns c h ]

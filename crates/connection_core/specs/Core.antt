@@ -1,5 +1,5 @@
 -- What the core shows.
-use Rattle.std.specs.Prelude.{◌≡◌, ℕ, true, List, map, None}
+use Rattle.std.specs.Prelude.{◌≡◌, ℕ, Bool, true, List, map, None, Contains}
 use Rattle.http_types.specs.declared.words.Addr.{Addr}
 use Rattle.ngx_outside.specs.Views.{ConnView, Course, Start, start_of, log_of, IsSound}
 use Rattle.ngx_outside.specs.declared.event.Entry.{Entry}
@@ -8,7 +8,11 @@ use Rattle.http_connection.specs.Conn.{fresh_course, IsExact}
 use Rattle.http_connection.specs.Rests.{Serves}
 use Rattle.connection_core.specs.Table.{serves_with, view_in, journal_in, left_in, listens_there, most_held, price_each}
 use Rattle.ngx_pattern.specs.Pattern.{Pattern as SetPattern}
+use Rattle.pattern_search.specs.Found.{patterns_seen}
 use Rattle.site_model.specs.declared.site.Site.{Site}
+use Rattle.site_views.specs.Views.{ServerView}
+use Rattle.site_whole.specs.Whole.{whole}
+use Rattle.race_meaning.specs.Named.{IsRaceless}
 use Rattle.connection_core.specs.declared.hub.Hub.{Hub}
 
 -- what its connections are served: the site, with its patterns
@@ -29,7 +33,8 @@ conns_held h = h.table.ids.items
 
 -- what is to come on one that is opened now, with these ends
 abbrev pub fresh_at : Hub → Addr → Addr → Course
-fresh_at h local peer = fresh_course h.space.patterns h.table.served.site local peer
+fresh_at h local peer =
+    fresh_course h.table.served.raceless h.space.patterns h.table.served.site local peer
 
 abbrev pub now_at : Hub → Start
 now_at h = record { moment = h.moment; tree = h.tree }
@@ -45,9 +50,10 @@ refused_at h = h.refused
 
 -- What a core of a site with these patterns keeps to: each connection is served by the site at its
 -- two ends, where one of the site's servers listens at its local end; at most 512 are held at once.
-abbrev pub site_terms : List SetPattern → Site → Terms
-site_terms patterns site = record {
-  fresh = fresh_course patterns site;
+-- `raceless` says that the race check named no variable of the site.
+abbrev pub site_terms : (raceless : Bool) → List SetPattern → Site → Terms
+site_terms raceless patterns site = record {
+  fresh = fresh_course raceless patterns site;
   serves = listens_there patterns site;
   limit = most_held;
   price = price_each;
@@ -55,7 +61,13 @@ site_terms patterns site = record {
 
 -- what it keeps to
 abbrev pub terms_at : Hub → Terms
-terms_at h = site_terms h.space.patterns h.table.served.site
+terms_at h = site_terms h.table.served.raceless h.space.patterns h.table.served.site
+
+-- the race check names no variable of any server of a site with these patterns
+abbrev pub IsRacelessSite : List SetPattern → Site → Type 0
+IsRacelessSite patterns site =
+    (server : ServerView) → Contains (whole (patterns_seen patterns) site).servers server →
+    IsRaceless server
 
 -- all that it shows; it doesn't tell the events that it was given
 abbrev pub seen_at : Hub → CoreSeen
@@ -71,13 +83,14 @@ seen_at h =
     }
 
 -- what is so of each connection that a core shows: it is sound and exact, its journal tells when
--- its requests started and what is logged of each, and the order of steps can't change its bytes
+-- its requests started and what is logged of each, and where the race check named no variable of
+-- the site the order of steps can't change its bytes
 pub record IsShown (h : Hub) (c : ℕ) : Type 0 where
   pub sound : IsSound (view_at h c)
   pub exact : IsExact (view_at h c)
   pub started : map start_of (journal_at h c) ≡ (view_at h c).starts
   pub logged : map log_of (journal_at h c) ≡ (view_at h c).logs
-  pub raceless : (view_at h c).raceless ≡ true
+  pub raceless : h.table.served.raceless ≡ true → (view_at h c).raceless ≡ true
 
 abbrev pub AllShown : Type 0
 AllShown = (h : Hub) (c : ℕ) → IsShown h c

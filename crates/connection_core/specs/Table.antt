@@ -1,5 +1,5 @@
 -- The connections that are held, each under its number.
-use Rattle.std.specs.Prelude.{◌≡◌, Bool, true, false, ℕ, ◌+◌, ◌==◌, ◌<◌, ◌≤◌, List, [], ◌∷◌, ◌++◌, length, sum_by, not, ◌&&◌, ◌||◌, nat_lt, is_some, if◌then◌else◌}
+use Rattle.std.specs.Prelude.{◌≡◌, ◌⊎◌, Bool, true, false, ℕ, ◌+◌, ◌==◌, ◌<◌, ◌≤◌, List, [], ◌∷◌, ◌++◌, length, sum_by, not, ◌&&◌, ◌||◌, nat_lt, None, is_some, if◌then◌else◌}
 use Rattle.std.specs.List.{AllByRecursion}
 use Rattle.ngx_outside.specs.Views.{ConnView, Ticked, nobody}
 use Rattle.ngx_outside.specs.Causes.{Rose}
@@ -17,7 +17,7 @@ use Rattle.site_whole.specs.Whole.{whole}
 use Rattle.served_site.specs.declared.served.ServedSite.{ServedSite}
 use Rattle.http_connection.specs.declared.conn.Conn.{Conn}
 use Rattle.http_connection.specs.Conn.{view_of, left_of, asked_of, due_at, price}
-use Rattle.http_connection.specs.Rests.{Serves}
+use Rattle.http_connection.specs.Rests.{Serves, IsReachedIn}
 use Rattle.http_connection.specs.Times.{soonest}
 
 -- a site that is served, with its patterns
@@ -46,17 +46,22 @@ left_in conns = sum_by (λ conn. 1 + left_of conn) conns
 abbrev pub AllKnown : ℕ → List Conn → Type 0
 AllKnown tree conns = AllByRecursion (λ conn. asked_of conn ≤ tree) conns
 
+-- steps have led to the response in flight on each of them
+abbrev pub AllReached : Serves → List Conn → Type 0
+AllReached x conns = AllByRecursion (λ (conn : Conn). IsReachedIn x conn.flight) conns
+
 -- none of them is given up before this moment
 abbrev pub AllLater : ℕ → List Conn → Type 0
 AllLater soon conns = AllByRecursion (λ conn. soon ≤ soonest (due_at conn)) conns
 
 -- What the clock's telling does to a connection: it is given up exactly where its moment has come,
--- and nothing more is left to do.
+-- and nothing more is left to do. Its response stays in flight, or is dropped.
 pub record TickedOne (now : ℕ) (old new : Conn) : Type 0 where
   pub ticked : (serves : Serves) → Ticked now (view_of serves old) (view_of serves new)
   pub left : left_of new ≤ left_of old
   pub asked : asked_of new ≤ asked_of old
   pub ended : new.ended ≡ old.ended
+  pub flight : (new.flight ≡ old.flight) ⊎ (new.flight ≡ None)
 
 abbrev pub AllTicked : ℕ → List Conn → List Conn → Type 0
 AllTicked now [] [] = Unit {0}

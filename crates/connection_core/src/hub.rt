@@ -1,7 +1,8 @@
 // The core.
 ghost use Rattle.std.specs.Prelude.{◌≡◌};
 ghost use Rattle.std.proofs.Props.{props};
-ghost use Rattle.connection_core.specs.Table.{AllKnown, Counted};
+ghost use Rattle.http_connection.specs.Rests.{TellsRaceless};
+ghost use Rattle.connection_core.specs.Table.{AllKnown, AllReached, Counted, serves_with};
 
 use crate::law::cores_are_sound;
 use crate::table::Table;
@@ -30,7 +31,8 @@ fn count(refused: &mut u64, answer: StepAnswer)
 }
 
 /// The core of a site: all connections that are held, at most 512, each under its number. The requests of all start by one
-/// clock and by one number of the tree.
+/// clock and by one number of the tree. Steps have led to each response in flight, and where the site says that the race check
+/// named no variable of it, none is named.
 #[derive(Drop)]
 pub struct Hub {
     pub(crate) space: Workspace,
@@ -39,6 +41,8 @@ pub struct Hub {
     pub(crate) tree: u64,
     pub(crate) refused: u64,
     ghost known: { AllKnown tree table.conns.items } by { Prim.hlevel props },
+    ghost told: { TellsRaceless (serves_with space.patterns table.served) } by { Prim.hlevel props },
+    ghost reached: { AllReached (serves_with space.patterns table.served) table.conns.items } by { Prim.hlevel props },
 }
 
 impl Hub {
@@ -48,13 +52,15 @@ impl Hub {
     ghost use Rattle.ngx_outside.specs.Views.{Steps, OpensIf, LeftBy, CountsRefused, TakesNone, Course, now_after, ended_after, nobody, is_idle as idle_in};
     ghost use Rattle.connection_core.specs.Table.{is_own, event_conn, price_each};
     ghost use Rattle.http_connection.specs.Conn.{view_of, asked_of};
-    ghost use Rattle.connection_core.specs.Core.{serves_at, view_at, journal_at, conns_held, terms_at, site_terms, now_at, left_at, refused_at};
+    ghost use Rattle.connection_core.specs.Core.{serves_at, view_at, journal_at, conns_held, terms_at, site_terms, now_at, left_at, refused_at, IsRacelessSite};
 
-    /// A core that holds no connection, at moment 0 and tree 0, of a site with these patterns.
+    /// A core that holds no connection, at moment 0 and tree 0, of a site with these patterns. The site says that the race check
+    /// named no variable of it only where none is named.
     pub fn new(alloc: Global, served: ServedSite, patterns: PatternSet) -> Self
+        requires quiet { served.raceless ≡ true → IsRacelessSite patterns served.site }
         ensures empty { (c : ℕ) → view_at result c ≡ nobody }
         ensures none { conns_held result ≡ [] }
-        ensures terms { terms_at result ≡ site_terms patterns served.site }
+        ensures terms { terms_at result ≡ site_terms served.raceless patterns served.site }
         ensures now { now_at result ≡ record { moment = 0; tree = 0 } }
         ensures left { left_at result ≡ 0 }
         ensures refused { refused_at result ≡ 0 }

@@ -120,7 +120,7 @@ pub(crate) fn happen(
             conn: _,
             node,
             answer,
-        } => conn.file_done(moment, node, answer),
+        } => conn.file_done(space.alloc, moment, node, answer),
         Event::JobFailed { conn: _, node } => conn.job_failed(node),
         Event::Run { conn: _, node } => conn.runs(space, served, moment, tree, node),
         Event::Tick { now: _ } => StepAnswer::Skipped,

@@ -31,14 +31,14 @@ pub(crate) struct Table {
 }
 
 impl Table {
-    ghost use Rattle.std.specs.Prelude.{◌≡◌, ◌≢◌, ◌+◌, ◌-◌, ◌^◌, ◌*◌, ◌<◌, ◌≤◌, ℕ, List, [], true, false, IfOk, IfSome, OnOk, MatchOption, Some, length, insert, vec_len, vec_capacity};
+    ghost use Rattle.std.specs.Prelude.{◌≡◌, ◌≢◌, ◌+◌, ◌-◌, ◌^◌, ◌*◌, ◌<◌, ◌≤◌, ℕ, List, [], true, false, IfOk, IfSome, OnOk, MatchOption, None, Some, length, insert, vec_len, vec_capacity};
     ghost use Rattle.http_types.specs.declared.words.Addr.{Addr as End};
     ghost use Rattle.ngx_outside.specs.Views.{Start, Steps, StepsOwn, OneSteps, LeftBy, OpensIf, TakesNone, CountsHeld, Course, Fresh, nobody};
     ghost use Rattle.ngx_outside.specs.declared.event.Event.TheVariants.{Opened, Gone};
     ghost use Rattle.http_connection.specs.Conn.{view_of, fresh_course, left_of, weight, asked_of, ended_by};
-    ghost use Rattle.http_connection.specs.Rests.{Serves};
+    ghost use Rattle.http_connection.specs.Rests.{Serves, TellsRaceless};
     ghost use Rattle.ngx_pattern.specs.Pattern.{Pattern as SetPattern};
-    ghost use Rattle.connection_core.specs.Table.{is_own, serves_with, listens_there, view_in, journal_in, left_in, price_each, opens_in, AllKnown, AllTicked, BelongsAt};
+    ghost use Rattle.connection_core.specs.Table.{is_own, serves_with, listens_there, view_in, journal_in, left_in, price_each, opens_in, AllKnown, AllReached, AllTicked, BelongsAt};
 
     /// No connection is held.
     pub(crate) fn new(alloc: Global, served: ServedSite) -> Self
@@ -96,9 +96,11 @@ impl Table {
         ensures ids_room { OnOk result (vec_len self.new.ids < vec_capacity self.new.ids) }
         ensures conns_room { OnOk result (vec_len self.new.conns < vec_capacity self.new.conns) }
         ensures fresh { IfOk result (λ c. (x : Serves) →
-            Fresh (fresh_course x.patterns x.served.site local peer) (view_of x c)) }
+            Fresh (fresh_course x.served.raceless x.patterns x.served.site local peer)
+            (view_of x c)) }
         ensures left { IfOk result (λ c. left_of c ≡ 1 + weight) }
         ensures asked { IfOk result (λ c. asked_of c ≡ 0) }
+        ensures flight { IfOk result (λ c. c.flight ≡ None) }
     {
         self.ids.reserve(1)?;
         self.conns.reserve(1)?;
@@ -131,8 +133,8 @@ impl Table {
         moment: u64,
     ) -> StepAnswer
         ensures steps { (patterns : List SetPattern) (now : Start) → OneSteps conn
-            (StepsOwn (fresh_course patterns self.old.served.site local peer) now
-            (Opened conn local peer) result)
+            (StepsOwn (fresh_course self.old.served.raceless patterns self.old.served.site local
+            peer) now (Opened conn local peer) result)
             (view_in (serves_with patterns self.old.served) self.old.ids.items
             self.old.conns.items)
             (view_in (serves_with patterns self.new.served) self.new.ids.items
@@ -145,6 +147,8 @@ impl Table {
         ensures taken { TakesNone (Opened conn local peer) result }
         ensures known { (tree : ℕ) → AllKnown tree self.old.conns.items →
             AllKnown tree self.new.conns.items }
+        ensures reached { (x : Serves) → AllReached x self.old.conns.items →
+            AllReached x self.new.conns.items }
         ensures left { LeftBy price_each (Opened conn local peer) result
             (left_in self.old.conns.items) (left_in self.new.conns.items) }
         ensures served { self.new.served ≡ self.old.served }
@@ -174,7 +178,9 @@ impl Table {
         event: Event,
     ) -> StepAnswer
         requires own { is_own event ≡ true }
-        ensures steps { OneSteps conn (StepsOwn nobody.course
+        ensures steps { TellsRaceless (serves_with space.old.patterns self.old.served) →
+            AllReached (serves_with space.old.patterns self.old.served) self.old.conns.items →
+            OneSteps conn (StepsOwn nobody.course
             (record { moment = moment; tree = tree }) event.entry result)
             (view_in (serves_with space.old.patterns self.old.served) self.old.ids.items
             self.old.conns.items)
@@ -189,6 +195,9 @@ impl Table {
             self.old.conns.items conn).ended }
         ensures taken { TakesNone event.entry result }
         ensures known { AllKnown tree self.old.conns.items → AllKnown tree self.new.conns.items }
+        ensures reached { AllReached (serves_with space.old.patterns self.old.served)
+            self.old.conns.items → AllReached (serves_with space.old.patterns self.old.served)
+            self.new.conns.items }
         ensures ids { self.new.ids.items ≡ self.old.ids.items }
         ensures served { self.new.served ≡ self.old.served }
         ensures patterns { space.new.patterns ≡ space.old.patterns }
@@ -246,6 +255,8 @@ impl Table {
         ensures taken { TakesNone (Gone conn) result }
         ensures known { (tree : ℕ) → AllKnown tree self.old.conns.items →
             AllKnown tree self.new.conns.items }
+        ensures reached { (x : Serves) → AllReached x self.old.conns.items →
+            AllReached x self.new.conns.items }
         ensures left { LeftBy price_each (Gone conn) result (left_in self.old.conns.items)
             (left_in self.new.conns.items) }
         ensures served { self.new.served ≡ self.old.served }

@@ -11,14 +11,14 @@ use Rattle.req_head.specs.declared.head.HeadStep.TheVariants.{More, Head, Bad}
 use Rattle.req_head.specs.Step.{head_step}
 use Rattle.body_frame.specs.State.{body_of}
 use Rattle.body_frame.specs.declared.state.BodyState.{BodyState}
-use Rattle.request_flow.specs.declared.flow.Flow.{Flow}
+use Rattle.response_flow.specs.declared.flight.Flight.{Flight}
 use Rattle.http_connection.specs.Steps.{starts, logged_in, IsLogged}
 use Rattle.http_connection.specs.Conn.{view_at, bytes_at, logs_at, idle_at, IsExact}
 use Rattle.http_connection.proofs.Sound.{shut_parts, unshut, idle_shown}
 use Rattle.answers_meaning.specs.Asking.{Service}
 use Rattle.answers_meaning.specs.Answers.{Answer, Sends, Closes, responses, first_response, logs_in, after_body}
 use Rattle.http_connection.specs.Rests.{rest_in, Serves}
-use Rattle.request_flow.specs.Flows.{flow_fits}
+use Rattle.response_flow.specs.Flights.{FlightFits}
 
 both : (a b : Bool) → a ≡ true → b ≡ true → (not false && a && b) ≡ true
 both true true e f = refl
@@ -83,8 +83,8 @@ module _ (serves : Serves) where
   more_left service (b ∷ out) journal closing body held next trees start later looked told w none e = cc
   more_left service [] journal closing body held next trees start later looked told w none e = more_logged service journal closing body held next trees start later looked told w e
 
-  pub exact : (service : Service) (cause : Option StopCause) (flow : Option Flow) (out : List ℕ) (journal : List Entry) (closing ended : Bool) (body : Option BodyState) (held : List ℕ) (next : HeadStep) →
-      (is_some cause ≡ false → next ≡ head_step held) → flow_fits flow (length out) ≡ true → (is_some cause ≡ false → IsLogged (is_some flow) journal) → IsExact (view_at serves service cause flow out journal closing ended body held next)
+  pub exact : (service : Service) (cause : Option StopCause) (flow : Option Flight) (out : List ℕ) (journal : List Entry) (closing ended : Bool) (body : Option BodyState) (held : List ℕ) (next : HeadStep) →
+      (is_some cause ≡ false → next ≡ head_step held) → FlightFits flow (length out) → (is_some cause ≡ false → IsLogged (is_some flow) journal) → IsExact (view_at serves service cause flow out journal closing ended body held next)
   exact service (Some why) flow out journal closing ended body held next looked fits told = record {
     rests = λ l s. cc;
     ends = λ i e. refl;

@@ -1,10 +1,11 @@
 -- What a connection keeps to, from one step to the next.
-use Rattle.std.proofs.Common.{◌≡◌, ℕ, ◌-◌, ◌<◌, ◌≤◌, ◌+◌, Bool, true, false, cond, List, [], ◌++◌, length, length-append, Option, None, Some, refl, ap, ◌∙◌, arith}
+use Rattle.std.proofs.Common.{◌≡◌, ℕ, ◌-◌, ◌<◌, ◌≤◌, ◌+◌, Bool, true, false, cond, List, [], ◌++◌, length, length-append, Option, None, Some, refl, sym, subst, ap, ◌∙◌, ◌^◌, arith}
 use Rattle.std.specs.Prelude.{is_some, nat_le}
 use Rattle.std.proofs.lemmas.Bool.Decides.{nat_tests}
 use Rattle.body_frame.specs.declared.state.BodyState.{BodyState}
-use Rattle.request_flow.specs.declared.flow.Flow.{Flow}
-use Rattle.request_flow.specs.Flows.{flow_fits, placed_most, asking_most, flow_most}
+use Rattle.request_flow.specs.Flows.{asking_most, flow_most}
+use Rattle.response_flow.specs.declared.flight.Flight.{Flight}
+use Rattle.response_flow.specs.Flights.{FlightFits, most_kept, page_most}
 use Rattle.http_connection.specs.Conn.{room_at}
 
 pub never : {A : Type 0} (b : Bool) → b ≡ false → b ≡ true → A
@@ -37,21 +38,21 @@ held_few stopped closing ended held held' kept room n h e few within =
     let s = ap length e ∙ length-append held kept in
     omega (arith, r, s, few, within)
 
--- one that was stopped has no more bytes than are placed
-pub none_fits : (flow : Option Flow) (out : List ℕ) → flow ≡ None → out ≡ [] → flow_fits flow (length out) ≡ true
-unfolding placed_most
-none_fits flow out f e = ap (λ g. flow_fits g (length out)) f ∙ ap (λ o. flow_fits None (length o)) e
+-- one that was stopped keeps no bytes
+pub none_fits : (flight : Option Flight) (out : List ℕ) → flight ≡ None → out ≡ [] → FlightFits flight (length out)
+unfolding most_kept
+none_fits flight out f e =
+    let few : length out ≤ 2 ^ 26 = (let s = ap length e in omega (arith, s)) in
+    subst (λ g. FlightFits g (length out)) (sym f) few
 
 pub none_held : (held : List ℕ) → held ≡ [] → length held ≤ 8192
 none_held held e = let s = ap length e in omega (arith, s)
 
 -- a page that is put fits
-pub few_fits : (out old : List ℕ) → old ≡ [] → length out ≤ length old + 65536 → flow_fits None (length out) ≡ true
-unfolding placed_most
-few_fits out old e h =
-    let few : length out ≤ 98304 = (let s = ap length e in omega (arith, h, s)) in
-    grind (arith, nat_tests)
+pub few_fits : (out old : List ℕ) → old ≡ [] → length out ≤ length old + 65536 → FlightFits None (length out)
+unfolding most_kept
+few_fits out old e h = let s = ap length e in omega (arith, h, s)
 
-pub few_lower : (out old : List ℕ) → old ≡ [] → length out ≤ length old + 65536 → length out + 0 < asking_most
-unfolding asking_most flow_most
+pub few_lower : (out old : List ℕ) → old ≡ [] → length out ≤ length old + 65536 → length out + 0 < page_most + asking_most
+unfolding page_most asking_most flow_most
 few_lower out old e h = let s = ap length e in omega (arith, h, s)

@@ -1,5 +1,5 @@
 -- A moment before which a connection isn't given up.
-use Rattle.std.proofs.Common.{◌≡◌, ℕ, ◌+◌, ◌-◌, ◌^◌, ◌≤◌, true, false, cond, eqb, min, Option, None, Some, arith}
+use Rattle.std.proofs.Common.{◌≡◌, ℕ, ◌+◌, ◌-◌, ◌^◌, ◌≤◌, true, false, cond, eqb, min, None, Some, arith}
 use Rattle.http_connection.specs.declared.times.Pace.{Pace}
 use Rattle.http_connection.specs.declared.times.Times.{Times}
 use Rattle.http_connection.specs.declared.times.Awaited.{Awaited}

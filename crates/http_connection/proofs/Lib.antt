@@ -8,3 +8,6 @@ pub mod Exact
 pub mod Wanted
 pub mod Timed
 pub mod Least
+pub mod Writes
+pub mod Going
+pub mod Readies

@@ -1,12 +1,13 @@
 -- The steps of a connection, by its parts.
-use Rattle.std.proofs.Common.{◌≡◌, ℕ, ◌+◌, ◌-◌, ◌*◌, ◌<◌, ◌≤◌, min, Bool, true, false, ◌&&◌, ◌||◌, cond, eqb, List, [], ◌∷◌, ◌++◌, length, take, drop, map, Option, None, Some, inl, inr, refl, sym, ap, ◌∙◌, subst, append_assoc, length-append, length-drop, arith, suc, zero, set, get_or}
-use Rattle.std.specs.Prelude.{nat_le, nat_lt, not, is_some, ◌==◌}
+use Rattle.std.proofs.Common.{◌≡◌, ℕ, ◌+◌, ◌-◌, ◌*◌, ◌<◌, ◌≤◌, min, Bool, true, false, ◌&&◌, ◌||◌, cond, List, [], ◌∷◌, ◌++◌, length, take, drop, map, Option, None, Some, inl, inr, refl, sym, ap, ◌∙◌, subst, append_assoc, length-append, length-drop, arith, suc, zero, set, get_or}
+use Rattle.std.specs.Prelude.{nat_le, nat_lt, not, is_some, ◌==◌, ◌⊎◌}
 use Rattle.std.specs.List.{Contains}
-use Rattle.std.proofs.lemmas.List.{append-nil, take-append-drop, map-append, drop-append-le, length-take}
+use Rattle.std.proofs.lemmas.List.{append-nil, map-append, drop-append-le}
+use Rattle.std.proofs.Props.{props}
 use Rattle.std.proofs.lemmas.Bool.Decides.{nat_tests}
+use Rattle.request_meaning.specs.Counts.{most_subs}
 use Rattle.file_tree.specs.Tree.{Trees}
-use Rattle.file_tree.specs.declared.job.Ask.{Ask}
-use Rattle.ngx_outside.specs.Views.{Start, start_of, Log, log_of, Logged, Ground, Holds, Went, Ran, Goes, Refused, is_live, ask_in}
+use Rattle.ngx_outside.specs.Views.{Start, start_of, Log, log_of, Logged, Ground, Holds, Went, Ran, Goes, Halts, Refused, Stopped, is_live}
 use Rattle.ngx_outside.specs.Views.Ground.{Always}
 use Rattle.ngx_outside.specs.declared.event.Entry.{Entry}
 use Rattle.ngx_outside.specs.declared.event.StopCause.{StopCause}
@@ -20,38 +21,36 @@ use Rattle.body_frame.specs.State.{body_of}
 use Rattle.body_frame.specs.declared.state.BodyState.{BodyState}
 use Rattle.answers_meaning.specs.Asking.{Service}
 use Rattle.answers_meaning.specs.Answers.{Response, Answer, Sends, then_closes, responses, first_response, response_at, refusal, bytes_in, logs_in, close_in, heavy_in, any_over, after_body}
-use Rattle.request_flow.specs.declared.flow.Flow.{Flow}
-use Rattle.request_flow.specs.declared.flow.Stage.{Stage}
-use Rattle.request_flow.specs.declared.flow.Stage.TheVariants.{Asked, Told, Reading, Came}
-use Rattle.request_flow.specs.Flows.{shown_of, shown_by, shown_most, placed_most, kept_most, stage_fits, flow_fits, stage_written, flow_written, flow_left, asking_most, flow_most, tree_asked, jobs_of, waits}
-use Rattle.request_meaning.specs.Counts.{most_subs}
-use Rattle.request_flow.specs.Rests.{Rest, closes_after, logged_by, Follows}
-use Rattle.http_connection.specs.Rests.{Serves, rest_in, is_over}
-use Rattle.http_connection.specs.Steps.{begins, rest_of, past_body, logged_in, IsLogged, Drops, RanOne}
+use Rattle.request_flow.specs.Flows.{asking_most, flow_most, shown_most}
+use Rattle.request_flow.specs.Rests.{Rest, closes_after, logged_by}
+use Rattle.response_flow.specs.declared.flight.Flight.{Flight}
+use Rattle.response_flow.specs.declared.flight.Onward.{Onward}
+use Rattle.response_flow.specs.declared.flight.Ran.{Ran as FlightRan}
+use Rattle.response_flow.specs.declared.flight.Ran.TheVariants.{On, TooMany}
+use Rattle.response_flow.specs.Continues.{is_over}
+use Rattle.response_flow.specs.Flights.{flight_left, page_most}
+use Rattle.response_flow.specs.Writes.{Writes}
+use Rattle.http_connection.specs.Rests.{AreRaceless, Serves, TellsRaceless, rest_in}
+use Rattle.http_connection.specs.Steps.{begins, is_heavy, rest_of, past_body, logged_in, IsLogged, Drops, RanOne, RanOver, RanTo}
 use Rattle.http_connection.specs.Conn.{view_at, after_at, bytes_at, logs_at, heavy_at, left_at, room_at, starts_at, pending_at, weight, price}
 
 never : (A : Type 0) → false ≡ true → A
 never A e = cc
 
-shown_within : (n k : ℕ) (xs : List ℕ) → n ≤ length (take k xs) → (n ≤ k) × (n ≤ length xs)
-shown_within n k xs h = let e = length-take k xs in (omega (arith, e, h), omega (arith, e, h))
+pub none_taken : (n : ℕ) → take {A = ℕ} n [] ≡ []
+none_taken zero = refl
+none_taken (suc n) = refl
 
-written_some : (n : ℕ) (flow : Option Flow) → is_some (flow_written flow n) ≡ is_some flow
-written_some n None = refl
-written_some n (Some flow) = refl
+-- nothing is shown of one that was stopped
+pub unsent : (flight : Option Flight) (out : List ℕ) → flight ≡ None → out ≡ [] → pending_at flight out ≡ []
+unsent flight out f e = ap (λ f. pending_at f out) f ∙ ap (take shown_most) e ∙ none_taken shown_most
 
-pub not_stopped : (cause : Option StopCause) (flow : Option Flow) (out : List ℕ) (n : ℕ) → (is_some cause ≡ true → out ≡ []) → 0 < n → n ≤ length (pending_at flow out) → is_some cause ≡ false
-not_stopped None flow out n h a b = refl
-not_stopped (Some cause) flow out n h a b = absurd (let e = ap length (h refl) in let w = shown_within n (shown_of flow) out b in omega (arith, e, w.1, a))
+pub not_stopped : (cause : Option StopCause) (flight : Option Flight) (out : List ℕ) (n : ℕ) → (is_some cause ≡ true → out ≡ []) → (is_some cause ≡ true → flight ≡ None) → 0 < n → n ≤ length (pending_at flight out) → is_some cause ≡ false
+not_stopped None flight out n h q a b = refl
+not_stopped (Some cause) flight out n h q a b = absurd (let e = ap length (unsent flight out (q refl) (h refl)) in omega (arith, e, a, b))
 
 pub below : (a b : ℕ) → nat_le a b ≡ true → a ≤ b
 below a b e = grind (arith, nat_tests)
-
-at_most : (a b : ℕ) → a ≤ b → nat_le a b ≡ true
-at_most a b e = grind (arith, nat_tests)
-
-same_size : (a b : ℕ) → (a == b) ≡ true → a ≡ b
-same_size a b e = grind (arith, nat_tests)
 
 pub and_left : (a b : Bool) → (a && b) ≡ true → a ≡ true
 and_left true b e = refl
@@ -61,10 +60,6 @@ pub and_right : (a b : Bool) → (a && b) ≡ true → b ≡ true
 and_right true b e = e
 and_right false b e = cc
 
-and_both : (a b : Bool) → a ≡ true → b ≡ true → (a && b) ≡ true
-and_both true b e f = f
-and_both false b e f = cc
-
 some_room : (t : Bool) (n room : ℕ) → nat_le 8192 n ≡ t → cond t None (Some (8192 - n)) ≡ Some room → 0 < room
 some_room true n room e h = cc
 some_room false n room e h =
@@ -72,7 +67,7 @@ some_room false n room e h =
     let r : 8192 - n ≡ room = cc in
     omega arith
 
-pub arrived_left : (cause : Option StopCause) (flow : Option Flow) (out : List ℕ) (closing closing' : Bool) (held held' kept bytes : List ℕ) (n : ℕ) → closing ≡ false → held' ≡ held ++ kept → length kept ≤ n → left_at cause flow out closing' held' ≤ left_at cause flow out closing held + price * n
+pub arrived_left : (cause : Option StopCause) (flow : Option Flight) (out : List ℕ) (closing closing' : Bool) (held held' kept bytes : List ℕ) (n : ℕ) → closing ≡ false → held' ≡ held ++ kept → length kept ≤ n → left_at cause flow out closing' held' ≤ left_at cause flow out closing held + price * n
 unfolding price weight
 arrived_left None flow out true closing' held held' kept bytes n o e h = cc
 arrived_left None flow out false true held held' kept bytes n o e h = omega arith
@@ -81,9 +76,13 @@ arrived_left None flow out false false held held' kept bytes n o e h =
     omega (arith, s, h)
 arrived_left (Some cause) flow out closing closing' held held' kept bytes n o e h = omega arith
 
-pub node_ready : (t : Bool) (node : ℕ) → t ≡ true → node ≡ 0 → Contains (cond t (0 ∷ []) []) node
-node_ready true node e f = subst (Contains (0 ∷ [])) (sym f) (0, omega arith, refl)
-node_ready false node e f = cc
+pub node_ready : (t : Bool) → t ≡ true → Contains {X = ℕ} (cond t (0 ∷ []) []) 0
+node_ready true e = (0, omega arith, refl)
+node_ready false e = cc
+
+-- where none is in flight, it is that with which a further one starts
+pub none_flying : (A : Option Flight → Type 0) (flight : Option Flight) → flight ≡ None → A None → A flight
+none_flying A flight e a = subst A (sym e) a
 
 responses_head : HeadStays → SizeFits → (service : Service) (k : ℕ) (trees : Trees) (input more : List ℕ) (start : Start) (later : List Start) (head : RequestHead) (size : ℕ) → head_step input ≡ Head head size →
     responses service k trees (input ++ more) (start ∷ later) ≡ Sends (response_at service trees k start head) ∷ cond (response_at service trees k start head).stays (after_body (body_of head.body (drop size input ++ more)) (λ n. responses service (k + 1) trees (drop n (drop size input ++ more)) later)) then_closes
@@ -128,17 +127,9 @@ some_taken n room taken e f h = grind (arith, nat_tests)
 pub within_taken : (n room taken : ℕ) → taken ≡ min n room → taken ≤ n
 within_taken n room taken e = omega arith
 
-pub written_asked : (n : ℕ) (flow flow' : Option Flow) → flow' ≡ flow_written flow n → tree_asked flow' ≡ tree_asked flow
-written_asked n None flow' e = ap tree_asked e
-written_asked n (Some flow) flow' e = ap tree_asked e
-
-pub none_taken : (n : ℕ) → take {A = ℕ} n [] ≡ []
-none_taken zero = refl
-none_taken (suc n) = refl
-
-pub refused_left : (cause : Option StopCause) (flow flow' : Option Flow) (out out' : List ℕ) (closing closing' : Bool) (held held' : List ℕ) → is_some cause ≡ false → left_at (Some stop.Memory) flow' out' closing' held' < left_at cause flow out closing held
-refused_left None flow flow' out out' closing closing' held held' live = omega arith
-refused_left (Some cause) flow flow' out out' closing closing' held held' live = cc
+pub stopped_left : (why : StopCause) (cause : Option StopCause) (flow flow' : Option Flight) (out out' : List ℕ) (closing closing' : Bool) (held held' : List ℕ) → is_some cause ≡ false → left_at (Some why) flow' out' closing' held' < left_at cause flow out closing held
+stopped_left why None flow flow' out out' closing closing' held held' live = omega arith
+stopped_left why (Some cause) flow flow' out out' closing closing' held held' live = cc
 
 finished_at : (xs : List Entry) (n : ℕ) (new default : Entry) → start_of new ≡ start_of (get_or xs n default) → map start_of (set xs n new) ≡ map start_of xs
 finished_at [] n new default e = refl
@@ -153,88 +144,16 @@ logged_shown : (in_flight : Bool) (logs : List (Option Log)) (over later : List 
 logged_shown true logs over later e = record { over = over; later = later; first = refl; told = inr e }
 logged_shown false logs over later e = record { over = over; later = later; first = refl; told = inl (e ∙ append-nil (map (λ l. Some l) over)) }
 
--- the front of a front
-front_of : (n k : ℕ) (xs : List ℕ) → n ≤ length (take k xs) → take n (take k xs) ≡ take n xs
-front_of zero k xs h = refl
-front_of (suc n) zero xs h = absurd (omega (arith, h))
-front_of (suc n) (suc k) [] h = refl
-front_of (suc n) (suc k) (x ∷ xs) h = ap (λ r. x ∷ r) (front_of n k xs (omega (arith, h)))
-
--- a request in flight stays so
-pub wrote_logged : (n : ℕ) (flow flow' : Option Flow) (journal : List Entry) → flow' ≡ flow_written flow n → IsLogged (is_some flow) journal → IsLogged (is_some flow') journal
-wrote_logged n flow flow' journal e told = subst (λ b. IsLogged b journal) (sym (ap is_some e ∙ written_some n flow)) told
-
--- no more are shown than are placed
-shown_placed : (n placed : ℕ) → n ≤ cond (nat_lt placed shown_most) placed shown_most → n ≤ placed
-shown_placed n placed h = by (nat_lt placed shown_most) refl h
-  where
-    by : (t : Bool) → nat_lt placed shown_most ≡ t → n ≤ cond t placed shown_most → n ≤ placed
-    by true e h = h
-    by false e h = grind (arith, nat_tests)
-
 -- the bytes for the peer and what is left of the response
-abbrev pub work : Option Flow → ℕ → ℕ
-work flow size = size + flow_left flow size
+abbrev pub work : Option Flight → ℕ → ℕ
+work flow size = size + flight_left flow size
 
-stage_falls : (flow : Flow) (n size : ℕ) → 0 < n → n ≤ size → n ≤ shown_by flow.stage → stage_fits flow.ask flow.stage size ≡ true → work (Some (record { ask = flow.ask; stage = stage_written flow.stage n })) (size - n) < work (Some flow) size
-stage_falls flow n size some within shown fits = by flow.stage shown fits
-  where
-    by : (stage : Stage) → n ≤ shown_by stage → stage_fits flow.ask stage size ≡ true → work (Some (record { ask = flow.ask; stage = stage_written stage n })) (size - n) < work (Some (record { ask = flow.ask; stage = stage })) size
-    by (Asked request wait) h f = omega (arith, some, within)
-    by (Told request wait node) h f = omega (arith, some, within)
-    by (Reading sending left) h f = omega (arith, some, within)
-    by (Came sending left placed) h f =
-        let p = shown_placed n placed h in
-        omega (arith, some, within, p)
-
-wrote_falls : (n : ℕ) (flow : Option Flow) (size : ℕ) → 0 < n → n ≤ size → n ≤ shown_of flow → flow_fits flow size ≡ true → work (flow_written flow n) (size - n) < work flow size
-wrote_falls n None size some within shown fits = omega (arith, some, within)
-wrote_falls n (Some flow) size some within shown fits = stage_falls flow n size some within shown fits
-
-pub wrote_left : (cause : Option StopCause) (flow flow' : Option Flow) (out out' : List ℕ) (closing : Bool) (held : List ℕ) (n : ℕ) → is_some cause ≡ false → out' ≡ drop n out → 0 < n → n ≤ length (pending_at flow out) → flow' ≡ flow_written flow n → flow_fits flow (length out) ≡ true →
-    left_at cause flow' out' closing held < left_at cause flow out closing held
-wrote_left None flow flow' out out' closing held n live e some within w fits =
-    let s = shown_within n (shown_of flow) out within in
-    let size : length out' ≡ length out - n = ap length e ∙ length-drop n out in
-    let falls = subst (λ f. work f (length out - n) < work flow (length out)) (sym w) (wrote_falls n flow (length out) some s.1 s.0 fits) in
-    subst (λ k. 1 + work flow' k + cond closing 0 (weight * (length held + 1)) < 1 + work flow (length out) + cond closing 0 (weight * (length held + 1))) (sym size) (omega (arith, falls))
-wrote_left (Some cause) flow flow' out out' closing held n live e some within w fits = cc
-
-pub goes_left : (cause : Option StopCause) (flow flow' : Option Flow) (out out' : List ℕ) (closing closing' : Bool) (held : List ℕ) → is_some cause ≡ false → (closing ≡ true → closing' ≡ true) → work flow' (length out') < work flow (length out) → left_at cause flow' out' closing' held < left_at cause flow out closing held
+pub goes_left : (cause : Option StopCause) (flow flow' : Option Flight) (out out' : List ℕ) (closing closing' : Bool) (held : List ℕ) → is_some cause ≡ false → (closing ≡ true → closing' ≡ true) → work flow' (length out') < work flow (length out) → left_at cause flow' out' closing' held < left_at cause flow out closing held
 goes_left (Some cause) flow flow' out out' closing closing' held live k w = cc
 goes_left None flow flow' out out' true true held live k w = omega (arith, w)
 goes_left None flow flow' out out' true false held live k w = absurd (let e : false ≡ true = k refl in cc)
 goes_left None flow flow' out out' false true held live k w = omega (arith, w)
 goes_left None flow flow' out out' false false held live k w = omega (arith, w)
-
--- it stands so beside fewer bytes
-stage_stands : (flow : Flow) (n size : ℕ) → 0 < n → n ≤ size → n ≤ shown_by flow.stage → stage_fits flow.ask flow.stage size ≡ true → stage_fits flow.ask (stage_written flow.stage n) (size - n) ≡ true
-stage_stands flow n size some within shown fits = by flow.stage shown fits
-  where
-    by : (stage : Stage) → n ≤ shown_by stage → stage_fits flow.ask stage size ≡ true → stage_fits flow.ask (stage_written stage n) (size - n) ≡ true
-    by (Asked request wait) h f = absurd (let z = same_size size 0 (and_right _ (size == 0) f) in omega (arith, some, within, z))
-    by (Told request wait node) h f = absurd (let z = same_size size 0 (and_right _ (size == 0) f) in omega (arith, some, within, z))
-    by (Reading sending left) h f = and_both _ (nat_le (size - n) placed_most) (and_left _ (nat_le size placed_most) f) (at_most (size - n) placed_most (let z = below size placed_most (and_right _ (nat_le size placed_most) f) in omega (arith, z)))
-    by (Came sending left placed) h f =
-        let q = and_right _ ((nat_le placed size && nat_le placed placed_most) && nat_le size kept_most) f in
-        let p = and_left (nat_le placed size && nat_le placed placed_most) (nat_le size kept_most) q in
-        let k = below size kept_most (and_right (nat_le placed size && nat_le placed placed_most) (nat_le size kept_most) q) in
-        let a = below placed size (and_left (nat_le placed size) (nat_le placed placed_most) p) in
-        let b = below placed placed_most (and_right (nat_le placed size) (nat_le placed placed_most) p) in
-        and_both _ ((nat_le (placed - n) (size - n) && nat_le (placed - n) placed_most) && nat_le (size - n) kept_most) (and_left _ ((nat_le placed size && nat_le placed placed_most) && nat_le size kept_most) f)
-        (and_both (nat_le (placed - n) (size - n) && nat_le (placed - n) placed_most) (nat_le (size - n) kept_most)
-        (and_both (nat_le (placed - n) (size - n)) (nat_le (placed - n) placed_most) (at_most (placed - n) (size - n) (omega (arith, a))) (at_most (placed - n) placed_most (omega (arith, b))))
-        (at_most (size - n) kept_most (omega (arith, k))))
-
-pub wrote_stands : (n : ℕ) (flow flow' : Option Flow) (out out' : List ℕ) → flow' ≡ flow_written flow n → out' ≡ drop n out → 0 < n → n ≤ length (pending_at flow out) → flow_fits flow (length out) ≡ true → flow_fits flow' (length out') ≡ true
-wrote_stands n None flow' out out' w e some within fits =
-    let size : length out' ≡ length out - n = ap length e ∙ length-drop n out in
-    let few = below (length out) placed_most fits in
-    ap (λ f. flow_fits f (length out')) w ∙ at_most (length out') placed_most (omega (arith, size, few))
-wrote_stands n (Some flow) flow' out out' w e some within fits =
-    let s = shown_within n (shown_by flow.stage) out within in
-    let size : length out' ≡ length out - n = ap length e ∙ length-drop n out in
-    subst (λ k. flow_fits flow' k ≡ true) (sym size) (subst (λ f. flow_fits f (length out - n) ≡ true) (sym w) (stage_stands flow n (length out) some s.1 s.0 fits))
 
 -- bytes arrive
 pub room_some : (stopped closing ended : Bool) (held : List ℕ) (room : ℕ) → room_at stopped closing ended held ≡ Some room → (stopped ≡ false) × (closing ≡ false) × (ended ≡ false) × (0 < room)
@@ -264,9 +183,9 @@ behind_kept r closing closing' x y e f = ap (λ c. cond (closes_after r c) then_
     by false = refl
 
 -- a further request starts
-pub starts_if : (stopped closing : Bool) (out : List ℕ) (body : Option BodyState) (next : HeadStep) → starts_at stopped closing out body next ≡ true → (stopped ≡ false) × (closing ≡ false) × (begins next ≡ true) × (body ≡ None)
-starts_if false false [] None (Head head size) h = (refl, refl, refl, refl)
-starts_if false false [] None (Bad code no_body) h = (refl, refl, refl, refl)
+pub starts_if : (stopped closing : Bool) (out : List ℕ) (body : Option BodyState) (next : HeadStep) → starts_at stopped closing out body next ≡ true → (stopped ≡ false) × (closing ≡ false) × (begins next ≡ true) × (body ≡ None) × (out ≡ [])
+starts_if false false [] None (Head head size) h = (refl, refl, refl, refl, refl)
+starts_if false false [] None (Bad code no_body) h = (refl, refl, refl, refl, refl)
 starts_if false false [] None More h = cc
 starts_if false false [] (Some state) next h = cc
 starts_if false false (b ∷ out) body next h = cc
@@ -333,20 +252,8 @@ finished_logs journal n new e told =
     let o = open_of journal (logged_in journal) told in
     ap logged_in (finished_as journal n new e o) ∙ entered_logs o.front new ∙ ap (λ x. x ++ logged_by (log_of new)) (sym (open_logs journal o))
 
--- what a job that waits says of the request in flight
-pub job_waits : (flow : Flow) (node : ℕ) (job : Ask) → ask_in (jobs_of (Some flow)) node ≡ Some job → (waits flow.stage ≡ true) × (flow.ask ≡ job)
-job_waits flow node job e = by (waits flow.stage) refl e
-  where
-    some : (t : Bool) → cond t (Some flow.ask) None ≡ Some job → flow.ask ≡ job
-    some true e = cc
-    some false e = cc
-
-    by : (t : Bool) → waits flow.stage ≡ t → ask_in (cond t (record { node = 0; ask = flow.ask } ∷ []) []) node ≡ Some job → (waits flow.stage ≡ true) × (flow.ask ≡ job)
-    by true w e = (w, some (eqb 0 node) e)
-    by false w e = cc
-
 -- where a request is in flight the connection is live
-pub waits_live : (cause : Option StopCause) (flow : Option Flow) (f : Flow) → (is_some cause ≡ true → flow ≡ None) → flow ≡ Some f → is_some cause ≡ false
+pub waits_live : (cause : Option StopCause) (flow : Option Flight) (f : Flight) → (is_some cause ≡ true → flow ≡ None) → flow ≡ Some f → is_some cause ≡ false
 waits_live None flow f quit is = refl
 waits_live (Some cause) flow f quit is = absurd (let e : None ≡ Some f = sym (quit refl) ∙ is in cc)
 
@@ -358,62 +265,92 @@ map_length f (x ∷ xs) = ap suc (map_length f xs)
 pub same_length : (xs ys : List Entry) → map start_of ys ≡ map start_of xs → length ys ≡ length xs
 same_length xs ys e = sym (map_length start_of ys) ∙ ap length e ∙ map_length start_of xs
 
-pub lighter : (flow : Option Flow) (size : ℕ) → size + flow_left flow size < asking_most → work flow size < weight
-unfolding weight asking_most flow_most
+pub lighter : (flow : Option Flight) (size : ℕ) → size + flight_left flow size < page_most + asking_most → work flow size < weight
+unfolding weight page_most asking_most flow_most
 lighter flow size h = omega (arith, h)
+
+-- an entry of a request that isn't over comes after those that are
+not_some : (logs over : List Log) → map (λ l. Some l) logs ++ [] ≡ map (λ l. Some l) over ++ None ∷ [] → ⊥
+not_some [] [] e = cc
+not_some [] (o ∷ over) e = cc
+not_some (l ∷ logs) [] e = cc
+not_some (l ∷ logs) (o ∷ over) e = not_some logs over (ap (drop 1) e)
+
+logged_entered : (journal journal' : List Entry) (entry : Entry) (all : List Log) → IsLogged false journal → log_of entry ≡ None → journal' ≡ journal ++ entry ∷ [] → Logged (map log_of journal) all → Logged (map log_of journal') all
+logged_entered journal journal' entry all told g j a = by a.told
+  where
+    by : (map log_of journal ≡ map (λ l. Some l) a.over) ⊎ (map log_of journal ≡ map (λ l. Some l) a.over ++ None ∷ []) → Logged (map log_of journal') all
+    by (inl e) = record {
+      over = a.over;
+      later = a.later;
+      first = a.first;
+      told = inr (ap (map log_of) j ∙ map-append log_of journal (entry ∷ []) ∙ ap (λ x. x ++ log_of entry ∷ []) e ∙ ap (λ x. map (λ l. Some l) a.over ++ x ∷ []) g);
+    }
+    by (inr e) = absurd (not_some (logged_in journal) a.over (sym told ∙ e))
+
+-- the first bytes of all that is still to come go, whatever comes after the response
+wrote_bytes : {r r' : Rest} {out out' bytes : List ℕ} → Writes r r' out out' bytes → (tail : Bool → List ℕ) →
+    out ++ (r.bytes ++ tail r.stays) ≡ bytes ++ (out' ++ (r'.bytes ++ tail r'.stays))
+wrote_bytes {r} {r'} {out} {out'} {bytes} w tail =
+    ap (λ b. out ++ (r.bytes ++ tail b)) (sym w.stays) ∙ sym (append_assoc out r.bytes (tail r'.stays)) ∙ ap (λ x. x ++ tail r'.stays) w.bytes_are
+    ∙ append_assoc bytes (out' ++ r'.bytes) (tail r'.stays) ∙ ap (λ x. bytes ++ x) (append_assoc out' r'.bytes (tail r'.stays))
+
+pub ran_on_one : (x : Serves) (service : Service) (start : Start) (k : ℕ) (next : HeadStep) (held held' : List ℕ) (body : Option BodyState) (out out' : List ℕ) (ran : FlightRan) (o : Onward) → ran ≡ On o →
+    RanTo x service start k next held held' body out out' ran → RanOne x service start k next held held' body o.flight out out' o.closing o.log
+ran_on_one x service start k next held held' body out out' ran o is h = subst (RanTo x service start k next held held' body out out') is h
+
+pub ran_over_one : (x : Serves) (service : Service) (start : Start) (k : ℕ) (next : HeadStep) (held held' : List ℕ) (body : Option BodyState) (out out' : List ℕ) (ran : FlightRan) → ran ≡ TooMany →
+    RanTo x service start k next held held' body out out' ran → RanOver x service start k next
+ran_over_one x service start k next held held' body out out' ran is h = subst (RanTo x service start k next held held' body out out') is h
+
+-- As much is still to come of a response that goes on, but for its level.
+abbrev pub Keeps : (before after : Rest) → (out out' : List ℕ) → (closing closing' : Bool) → Option Log → Type 0
+Keeps before after out out' closing closing' log =
+    (out' ++ after.bytes ≡ out ++ before.bytes)
+    × ((closes_after after closing' ≡ closes_after before closing)
+    × ((logged_by log ++ after.logs ≡ before.logs) × (is_over after ≡ is_over before)))
+
+pub keeps_prop : (before after : Rest) (out out' : List ℕ) (closing closing' : Bool) (log : Option Log) → IsProp (Keeps before after out out' closing closing' log)
+keeps_prop before after out out' closing closing' log = hlevel props
 
 module _ (serves : Serves) where
   -- a live connection goes on
-  live_at : (service : Service) (cause : Option StopCause) (flow : Option Flow) (out : List ℕ) (journal : List Entry) (closing ended : Bool) (body : Option BodyState) (held : List ℕ) (next : HeadStep) → is_some cause ≡ false → is_live (view_at serves service cause flow out journal closing ended body held next) ≡ true
+  live_at : (service : Service) (cause : Option StopCause) (flow : Option Flight) (out : List ℕ) (journal : List Entry) (closing ended : Bool) (body : Option BodyState) (held : List ℕ) (next : HeadStep) → is_some cause ≡ false → is_live (view_at serves service cause flow out journal closing ended body held next) ≡ true
   live_at service None flow out journal closing ended body held next h = refl
   live_at service (Some cause) flow out journal closing ended body held next h = cc
 
-  logged_at : (service : Service) (flow : Option Flow) (journal : List Entry) (closing : Bool) (body : Option BodyState) (held : List ℕ) → IsLogged (is_some flow) journal → (trees : Trees) (more : List ℕ) (later : List Start) →
+  logged_at : (service : Service) (flow : Option Flight) (journal : List Entry) (closing : Bool) (body : Option BodyState) (held : List ℕ) → IsLogged (is_some flow) journal → (trees : Trees) (more : List ℕ) (later : List Start) →
       Logged (map log_of journal) (logs_at service (rest_in serves flow) journal closing body held trees more later)
   logged_at service flow journal closing body held told trees more later =
       logged_shown (is_some flow) (map log_of journal) (logged_in journal) ((rest_in serves flow trees).logs ++ logs_in (after_at service (rest_in serves flow) journal closing body held trees more later)) told
 
-  -- what was written of a request's bytes changes nothing of what is to come
-  written_rest : (flow : Flow) (n : ℕ) (trees : Trees) → rest_in serves (Some (record { ask = flow.ask; stage = stage_written flow.stage n })) trees ≡ rest_in serves (Some flow) trees
-  written_rest flow n trees = by flow.stage
-    where
-      by : (stage : Stage) → rest_in serves (Some (record { ask = flow.ask; stage = stage_written stage n })) trees ≡ rest_in serves (Some (record { ask = flow.ask; stage = stage })) trees
-      by (Asked request wait) = refl
-      by (Told request wait node) = refl
-      by (Reading sending left) = refl
-      by (Came sending left placed) = refl
-
-  wrote_rest : (n : ℕ) (flow flow' : Option Flow) (trees : Trees) → flow' ≡ flow_written flow n → rest_in serves flow' trees ≡ rest_in serves flow trees
-  wrote_rest n None flow' trees e = ap (λ f. rest_in serves f trees) e
-  wrote_rest n (Some flow) flow' trees e = ap (λ f. rest_in serves f trees) e ∙ written_rest flow n trees
-
   -- the first pending bytes go
-  pub wrote_went : (service : Service) (cause : Option StopCause) (flow flow' : Option Flow) (out out' : List ℕ) (journal : List Entry) (closing ended : Bool) (body : Option BodyState) (held : List ℕ) (next : HeadStep) (n : ℕ) → is_some cause ≡ false → out' ≡ drop n out → n ≤ length (pending_at flow out) → flow' ≡ flow_written flow n → IsLogged (is_some flow) journal →
+  pub wrote_went : (service : Service) (cause : Option StopCause) (flow flow' : Option Flight) (out out' : List ℕ) (journal : List Entry) (closing ended : Bool) (body : Option BodyState) (held : List ℕ) (next : HeadStep) (n : ℕ) → is_some cause ≡ false →
+      ((trees : Trees) → Writes (rest_in serves flow trees) (rest_in serves flow' trees) out out' (take n (pending_at flow out))) → IsLogged (is_some flow') journal →
       Went Always (view_at serves service cause flow out journal closing ended body held next) (view_at serves service cause flow' out' journal closing ended body held next) [] (take n (pending_at flow out)) []
-  wrote_went service cause flow flow' out out' journal closing ended body held next n live e within w told = record {
+  wrote_went service cause flow flow' out out' journal closing ended body held next n live writes told = record {
     before = live_at service cause flow out journal closing ended body held next live;
     after = live_at service cause flow' out' journal closing ended body held next live;
     moved = record {
       starts = sym (append-nil (map start_of journal));
       raceless = refl;
       timed = refl;
-      bytes = λ trees is more later.
-          let tail : Rest → List ℕ = λ r. r.bytes ++ bytes_in (cond (closes_after r closing) then_closes (past_body body (held ++ more) (λ input. responses service (length journal) trees input later))) in
-          ap (λ p. p ++ tail (rest_in serves flow trees)) (sym (take-append-drop n out)) ∙ append_assoc (take n out) (drop n out) (tail (rest_in serves flow trees))
-          ∙ ap (λ p. p ++ (drop n out ++ tail (rest_in serves flow trees))) (sym (front_of n (shown_of flow) out within))
-          ∙ ap (λ p. take n (pending_at flow out) ++ (p ++ tail (rest_in serves flow trees))) (sym e)
-          ∙ ap (λ r. take n (pending_at flow out) ++ (out' ++ tail r)) (sym (wrote_rest n flow flow' trees w));
+      bytes = λ trees is more later. wrote_bytes (writes trees) (λ stays. bytes_in (tail more trees later stays));
       logs = λ trees is more later.
-          ap (λ (r : Rest). logged_in journal ++ (r.logs ++ logs_in (cond (closes_after r closing) then_closes (past_body body (held ++ more) (λ input. responses service (length journal) trees input later))))) (sym (wrote_rest n flow flow' trees w));
-      closes = λ trees is more later.
-          ap (λ (r : Rest). close_in (cond (closes_after r closing) then_closes (past_body body (held ++ more) (λ input. responses service (length journal) trees input later)))) (sym (wrote_rest n flow flow' trees w));
+          ap (λ b. logged_in journal ++ ((rest_in serves flow trees).logs ++ logs_in (tail more trees later b))) (sym (writes trees).stays)
+          ∙ ap (λ l. logged_in journal ++ (l ++ logs_in (tail more trees later (rest_in serves flow' trees).stays))) (sym (writes trees).logs);
+      closes = λ trees is more later. ap (λ b. close_in (tail more trees later b)) (sym (writes trees).stays);
       heavy = λ trees is more later h.
-          ap (λ (r : Rest). is_over r || heavy_in (cond (closes_after r closing) then_closes (past_body body (held ++ more) (λ input. responses service (length journal) trees input later)))) (sym (wrote_rest n flow flow' trees w)) ∙ h;
+          ap (λ b. is_over (rest_in serves flow trees) || heavy_in (tail more trees later b)) (sym (writes trees).stays)
+          ∙ ap (λ k. nat_lt most_subs k || heavy_in (tail more trees later (rest_in serves flow' trees).stays)) (sym (writes trees).subs) ∙ h;
     };
-    logged = logged_at service flow' journal closing body held (wrote_logged n flow flow' journal w told);
+    logged = logged_at service flow' journal closing body held told;
   }
+    where
+      tail : (more : List ℕ) (trees : Trees) (later : List Start) → Bool → List Answer
+      tail more trees later stays = cond (cond stays closing true) then_closes (past_body body (held ++ more) (λ input. responses service (length journal) trees input later))
 
-  pub arrived_went : (service : Service) (cause : Option StopCause) (flow : Option Flow) (out : List ℕ) (journal : List Entry) (closing closing' ended : Bool) (body body' : Option BodyState) (held held' kept : List ℕ) (next next' : HeadStep) (bytes : List ℕ) → is_some cause ≡ false → closing ≡ false →
+  pub arrived_went : (service : Service) (cause : Option StopCause) (flow : Option Flight) (out : List ℕ) (journal : List Entry) (closing closing' ended : Bool) (body body' : Option BodyState) (held held' kept : List ℕ) (next next' : HeadStep) (bytes : List ℕ) → is_some cause ≡ false → closing ≡ false →
       (is_some body ≡ true → held ≡ []) → (body ≡ None → (body' ≡ None) × (closing' ≡ false) × (kept ≡ bytes)) → Drops (rest_of body) bytes body' kept closing' → held' ≡ held ++ kept → IsLogged (is_some flow) journal →
       Went Always (view_at serves service cause flow out journal closing ended body held next) (view_at serves service cause flow out journal closing' ended body' held' next') bytes [] []
   arrived_went service cause flow out journal closing closing' ended body body' held held' kept next next' bytes live unclosed drained still d e told = record {
@@ -437,23 +374,24 @@ module _ (serves : Serves) where
           behind_kept (rest_in serves flow trees) closing closing' (past_body body (held ++ (bytes ++ more)) g) (past_body body' (held' ++ more) g) unclosed (absorbed g body body' held held' bytes kept more closing' drained still d e)
 
   -- A request was started: this is its response, before those that are still to come.
-  record Said (service : Service) (trees : Trees) (now : Start) (flow' : Option Flow) (out out' : List ℕ) (journal journal' : List Entry) (closing closing' : Bool) (body body' : Option BodyState) (held held' : List ℕ) (log : Option Log) (more : List ℕ) (later : List Start) : Type 0 where
+  record Said (service : Service) (trees : Trees) (now : Start) (flow' : Option Flight) (out out' : List ℕ) (journal journal' : List Entry) (closing closing' : Bool) (body body' : Option BodyState) (held held' : List ℕ) (log : Option Log) (more : List ℕ) (later : List Start) : Type 0 where
     said : Response
     first : after_at service (rest_in serves None) journal closing body held trees more (now ∷ later) ≡ Sends said ∷ after_at service (rest_in serves flow') journal' closing' body' held' trees more later
     put : out' ++ (rest_in serves flow' trees).bytes ≡ out ++ said.bytes
     logged : logged_by log ++ (rest_in serves flow' trees).logs ≡ said.log ∷ []
-    heavy : is_over (rest_in serves flow' trees) ≡ nat_lt most_subs said.subs
+    heavy : is_over (rest_in serves flow' trees) ≡ is_heavy said
 
-  said_of : HeadStays → RefusalStays → SizeFits → (service : Service) (trees : Trees) (now : Start) (flow' : Option Flow) (out out' : List ℕ) (journal journal' : List Entry) (entry : Entry) (closing closing' : Bool) (body body' : Option BodyState) (held held' : List ℕ) (next : HeadStep) (log : Option Log) →
-      closing ≡ false → body ≡ None → next ≡ head_step held → journal' ≡ journal ++ entry ∷ [] → RanOne serves service trees now (length journal) next held held' body' flow' out out' closing' log → (more : List ℕ) (later : List Start) →
+  said_of : HeadStays → RefusalStays → SizeFits → (service : Service) (trees : Trees) (now : Start) (flow' : Option Flight) (out out' : List ℕ) (journal journal' : List Entry) (entry : Entry) (closing closing' : Bool) (body body' : Option BodyState) (held held' : List ℕ) (next : HeadStep) (log : Option Log) →
+      closing ≡ false → body ≡ None → next ≡ head_step held → journal' ≡ journal ++ entry ∷ [] → RanOne serves service now (length journal) next held held' body' flow' out out' closing' log → AreRaceless serves → (more : List ℕ) (later : List Start) →
       Said service trees now flow' out out' journal journal' closing closing' body body' held held' log more later
   unfolding refusal
-  said_of stays refused fits service trees now flow' out out' journal journal' entry closing closing' body body' held held' (Head head size) log c b l j r more later =
+  said_of stays refused fits service trees now flow' out out' journal journal' entry closing closing' body body' held held' (Head head size) log c b l j r raceless more later =
       let k = length journal in
       let whole : Response = response_at service trees k now head in
       let rest = rest_in serves flow' trees in
       let g : List ℕ → List Answer = λ input. responses service (k + 1) trees input later in
       let count : length journal' ≡ k + 1 = ap length j ∙ length-append journal (entry ∷ []) in
+      let a = r.says raceless trees in
       let behind = drop size held in
       record {
         said = whole;
@@ -461,13 +399,13 @@ module _ (serves : Serves) where
             ap (λ x. cond x then_closes (past_body body (held ++ more) (λ input. responses service k trees input (now ∷ later)))) c
             ∙ ap (λ x. past_body x (held ++ more) (λ input. responses service k trees input (now ∷ later))) b
             ∙ responses_head stays fits service k trees held more now later head size (sym l)
-            ∙ ap (λ x. Sends whole ∷ x) (kept_or_closed whole.stays r.broken (closes_after rest closing') (after_body (body_of head.body (behind ++ more)) (λ n. g (drop n (behind ++ more)))) (past_body body' (held' ++ more) g) r.closes (r.drops.rest g more))
+            ∙ ap (λ x. Sends whole ∷ x) (kept_or_closed whole.stays r.broken (closes_after rest closing') (after_body (body_of head.body (behind ++ more)) (λ n. g (drop n (behind ++ more)))) (past_body body' (held' ++ more) g) a.closes (r.drops.rest g more))
             ∙ ap (λ n. Sends whole ∷ cond (closes_after rest closing') then_closes (past_body body' (held' ++ more) (λ input. responses service n trees input later))) (sym count);
-        put = r.put;
-        logged = r.logged;
-        heavy = ap (λ n. nat_lt most_subs n) r.subs;
+        put = a.put;
+        logged = a.logged;
+        heavy = a.heavy;
       }
-  said_of stays refused fits service trees now flow' out out' journal journal' entry closing closing' body body' held held' (Bad code no_body) log c b l j r more later =
+  said_of stays refused fits service trees now flow' out out' journal journal' entry closing closing' body body' held held' (Bad code no_body) log c b l j r raceless more later =
       let whole : Response = refusal code now no_body in
       record {
         said = whole;
@@ -481,10 +419,10 @@ module _ (serves : Serves) where
         logged = ap (λ f. logged_by log ++ (rest_in serves f trees).logs) r.over ∙ append-nil (logged_by log) ∙ ap logged_by r.logged;
         heavy = ap (λ f. is_over (rest_in serves f trees)) r.over;
       }
-  said_of stays refused fits service trees now flow' out out' journal journal' entry closing closing' body body' held held' More log c b l j r more later = absurd r
+  said_of stays refused fits service trees now flow' out out' journal journal' entry closing closing' body body' held held' More log c b l j r raceless more later = absurd r
 
   -- whether a request asks for too many subrequests
-  said_heavy : (service : Service) (trees : Trees) (now : Start) (flow' : Option Flow) (out out' : List ℕ) (journal journal' : List Entry) (closing closing' : Bool) (body body' : Option BodyState) (held held' : List ℕ) (log : Option Log) (more : List ℕ) (later : List Start) →
+  said_heavy : (service : Service) (trees : Trees) (now : Start) (flow' : Option Flight) (out out' : List ℕ) (journal journal' : List Entry) (closing closing' : Bool) (body body' : Option BodyState) (held held' : List ℕ) (log : Option Log) (more : List ℕ) (later : List Start) →
       Said service trees now flow' out out' journal journal' closing closing' body body' held held' log more later →
       heavy_at service (rest_in serves None) journal closing body held trees more (now ∷ later) ≡ heavy_at service (rest_in serves flow') journal' closing' body' held' trees more later
   unfolding any_over
@@ -493,7 +431,7 @@ module _ (serves : Serves) where
       ∙ ap (λ b. b || heavy_in (after_at service (rest_in serves flow') journal' closing' body' held' trees more later)) (sym s.heavy)
 
   -- the bytes that are still to come, and the logs
-  said_bytes : (service : Service) (trees : Trees) (now : Start) (flow' : Option Flow) (out out' : List ℕ) (journal journal' : List Entry) (closing closing' : Bool) (body body' : Option BodyState) (held held' : List ℕ) (log : Option Log) (more : List ℕ) (later : List Start) →
+  said_bytes : (service : Service) (trees : Trees) (now : Start) (flow' : Option Flight) (out out' : List ℕ) (journal journal' : List Entry) (closing closing' : Bool) (body body' : Option BodyState) (held held' : List ℕ) (log : Option Log) (more : List ℕ) (later : List Start) →
       Said service trees now flow' out out' journal journal' closing closing' body body' held held' log more later →
       bytes_at service (rest_in serves None) out journal closing body held trees more (now ∷ later) ≡ bytes_at service (rest_in serves flow') out' journal' closing' body' held' trees more later
   said_bytes service trees now flow' out out' journal journal' closing closing' body body' held held' log more later s =
@@ -501,7 +439,7 @@ module _ (serves : Serves) where
       let behind = bytes_in (after_at service (rest_in serves flow') journal' closing' body' held' trees more later) in
       ap (λ x. out ++ bytes_in x) s.first ∙ sym (append_assoc out s.said.bytes behind) ∙ ap (λ x. x ++ behind) (sym s.put) ∙ append_assoc out' rest.bytes behind
 
-  said_logs : (service : Service) (trees : Trees) (now : Start) (flow' : Option Flow) (out out' : List ℕ) (journal journal' : List Entry) (closing closing' : Bool) (body body' : Option BodyState) (held held' : List ℕ) (log : Option Log) (more : List ℕ) (later : List Start) →
+  said_logs : (service : Service) (trees : Trees) (now : Start) (flow' : Option Flight) (out out' : List ℕ) (journal journal' : List Entry) (closing closing' : Bool) (body body' : Option BodyState) (held held' : List ℕ) (log : Option Log) (more : List ℕ) (later : List Start) →
       logged_in journal' ≡ logged_in journal ++ logged_by log → Said service trees now flow' out out' journal journal' closing closing' body body' held held' log more later →
       logs_at service (rest_in serves None) journal closing body held trees more (now ∷ later) ≡ logs_at service (rest_in serves flow') journal' closing' body' held' trees more later
   said_logs service trees now flow' out out' journal journal' closing closing' body body' held held' log more later e s =
@@ -512,15 +450,15 @@ module _ (serves : Serves) where
       ∙ ap (λ x. x ++ (rest.logs ++ behind)) (sym e)
 
   -- a request that was started is over where it is logged
-  pub ran_over : (service : Service) (trees : Trees) (start : Start) (k : ℕ) (next : HeadStep) (held held' : List ℕ) (body : Option BodyState) (flow : Option Flow) (out out' : List ℕ) (closing : Bool) (log : Option Log) → RanOne serves service trees start k next held held' body flow out out' closing log → is_some log ≡ not (is_some flow)
-  ran_over service trees start k (Head head size) held held' body flow out out' closing log r = r.over
-  ran_over service trees start k (Bad code no_body) held held' body flow out out' closing log r = ap is_some r.logged ∙ ap (λ f. not (is_some f)) (sym r.over)
-  ran_over service trees start k More held held' body flow out out' closing log r = absurd r
+  pub ran_over : (service : Service) (start : Start) (k : ℕ) (next : HeadStep) (held held' : List ℕ) (body : Option BodyState) (flow : Option Flight) (out out' : List ℕ) (closing : Bool) (log : Option Log) → RanOne serves service start k next held held' body flow out out' closing log → is_some log ≡ not (is_some flow)
+  ran_over service start k (Head head size) held held' body flow out out' closing log r = r.over
+  ran_over service start k (Bad code no_body) held held' body flow out out' closing log r = ap is_some r.logged ∙ ap (λ f. not (is_some f)) (sym r.over)
+  ran_over service start k More held held' body flow out out' closing log r = absurd r
 
-  pub ran_went : HeadStays → RefusalStays → SizeFits → (service : Service) (now : Start) (cause : Option StopCause) (flow' : Option Flow) (out out' : List ℕ) (journal journal' : List Entry) (entry : Entry) (closing closing' ended : Bool) (body body' : Option BodyState) (held held' : List ℕ) (next next' : HeadStep) (log : Option Log) →
-      is_some cause ≡ false → closing ≡ false → body ≡ None → next ≡ head_step held → start_of entry ≡ now → log_of entry ≡ log → journal' ≡ journal ++ entry ∷ [] → ((trees : Trees) → RanOne serves service trees now (length journal) next held held' body' flow' out out' closing' log) →
+  pub ran_went : HeadStays → RefusalStays → SizeFits → (service : Service) (now : Start) (cause : Option StopCause) (flow' : Option Flight) (out out' : List ℕ) (journal journal' : List Entry) (entry : Entry) (closing closing' ended : Bool) (body body' : Option BodyState) (held held' : List ℕ) (next next' : HeadStep) (log : Option Log) →
+      is_some cause ≡ false → closing ≡ false → body ≡ None → next ≡ head_step held → start_of entry ≡ now → log_of entry ≡ log → journal' ≡ journal ++ entry ∷ [] → TellsRaceless serves → RanOne serves service now (length journal) next held held' body' flow' out out' closing' log →
       IsLogged (is_some flow') journal' → Ran now (view_at serves service cause None out journal closing ended body held next) (view_at serves service cause flow' out' journal' closing' ended body' held' next')
-  ran_went stays refused fits service now cause flow' out out' journal journal' entry closing closing' ended body body' held held' next next' log live c b l s g j r told =
+  ran_went stays refused fits service now cause flow' out out' journal journal' entry closing closing' ended body body' held held' next next' log live c b l s g j tells r told =
       Goes (now ∷ []) (inr refl) (record {
         before = live_at service cause None out journal closing ended body held next live;
         after = live_at service cause flow' out' journal' closing' ended body' held' next' live;
@@ -528,96 +466,136 @@ module _ (serves : Serves) where
           starts = ap (map start_of) j ∙ map-append start_of journal (entry ∷ []) ∙ ap (λ x. map start_of journal ++ x ∷ []) s;
           raceless = refl;
           timed = refl;
-          bytes = λ trees is more later. said_bytes service trees now flow' out out' journal journal' closing closing' body body' held held' log more later (said trees more later);
+          bytes = λ trees is more later. said_bytes service trees now flow' out out' journal journal' closing closing' body body' held held' log more later (said is trees more later);
           logs = λ trees is more later. said_logs service trees now flow' out out' journal journal' closing closing' body body' held held' log more later
-              (ap logged_in j ∙ entered_logs journal entry ∙ ap (λ x. logged_in journal ++ logged_by x) g) (said trees more later);
-          closes = λ trees is more later. ap close_in (said trees more later).first;
-          heavy = λ trees is more later h. said_heavy service trees now flow' out out' journal journal' closing closing' body body' held held' log more later (said trees more later) ∙ h;
+              (ap logged_in j ∙ entered_logs journal entry ∙ ap (λ x. logged_in journal ++ logged_by x) g) (said is trees more later);
+          closes = λ trees is more later. ap close_in (said is trees more later).first;
+          heavy = λ trees is more later h. said_heavy service trees now flow' out out' journal journal' closing closing' body body' held held' log more later (said is trees more later) ∙ h;
         };
         logged = logged_at service flow' journal' closing' body' held' told;
       })
     where
-      said : (trees : Trees) (more : List ℕ) (later : List Start) → Said service trees now flow' out out' journal journal' closing closing' body body' held held' log more later
-      said trees more later = said_of stays refused fits service trees now flow' out out' journal journal' entry closing closing' body body' held held' next log c b l j (r trees) more later
+      said : serves.served.raceless ≡ true → (trees : Trees) (more : List ℕ) (later : List Start) → Said service trees now flow' out out' journal journal' closing closing' body body' held held' log more later
+      said is trees more later = said_of stays refused fits service trees now flow' out out' journal journal' entry closing closing' body body' held held' next log c b l j r (tells is) more later
 
-  pub ran_left : SizeFits → (service : Service) (trees : Trees) (now : Start) (k : ℕ) (cause : Option StopCause) (flow' : Option Flow) (out out' : List ℕ) (closing closing' : Bool) (body' : Option BodyState) (held held' : List ℕ) (next : HeadStep) (log : Option Log) →
-      is_some cause ≡ false → closing ≡ false → next ≡ head_step held → work flow' (length out') < weight → RanOne serves service trees now k next held held' body' flow' out out' closing' log → left_at cause flow' out' closing' held' < left_at cause None out closing held
-  ran_left fits service trees now k (Some cause) flow' out out' closing closing' body' held held' next log live c l f r = cc
-  ran_left fits service trees now k None flow' out out' closing closing' body' held held' (Head head size) log live c l f r =
+  -- Too many subrequests are asked for when one starts: it is stopped. This is foreseen.
+  pub ran_halts : HeadStays → SizeFits → (service : Service) (now : Start) (count : ℕ) (cause : Option StopCause) (flow' : Option Flight) (out out' : List ℕ) (journal journal' : List Entry) (entry : Entry) (closing closing' ended ended' : Bool) (body body' : Option BodyState) (held held' : List ℕ) (next next' : HeadStep) →
+      is_some cause ≡ false → closing ≡ false → body ≡ None → next ≡ head_step held → flow' ≡ None → out' ≡ [] → start_of entry ≡ now → log_of entry ≡ None → journal' ≡ journal ++ entry ∷ [] → TellsRaceless serves → RanOver serves service now (length journal) next →
+      IsLogged false journal → Ran now (view_at serves service cause None out journal closing ended body held next) (view_at serves service (Some (stop.SubLimit count)) flow' out' journal' closing' ended' body' held' next')
+  unfolding any_over
+  ran_halts stays fits service now count cause flow' out out' journal journal' entry closing closing' ended ended' body body' held held' next next' live c b l f e s g j tells r told =
+      Halts count (now ∷ []) (inr refl) (record {
+        before = live_at service cause None out journal closing ended body held next live;
+        held = refl;
+        why = refl;
+        pending = unsent flow' out' f e;
+        starts = ap (map start_of) j ∙ map-append start_of journal (entry ∷ []) ∙ ap (λ x. map start_of journal ++ x ∷ []) s;
+        logs = ap (map log_of) j ∙ map-append log_of journal (entry ∷ []) ∙ ap (λ x. map log_of journal ++ x ∷ []) g;
+        logged = λ all a. logged_entered journal journal' entry all told g j a;
+        raceless = refl;
+      }) (λ is trees more later. foreseen next r l (tells is) trees more later)
+    where
+      foreseen : (next : HeadStep) → RanOver serves service now (length journal) next → next ≡ head_step held → AreRaceless serves → (trees : Trees) (more : List ℕ) (later : List Start) →
+          heavy_at service (rest_in serves None) journal closing body held trees more (now ∷ later) ≡ true
+      foreseen (Head head size) r l raceless trees more later =
+          let k = length journal in
+          let whole : Response = response_at service trees k now head in
+          let behind = cond whole.stays (after_body (body_of head.body (drop size held ++ more)) (λ n. responses service (k + 1) trees (drop n (drop size held ++ more)) later)) then_closes in
+          ap (λ x. heavy_in (cond x then_closes (past_body body (held ++ more) (λ input. responses service k trees input (now ∷ later))))) c
+          ∙ ap (λ x. heavy_in (past_body x (held ++ more) (λ input. responses service k trees input (now ∷ later)))) b
+          ∙ ap (λ a. heavy_in a) (responses_head stays fits service k trees held more now later head size (sym l))
+          ∙ ap (λ t. t || heavy_in behind) (r raceless trees)
+      foreseen (Bad code no_body) r l raceless trees more later = absurd r
+      foreseen More r l raceless trees more later = absurd r
+
+  pub ran_left : SizeFits → (service : Service) (now : Start) (k : ℕ) (cause : Option StopCause) (flow' : Option Flight) (out out' : List ℕ) (closing closing' : Bool) (body' : Option BodyState) (held held' : List ℕ) (next : HeadStep) (log : Option Log) →
+      is_some cause ≡ false → closing ≡ false → next ≡ head_step held → work flow' (length out') < weight → RanOne serves service now k next held held' body' flow' out out' closing' log → left_at cause flow' out' closing' held' < left_at cause None out closing held
+  ran_left fits service now k (Some cause) flow' out out' closing closing' body' held held' next log live c l f r = cc
+  ran_left fits service now k None flow' out out' closing closing' body' held held' (Head head size) log live c l f r =
       let s = fits held head size (sym l) in
       let d : length (drop size held) ≡ length held - size = length-drop size held in
       let shorter : length held' < length held = omega (arith, s.0, s.1, d, r.drops.shorter) in
       let w : work flow' (length out') < work None (length out) + weight = omega (arith, f) in
       rw c (falls (work None (length out)) (work flow' (length out')) (length held) (length held') closing' w shorter)
-  ran_left fits service trees now k None flow' out out' closing closing' body' held held' (Bad code no_body) log live c l f r =
+  ran_left fits service now k None flow' out out' closing closing' body' held held' (Bad code no_body) log live c l f r =
       rw (c, r.closes) (omega (arith, f))
-  ran_left fits service trees now k None flow' out out' closing closing' body' held held' More log live c l f r = absurd r
+  ran_left fits service now k None flow' out out' closing closing' body' held held' More log live c l f r = absurd r
 
-  -- a request that seeks a file goes on
-  goes_after : (service : Service) (trees : Trees) (flow flow' : Option Flow) (out out' : List ℕ) (journal journal' : List Entry) (closing closing' : Bool) (body : Option BodyState) (held more : List ℕ) (later : List Start) (log : Option Log) (level : Option ℕ) → length journal' ≡ length journal →
-      Follows serves.served.site (rest_in serves flow trees) (rest_in serves flow' trees) out out' closing closing' log level → after_at service (rest_in serves flow) journal closing body held trees more later ≡ after_at service (rest_in serves flow') journal' closing' body held trees more later
-  goes_after service trees flow flow' out out' journal journal' closing closing' body held more later log level n g =
+  -- it is stopped
+  stopped : (service : Service) (why : StopCause) (cause : Option StopCause) (flow flow' : Option Flight) (out out' : List ℕ) (journal journal' : List Entry) (closing closing' ended ended' : Bool) (body body' : Option BodyState) (held held' : List ℕ) (next next' : HeadStep) →
+      is_some cause ≡ false → flow' ≡ None → out' ≡ [] → journal' ≡ journal → Stopped why (view_at serves service cause flow out journal closing ended body held next) (view_at serves service (Some why) flow' out' journal' closing' ended' body' held' next') []
+  stopped service why cause flow flow' out out' journal journal' closing closing' ended ended' body body' held held' next next' live f e j = record {
+    before = live_at service cause flow out journal closing ended body held next live;
+    held = refl;
+    why = refl;
+    pending = unsent flow' out' f e;
+    starts = ap (map start_of) j ∙ sym (append-nil (map start_of journal));
+    logs = ap (map log_of) j ∙ sym (append-nil (map log_of journal));
+    logged = λ all l. subst (λ x. Logged x all) (sym (ap (map log_of) j)) l;
+    raceless = refl;
+  }
+
+  -- a response goes on
+  goes_after : (service : Service) (trees : Trees) (flow flow' : Option Flight) (out out' : List ℕ) (journal journal' : List Entry) (closing closing' : Bool) (body : Option BodyState) (held more : List ℕ) (later : List Start) (log : Option Log) → length journal' ≡ length journal →
+      Keeps (rest_in serves flow trees) (rest_in serves flow' trees) out out' closing closing' log → after_at service (rest_in serves flow) journal closing body held trees more later ≡ after_at service (rest_in serves flow') journal' closing' body held trees more later
+  goes_after service trees flow flow' out out' journal journal' closing closing' body held more later log n g =
       let tail : ℕ → Bool → List Answer = λ k c. cond c then_closes (past_body body (held ++ more) (λ input. responses service k trees input later)) in
-      ap (tail (length journal)) (sym g.closes) ∙ ap (λ k. tail k (closes_after (rest_in serves flow' trees) closing')) (sym n)
+      ap (tail (length journal)) (sym g.1.0) ∙ ap (λ k. tail k (closes_after (rest_in serves flow' trees) closing')) (sym n)
 
-  goes_heavy : (service : Service) (trees : Trees) (flow flow' : Option Flow) (out out' : List ℕ) (journal journal' : List Entry) (closing closing' : Bool) (body : Option BodyState) (held more : List ℕ) (later : List Start) (log : Option Log) (level : Option ℕ) → length journal' ≡ length journal →
-      Follows serves.served.site (rest_in serves flow trees) (rest_in serves flow' trees) out out' closing closing' log level → heavy_at service (rest_in serves flow) journal closing body held trees more later ≡ heavy_at service (rest_in serves flow') journal' closing' body held trees more later
-  goes_heavy service trees flow flow' out out' journal journal' closing closing' body held more later log level n g =
-      ap (λ a. is_over (rest_in serves flow trees) || heavy_in a) (goes_after service trees flow flow' out out' journal journal' closing closing' body held more later log level n g)
-      ∙ ap (λ k. nat_lt most_subs k || heavy_in (after_at service (rest_in serves flow') journal' closing' body held trees more later)) (sym g.subs)
+  goes_heavy : (service : Service) (trees : Trees) (flow flow' : Option Flight) (out out' : List ℕ) (journal journal' : List Entry) (closing closing' : Bool) (body : Option BodyState) (held more : List ℕ) (later : List Start) (log : Option Log) → length journal' ≡ length journal →
+      Keeps (rest_in serves flow trees) (rest_in serves flow' trees) out out' closing closing' log → heavy_at service (rest_in serves flow) journal closing body held trees more later ≡ heavy_at service (rest_in serves flow') journal' closing' body held trees more later
+  goes_heavy service trees flow flow' out out' journal journal' closing closing' body held more later log n g =
+      ap (λ a. is_over (rest_in serves flow trees) || heavy_in a) (goes_after service trees flow flow' out out' journal journal' closing closing' body held more later log n g)
+      ∙ ap (λ b. b || heavy_in (after_at service (rest_in serves flow') journal' closing' body held trees more later)) (sym g.1.1.1)
 
-  goes_bytes : (service : Service) (trees : Trees) (flow flow' : Option Flow) (out out' : List ℕ) (journal journal' : List Entry) (closing closing' : Bool) (body : Option BodyState) (held more : List ℕ) (later : List Start) (log : Option Log) (level : Option ℕ) → length journal' ≡ length journal →
-      Follows serves.served.site (rest_in serves flow trees) (rest_in serves flow' trees) out out' closing closing' log level → bytes_at service (rest_in serves flow) out journal closing body held trees more later ≡ bytes_at service (rest_in serves flow') out' journal' closing' body held trees more later
-  goes_bytes service trees flow flow' out out' journal journal' closing closing' body held more later log level n g =
+  goes_bytes : (service : Service) (trees : Trees) (flow flow' : Option Flight) (out out' : List ℕ) (journal journal' : List Entry) (closing closing' : Bool) (body : Option BodyState) (held more : List ℕ) (later : List Start) (log : Option Log) → length journal' ≡ length journal →
+      Keeps (rest_in serves flow trees) (rest_in serves flow' trees) out out' closing closing' log → bytes_at service (rest_in serves flow) out journal closing body held trees more later ≡ bytes_at service (rest_in serves flow') out' journal' closing' body held trees more later
+  goes_bytes service trees flow flow' out out' journal journal' closing closing' body held more later log n g =
       let r = rest_in serves flow trees in
       let r' = rest_in serves flow' trees in
       let behind = bytes_in (after_at service (rest_in serves flow') journal' closing' body held trees more later) in
-      ap (λ x. out ++ (r.bytes ++ bytes_in x)) (goes_after service trees flow flow' out out' journal journal' closing closing' body held more later log level n g)
-      ∙ sym (append_assoc out r.bytes behind) ∙ ap (λ x. x ++ behind) (sym g.bytes) ∙ append_assoc out' r'.bytes behind
+      ap (λ x. out ++ (r.bytes ++ bytes_in x)) (goes_after service trees flow flow' out out' journal journal' closing closing' body held more later log n g)
+      ∙ sym (append_assoc out r.bytes behind) ∙ ap (λ x. x ++ behind) (sym g.0) ∙ append_assoc out' r'.bytes behind
 
-  goes_logs : (service : Service) (trees : Trees) (flow flow' : Option Flow) (out out' : List ℕ) (journal journal' : List Entry) (closing closing' : Bool) (body : Option BodyState) (held more : List ℕ) (later : List Start) (log : Option Log) (level : Option ℕ) → length journal' ≡ length journal →
-      logged_in journal' ≡ logged_in journal ++ logged_by log → Follows serves.served.site (rest_in serves flow trees) (rest_in serves flow' trees) out out' closing closing' log level → logs_at service (rest_in serves flow) journal closing body held trees more later ≡ logs_at service (rest_in serves flow') journal' closing' body held trees more later
-  goes_logs service trees flow flow' out out' journal journal' closing closing' body held more later log level n e g =
+  goes_logs : (service : Service) (trees : Trees) (flow flow' : Option Flight) (out out' : List ℕ) (journal journal' : List Entry) (closing closing' : Bool) (body : Option BodyState) (held more : List ℕ) (later : List Start) (log : Option Log) → length journal' ≡ length journal →
+      logged_in journal' ≡ logged_in journal ++ logged_by log → Keeps (rest_in serves flow trees) (rest_in serves flow' trees) out out' closing closing' log → logs_at service (rest_in serves flow) journal closing body held trees more later ≡ logs_at service (rest_in serves flow') journal' closing' body held trees more later
+  goes_logs service trees flow flow' out out' journal journal' closing closing' body held more later log n e g =
       let r = rest_in serves flow trees in
       let r' = rest_in serves flow' trees in
       let behind = logs_in (after_at service (rest_in serves flow') journal' closing' body held trees more later) in
-      ap (λ x. logged_in journal ++ (r.logs ++ logs_in x)) (goes_after service trees flow flow' out out' journal journal' closing closing' body held more later log level n g)
-      ∙ ap (λ x. logged_in journal ++ (x ++ behind)) (sym g.logged) ∙ ap (λ x. logged_in journal ++ x) (append_assoc (logged_by log) r'.logs behind)
+      ap (λ x. logged_in journal ++ (r.logs ++ logs_in x)) (goes_after service trees flow flow' out out' journal journal' closing closing' body held more later log n g)
+      ∙ ap (λ x. logged_in journal ++ (x ++ behind)) (sym g.1.1.0) ∙ ap (λ x. logged_in journal ++ x) (append_assoc (logged_by log) r'.logs behind)
       ∙ sym (append_assoc (logged_in journal) (logged_by log) (r'.logs ++ behind)) ∙ ap (λ x. x ++ (r'.logs ++ behind)) (sym e)
 
-  pub goes_went : (ground : Ground) (service : Service) (cause : Option StopCause) (flow flow' : Option Flow) (out out' : List ℕ) (journal journal' : List Entry) (closing closing' ended : Bool) (body : Option BodyState) (held : List ℕ) (next : HeadStep) (log : Option Log) (level : Option ℕ) →
+  pub goes_went : (ground : Ground) (service : Service) (cause : Option StopCause) (flow flow' : Option Flight) (out out' : List ℕ) (journal journal' : List Entry) (closing closing' ended : Bool) (body : Option BodyState) (held : List ℕ) (next : HeadStep) (log : Option Log) →
       is_some cause ≡ false → length journal' ≡ length journal → map start_of journal' ≡ map start_of journal → logged_in journal' ≡ logged_in journal ++ logged_by log → IsLogged (is_some flow') journal' →
-      ((trees : Trees) → Holds ground trees → Follows serves.served.site (rest_in serves flow trees) (rest_in serves flow' trees) out out' closing closing' log level) →
+      ((trees : Trees) → Holds ground trees → Keeps (rest_in serves flow trees) (rest_in serves flow' trees) out out' closing closing' log) →
       Went ground (view_at serves service cause flow out journal closing ended body held next) (view_at serves service cause flow' out' journal' closing' ended body held next) [] [] []
-  goes_went ground service cause flow flow' out out' journal journal' closing closing' ended body held next log level live n m e told g = record {
+  goes_went ground service cause flow flow' out out' journal journal' closing closing' ended body held next log live n m e told g = record {
     before = live_at service cause flow out journal closing ended body held next live;
     after = live_at service cause flow' out' journal' closing' ended body held next live;
     moved = record {
       starts = m ∙ sym (append-nil (map start_of journal));
       raceless = refl;
       timed = refl;
-      bytes = λ trees is more later. goes_bytes service trees flow flow' out out' journal journal' closing closing' body held more later log level n (g trees is);
-      logs = λ trees is more later. goes_logs service trees flow flow' out out' journal journal' closing closing' body held more later log level n e (g trees is);
-      closes = λ trees is more later. ap close_in (goes_after service trees flow flow' out out' journal journal' closing closing' body held more later log level n (g trees is));
-      heavy = λ trees is more later h. goes_heavy service trees flow flow' out out' journal journal' closing closing' body held more later log level n (g trees is) ∙ h;
+      bytes = λ trees is more later. goes_bytes service trees flow flow' out out' journal journal' closing closing' body held more later log n (g trees is);
+      logs = λ trees is more later. goes_logs service trees flow flow' out out' journal journal' closing closing' body held more later log n e (g trees is);
+      closes = λ trees is more later. ap close_in (goes_after service trees flow flow' out out' journal journal' closing closing' body held more later log n (g trees is));
+      heavy = λ trees is more later h. goes_heavy service trees flow flow' out out' journal journal' closing closing' body held more later log n (g trees is) ∙ h;
     };
     logged = logged_at service flow' journal' closing' body held told;
   }
 
+  -- Too many subrequests are asked for: it is stopped. This is foreseen.
+  pub goes_halts : (now : Start) (service : Service) (count : ℕ) (cause : Option StopCause) (flow flow' : Option Flight) (out out' : List ℕ) (journal journal' : List Entry) (closing closing' ended ended' : Bool) (body body' : Option BodyState) (held held' : List ℕ) (next next' : HeadStep) →
+      is_some cause ≡ false → flow' ≡ None → out' ≡ [] → journal' ≡ journal → (serves.served.raceless ≡ true → (trees : Trees) → is_over (rest_in serves flow trees) ≡ true) →
+      Ran now (view_at serves service cause flow out journal closing ended body held next) (view_at serves service (Some (stop.SubLimit count)) flow' out' journal' closing' ended' body' held' next')
+  goes_halts now service count cause flow flow' out out' journal journal' closing closing' ended ended' body body' held held' next next' live f e j over =
+      Halts count [] (inl refl) (stopped service (stop.SubLimit count) cause flow flow' out out' journal journal' closing closing' ended ended' body body' held held' next next' live f e j)
+      (λ is trees more later. ap (λ b. b || heavy_in (after_at service (rest_in serves flow) journal closing body held trees more later)) (over is trees))
+
   -- an event for which there was no memory
-  pub refused : (now : Start) (service : Service) (cause : Option StopCause) (flow flow' : Option Flow) (out out' : List ℕ) (journal journal' : List Entry) (closing closing' ended ended' : Bool) (body body' : Option BodyState) (held held' : List ℕ) (next next' : HeadStep) →
-      is_some cause ≡ false → out' ≡ [] → journal' ≡ journal → Refused now (view_at serves service cause flow out journal closing ended body held next) (view_at serves service (Some stop.Memory) flow' out' journal' closing' ended' body' held' next')
-  refused now service cause flow flow' out out' journal journal' closing closing' ended ended' body body' held held' next next' live e j = (
-    [],
-    inl refl,
-    record {
-      before = live_at service cause flow out journal closing ended body held next live;
-      held = refl;
-      why = refl;
-      pending = ap (take (shown_of flow')) e ∙ none_taken (shown_of flow');
-      starts = ap (map start_of) j ∙ sym (append-nil (map start_of journal));
-      logs = ap (map log_of) j ∙ sym (append-nil (map log_of journal));
-      logged = λ all l. subst (λ x. Logged x all) (sym (ap (map log_of) j)) l;
-      raceless = refl;
-    },
-  )
+  pub refused : (now : Start) (service : Service) (cause : Option StopCause) (flow flow' : Option Flight) (out out' : List ℕ) (journal journal' : List Entry) (closing closing' ended ended' : Bool) (body body' : Option BodyState) (held held' : List ℕ) (next next' : HeadStep) →
+      is_some cause ≡ false → flow' ≡ None → out' ≡ [] → journal' ≡ journal → Refused now (view_at serves service cause flow out journal closing ended body held next) (view_at serves service (Some stop.Memory) flow' out' journal' closing' ended' body' held' next')
+  refused now service cause flow flow' out out' journal journal' closing closing' ended ended' body body' held held' next next' live f e j =
+      ([], inl refl, stopped service stop.Memory cause flow flow' out out' journal journal' closing closing' ended ended' body body' held held' next next' live f e j)

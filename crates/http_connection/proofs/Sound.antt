@@ -1,11 +1,11 @@
 -- What a connection shows is sound.
 use Rattle.std.proofs.Common.{◌≡◌, ◌≢◌, ℕ, ◌+◌, ◌-◌, ◌<◌, ◌≤◌, drop, take, Bool, true, false, not, ◌&&◌, ◌||◌, cond, List, [], ◌∷◌, ◌++◌, length, map, Option, None, Some, refl, sym, ap, ◌∙◌, arith, suc, zero}
-use Rattle.std.specs.Prelude.{is_some, nat_le, nat_lt, ◌==◌}
+use Rattle.std.specs.Prelude.{is_none, is_some, nat_le, nat_lt, ◌==◌}
 use Rattle.file_tree.specs.declared.job.Ask.{Ask}
 use Rattle.std.proofs.lemmas.List.{append-nil}
 use Rattle.std.proofs.lemmas.Bool.Decides.{nat_tests}
 use Rattle.file_tree.specs.Tree.{Trees}
-use Rattle.ngx_outside.specs.Views.{Start, log_of, IsSound, is_idle, no_bytes, no_nodes, no_jobs}
+use Rattle.ngx_outside.specs.Views.{Job, Start, log_of, IsSound, is_idle, no_bytes, no_nodes, no_jobs}
 use Rattle.ngx_outside.specs.declared.event.Entry.{Entry}
 use Rattle.ngx_outside.specs.declared.event.StopCause.{StopCause}
 use Rattle.req_head.specs.declared.head.HeadStep.{HeadStep}
@@ -16,11 +16,16 @@ use Rattle.body_frame.specs.Outcome.{Short}
 use Rattle.body_frame.specs.State.{body_of}
 use Rattle.body_frame.specs.declared.state.BodyState.{BodyState}
 use Rattle.request_flow.specs.declared.flow.Flow.{Flow}
+use Rattle.response_flow.specs.declared.flight.Flight.{Flight}
+use Rattle.response_flow.specs.declared.flight.Flight.TheVariants.{Alone, Page}
+use Rattle.response_flow.specs.Flights.{FlightFits, are_done, jobs_by, most_kept, page_ready, pending_by, ready_by}
+use Rattle.page_response.specs.declared.pages.Pages.{Pages}
+use Rattle.subrequests.specs.Wants as family
 use Rattle.request_flow.specs.declared.flow.Stage.{Stage}
 use Rattle.request_flow.specs.declared.flow.Stage.TheVariants.{Asked, Told, Reading, Came}
 use Rattle.http_connection.specs.Steps.{starts, rest_of, past_body, logged_in, IsLogged}
 use Rattle.http_connection.specs.Conn.{view_at, after_at, bytes_at, logs_at, room_at, starts_at, idle_at, shut_at}
-use Rattle.http_connection.proofs.Moves.{room_some, none_taken, below, and_left, and_right}
+use Rattle.http_connection.proofs.Moves.{room_some, none_taken, unsent, below, and_left, and_right}
 use Rattle.answers_meaning.specs.Asking.{Service}
 use Rattle.answers_meaning.specs.Answers.{Answer, then_closes, responses, first_response, bytes_in, logs_in, close_in, after_body}
 use Rattle.http_connection.specs.Rests.{rest_in, Serves}
@@ -144,7 +149,7 @@ some_kept placed [] a b = absurd (omega (arith, a, b))
 some_kept placed (x ∷ xs) a b = refl
 
 unplaced : (out : List ℕ) (t : Bool) (placed : ℕ) → nat_lt placed placed_most ≡ t → placed ≤ length out →
-    (no_bytes (take (cond (nat_lt placed shown_most) placed shown_most) out) && no_nodes (cond (not false && t) (0 ∷ []) []) && true) ≡ true → ⊥
+    (no_bytes (take (cond (nat_lt placed shown_most) placed shown_most) out) && no_nodes (cond t (0 ∷ []) []) && true) ≡ true → ⊥
 unplaced out true placed e within h = never_mid (no_bytes (take (cond (nat_lt placed shown_most) placed shown_most) out)) h
 unplaced out false placed e within h =
     let most : placed_most ≤ placed = grind (arith, nat_tests) in
@@ -153,13 +158,13 @@ unplaced out false placed e within h =
     let clash : true ≡ false = sym is ∙ some in
     cc
 
--- a request in flight waits for its job, or runs, or has bytes to be written
-busy : (flow : Flow) (out : List ℕ) → flow_fits (Some flow) (length out) ≡ true →
-    (no_bytes (take (shown_by flow.stage) out) && no_nodes (cond (not false && may_run flow.stage) (0 ∷ []) []) && no_jobs (jobs_of (Some flow))) ≡ true → ⊥
-busy flow out fits h = by flow.stage fits h
+-- a request in flight alone waits for its job, or runs, or has bytes to be written
+busy_alone : (flow : Flow) (out : List ℕ) → flow_fits (Some flow) (length out) ≡ true →
+    (no_bytes (take (shown_by flow.stage) out) && no_nodes (cond (may_run flow.stage) (0 ∷ []) []) && no_jobs (jobs_of (Some flow))) ≡ true → ⊥
+busy_alone flow out fits h = by flow.stage fits h
   where
     by : (stage : Stage) → stage_fits flow.ask stage (length out) ≡ true →
-        (no_bytes (take (shown_by stage) out) && no_nodes (cond (not false && may_run stage) (0 ∷ []) []) && no_jobs (jobs_of (Some (record { ask = flow.ask; stage = stage })))) ≡ true → ⊥
+        (no_bytes (take (shown_by stage) out) && no_nodes (cond (may_run stage) (0 ∷ []) []) && no_jobs (jobs_of (Some (record { ask = flow.ask; stage = stage })))) ≡ true → ⊥
     by (Asked request wait) f h = never_all (no_bytes (take shown_most out)) true h
     by (Told request wait node) f h = never_mid (no_bytes (take shown_most out)) h
     by (Reading sending left) f h = never_all (no_bytes (take shown_most out)) true h
@@ -167,6 +172,23 @@ busy flow out fits h = by flow.stage fits h
         let q = and_right (nat_le left sending.len && not (is_stat flow.ask)) ((nat_le placed (length out) && nat_le placed placed_most) && nat_le (length out) kept_most) f in
         let p = and_left (nat_le placed (length out) && nat_le placed placed_most) (nat_le (length out) kept_most) q in
         unplaced out (nat_lt placed placed_most) placed refl (below placed (length out) (and_left (nat_le placed (length out)) (nat_le placed placed_most) p)) h
+
+-- and so does a page, of which the first node can run where nothing else is to be done
+stuck_runs : (done empty : Bool) (jobs : List Job) (ready : List ℕ) →
+    (empty && no_nodes (cond (done || (empty && (is_none (family.first_job jobs) && is_none (family.first_of ready)))) (0 ∷ []) ready) && no_jobs jobs) ≡ true → ⊥
+stuck_runs true true jobs ready h = cc
+stuck_runs done false jobs ready h = cc
+stuck_runs false true [] [] h = cc
+stuck_runs false true [] (n ∷ ready) h = cc
+stuck_runs false true (j ∷ jobs) ready h = never_all true (no_nodes (cond (false || (true && (false && is_none (family.first_of ready)))) (0 ∷ []) ready)) h
+
+busy_page : (p : Pages) → (no_bytes p.outgoing.pending && no_nodes (page_ready p) && no_jobs (family.jobs_of p.family)) ≡ true → ⊥
+busy_page p h = stuck_runs (are_done p.family.nodes.items) (no_bytes p.outgoing.pending) (family.jobs_of p.family) (family.ready_of p.family) h
+
+busy : (flight : Flight) (out : List ℕ) → FlightFits (Some flight) (length out) →
+    (no_bytes (pending_by flight out) && no_nodes (ready_by flight) && no_jobs (jobs_by flight)) ≡ true → ⊥
+busy (Alone flow) out fits h = busy_alone flow out fits h
+busy (Page p) out fits h = busy_page p.pages.value h
 
 -- what is idle by its parts is shown as idle
 is_false : (b : Bool) → (b ≡ true → ⊥) → b ≡ false
@@ -185,9 +207,18 @@ stage_bounded size job (Reading sending left) f = few_kept size (and_right (nat_
 stage_bounded size job (Came sending left placed) f =
     below size kept_most (and_right (nat_le placed size && nat_le placed placed_most) (nat_le size kept_most) (and_right (nat_le left sending.len && not (is_stat job)) ((nat_le placed size && nat_le placed placed_most) && nat_le size kept_most) f))
 
-pub bounded : (flow : Option Flow) (size : ℕ) → flow_fits flow size ≡ true → size ≤ kept_most
-bounded None size f = few_kept size f
-bounded (Some flow) size f = stage_bounded size flow.ask flow.stage f
+few_most : (size : ℕ) → size ≤ kept_most → size ≤ most_kept
+unfolding kept_most most_kept
+few_most size h = omega (arith, h)
+
+none_most : (size : ℕ) → size ≡ 0 → size ≤ most_kept
+unfolding most_kept
+none_most size e = omega (arith, e)
+
+pub bounded : (flight : Option Flight) (size : ℕ) → FlightFits flight size → size ≤ most_kept
+bounded None size f = f
+bounded (Some (Alone flow)) size f = few_most size (stage_bounded size flow.ask flow.stage f)
+bounded (Some (Page p)) size f = none_most size f.0
 
 module _ (serves : Serves) where
   -- where no request begins there are no further responses, and the connection closes where it does so behind its last one
@@ -257,7 +288,7 @@ module _ (serves : Serves) where
   reading full [] false false None held More looked drained i shut none = absurd (decided full held More looked (held_full (length held) none) refl)
   reading full [] false false (Some state) held next looked drained i shut none = absurd (let n = ap length (drained refl) in let h = held_full (length held) none in omega (arith, n, h))
 
-  pub idle_shown : (service : Service) (cause : Option StopCause) (flow : Option Flow) (out : List ℕ) (journal : List Entry) (closing ended : Bool) (body : Option BodyState) (held : List ℕ) (next : HeadStep) → flow_fits flow (length out) ≡ true →
+  pub idle_shown : (service : Service) (cause : Option StopCause) (flow : Option Flight) (out : List ℕ) (journal : List Entry) (closing ended : Bool) (body : Option BodyState) (held : List ℕ) (next : HeadStep) → FlightFits flow (length out) →
       idle_at (is_some cause) flow closing out body next ≡ is_idle (view_at serves service cause flow out journal closing ended body held next)
   idle_shown service (Some why) None out journal closing ended body held next fits = refl
   idle_shown service (Some why) (Some flow) out journal closing ended body held next fits = refl
@@ -265,11 +296,11 @@ module _ (serves : Serves) where
       idle_none out closing body next ∙ ap (λ b. b && no_nodes (cond (starts_at false closing out body next) (0 ∷ []) []) && true) (sym (shown_none out))
   idle_shown service None (Some flow) out journal closing ended body held next fits = sym (is_false _ (busy flow out fits))
 
-  pub sound : FullDecides → (service : Service) (cause : Option StopCause) (flow : Option Flow) (out : List ℕ) (journal : List Entry) (closing ended : Bool) (body : Option BodyState) (held : List ℕ) (next : HeadStep) →
-      (is_some cause ≡ false → next ≡ head_step held) → (is_some cause ≡ true → out ≡ []) → (is_some cause ≡ true → flow ≡ None) → flow_fits flow (length out) ≡ true → (is_some body ≡ true → held ≡ []) → (is_some body ≡ true → rest_of body [] ≡ Short) → (is_some cause ≡ false → IsLogged (is_some flow) journal) → IsSound (view_at serves service cause flow out journal closing ended body held next)
+  pub sound : FullDecides → (service : Service) (cause : Option StopCause) (flow : Option Flight) (out : List ℕ) (journal : List Entry) (closing ended : Bool) (body : Option BodyState) (held : List ℕ) (next : HeadStep) →
+      (is_some cause ≡ false → next ≡ head_step held) → (is_some cause ≡ true → out ≡ []) → (is_some cause ≡ true → flow ≡ None) → FlightFits flow (length out) → (is_some body ≡ true → held ≡ []) → (is_some body ≡ true → rest_of body [] ≡ Short) → (is_some cause ≡ false → IsLogged (is_some flow) journal) → IsSound (view_at serves service cause flow out journal closing ended body held next)
   sound full service (Some why) (Some flow) out journal closing ended body held next looked dropped quit fits drained unended told = absurd (let e : Some flow ≡ None = quit refl in cc)
   sound full service (Some why) None out journal closing ended body held next looked dropped quit fits drained unended told = record {
-    unsent = λ h. ap (take shown_most) (dropped refl) ∙ none_taken shown_most;
+    unsent = λ h. unsent None out refl (dropped refl);
     unready = λ h. refl;
     unasked = λ h. refl;
     unread = λ h. refl;

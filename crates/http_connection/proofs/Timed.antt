@@ -1,5 +1,5 @@
 -- What a connection shows, with the moment at which it is given up.
-use Rattle.std.proofs.Common.{◌≡◌, ℕ, ◌-◌, ◌^◌, ◌≤◌, ◌<◌, Bool, true, false, ◌||◌, eqb, List, [], ◌∷◌, length, Option, None, Some, map, take, refl, sym, ap, subst, ◌∙◌, arith}
+use Rattle.std.proofs.Common.{◌≡◌, ℕ, ◌-◌, ◌^◌, ◌≤◌, ◌<◌, Bool, true, false, ◌||◌, eqb, List, [], ◌∷◌, length, Option, None, Some, map, refl, sym, ap, subst, ◌∙◌, arith}
 use Rattle.std.specs.Prelude.{not, is_some, is_none}
 use Rattle.std.proofs.lemmas.List.{append-nil}
 use Rattle.std.specs.List.{Contains}
@@ -9,12 +9,15 @@ use Rattle.ngx_outside.specs.declared.event.Entry.{Entry}
 use Rattle.ngx_outside.specs.declared.event.StopCause.{StopCause}
 use Rattle.ngx_outside.specs.declared.event.StopCause.TheVariants as stop
 use Rattle.http_connection.specs.declared.conn.Conn.{Conn}
-use Rattle.http_connection.proofs.Moves.{none_taken}
-use Rattle.http_connection.specs.Conn.{pending_at, shut_at, view_at, view_of, until, due_at, IsExact, no_entries}
+use Rattle.http_connection.proofs.Moves.{unsent}
+use Rattle.response_flow.specs.declared.flight.Flight.{Flight}
+use Rattle.http_connection.specs.Conn.{in_flight, pending_at, shut_at, view_at, view_of, until, due_at, IsExact, no_entries}
 use Rattle.http_connection.specs.Steps.{starts}
 use Rattle.http_connection.specs.Times.{awaited_by, due_of, soonest, mark_by}
 use Rattle.http_connection.specs.Rests.{Serves, service_in}
-use Rattle.request_flow.specs.Flows.{shown_most}
+
+abbrev pub view_of_parts : Serves → Conn → ConnView
+view_of_parts site s = view_at site (service_in site s.local s.peer) s.cause s.flight s.out s.journal.items s.closing s.ended s.body s.held s.next
 
 pub went_until : (due due' : Option ℕ) (ground : Ground) (old new : ConnView) (came went : List ℕ) (started : List Start) → Went ground old new came went started → Went ground (until due old) (until due' new) came went started
 went_until due due' ground old new came went started w = record {
@@ -76,9 +79,6 @@ sound_until due v held none s = record {
 pub exact_until : (due : Option ℕ) (v : ConnView) → IsExact v → IsExact (until due v)
 exact_until due v e = record { rests = e.rests; ends = e.ends; busy = e.busy }
 
-abbrev pub view_of_parts : Serves → Conn → ConnView
-view_of_parts site s = view_at site (service_in site s.local s.peer) s.cause s.flow s.out s.journal.items s.closing s.ended s.body s.held s.next
-
 -- one that was stopped waits for nothing
 pub dead_waits : (s : Conn) → is_none s.cause ≡ false → due_at s ≡ None
 dead_waits s h = by s.cause refl h
@@ -87,7 +87,7 @@ dead_waits s h = by s.cause refl h
     by None e h = cc
     by (Some cause) e h =
         ap
-        (λ (c : Option StopCause). due_of (awaited_by (shut_at (is_some c) s.flow s.closing s.ended s.out s.body s.next) (not (no_bytes (pending_at s.flow s.out))) (is_some s.flow || starts s.body s.next) (no_entries s.journal.items) (not (no_bytes s.held))) s.times)
+        (λ (c : Option StopCause). due_of (awaited_by (shut_at (is_some c) s.flight s.closing s.ended s.out s.body s.next) (not (no_bytes (pending_at s.flight s.out))) (is_some s.flight || starts s.body s.next) (no_entries s.journal.items) (not (no_bytes s.held))) s.times)
         e
 
 -- the bytes and the entries that are there
@@ -117,12 +117,12 @@ alive s due e = by (is_none s.cause) refl
     by true h = refl
     by false h = absurd (let f : None ≡ Some due = sym (dead_waits s h) ∙ e in cc)
 
-given_up : (site : Serves) (s n : Conn) (due now : ℕ) → due_at s ≡ Some due → due ≤ now → n.cause ≡ Some (stop.Deadline due now) → n.flow ≡ None → n.out ≡ [] → n.journal.items ≡ s.journal.items → Ticked now (view_of site s) (view_of site n)
+given_up : (site : Serves) (s n : Conn) (due now : ℕ) → due_at s ≡ Some due → due ≤ now → n.cause ≡ Some (stop.Deadline due now) → n.flight ≡ None → n.out ≡ [] → n.journal.items ≡ s.journal.items → Ticked now (view_of site s) (view_of site n)
 given_up site s n due now e le cause flow out journal = GivesUp due refl e le (record {
   before = alive s due e;
   held = refl;
   why = cause;
-  pending = ap (λ f. pending_at f n.out) flow ∙ ap (take shown_most) out ∙ none_taken shown_most;
+  pending = unsent n.flight n.out flow out;
   starts = ap (map start_of) journal ∙ sym (append-nil (map start_of s.journal.items));
   logs = ap (map log_of) journal ∙ sym (append-nil (map log_of s.journal.items));
   logged = λ all l. subst (λ x. Logged x all) (sym (ap (map log_of) journal)) l;
@@ -130,7 +130,7 @@ given_up site s n due now e le cause flow out journal = GivesUp due refl e le (r
 })
 
 -- the clock tells a moment that is no earlier than its own
-pub gives_up : (site : Serves) (s n : Conn) (r now : ℕ) → r ≡ soonest (due_at s) → r ≤ now → now < 2 ^ 64 - 1 → n.cause ≡ Some (stop.Deadline r now) → n.flow ≡ None → n.out ≡ [] → n.journal.items ≡ s.journal.items → Ticked now (view_of site s) (view_of site n)
+pub gives_up : (site : Serves) (s n : Conn) (r now : ℕ) → r ≡ soonest (due_at s) → r ≤ now → now < 2 ^ 64 - 1 → n.cause ≡ Some (stop.Deadline r now) → n.flight ≡ None → n.out ≡ [] → n.journal.items ≡ s.journal.items → Ticked now (view_of site s) (view_of site n)
 gives_up site s n r now e le lt cause flow out journal = given_up site s n r now (due_now (due_at s) r now e le lt) le cause flow out journal
 
 -- or an earlier one
@@ -143,3 +143,25 @@ pub marks_by : (mark moment now result : ℕ) (p f p' f' q g q' g' : Bool) → r
 marks_by mark moment now result p f p' f' q g q' g' e m ep ef ep' ef' =
     e ∙ (ap (λ b. mark_by mark moment b f p' f') ep ∙ (ap (λ b. mark_by mark moment q b p' f') ef ∙ (ap (λ b. mark_by mark moment q g b f') ep'
     ∙ (ap (λ b. mark_by mark moment q g q' b) ef' ∙ ap (λ n. mark_by mark n q g q' g') (sym m)))))
+
+-- the mark after one that was stopped
+pub mark_rests : (mark moment now : ℕ) (p f q g : Bool) (flight : Option Flight) (out : List ℕ) → now ≡ moment → p ≡ q → f ≡ g → flight ≡ None → out ≡ [] →
+    mark_by mark moment p f false false ≡ mark_by mark now q g (not (no_bytes (pending_at flight out))) (in_flight flight out)
+mark_rests mark moment now p f q g flight out m ep ef none empty =
+    ap (λ b. mark_by mark moment b f false false) ep ∙ (ap (λ b. mark_by mark moment q b false false) ef ∙ (ap (λ n. mark_by mark n q g false false) (sym m)
+    ∙ (ap (λ xs. mark_by mark now q g (not (no_bytes xs)) false) (sym (unsent flight out none empty))
+    ∙ ap (λ b. mark_by mark now q g (not (no_bytes (pending_at flight out))) b) (sym (ap (λ h. in_flight h out) none ∙ ap (λ o. not (no_bytes o)) empty)))))
+
+-- the mark after one with which a further one starts
+pub mark_begins : (mark moment result : ℕ) (p' f' : Bool) (flight : Option Flight) (out : List ℕ) (q' g' : Bool) → result ≡ mark_by mark moment false false p' f' → flight ≡ None → out ≡ [] → p' ≡ q' → f' ≡ g' →
+    result ≡ mark_by mark moment (not (no_bytes (pending_at flight out))) (in_flight flight out) q' g'
+mark_begins mark moment result p' f' flight out q' g' e none empty ep ef =
+    e ∙ (ap (λ b. mark_by mark moment false false b f') ep ∙ (ap (λ b. mark_by mark moment false false q' b) ef
+    ∙ (ap (λ xs. mark_by mark moment (not (no_bytes xs)) false q' g') (sym (unsent flight out none empty))
+    ∙ ap (λ b. mark_by mark moment (not (no_bytes (pending_at flight out))) b q' g') (sym (ap (λ h. in_flight h out) none ∙ ap (λ o. not (no_bytes o)) empty)))))
+
+pub mark_starts : (mark moment : ℕ) (flight flight' : Option Flight) (out out' : List ℕ) → flight ≡ None → out ≡ [] → flight' ≡ None → out' ≡ [] →
+    mark_by mark moment false false false false ≡ mark_by mark moment (not (no_bytes (pending_at flight out))) (in_flight flight out) (not (no_bytes (pending_at flight' out'))) (in_flight flight' out')
+mark_starts mark moment flight flight' out out' none empty none' empty' =
+    mark_begins mark moment (mark_by mark moment false false false false) false false flight out (not (no_bytes (pending_at flight' out'))) (in_flight flight' out') refl none empty
+    (ap (λ xs. not (no_bytes xs)) (sym (unsent flight' out' none' empty'))) (sym (ap (λ h. in_flight h out') none' ∙ ap (λ o. not (no_bytes o)) empty'))

@@ -1,5 +1,5 @@
 -- What a connection shows.
-use Rattle.std.specs.Prelude.{◌≡◌, ◌≢◌, ◌≤◌, ◌⊎◌, ℕ, ◌+◌, ◌-◌, ◌*◌, ◌^◌, take, nat_le, Bool, true, false, not, ◌&&◌, ◌||◌, is_some, List, [], ◌∷◌, ◌++◌, Option, None, Some, length, map, if◌then◌else◌}
+use Rattle.std.specs.Prelude.{◌≡◌, ◌≢◌, ◌≤◌, ◌⊎◌, ℕ, ◌+◌, ◌-◌, ◌*◌, ◌^◌, nat_le, Bool, true, false, not, ◌&&◌, ◌||◌, is_some, List, [], ◌∷◌, ◌++◌, Option, None, Some, length, map, if◌then◌else◌}
 use Rattle.file_tree.specs.Tree.{Trees}
 use Rattle.ngx_outside.specs.Views.{ConnView, Course, start_of, log_of, Log, Start, StepsOwn, LeftBy, TakesNone, IsSound, is_idle, is_live, no_bytes}
 use Rattle.ngx_outside.specs.declared.event.Event.{Event}
@@ -13,22 +13,24 @@ use Rattle.http_connection.specs.declared.conn.Conn.{Conn}
 use Rattle.http_types.specs.declared.words.Addr.{Addr}
 use Rattle.answers_meaning.specs.Asking.{Service}
 use Rattle.answers_meaning.specs.Answers.{Answer, then_closes, responses, bytes_in, logs_in, close_in, heavy_in}
-use Rattle.request_flow.specs.declared.flow.Flow.{Flow}
-use Rattle.request_flow.specs.Flows.{may_run, jobs_of, shown_of, flow_left, tree_asked, kept_most}
+use Rattle.response_flow.specs.declared.flight.Flight.{Flight}
+use Rattle.response_flow.specs.Flights.{flight_left, flight_tree, jobs_of, most_kept, pending_of, ready_by}
 use Rattle.request_flow.specs.Rests.{Rest, closes_after}
-use Rattle.request_flow.specs.Openings.{service_of}
+use Rattle.request_opening.specs.Openings.{service_of}
 use Rattle.ngx_pattern.specs.Pattern.{Pattern as SetPattern}
 use Rattle.site_model.specs.declared.site.Site.{Site}
-use Rattle.http_connection.specs.Rests.{Serves, service_in, rest_in, is_over}
+use Rattle.response_flow.specs.Continues.{is_over}
+use Rattle.http_connection.specs.Rests.{AreRaceless, IsReachedIn, ReachedIn, Serves, TellsRaceless, service_in, rest_in}
 use Rattle.body_frame.specs.declared.state.BodyState.{BodyState}
 use Rattle.http_connection.specs.Steps.{starts, past_body, logged_in}
 use Rattle.http_connection.specs.declared.times.Awaited.{Awaited}
 use Rattle.http_connection.specs.declared.times.Pace.{Pace}
 use Rattle.http_connection.specs.Times.{awaited_by, due_of, mark_by, IsPaced, PacedFor}
 
--- what is to come on a connection that is opened now, with these ends
-abbrev pub fresh_course : List SetPattern → Site → Addr → Addr → Course
-fresh_course patterns site local peer =
+-- what is to come on a connection that is opened now, with these ends, where the race check names
+-- no variable of the site, or some
+abbrev pub fresh_course : (raceless : Bool) → List SetPattern → Site → Addr → Addr → Course
+fresh_course raceless patterns site local peer =
     record {
       bytes = λ trees more later. bytes_in
           (responses (service_of patterns site local peer) 0 trees more later);
@@ -38,7 +40,7 @@ fresh_course patterns site local peer =
           (responses (service_of patterns site local peer) 0 trees more later);
       heavy = λ trees more later. heavy_in
           (responses (service_of patterns site local peer) 0 trees more later);
-      raceless = true;
+      raceless = raceless;
       timed = true;
     }
 
@@ -90,65 +92,65 @@ abbrev pub starts_at : Bool → Bool → List ℕ → Option BodyState → HeadS
 starts_at stopped closing out body next = not stopped && not closing && no_bytes out && starts body
     next
 
--- a node can run: the request that seeks a file goes on, or a further one starts
-abbrev pub ready_at : Bool → Option Flow → Bool → List ℕ → Option BodyState → HeadStep → Bool
-ready_at stopped None closing out body next = starts_at stopped closing out body next
-ready_at stopped (Some flow) closing out body next = not stopped && may_run flow.stage
+-- the nodes that can run: those of the request in flight, or that with which a further one starts
+abbrev pub ready_at : Bool → Option Flight → Bool → List ℕ → Option BodyState → HeadStep → List ℕ
+ready_at stopped None closing out body next = if starts_at stopped closing out body next then 0 ∷ [] else []
+ready_at stopped (Some flight) closing out body next = if stopped then [] else ready_by flight
 
 -- nothing is to be done until more arrives
-abbrev pub idle_at : Bool → Option Flow → Bool → List ℕ → Option BodyState → HeadStep → Bool
+abbrev pub idle_at : Bool → Option Flight → Bool → List ℕ → Option BodyState → HeadStep → Bool
 idle_at stopped None closing out body next = not stopped && no_bytes out &&
     (closing || not (starts body next))
-idle_at stopped (Some flow) closing out body next = false
+idle_at stopped (Some flight) closing out body next = false
 
 -- its link is to be closed: after a stop, after a response that closes and is written, or where
 -- the input has ended and nothing is left to do
-abbrev pub shut_at : Bool → Option Flow → Bool → Bool → List ℕ → Option BodyState → HeadStep → Bool
-shut_at stopped flow closing ended out body next = stopped ||
-    ((closing || ended) && idle_at false flow closing out body next)
+abbrev pub shut_at : Bool → Option Flight → Bool → Bool → List ℕ → Option BodyState → HeadStep → Bool
+shut_at stopped flight closing ended out body next = stopped ||
+    ((closing || ended) && idle_at false flight closing out body next)
 
 -- the bytes that are to be written next
-abbrev pub pending_at : Option Flow → List ℕ → List ℕ
-pending_at flow out = take (shown_of flow) out
+abbrev pub pending_at : Option Flight → List ℕ → List ℕ
+pending_at flight out = pending_of flight out
 
 abbrev pub no_entries : List Entry → Bool
 no_entries [] = true
 no_entries (entry ∷ journal) = false
 
 -- a connection by its parts
-abbrev pub view_at : Serves → Service → Option StopCause → Option Flow → List ℕ → List Entry → Bool
+abbrev pub view_at : Serves → Service → Option StopCause → Option Flight → List ℕ → List Entry → Bool
     → Bool →
     Option BodyState → List ℕ → HeadStep → ConnView
-view_at x service cause flow out journal closing ended body held next =
+view_at x service cause flight out journal closing ended body held next =
     record {
       held = true;
       cause = cause;
-      pending = pending_at flow out;
+      pending = pending_at flight out;
       starts = map start_of journal;
       logs = map log_of journal;
       course = record {
-        bytes = bytes_at service (rest_in x flow) out journal closing body held;
-        logs = logs_at service (rest_in x flow) journal closing body held;
-        closes = closes_at service (rest_in x flow) journal closing body held;
-        heavy = heavy_at service (rest_in x flow) journal closing body held;
-        raceless = true;
+        bytes = bytes_at service (rest_in x flight) out journal closing body held;
+        logs = logs_at service (rest_in x flight) journal closing body held;
+        closes = closes_at service (rest_in x flight) journal closing body held;
+        heavy = heavy_at service (rest_in x flight) journal closing body held;
+        raceless = x.served.raceless;
         timed = true;
       };
       room = room_at (is_some cause) closing ended held;
-      ready = if ready_at (is_some cause) flow closing out body next then 0 ∷ [] else [];
-      jobs = jobs_of flow;
-      shut = shut_at (is_some cause) flow closing ended out body next;
+      ready = ready_at (is_some cause) flight closing out body next;
+      jobs = jobs_of flight;
+      shut = shut_at (is_some cause) flight closing ended out body next;
       ended = ended;
-      raceless = true;
+      raceless = x.served.raceless;
       deadline = None;
     }
 
 -- what is awaited of its peer
 abbrev pub awaited_at : Conn → Awaited
 awaited_at conn = awaited_by
-    (shut_at (is_some conn.cause) conn.flow conn.closing conn.ended conn.out conn.body conn.next)
-    (not (no_bytes (pending_at conn.flow conn.out)))
-    (is_some conn.flow || starts conn.body conn.next)
+    (shut_at (is_some conn.cause) conn.flight conn.closing conn.ended conn.out conn.body conn.next)
+    (not (no_bytes (pending_at conn.flight conn.out)))
+    (is_some conn.flight || starts conn.body conn.next)
     (no_entries conn.journal.items)
     (not (no_bytes conn.held))
 
@@ -163,60 +165,63 @@ until due v = record v { deadline = due }
 abbrev pub view_of : Serves → Conn → ConnView
 view_of x conn = until (due_at conn)
     (view_at x
-    (service_in x conn.local conn.peer) conn.cause conn.flow conn.out conn.journal.items
+    (service_in x conn.local conn.peer) conn.cause conn.flight conn.out conn.journal.items
     conn.closing conn.ended conn.body conn.held conn.next)
 
 -- Each byte that is held may begin a head, whose request adds less than this to the bytes for its peer and to what is left to do
 -- of its response.
 unfoldable pub weight : ℕ
-weight = 9 * 2 ^ 64 + 2 ^ 33 + 65546
+weight = 65546 * 2 ^ 64 + 2 ^ 33 + 2 ^ 26 + 65546
 
-abbrev pub left_at : Option StopCause → Option Flow → List ℕ → Bool → List ℕ → ℕ
-left_at cause flow out closing held = if is_some cause then 0 else 1 +
-    (length out + flow_left flow (length out)) + (if closing then 0 else weight * (length held + 1))
+abbrev pub left_at : Option StopCause → Option Flight → List ℕ → Bool → List ℕ → ℕ
+left_at cause flight out closing held = if is_some cause then 0 else 1 +
+    (length out + flight_left flight (length out)) + (if closing then 0 else weight * (length held + 1))
 
 abbrev pub left_of : Conn → ℕ
-left_of conn = left_at conn.cause conn.flow conn.out conn.closing conn.held
+left_of conn = left_at conn.cause conn.flight conn.out conn.closing conn.held
 
 -- what a byte that arrives, or an opening, may add to what is left
 unfoldable pub price : ℕ
-price = 9 * 2 ^ 64 + 2 ^ 33 + 65547
+price = 65546 * 2 ^ 64 + 2 ^ 33 + 2 ^ 26 + 65547
 
 -- the newest tree that a job of the connection asks of
 abbrev pub asked_of : Conn → ℕ
-asked_of conn = tree_asked conn.flow
+asked_of conn = flight_tree conn.flight
 
 -- its own end ends its input
 abbrev pub ended_by : Event → StepAnswer → Bool → Bool
 ended_by (Ended conn) (Done taken) ended = true
 ended_by e a ended = ended
 
--- what an event does to its connection
+-- What an event does to its connection, in a site that says the truth of itself, where steps have
+-- led to the response in flight; and these lead on.
 pub record StepsConn (x : Serves) (now : Start) (e : Event) (a : StepAnswer)
     (old new : Conn) : Type 0 where
-  pub own : (course : Course) → StepsOwn course now e a (view_of x old) (view_of x new)
+  pub own : TellsRaceless x → IsReachedIn x old.flight → (course : Course) →
+      StepsOwn course now e a (view_of x old) (view_of x new)
+  pub reached : IsReachedIn x old.flight → IsReachedIn x new.flight
   pub left : LeftBy price e a (left_of old) (left_of new)
   pub ended : new.ended ≡ ended_by e a old.ended
   pub taken : TakesNone e a
   pub asked : asked_of new ≤ asked_of old ⊎ asked_of new ≤ now.tree
 
 -- a request is in flight: it isn't over, or some of its response is unsent
-abbrev pub in_flight : Option Flow → List ℕ → Bool
+abbrev pub in_flight : Option Flight → List ℕ → Bool
 in_flight None out = not (no_bytes out)
-in_flight (Some flow) out = true
+in_flight (Some flight) out = true
 
 -- no byte is held after a request that came to its end
 abbrev pub between : Conn → Bool
 between conn = not (no_entries conn.journal.items) && no_bytes conn.held &&
-    not (in_flight conn.flow conn.out)
+    not (in_flight conn.flight conn.out)
 
 abbrev pub begun_by : (mark moment : ℕ) → Bool → List ℕ → ℕ
 begun_by mark moment between held = if between && not (no_bytes held) then moment else mark
 
 abbrev pub mark_ran : ℕ → Conn → Conn → ℕ
 mark_ran moment old new = mark_by old.times.mark moment
-    (not (no_bytes (pending_at old.flow old.out))) (in_flight old.flow old.out)
-    (not (no_bytes (pending_at new.flow new.out))) (in_flight new.flow new.out)
+    (not (no_bytes (pending_at old.flight old.out))) (in_flight old.flight old.out)
+    (not (no_bytes (pending_at new.flight new.out))) (in_flight new.flight new.out)
 
 -- The mark after an event at this moment. Each write sets it; so does the first byte that is held
 -- after a request that came to its end; and so does a step by which bytes come to be pending or a
@@ -229,21 +234,22 @@ mark_after moment (FileDone conn node answer) (Done taken) old new = mark_ran mo
 mark_after moment (Run conn node) (Done taken) old new = mark_ran moment old new
 mark_after moment e a old new = old.times.mark
 
--- The pace after an event: that of the level that answers, where the event put the head of a response.
-abbrev pub PaceRan : Serves → (now : Start) → Option Flow → (old : Conn) → (flow' : Option Flow) →
+-- The pace after an event that stopped nothing: that of the level that answers, where the event put
+-- the head of a response.
+abbrev pub PaceRan : Serves → (now : Start) → Option Flight → (old : Conn) → (flight' : Option Flight) →
     (pace' : Pace) → Type 0
-PaceRan x now None old flow' pace' =
-    PacedFor (service_in x old.local old.peer) now old.next
-    (λ trees. (rest_in x flow' trees).values)
+PaceRan x now None old flight' pace' =
+    PacedFor (AreRaceless x) (service_in x old.local old.peer) now old.next
+    (λ trees. (rest_in x flight' trees).values)
     old.times.pace pace'
-PaceRan x now (Some flow) old flow' pace' =
-    IsPaced (λ trees. (rest_in x (Some flow) trees).values)
-    (λ trees. (rest_in x flow' trees).values)
+PaceRan x now (Some flow) old flight' pace' =
+    IsPaced (AreRaceless x × ReachedIn x (Some flow)) (λ trees. (rest_in x (Some flow) trees).values)
+    (λ trees. (rest_in x flight' trees).values)
     old.times.pace pace'
 
 abbrev pub PaceAfter : Serves → Start → Event → StepAnswer → Conn → Conn → Type 0
 PaceAfter x now (Run conn node) (Done taken) old new =
-    PaceRan x now old.flow old new.flow new.times.pace
+    is_some new.cause ≡ false → PaceRan x now old.flight old new.flight new.times.pace
 PaceAfter x now e a old new = new.times.pace ≡ old.times.pace
 
 -- what an event does to the times that its connection waits by
@@ -275,4 +281,4 @@ AllExact = (x : Serves) (conn : Conn) → IsExact (view_of x conn)
 
 -- no connection holds more bytes of its input than these, nor keeps more for its peer
 abbrev pub AllBounded : Type 0
-AllBounded = (conn : Conn) → (length conn.held ≤ 8192) × (length conn.out ≤ kept_most)
+AllBounded = (conn : Conn) → (length conn.held ≤ 8192) × (length conn.out ≤ most_kept)

@@ -1,3 +1,4 @@
+pub mod Facts
 pub mod Rests
 pub mod Steps
 pub mod Conn

@@ -1,5 +1,5 @@
 -- What connections are served over, and what is still to come of the response in flight on one.
-use Rattle.std.specs.Prelude.{ℕ, Bool, nat_lt, List, Option, None, Some, option_map}
+use Rattle.std.specs.Prelude.{◌≡◌, ◌<◌, ℕ, true, List, Option, None, Some, length, option_map}
 use Rattle.file_tree.specs.Tree.{Trees}
 use Rattle.http_types.specs.declared.words.Addr.{Addr}
 use Rattle.ngx_pattern.specs.Pattern.{Pattern as SetPattern}
@@ -7,13 +7,13 @@ use Rattle.pattern_search.specs.Found.{patterns_seen, found}
 use Rattle.site_model.specs.Levels.{raw_level}
 use Rattle.site_views.specs.Values.{Values}
 use Rattle.site_whole.specs.Whole.{server_whole, values_seen}
-use Rattle.request_meaning.specs.Counts.{most_subs}
 use Rattle.request_meaning.specs.Laws.{shipped}
 use Rattle.request_meaning.specs.Serving.{World}
 use Rattle.answers_meaning.specs.Asking.{Service}
-use Rattle.request_flow.specs.declared.flow.Flow.{Flow}
-use Rattle.request_flow.specs.Openings.{service_of}
-use Rattle.request_flow.specs.Flows.{flow_rest, stage_server, stage_length}
+use Rattle.race_meaning.specs.Named.{IsRaceless}
+use Rattle.request_opening.specs.Openings.{service_of}
+use Rattle.response_flow.specs.declared.flight.Flight.{Flight}
+use Rattle.response_flow.specs.Flights.{FlightReached, flight_length, flight_rest, flight_server}
 use Rattle.request_flow.specs.Rests.{Rest, no_rest}
 use Rattle.served_site.specs.declared.served.ServedSite.{ServedSite}
 use Rattle.served_site.specs.Served.{raw_server}
@@ -37,17 +37,36 @@ world_at x number length =
       length = length;
     }
 
+abbrev pub world_of : Serves → Flight → World
+world_of x flight = world_at x (flight_server flight) (flight_length flight)
+
 -- what is still to come of the response in flight
-abbrev pub rest_in : Serves → Option Flow → Trees → Rest
+abbrev pub rest_in : Serves → Option Flight → Trees → Rest
 rest_in x None trees = no_rest
-rest_in x (Some flow) trees =
-    flow_rest (world_at x (stage_server flow.stage)
-    (stage_length flow.stage)) x.patterns x.served.site (Some flow) trees
+rest_in x (Some flight) trees =
+    flight_rest (world_of x flight) x.patterns x.served.site (Some flight) trees
+
+-- one of the site's servers has this number
+abbrev pub HasServer : Serves → ℕ → Type 0
+HasServer x number = number < length x.served.site.servers.items
+
+-- Steps have led to the response in flight, which one of the site's servers answers.
+abbrev pub ReachedIn : Serves → Option Flight → Type 0
+ReachedIn x None = Unit {0}
+ReachedIn x (Some flight) =
+    FlightReached (world_of x flight) x.patterns x.served.site (Some flight) × HasServer x (flight_server flight)
+
+abbrev pub IsReachedIn : Serves → Option Flight → Type 0
+IsReachedIn x flight = ∥ ReachedIn x flight ∥₁
+
+-- the race check names no variable of the site
+abbrev pub AreRaceless : Serves → Type 0
+AreRaceless x = (number : ℕ) → HasServer x number → IsRaceless (world_at x number 0).server
+
+-- the site says of itself that no variable is named only where none is
+abbrev pub TellsRaceless : Serves → Type 0
+TellsRaceless x = x.served.raceless ≡ true → AreRaceless x
 
 -- the values of the level with this number
 abbrev pub values_at : ServedSite → Option ℕ → Option Values
 values_at s level = option_map (λ n. values_seen s.site (raw_level s.site n)) level
-
--- more subrequests are asked for than are started for one request
-abbrev pub is_over : Rest → Bool
-is_over r = nat_lt most_subs r.subs

@@ -75,11 +75,11 @@ or_values None other = other
 or_values (Some v) other = Some v
 
 -- A step of a response is paced by the values of the level that answers, where it puts the head, and by what it was before
--- elsewhere; before and after are those values until the head is put, by the trees that answer the jobs.
-pub record IsPaced (before after : Trees → Option Values) (old new : Pace) : Type 0 where
+-- elsewhere; before and after are those values until the head is put, by the trees that answer the jobs, where this is so.
+pub record IsPaced (Premise : Type 0) (before after : Trees → Option Values) (old new : Pace) : Type 0 where
   pub told : Option Values
   pub pace : new ≡ paced told old
-  pub level : (trees : Trees) → or_values told (after trees) ≡ before trees
+  pub level : Premise → (trees : Trees) → or_values told (after trees) ≡ before trees
 
 -- the values of the level that answers a head
 abbrev pub values_in : Service → Trees → Start → RequestHead → Option ServerView → Option Values
@@ -102,12 +102,12 @@ LevelFor service now (Bad code no_body) after told =
     told ≡ own_values (default_server service.site.servers service.local)
 LevelFor service now More after told = ⊥
 
--- a request starts, with this pace before it
-pub record PacedFor (service : Service) (now : Start) (next : HeadStep)
+-- a request starts, with this pace before it, where this is so
+pub record PacedFor (Premise : Type 0) (service : Service) (now : Start) (next : HeadStep)
     (after : Trees → Option Values) (old new : Pace) : Type 0 where
   pub told : Option Values
   pub pace : new ≡ paced told old
-  pub level : LevelFor service now next after told
+  pub level : Premise → LevelFor service now next after told
 
 -- how long a head is awaited, by the own values of the server at the local end
 abbrev pub head_wait_in : Option Values → ℕ

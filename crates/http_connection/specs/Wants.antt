@@ -8,11 +8,11 @@ abbrev pub room_if : Bool → Option ℕ → Option ℕ
 room_if true room = room
 room_if false room = None
 
--- the first that is there: a read, a run of node 0, its job, a write, the close
-abbrev pub first_of : ℕ → (room : Option ℕ) → (runs waits writes shut : Bool) → Option Want
+-- the first that is there: a read, a run of a node, a job, a write, the close
+abbrev pub first_of : ℕ → (room runs waits : Option ℕ) → (writes shut : Bool) → Option Want
 first_of c (Some room) runs waits writes shut = Some (want.Read c room)
-first_of c None true waits writes shut = Some (want.Run c 0)
-first_of c None false true writes shut = Some (want.Job c 0)
-first_of c None false false true shut = Some (want.Write c)
-first_of c None false false false true = Some (want.Close c)
-first_of c None false false false false = None
+first_of c None (Some node) waits writes shut = Some (want.Run c node)
+first_of c None None (Some node) writes shut = Some (want.Job c node)
+first_of c None None None true shut = Some (want.Write c)
+first_of c None None None false true = Some (want.Close c)
+first_of c None None None false false = None

@@ -1,15 +1,15 @@
 // One connection.
-ghost use Rattle.std.specs.Prelude.{◌≡◌, ◌≤◌, ◌<◌, ◌+◌, ◌-◌, ◌++◌, ◌∷◌, ◌^◌, ◌⊎◌, ◌||◌, true, false, [], ℕ, length, is_some, IfOk, Some, None};
-ghost use Rattle.ngx_outside.specs.Views.{Start};
+ghost use Rattle.std.specs.Prelude.{◌≡◌, ◌≤◌, ◌<◌, ◌+◌, ◌-◌, ◌^◌, ◌⊎◌, ◌||◌, true, false, [], length, is_some, IfOk, Some, None};
 ghost use Rattle.req_head.specs.Step.{head_step};
-ghost use Rattle.request_flow.specs.Flows.{flow_fits};
-ghost use Rattle.http_connection.specs.Rests.{Serves, service_in};
+ghost use Rattle.response_flow.specs.Flights.{FlightFits};
+ghost use Rattle.http_connection.specs.Facts.{fits_prop};
+ghost use Rattle.http_connection.specs.Rests.{Serves};
 ghost use Rattle.http_connection.specs.Steps.{starts, rest_of, logged_in, IsLogged};
 ghost use Rattle.http_connection.specs.Times.{NoneShorter};
 ghost use Rattle.body_frame.specs.Outcome.{Short};
 
 use crate::input::begins;
-use crate::sending::{front, is_fresh, is_in_flight, is_pending};
+use crate::sending::{is_fresh, is_in_flight, is_pending};
 use crate::slot::put;
 use crate::times::{Awaited, NO_PACE, Times, awaited_of, due, head_wait_at};
 use body_frame::BodyState;
@@ -18,7 +18,7 @@ use file_tree::Ask;
 use http_types::Addr;
 use ngx_outside::{Entry, StopCause};
 use req_head::{HeadStep, read_head};
-use request_flow::{Flow, may_run, waits, written};
+use response_flow::{Flight, ask, first_job, first_ready, is_ready, pending};
 use served_site::ServedSite;
 use std::alloc::Global;
 
@@ -29,7 +29,7 @@ pub struct Conn {
     pub(crate) local: Addr,
     pub(crate) peer: Addr,
     pub(crate) held: ByteQueue,
-    pub(crate) flow: Option<Flow>,
+    pub(crate) flight: Option<Flight>,
     pub(crate) out: ByteQueue,
     pub(crate) journal: Vec<Entry>,
     pub(crate) next: HeadStep,
@@ -41,24 +41,24 @@ pub struct Conn {
     pub(crate) least: u64,
     ghost looked: { is_some cause ≡ false → next ≡ head_step held },
     ghost dropped: { is_some cause ≡ true → out ≡ [] },
-    ghost quit: { is_some cause ≡ true → flow ≡ None },
-    ghost flowing: { flow_fits flow (length out) ≡ true },
+    ghost quit: { is_some cause ≡ true → flight ≡ None },
+    ghost flying: { FlightFits flight (length out) } by { fits_prop flight (length out) },
     ghost few: { length held ≤ 8192 },
     ghost drained: { is_some body ≡ true → held ≡ [] },
     ghost unended: { is_some body ≡ true → rest_of body [] ≡ Short },
-    ghost logged: { is_some cause ≡ false → IsLogged (is_some flow) journal.items },
+    ghost logged: { is_some cause ≡ false → IsLogged (is_some flight) journal.items },
     ghost brief: { NoneShorter times.head times.pace least },
 }
 
 impl Conn {
-    ghost use Rattle.std.specs.Prelude.{◌≡◌, ℕ, List, true, false, [], length, is_some, IfOk, Option, Some, None, option_copied};
-    ghost use Rattle.ngx_outside.specs.Views.{Fresh, Start, ask_in, is_idle as idle_in};
-    ghost use Rattle.ngx_outside.specs.declared.event.Event.TheVariants.{Arrived, Ended, Wrote, LinkFailed, FileDone, JobFailed, Run};
-    ghost use Rattle.http_connection.specs.Conn.{view_of, left_of, fresh_course, room_at, starts_at, ready_at, idle_at, shut_at, pending_at, weight, asked_of, StepsConn};
-    ghost use Rattle.request_flow.specs.Flows.{jobs_of, is_waiting};
-    ghost use Rattle.http_connection.specs.Rests.{Serves, service_in};
+    ghost use Rattle.std.specs.Prelude.{◌≡◌, ◌⊎◌, List, true, false, [], length, is_some, IfOk, Option, Some, None, option_copied};
+    ghost use Rattle.ngx_outside.specs.Views.{Fresh, ask_in, is_idle as idle_in};
+    ghost use Rattle.http_connection.specs.Conn.{view_of, left_of, fresh_course, room_at, starts_at, ready_at, idle_at, shut_at, pending_at, weight, asked_of};
+    ghost use Rattle.response_flow.specs.Flights.{jobs_of};
+    ghost use Rattle.subrequests.specs.Wants.{first_job as job_first, first_of as number_first, is_among};
+    ghost use Rattle.http_connection.specs.Rests.{Serves};
     ghost use Rattle.http_connection.specs.Times.{own_values, head_wait_in, soonest};
-    ghost use Rattle.http_connection.specs.Conn.{awaited_at, due_at, between, TimesConn};
+    ghost use Rattle.http_connection.specs.Conn.{awaited_at, due_at, between};
     ghost use Rattle.ngx_outside.specs.Views.{Ticked};
     ghost use Rattle.site_views.specs.Choice.{default_server};
     ghost use Rattle.ngx_pattern.specs.Pattern.{Pattern as SetPattern};
@@ -75,13 +75,15 @@ impl Conn {
         moment: u64,
     ) -> Result<Self, OutOfMemory>
         ensures fresh { IfOk result (λ c. (x : Serves) →
-            Fresh (fresh_course x.patterns x.served.site local peer) (view_of x c)) }
+            Fresh (fresh_course x.served.raceless x.patterns x.served.site local peer)
+            (view_of x c)) }
         ensures mark { IfOk result (λ c. c.times.mark ≡ moment) }
         ensures head { (patterns : List SetPattern) → IfOk result (λ c. c.times.head
             ≡ head_wait_in (own_values (default_server
             (whole (patterns_seen patterns) served.now.site).servers local))) }
         ensures left { IfOk result (λ c. left_of c ≡ 1 + weight) }
         ensures asked { IfOk result (λ c. asked_of c ≡ 0) }
+        ensures flight { IfOk result (λ c. c.flight ≡ None) }
     {
         let held = ByteQueue::new(alloc);
         let next = read_head(alloc, held.front())?;
@@ -89,7 +91,7 @@ impl Conn {
             local,
             peer,
             held,
-            flow: None,
+            flight: None,
             out: ByteQueue::new(alloc),
             journal: Vec::new(alloc),
             next,
@@ -108,35 +110,23 @@ impl Conn {
 
     /// The bytes that are to be written next.
     pub fn pending(&self) -> &[u8]
-        ensures { result.now ≡ pending_at self.now.flow self.now.out }
+        ensures { result.now ≡ pending_at self.now.flight self.now.out }
     {
-        front(&self.flow, &self.out)
+        pending(&self.flight, &self.out)
     }
 
     /// The job of a node; none where it has no job that waits.
     pub fn ask(&self, node: u32) -> Option<&Ask>
-        ensures { option_copied result ≡ ask_in (jobs_of self.now.flow) node }
+        ensures { option_copied result ≡ ask_in (jobs_of self.now.flight) node }
     {
-        match &self.flow {
-            Some(flow) => {
-                if node == 0 && waits(&flow.stage) {
-                    Some(&flow.ask)
-                } else {
-                    None
-                }
-            }
-            None => None,
-        }
+        ask(&self.flight, node)
     }
 
-    /// Whether its job waits for an answer: it has one at most, that of node 0.
-    pub fn is_waiting(&self) -> bool
-        ensures { result ≡ is_waiting self.now.flow }
+    /// The first node whose job waits for an answer.
+    pub fn first_job(&self) -> Option<u32>
+        ensures { result ≡ job_first (jobs_of self.now.flight) }
     {
-        match &self.flow {
-            Some(flow) => waits(&flow.stage),
-            None => false,
-        }
+        first_job(&self.flight)
     }
 
     /// The requests that were started, each with what was logged of it.
@@ -157,7 +147,7 @@ impl Conn {
     pub(crate) fn is_between(&self) -> bool
         ensures { result ≡ between self.now }
     {
-        !is_fresh(&self.journal) && self.held.is_empty() && !is_in_flight(&self.flow, &self.out)
+        !is_fresh(&self.journal) && self.held.is_empty() && !is_in_flight(&self.flight, &self.out)
     }
 
     pub(crate) fn is_stopped(&self) -> bool
@@ -196,23 +186,37 @@ impl Conn {
         !self.is_stopped() && !self.closing && self.out.is_empty() && self.starts()
     }
 
-    /// Whether its node can run: the request that seeks a file goes on, or a further one starts.
-    pub fn is_ready(&self) -> bool
-        ensures { result ≡ ready_at (is_some self.now.cause) self.now.flow self.now.closing
-            self.now.out self.now.body self.now.next }
+    /// The first node that can run: one of the request in flight, or that with which a further one starts.
+    pub fn first_ready(&self) -> Option<u32>
+        ensures { result ≡ number_first (ready_at (is_some self.now.cause) self.now.flight
+            self.now.closing self.now.out self.now.body self.now.next) }
     {
-        match &self.flow {
-            Some(flow) => !self.is_stopped() && may_run(&flow.stage),
-            None => self.may_start(),
+        if self.flight.is_some() {
+            return first_ready(&self.flight);
         }
+        if self.may_start() {
+            return Some(0);
+        }
+        None
+    }
+
+    /// Whether a node can run.
+    pub fn is_ready(&self, node: u32) -> bool
+        ensures { result ≡ is_among node (ready_at (is_some self.now.cause) self.now.flight
+            self.now.closing self.now.out self.now.body self.now.next) }
+    {
+        if self.flight.is_some() {
+            return is_ready(&self.flight, node);
+        }
+        0 == node && self.may_start()
     }
 
     // Whether nothing is to be done until more arrives, by its parts.
     fn rests(&self) -> bool
-        ensures { result ≡ idle_at (is_some self.now.cause) self.now.flow self.now.closing
+        ensures { result ≡ idle_at (is_some self.now.cause) self.now.flight self.now.closing
             self.now.out self.now.body self.now.next }
     {
-        match &self.flow {
+        match &self.flight {
             Some(_) => false,
             None => !self.is_stopped() && self.out.is_empty() && (self.closing || !self.starts()),
         }
@@ -227,7 +231,7 @@ impl Conn {
 
     /// Whether its link is to be closed.
     pub fn is_shut(&self) -> bool
-        ensures { result ≡ shut_at (is_some self.now.cause) self.now.flow self.now.closing
+        ensures { result ≡ shut_at (is_some self.now.cause) self.now.flight self.now.closing
             self.now.ended self.now.out self.now.body self.now.next }
     {
         self.is_stopped() || ((self.closing || self.ended) && self.rests())
@@ -239,8 +243,8 @@ impl Conn {
     {
         awaited_of(
             self.is_shut(),
-            is_pending(&self.flow, &self.out),
-            self.flow.is_some() || self.starts(),
+            is_pending(&self.flight, &self.out),
+            self.flight.is_some() || self.starts(),
             is_fresh(&self.journal),
             !self.held.is_empty(),
         )
@@ -268,6 +272,7 @@ impl Conn {
         ensures asked { asked_of self.new ≤ asked_of self.old }
         ensures ended { self.new.ended ≡ self.old.ended }
         ensures times { self.new.times ≡ self.old.times }
+        ensures flight { (self.new.flight ≡ self.old.flight) ⊎ (self.new.flight ≡ None) }
     {
         let due = self.due();
         if due > now {
@@ -279,13 +284,13 @@ impl Conn {
     // It is stopped: what is unsent is dropped.
     pub(crate) fn stop(&mut self, cause: StopCause)
         ensures cause { self.new.cause ≡ Some cause }
-        ensures flow { self.new.flow ≡ None }
+        ensures flight { self.new.flight ≡ None }
         ensures out { self.new.out ≡ [] }
         ensures journal { self.new.journal.items ≡ self.old.journal.items }
         ensures ended { self.new.ended ≡ self.old.ended }
         ensures times { self.new.times ≡ self.old.times }
     {
-        put(&mut self.flow, None);
+        put(&mut self.flight, None);
         self.out.clear();
         self.cause = Some(cause);
     }

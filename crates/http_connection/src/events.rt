@@ -1,8 +1,7 @@
 // What happens to a connection.
-ghost use Rattle.std.specs.Prelude.{◌≡◌, ◌≤◌, ◌<◌, ◌+◌, ◌-◌, ◌++◌, ◌∷◌, ◌^◌, ◌⊎◌, ◌||◌, true, false, [], ℕ, length, take, is_some, IfOk, Some, None};
+ghost use Rattle.std.specs.Prelude.{◌≡◌, ◌-◌, ◌||◌, true, false, [], ℕ, take, is_some, Some, None};
 ghost use Rattle.ngx_outside.specs.Views.{Start};
-ghost use Rattle.http_connection.specs.Rests.{Serves, service_in};
-ghost use Rattle.http_connection.specs.Steps.{starts};
+ghost use Rattle.http_connection.specs.Rests.{Serves};
 
 use crate::body::drop_rest;
 use crate::conn::Conn;
@@ -12,29 +11,28 @@ use crate::open::Meeting;
 use crate::sending::{begun, sending};
 use crate::slot::{put, take};
 use crate::start::run_one;
-use crate::times::{Times, marked, pace_after, shortest_after};
+use crate::times::{AT_REST, Sending, marked, pace_after, shortest_after};
 use byte_text::OutOfMemory;
 use file_tree::{JobAnswer, is_fitting};
 use ngx_outside::{StepAnswer, StopCause};
 use req_head::{head_stays, refusal_stays, size_fits};
-use request_flow::{Workspace, answered, length_of, run_on, server_of, written};
+use request_flow::Workspace;
+use response_flow::{Ran, answered, length_of, run_on, server_of, written};
 use served_site::ServedSite;
 use std::alloc::Global;
 
+/// No more subrequests than these are opened for one response.
+const MOST_SUBREQUESTS: u64 = 1000;
+
 impl Conn {
-    ghost use Rattle.std.specs.Prelude.{◌≡◌, ℕ, List, true, false, [], length, is_some, IfOk, Option, Some, None, option_copied};
-    ghost use Rattle.ngx_outside.specs.Views.{Fresh, Start, ask_in, is_idle as idle_in};
+    ghost use Rattle.std.specs.Prelude.{◌≡◌, ℕ, true, false, [], is_some, Some, None};
+    ghost use Rattle.ngx_outside.specs.Views.{Start};
     ghost use Rattle.ngx_outside.specs.declared.event.Event.TheVariants.{Arrived, Ended, Wrote, LinkFailed, FileDone, JobFailed, Run};
-    ghost use Rattle.http_connection.specs.Conn.{view_of, left_of, fresh_course, room_at, starts_at, ready_at, idle_at, shut_at, pending_at, weight, asked_of, StepsConn};
-    ghost use Rattle.request_flow.specs.Flows.{jobs_of, is_waiting};
-    ghost use Rattle.http_connection.specs.Rests.{Serves, service_in};
-    ghost use Rattle.http_connection.specs.Times.{own_values, head_wait_in, soonest};
-    ghost use Rattle.http_connection.specs.Conn.{awaited_at, due_at, between, TimesConn};
-    ghost use Rattle.ngx_outside.specs.Views.{Ticked};
-    ghost use Rattle.site_views.specs.Choice.{default_server};
-    ghost use Rattle.ngx_pattern.specs.Pattern.{Pattern as SetPattern};
-    ghost use Rattle.pattern_search.specs.Found.{patterns_seen};
-    ghost use Rattle.site_whole.specs.Whole.{whole};
+    ghost use Rattle.http_connection.specs.Conn.{starts_at, ready_at, StepsConn};
+    ghost use Rattle.subrequests.specs.Wants.{is_among};
+    ghost use Rattle.http_connection.specs.Rests.{Serves};
+    ghost use Rattle.http_connection.specs.Times.{mark_by};
+    ghost use Rattle.http_connection.specs.Conn.{TimesConn};
 
     /// Bytes arrived: it takes as many as there is room for.
     pub fn arrived(&mut self, alloc: Global, moment: u64, bytes: &[u8]) -> StepAnswer
@@ -67,7 +65,7 @@ impl Conn {
             }
             Err(OutOfMemory) => {
                 self.body = None;
-                put(&mut self.flow, None);
+                put(&mut self.flight, None);
                 self.out.clear();
                 self.held.clear();
                 self.cause = Some(StopCause::Memory);
@@ -102,15 +100,20 @@ impl Conn {
         if count == 0 || count > self.pending().len() {
             return StepAnswer::Skipped;
         }
-        let flow = written(self.flow.take(), count);
-        put(&mut self.flow, flow);
-        self.out.used(count);
+        let flight = written(self.flight.take(), &mut self.out, count);
+        put(&mut self.flight, flight);
         self.times.mark = moment;
         StepAnswer::Done { taken: 0 }
     }
 
-    /// A node's job is answered: the only one is the main request's.
-    pub fn file_done(&mut self, moment: u64, node: u32, answer: JobAnswer) -> StepAnswer
+    /// A node's job is answered.
+    pub fn file_done(
+        &mut self,
+        alloc: Global,
+        moment: u64,
+        node: u32,
+        answer: JobAnswer,
+    ) -> StepAnswer
         ensures steps { (x : Serves) (now : Start) (conn : ℕ) →
             StepsConn x now (FileDone conn node answer.entry) result self.old self.new }
         ensures times { (x : Serves) (now : Start) (conn : ℕ) → now.moment ≡ moment →
@@ -124,19 +127,19 @@ impl Conn {
             }
             None => return StepAnswer::Skipped,
         }
-        let before = sending(&self.flow, &self.out);
-        let Some(flow) = self.flow.take() else {
+        let before = sending(&self.flight, &self.out);
+        let Some(flight) = self.flight.take() else {
             return StepAnswer::Skipped;
         };
-        match answered(flow, &mut self.out, answer) {
-            Ok(flow) => {
-                put(&mut self.flow, Some(flow));
-                let after = sending(&self.flow, &self.out);
+        match answered(alloc, flight, node, &mut self.out, answer) {
+            Ok(flight) => {
+                put(&mut self.flight, Some(flight));
+                let after = sending(&self.flight, &self.out);
                 self.times.mark = marked(self.times.mark, moment, before, after);
                 StepAnswer::Done { taken: 0 }
             }
             Err(OutOfMemory) => {
-                put(&mut self.flow, None);
+                put(&mut self.flight, None);
                 self.out.clear();
                 self.cause = Some(StopCause::Memory);
                 StepAnswer::OutOfMemory
@@ -172,30 +175,45 @@ impl Conn {
         StepAnswer::Done { taken: 0 }
     }
 
-    // The request in flight runs on.
-    fn goes_on(&mut self, space: &mut Workspace, served: &ServedSite, moment: u64) -> StepAnswer
-        requires some { is_some self.old.flow ≡ true }
-        requires ready { ready_at (is_some self.old.cause) self.old.flow self.old.closing
-            self.old.out self.old.body self.old.next ≡ true }
+    // A node of the request in flight runs on.
+    fn goes_on(
+        &mut self,
+        space: &mut Workspace,
+        served: &ServedSite,
+        moment: u64,
+        node: u32,
+    ) -> StepAnswer
+        requires some { is_some self.old.flight ≡ true }
+        requires ready { is_among node (ready_at (is_some self.old.cause) self.old.flight
+            self.old.closing self.old.out self.old.body self.old.next) ≡ true }
         ensures steps { (now : Start) (conn : ℕ) →
             StepsConn (record { patterns = space.old.patterns; served = served.now }) now
-            (Run conn 0) result self.old self.new }
+            (Run conn node) result self.old self.new }
         ensures times { (now : Start) (conn : ℕ) → now.moment ≡ moment →
             TimesConn (record { patterns = space.old.patterns; served = served.now }) now
-            (Run conn 0) result self.old self.new }
+            (Run conn node) result self.old self.new }
         ensures patterns { space.new.patterns ≡ space.old.patterns }
     {
-        let before = sending(&self.flow, &self.out);
-        let Some(flow) = self.flow.take() else {
+        let before = sending(&self.flight, &self.out);
+        let Some(flight) = self.flight.take() else {
             unreachable!()
         };
-        let ground = served.ground(server_of(&flow.stage), length_of(&flow.stage));
-        match run_on(space, &ground, flow, &mut self.out, self.closing) {
-            Ok(onward) => {
+        let ground = served.ground(server_of(&flight), length_of(&flight));
+        match run_on(space, &ground, flight, node, &mut self.out, self.closing) {
+            Ok(Ran::TooMany) => {
+                put(&mut self.flight, None);
+                self.out.clear();
+                self.cause = Some(StopCause::SubLimit {
+                    started: MOST_SUBREQUESTS,
+                });
+                self.times.mark = marked(self.times.mark, moment, before, AT_REST);
+                StepAnswer::Done { taken: 0 }
+            }
+            Ok(Ran::On(onward)) => {
                 finish(&mut self.journal, onward.log);
-                put(&mut self.flow, onward.flow);
+                put(&mut self.flight, onward.flight);
                 self.closing = onward.closing;
-                let after = sending(&self.flow, &self.out);
+                let after = sending(&self.flight, &self.out);
                 self.times.mark = marked(self.times.mark, moment, before, after);
                 let pace = pace_after(served, onward.level, self.times.pace);
                 self.least = shortest_after(self.least, self.times.head, self.times.pace, pace);
@@ -203,7 +221,7 @@ impl Conn {
                 StepAnswer::Done { taken: 0 }
             }
             Err(OutOfMemory) => {
-                put(&mut self.flow, None);
+                put(&mut self.flight, None);
                 self.out.clear();
                 self.cause = Some(StopCause::Memory);
                 StepAnswer::OutOfMemory
@@ -219,7 +237,7 @@ impl Conn {
         moment: u64,
         tree: u64,
     ) -> StepAnswer
-        requires none { self.old.flow ≡ None }
+        requires none { self.old.flight ≡ None }
         requires ready { starts_at (is_some self.old.cause) self.old.closing self.old.out
             self.old.body self.old.next ≡ true }
         ensures steps { (conn : ℕ) →
@@ -233,7 +251,6 @@ impl Conn {
         head_stays();
         refusal_stays();
         size_fits();
-        let before = sending(&self.flow, &self.out);
         match run_one(
             space,
             served,
@@ -249,11 +266,21 @@ impl Conn {
             &mut self.out,
             &mut self.journal,
         ) {
-            Ok(onward) => {
-                put(&mut self.flow, onward.flow);
+            Ok(Ran::TooMany) => {
+                self.body = None;
+                put(&mut self.flight, None);
+                self.out.clear();
+                self.held.clear();
+                self.cause = Some(StopCause::SubLimit {
+                    started: MOST_SUBREQUESTS,
+                });
+                StepAnswer::Done { taken: 0 }
+            }
+            Ok(Ran::On(onward)) => {
+                put(&mut self.flight, onward.flight);
                 self.closing = onward.closing;
-                let after = sending(&self.flow, &self.out);
-                self.times.mark = marked(self.times.mark, moment, before, after);
+                let after = sending(&self.flight, &self.out);
+                self.times.mark = marked(self.times.mark, moment, AT_REST, after);
                 let pace = pace_after(served, onward.level, self.times.pace);
                 self.least = shortest_after(self.least, self.times.head, self.times.pace, pace);
                 self.times.pace = pace;
@@ -261,7 +288,7 @@ impl Conn {
             }
             Err(OutOfMemory) => {
                 self.body = None;
-                put(&mut self.flow, None);
+                put(&mut self.flight, None);
                 self.out.clear();
                 self.held.clear();
                 self.cause = Some(StopCause::Memory);
@@ -270,7 +297,7 @@ impl Conn {
         }
     }
 
-    /// A node runs: the only one is the main request's, which starts, or goes on.
+    /// A node runs: one of the request in flight, or that with which a further one starts.
     pub fn runs(
         &mut self,
         space: &mut Workspace,
@@ -287,11 +314,11 @@ impl Conn {
             (record { moment = moment; tree = tree }) (Run conn node) result self.old self.new }
         ensures patterns { space.new.patterns ≡ space.old.patterns }
     {
-        if node != 0 || !self.is_ready() {
+        if !self.is_ready(node) {
             return StepAnswer::Skipped;
         }
-        if self.flow.is_some() {
-            self.goes_on(space, served, moment)
+        if self.flight.is_some() {
+            self.goes_on(space, served, moment, node)
         } else {
             self.starts_one(space, served, moment, tree)
         }

@@ -1,9 +1,8 @@
 // The bytes that a connection holds.
-ghost use Rattle.std.specs.Prelude.{◌≡◌, ◌≤◌, ◌<◌, ◌+◌, ◌-◌, ◌++◌, ◌∷◌, ◌^◌, ◌⊎◌, ◌||◌, true, false, [], length, take, drop, OnOk};
+ghost use Rattle.std.specs.Prelude.{◌≡◌, ◌≤◌, ◌<◌, ◌+◌, ◌-◌, ◌++◌, true, false, length, take, drop, OnOk};
 ghost use Rattle.req_head.specs.Step.{head_step};
 ghost use Rattle.http_connection.specs.Steps.{begins as head_begins};
 
-use crate::sending::front;
 use crate::slot::{put, take};
 use byte_text::{ByteQueue, OutOfMemory};
 use req_head::{Head, HeadStep, head_stays, may_decide, read_head, refusal_stays};

@@ -1,5 +1,5 @@
 // The journal of the requests of a connection.
-ghost use Rattle.std.specs.Prelude.{◌≡◌, ◌≤◌, ◌<◌, ◌+◌, ◌-◌, ◌++◌, ◌∷◌, ◌^◌, ◌⊎◌, ◌||◌, true, not, [], is_some, OnOk, vec_len, vec_capacity, map};
+ghost use Rattle.std.specs.Prelude.{◌≡◌, ◌<◌, ◌+◌, ◌-◌, ◌++◌, ◌∷◌, ◌||◌, true, not, [], is_some, OnOk, vec_len, vec_capacity, map};
 ghost use Rattle.ngx_outside.specs.Views.{start_of, log_of};
 ghost use Rattle.ngx_outside.specs.declared.event.Entry.{Entry as Logged};
 ghost use Rattle.request_flow.specs.Rests.{logged_by};
@@ -7,7 +7,6 @@ ghost use Rattle.http_connection.specs.Steps.{starts, logged_in, IsLogged};
 
 use byte_text::OutOfMemory;
 use ngx_outside::Entry;
-use request_flow::written;
 
 // Room for one request more in the journal.
 pub(crate) fn make_room(journal: &mut Vec<Entry>) -> Result<(), OutOfMemory>

@@ -1,19 +1,20 @@
 // A request is opened: its server is chosen, and it starts.
-ghost use Rattle.std.specs.Prelude.{◌≡◌, ◌≤◌, ◌<◌, ◌+◌, ◌||◌, not, true, [], length, is_some, IfOk};
-ghost use Rattle.file_tree.specs.Tree.{Trees};
-ghost use Rattle.http_types.specs.declared.words.BodyKind.{BodyKind as BodyKindView};
+ghost use Rattle.std.specs.Prelude.{◌≡◌, ◌≤◌, ◌<◌, ◌+◌, not, true, [], length, is_some, IfOk};
 ghost use Rattle.ngx_outside.specs.Views.{Start};
 ghost use Rattle.answers_meaning.specs.Asking.{stated_length as length_stated};
 ghost use Rattle.request_meaning.specs.Serving.{is_head as is_head_method};
-ghost use Rattle.request_flow.specs.Flows.{flow_fits, flow_left, asking_most, tree_asked};
-ghost use Rattle.http_connection.specs.Rests.{Serves};
-ghost use Rattle.http_connection.specs.Steps.{Opened, Refuses};
+ghost use Rattle.request_flow.specs.Flows.{asking_most};
+ghost use Rattle.response_flow.specs.Continues.{IfOn};
+ghost use Rattle.response_flow.specs.Flights.{FlightFits, flight_left, flight_tree, page_most};
+ghost use Rattle.http_connection.specs.Rests.{ReachedIn, Serves};
+ghost use Rattle.http_connection.specs.Steps.{OpenedTo, Refuses};
 
 use crate::slot::forget;
 use byte_text::{ByteQueue, OutOfMemory};
 use http_types::{Addr, BodyKind, Method};
 use req_head::Head;
-use request_flow::{Onward, Opening, Workspace, put_refusal, start};
+use request_flow::{Opening, Workspace, put_refusal};
+use response_flow::{Onward, Ran, start};
 use served_site::ServedSite;
 
 /// The two ends of a connection, the moment at which a request starts in seconds since 1970, and the number of its tree.
@@ -59,16 +60,16 @@ pub(crate) fn refuse(
 ) -> Result<Onward, OutOfMemory>
     requires { out.old ≡ [] }
     ensures refuses { (start : Start) → start.moment ≡ moment →
-        IfOk result (λ o. Refuses code start no_body o.flow out.old out.new o.closing o.log) }
+        IfOk result (λ o. Refuses code start no_body o.flight out.old out.new o.closing o.log) }
     ensures level { IfOk result (λ o. o.level ≡ level) }
-    ensures fits { IfOk result (λ o. flow_fits o.flow (length out.new) ≡ true) }
-    ensures lowers { IfOk result (λ o. length out.new + flow_left o.flow
-        (length out.new) < asking_most) }
+    ensures fits { IfOk result (λ o. FlightFits o.flight (length out.new)) }
+    ensures lowers { IfOk result (λ o. length out.new + flight_left o.flight
+        (length out.new) < page_most + asking_most) }
     ensures kept { space.new.patterns ≡ space.old.patterns }
 {
     let size = put_refusal(space, out, code, moment, no_body)?;
     Ok(Onward {
-        flow: None,
+        flight: None,
         closing: true,
         log: Some((code, size)),
         level,
@@ -84,16 +85,23 @@ pub(crate) fn open(
     head: Head,
     before: u64,
     meeting: Meeting,
-) -> Result<Onward, OutOfMemory>
+) -> Result<Ran, OutOfMemory>
     requires { out.old ≡ [] }
-    ensures opens { (trees : Trees) → IfOk result
-        (λ o. Opened (record { patterns = space.old.patterns; served = served.now })
-        trees meeting before head o.flow out.old out.new o.closing o.log o.level) }
-    ensures over { IfOk result (λ o. is_some o.log ≡ not (is_some o.flow)) }
-    ensures fits { IfOk result (λ o. flow_fits o.flow (length out.new) ≡ true) }
-    ensures lowers { IfOk result (λ o. length out.new + flow_left o.flow
-        (length out.new) < asking_most) }
-    ensures asked { IfOk result (λ o. tree_asked o.flow ≤ meeting.tree) }
+    ensures opens { let x : Serves = record {
+      patterns = space.old.patterns;
+      served = served.now;
+    } in
+        IfOk result (λ ran. OpenedTo x meeting before head out.old out.new ran) }
+    ensures reached { let x : Serves = record {
+      patterns = space.old.patterns;
+      served = served.now;
+    } in
+        IfOk result (λ ran. IfOn ran (λ o. ReachedIn x o.flight)) }
+    ensures over { IfOk result (λ ran. IfOn ran (λ o. is_some o.log ≡ not (is_some o.flight))) }
+    ensures fits { IfOk result (λ ran. IfOn ran (λ o. FlightFits o.flight (length out.new))) }
+    ensures lowers { IfOk result (λ ran. IfOn ran (λ o. length out.new + flight_left o.flight
+        (length out.new) < page_most + asking_most)) }
+    ensures asked { IfOk result (λ ran. IfOn ran (λ o. flight_tree o.flight ≤ meeting.tree)) }
     ensures kept { space.new.patterns ≡ space.old.patterns }
 {
     match served.choose(meeting.local, head.host.as_slice(), &mut space.patterns) {
@@ -112,7 +120,7 @@ pub(crate) fn open(
         None => {
             let no_body = is_head(&head.method);
             forget(head);
-            Ok(refuse(space, out, 404, meeting.moment, no_body, None)?)
+            Ok(Ran::On(refuse(space, out, 404, meeting.moment, no_body, None)?))
         }
     }
 }

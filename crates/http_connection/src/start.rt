@@ -1,14 +1,15 @@
 // A request starts.
-ghost use Rattle.std.specs.Prelude.{◌≡◌, ◌≤◌, ◌<◌, ◌+◌, ◌-◌, ◌++◌, ◌∷◌, ◌^◌, ◌⊎◌, ◌||◌, true, not, [], ℕ, length, take, is_some, OnOk, OnErr, IfOk, vec_len, None};
+ghost use Rattle.std.specs.Prelude.{◌≡◌, ◌≤◌, ◌<◌, ◌+◌, ◌-◌, ◌++◌, ◌∷◌, ◌||◌, true, not, [], ℕ, length, take, is_some, OnErr, IfOk, vec_len, None};
 ghost use Rattle.ngx_outside.specs.Views.{start_of, log_of};
 ghost use Rattle.req_head.specs.Step.{head_step};
-ghost use Rattle.file_tree.specs.Tree.{Trees};
 ghost use Rattle.ngx_outside.specs.declared.event.Entry.{Entry as Logged};
-ghost use Rattle.request_flow.specs.Flows.{flow_fits, flow_left, asking_most, tree_asked};
-ghost use Rattle.http_connection.specs.Rests.{Serves, service_in, rest_in, values_at};
+ghost use Rattle.request_flow.specs.Flows.{asking_most};
+ghost use Rattle.response_flow.specs.Continues.{IfOn};
+ghost use Rattle.response_flow.specs.Flights.{FlightFits, flight_left, flight_tree, page_most};
+ghost use Rattle.http_connection.specs.Rests.{AreRaceless, ReachedIn, Serves, service_in, rest_in, values_at};
 ghost use Rattle.req_head.specs.declared.head.Head.{Head as RequestHead};
 ghost use Rattle.req_head.specs.declared.head.HeadStep.TheVariants.{Head as AtHead};
-ghost use Rattle.http_connection.specs.Steps.{is_head as is_head_step, begins as head_begins, start_in, RanOne};
+ghost use Rattle.http_connection.specs.Steps.{is_head as is_head_step, begins as head_begins, log_ran, start_in, RanTo};
 ghost use Rattle.http_connection.specs.Times.{LevelFor};
 
 use crate::body::drop_body;
@@ -21,7 +22,8 @@ use body_frame::BodyState;
 use byte_text::{ByteQueue, OutOfMemory};
 use ngx_outside::Entry;
 use req_head::{Head, HeadStep, read_head, size_fits};
-use request_flow::{Onward, Workspace, answered, written};
+use request_flow::Workspace;
+use response_flow::{Onward, Ran};
 use served_site::ServedSite;
 
 // What becomes of a request after whose body the input is broken or not.
@@ -30,7 +32,7 @@ fn with_broken(onward: Onward, broken: bool) -> Onward
 {
     Onward {
         closing: onward.closing || broken,
-        flow: onward.flow,
+        flight: onward.flight,
         log: onward.log,
         level: onward.level,
     }
@@ -49,7 +51,7 @@ fn take_head(next: &mut HeadStep) -> Head
 }
 
 // Starts a request: what is answered at once is put after what is kept for the peer, the request is written into the journal,
-// and what is held after it is looked at.
+// and what is held after it is looked at. Where it asks for more subrequests than are opened, it is only written into the journal.
 pub(crate) fn run_one(
     space: &mut Workspace,
     served: &ServedSite,
@@ -59,34 +61,38 @@ pub(crate) fn run_one(
     body: &mut Option<BodyState>,
     out: &mut ByteQueue,
     journal: &mut Vec<Entry>,
-) -> Result<Onward, OutOfMemory>
+) -> Result<Ran, OutOfMemory>
     requires looked { next.old ≡ head_step held.old }
     requires begins { head_begins next.old ≡ true }
     requires unsent { out.old ≡ [] }
-    ensures ran { (trees : Trees) → let x : Serves = record {
+    ensures ran { let x : Serves = record {
       patterns = space.old.patterns;
       served = served.now;
     } in
-        IfOk result (λ o. RanOne x (service_in x meeting.local meeting.peer) trees
-        (start_in meeting) (vec_len journal.old) next.old held.old held.new body.new o.flow out.old
-        out.new o.closing o.log) }
+        IfOk result (λ ran. RanTo x (service_in x meeting.local meeting.peer) (start_in meeting)
+        (vec_len journal.old) next.old held.old held.new body.new out.old out.new ran) }
     ensures level { let x : Serves = record {
       patterns = space.old.patterns;
       served = served.now;
     } in
-        IfOk result (λ o. LevelFor (service_in x meeting.local meeting.peer)
-        (start_in meeting) next.old
-        (λ trees. (rest_in x o.flow trees).values) (values_at served.now o.level)) }
-    ensures looked { OnOk result (next.new ≡ head_step held.new) }
-    ensures journal { IfOk result (λ o. (entry : Logged) ×
+        IfOk result (λ ran. IfOn ran (λ o. AreRaceless x → LevelFor
+        (service_in x meeting.local meeting.peer) (start_in meeting) next.old
+        (λ trees. (rest_in x o.flight trees).values) (values_at served.now o.level))) }
+    ensures reached { let x : Serves = record {
+      patterns = space.old.patterns;
+      served = served.now;
+    } in
+        IfOk result (λ ran. IfOn ran (λ o. ReachedIn x o.flight)) }
+    ensures looked { IfOk result (λ ran. IfOn ran (λ o. next.new ≡ head_step held.new)) }
+    ensures journal { IfOk result (λ ran. (entry : Logged) ×
         (start_of entry ≡ start_in meeting) ×
-        (log_of entry ≡ o.log) × (journal.new.items ≡ journal.old.items ++ entry ∷ [])) }
+        (log_of entry ≡ log_ran ran) × (journal.new.items ≡ journal.old.items ++ entry ∷ [])) }
     ensures kept { OnErr result (journal.new.items ≡ journal.old.items) }
-    ensures over { IfOk result (λ o. is_some o.log ≡ not (is_some o.flow)) }
-    ensures fits { IfOk result (λ o. flow_fits o.flow (length out.new) ≡ true) }
-    ensures lowers { IfOk result (λ o. length out.new + flow_left o.flow
-        (length out.new) < asking_most) }
-    ensures asked { IfOk result (λ o. tree_asked o.flow ≤ meeting.tree) }
+    ensures over { IfOk result (λ ran. IfOn ran (λ o. is_some o.log ≡ not (is_some o.flight))) }
+    ensures fits { IfOk result (λ ran. IfOn ran (λ o. FlightFits o.flight (length out.new))) }
+    ensures lowers { IfOk result (λ ran. IfOn ran (λ o. length out.new + flight_left o.flight
+        (length out.new) < page_most + asking_most)) }
+    ensures asked { IfOk result (λ ran. IfOn ran (λ o. flight_tree o.flight ≤ meeting.tree)) }
     ensures patterns { space.new.patterns ≡ space.old.patterns }
 {
     match next {
@@ -98,13 +104,18 @@ pub(crate) fn run_one(
             let following = read_head(space.alloc, behind(held, size))?;
             let head = take_head(next);
             match open(space, served, out, head, journal.len() as u64, meeting) {
-                Ok(opened) => {
+                Ok(Ran::TooMany) => {
+                    forget(following);
+                    enter(journal, meeting.moment, meeting.tree, None);
+                    Ok(Ran::TooMany)
+                }
+                Ok(Ran::On(opened)) => {
                     let onward = with_broken(opened, dropped.broken);
                     enter(journal, meeting.moment, meeting.tree, onward.log);
                     held.used(size);
                     put(next, following);
                     *body = dropped.body;
-                    Ok(onward)
+                    Ok(Ran::On(onward))
                 }
                 Err(OutOfMemory) => {
                     forget(following);
@@ -118,7 +129,7 @@ pub(crate) fn run_one(
             let onward = refuse(space, out, *code, meeting.moment, *no_body, level)?;
             enter(journal, meeting.moment, meeting.tree, onward.log);
             *body = None;
-            Ok(onward)
+            Ok(Ran::On(onward))
         }
         HeadStep::More => unreachable!(),
     }

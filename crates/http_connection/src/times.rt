@@ -1,5 +1,5 @@
 // How long a connection waits for its peer.
-ghost use Rattle.std.specs.Prelude.{◌≡◌, ◌≤◌, List};
+ghost use Rattle.std.specs.Prelude.{◌≡◌, List};
 ghost use Rattle.ngx_pattern.specs.Pattern.{Pattern as SetPattern};
 ghost use Rattle.pattern_search.specs.Found.{patterns_seen};
 ghost use Rattle.site_model.specs.declared.site.Site.{Site as SiteRow};
@@ -44,6 +44,12 @@ pub(crate) struct Sending {
     pub(crate) pending: bool,
     pub(crate) in_flight: bool,
 }
+
+/// No bytes are pending, and no request is in flight.
+pub(crate) const AT_REST: Sending = Sending {
+    pending: false,
+    in_flight: false,
+};
 
 // Milliseconds as whole seconds, of which a part counts as one.
 #[tactic(auto, unfolding(crate::specs::Times::seconds_in))]

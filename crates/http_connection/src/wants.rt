@@ -7,13 +7,13 @@ ghost use Rattle.http_connection.specs.Wants.{first_of, room_if};
 use crate::Conn;
 use ngx_outside::Want;
 
-// What may be done on a connection: how many bytes it reads, whether its node can run, its job waits, bytes are pending and its
-// link is to be closed.
+// What may be done on a connection: how many bytes it reads, the first nodes that can run and that have a job, whether bytes are
+// pending and its link is to be closed.
 #[derive(Clone, Copy)]
 struct Doings {
     room: Option<usize>,
-    runs: bool,
-    waits: bool,
+    runs: Option<u32>,
+    waits: Option<u32>,
     writes: bool,
     shut: bool,
 }
@@ -32,11 +32,13 @@ fn first_want(conn: u32, full: bool, may: Doings) -> Option<Want>
     if let Some(room) = may.room {
         return Some(Want::Read { conn, room });
     }
-    if may.runs {
-        Some(Want::Run { conn, node: 0 })
-    } else if may.waits {
-        Some(Want::Job { conn, node: 0 })
-    } else if !full && may.writes {
+    if let Some(node) = may.runs {
+        return Some(Want::Run { conn, node });
+    }
+    if let Some(node) = may.waits {
+        return Some(Want::Job { conn, node });
+    }
+    if !full && may.writes {
         Some(Want::Write { conn })
     } else if may.shut {
         Some(Want::Close { conn })
@@ -53,8 +55,8 @@ pub fn next_want(conn: &Conn, number: u32, due: bool, full: bool) -> Option<Want
 {
     let may = Doings {
         room: room_due(due, conn.room()),
-        runs: conn.is_ready(),
-        waits: conn.is_waiting(),
+        runs: conn.first_ready(),
+        waits: conn.first_job(),
         writes: !conn.pending().is_empty(),
         shut: conn.is_shut(),
     };

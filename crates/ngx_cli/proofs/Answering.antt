@@ -16,26 +16,26 @@ use Rattle.replay_run.specs.Standing.{Standing, Unopened, Opened, AllStanding, i
 use Rattle.conf_inherit.specs.declared.site.Built.{Built}
 use Rattle.answers_meaning.specs.Asking.{Service}
 use Rattle.answers_meaning.specs.Answers.{responses, logs_in, close_in, answers}
-use Rattle.request_flow.specs.Openings.{service_of}
+use Rattle.request_opening.specs.Openings.{service_of}
 use Rattle.http_connection.specs.Conn.{fresh_course, IsExact}
 use Rattle.ngx_cli.specs.Running.{Answered, IsNew}
 
 -- on a connection that is held, its ends, what came and what of that is tracked
-record Seen (site : Built) (told : Told) (v : ConnView) (lane : Lane) (sent : List ℕ) : Type 0 where
+record Seen (raceless : Bool) (site : Built) (told : Told) (v : ConnView) (lane : Lane) (sent : List ℕ) : Type 0 where
   ends : LinkEnds
   opened : lane.ends ≡ Some ends
   ended : v.ended ≡ is_given lane.tail
   came : List ℕ
   arrived : sent ≡ came ++ lane.queue
-  tracked : Tracked (fresh_course site.patterns site.site ends.local ends.peer) told.trees told.newest v came lane.went
+  tracked : Tracked (fresh_course raceless site.patterns site.site ends.local ends.peer) told.trees told.newest v came lane.went
 
 never : (b : Bool) → b ≡ true → b ≡ false → ⊥
 never true e f = cc
 never false e f = cc
 
-seen : (site : Built) (told : Told) (v : ConnView) (lane : Lane) (sent : List ℕ) → v.held ≡ true → Standing (fresh_course site.patterns site.site) told v lane sent → Seen site told v lane sent
-seen site told v lane sent h (Unopened n e g w s) = absurd (never v.held h n)
-seen site told v lane sent h (Opened ends came n o g s t) = record { ends = ends; opened = o; ended = g; came = came; arrived = s; tracked = t }
+seen : (raceless : Bool) (site : Built) (told : Told) (v : ConnView) (lane : Lane) (sent : List ℕ) → v.held ≡ true → Standing (fresh_course raceless site.patterns site.site) told v lane sent → Seen raceless site told v lane sent
+seen raceless site told v lane sent h (Unopened n e g w s) = absurd (never v.held h n)
+seen raceless site told v lane sent h (Opened ends came n o g s t) = record { ends = ends; opened = o; ended = g; came = came; arrived = s; tracked = t }
 
 live_by : (held : Bool) (cause : Option StopCause) → held ≡ true → cause ≡ None → (held && is_none cause) ≡ true
 live_by true None h c = refl
@@ -50,31 +50,31 @@ nothing_left : (xs ys : List ℕ) → xs ++ ys ≡ xs → ys ≡ []
 nothing_left [] ys e = e
 nothing_left (x ∷ xs) ys e = nothing_left xs ys (ap (drop 1) e)
 
-pub answered : AllIsSentWhenIdle → AllIsSentWhenShut → ShutIsExact → AllIsLoggedWhenIdle → (site : Built) (told : Told) (v : ConnView) (lane : Lane) (sent : List ℕ) → v.held ≡ true → IsSound v → IsExact v → Standing (fresh_course site.patterns site.site) told v lane sent → Answered site told v lane sent
-answered sent_all shut_sent_all shut_all logged_all site told v lane sent h sound exact standing =
-    let s = seen site told v lane sent h standing in
+pub answered : AllIsSentWhenIdle → AllIsSentWhenShut → ShutIsExact → AllIsLoggedWhenIdle → (raceless : Bool) (site : Built) (told : Told) (v : ConnView) (lane : Lane) (sent : List ℕ) → v.held ≡ true → IsSound v → IsExact v → Standing (fresh_course raceless site.patterns site.site) told v lane sent → Answered raceless site told v lane sent
+answered sent_all shut_sent_all shut_all logged_all raceless site told v lane sent h sound exact standing =
+    let s = seen raceless site told v lane sent h standing in
     let service : Service = service_of site.patterns site.site s.ends.local s.ends.peer in
     record {
       ends = s.ends;
       opened = s.opened;
       came = s.came;
       arrived = s.arrived;
-      front = λ trees agree. s.tracked.front refl trees agree;
-      on = λ c trees agree more later. s.tracked.on (live v h c) refl trees agree more later;
-      whole = λ i trees agree later. sent_all (fresh_course site.patterns site.site s.ends.local s.ends.peer) told.trees told.newest v s.came lane.went s.tracked sound i refl trees agree later;
-      closes = λ c shut given trees agree more later.
-          shut_sent_all (fresh_course site.patterns site.site s.ends.local s.ends.peer) told.trees told.newest v s.came lane.went s.tracked sound (live v h c) shut (s.ended ∙ given) refl trees agree more later;
-      logged = λ trees agree. s.tracked.logged refl trees agree;
-      busy = λ c i trees agree start later all logs.
+      front = λ quiet trees agree. s.tracked.front quiet trees agree;
+      on = λ quiet c trees agree more later. s.tracked.on (live v h c) quiet trees agree more later;
+      whole = λ quiet i trees agree later. sent_all (fresh_course raceless site.patterns site.site s.ends.local s.ends.peer) told.trees told.newest v s.came lane.went s.tracked sound i quiet trees agree later;
+      closes = λ quiet c shut given trees agree more later.
+          shut_sent_all (fresh_course raceless site.patterns site.site s.ends.local s.ends.peer) told.trees told.newest v s.came lane.went s.tracked sound (live v h c) shut (s.ended ∙ given) quiet trees agree more later;
+      logged = λ quiet trees agree. s.tracked.logged quiet trees agree;
+      busy = λ quiet c i trees agree start later all logs.
           exact.busy (live v h c) i trees start later
           (nothing_left lane.went (v.course.bytes trees [] (start ∷ later))
-          (sym (s.tracked.on (live v h c) refl trees agree [] (start ∷ later)) ∙ ap (λ x. answers service 0 trees x (v.starts ++ start ∷ later)) (append-nil s.came) ∙ all))
-          (logs ∙ ap (map (λ l. Some l)) (sym (ap (λ x. logs_in (responses service 0 trees x (v.starts ++ start ∷ later))) (append-nil s.came)) ∙ s.tracked.logs (live v h c) refl trees agree [] (start ∷ later)));
+          (sym (s.tracked.on (live v h c) quiet trees agree [] (start ∷ later)) ∙ ap (λ x. answers service 0 trees x (v.starts ++ start ∷ later)) (append-nil s.came) ∙ all))
+          (logs ∙ ap (map (λ l. Some l)) (sym (ap (λ x. logs_in (responses service 0 trees x (v.starts ++ start ∷ later))) (append-nil s.came)) ∙ s.tracked.logs (live v h c) quiet trees agree [] (start ∷ later)));
       rests = λ c shut. exact.rests (live v h c) shut;
-      shuts = λ i trees agree later.
-          shut_all (fresh_course site.patterns site.site s.ends.local s.ends.peer) told.trees told.newest v s.came lane.went s.tracked sound i refl trees agree later
+      shuts = λ quiet i trees agree later.
+          shut_all (fresh_course raceless site.patterns site.site s.ends.local s.ends.peer) told.trees told.newest v s.came lane.went s.tracked sound i quiet trees agree later
           ∙ ap (λ b. b || close_in (responses service 0 trees s.came (v.starts ++ later))) s.ended;
-      all_logged = λ i trees agree later. logged_all (fresh_course site.patterns site.site s.ends.local s.ends.peer) told.trees told.newest v s.came lane.went s.tracked sound i refl trees agree later;
+      all_logged = λ quiet i trees agree later. logged_all (fresh_course raceless site.patterns site.site s.ends.local s.ends.peer) told.trees told.newest v s.came lane.went s.tracked sound i quiet trees agree later;
     }
 
 -- before a run nothing stands on any connection

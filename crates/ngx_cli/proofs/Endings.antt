@@ -39,6 +39,11 @@ none_named found h = empty (conflicts_of found) h
     empty [] h = refl
     empty (x ∷ xs) h = cc
 
+-- no variable is named where it is said that none is
+pub unnamed : (racy named : Bool) → racy ≡ named → not racy ≡ true → named ≡ false
+unnamed true named e r = cc
+unnamed false named e r = sym e
+
 -- what was found at a path came to this
 module _ (found : Found) (racy : Bool) (o : Outside) (reading : FilesSeen) (made : Made) (out : Output) (path : List ℕ) (turns : ℕ) (finds : Finds purposes.Serving o.files reading path found) where
   abbrev pub later : Outside
@@ -49,6 +54,7 @@ module _ (found : Found) (racy : Bool) (o : Outside) (reading : FilesSeen) (made
     found = found;
     reading = reading;
     described = finds;
+    names = s.names;
     raceless = λ off. finds.raceless (none_named found (s.names off));
     serving = s.serving;
     printed = s.printed;

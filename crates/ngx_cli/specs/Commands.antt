@@ -1,5 +1,5 @@
 -- What the program ends with, and when.
-use Rattle.std.specs.Prelude.{◌≡◌, ◌⊎◌, ℕ, Bool, true, false, List, [], ◌++◌, Option, None, Some, Result, Ok, Err}
+use Rattle.std.specs.Prelude.{◌≡◌, ◌⊎◌, ℕ, Bool, true, false, not, List, [], ◌++◌, Option, None, Some, Result, Ok, Err}
 use Rattle.file_tree.specs.Tree.{text_of}
 use Rattle.ngx_outside.specs.Causes.{Rose}
 use Rattle.ngx_outside.specs.Seen.{FilesSeen, SinkSeen}
@@ -205,15 +205,17 @@ CheckEnds files files' made out path status.OutOfMemory = Printed out []
 CheckEnds files files' made out path s = ⊥
 
 -- The site of the configuration at a path was served from then on, as the files were once it was
--- read, whatever they tell later. Unless it was asked for although variables are named, none is. Nothing was printed.
+-- read, whatever they tell later. Unless it was asked for although variables are named, none is: then what is so where none is
+-- named is so of what was served. Nothing was printed.
 pub record Served (o : Outside) (out : Output) (path : List ℕ) (turns : ℕ) (racy : Bool)
     (e : Ending) : Type 0 where
   pub found : Found
   pub reading : FilesSeen
   pub described : Finds purposes.Serving o.files reading path found
+  pub names : racy ≡ false → has_items (conflicts_of found) ≡ false
   pub raceless : racy ≡ false → AreRaceless found.built
-  pub serving : Serving found.built.patterns found.built.site turns e
-      (record o { files = reading })
+  pub serving : Serving (not (has_items (conflicts_of found))) found.built.patterns
+      found.built.site turns e (record o { files = reading })
   pub printed : Printed out []
 
 -- Variables are named of the configuration at a path, which were printed as its check prints them. Nothing was asked of the
@@ -237,7 +239,8 @@ pub data IsRefusal (files files' : FilesSeen) (made : Made) (path text : List �
 pub record ServedFound (found : Found) (racy : Bool) (o : Outside) (out : Output) (turns : ℕ)
     (e : Ending) : Type 0 where
   pub names : racy ≡ false → has_items (conflicts_of found) ≡ false
-  pub serving : Serving found.built.patterns found.built.site turns e o
+  pub serving : Serving (not (has_items (conflicts_of found))) found.built.patterns
+      found.built.site turns e o
   pub printed : Printed out []
 
 pub record RefusedFound (found : Found) (o : Outside) (out : Output) : Type 0 where

@@ -1,5 +1,5 @@
 -- A run of a script, from its bytes to what is printed of it.
-use Rattle.std.specs.Prelude.{◌≡◌, ◌≢◌, ℕ, Bool, true, false, ◌||◌, is_some, List, [], ◌∷◌, ◌++◌, map, Contains, None, Some, Result, Ok, Err, if◌then◌else◌}
+use Rattle.std.specs.Prelude.{◌≡◌, ◌≢◌, ℕ, Bool, true, false, not, ◌||◌, is_some, List, [], ◌∷◌, ◌++◌, map, Contains, None, Some, Result, Ok, Err, if◌then◌else◌}
 use Rattle.file_tree.specs.Tree.{Trees}
 use Rattle.ngx_outside.specs.Views.{ConnView, Start, Logged, start_of, log_of, is_idle, nobody}
 use Rattle.ngx_outside.specs.Runs.{IsPrefixOf, Agree}
@@ -23,7 +23,7 @@ use Rattle.conf_inherit.specs.Values.{has_items}
 use Rattle.conf_inherit.specs.declared.site.Purpose.TheVariants as purposes
 use Rattle.conf_inherit.specs.declared.site.Built.{Built}
 use Rattle.answers_meaning.specs.Answers.{responses, logs_in, close_in, answers}
-use Rattle.request_flow.specs.Openings.{service_of}
+use Rattle.request_opening.specs.Openings.{service_of}
 use Rattle.connection_core.specs.Core.{site_terms}
 use Rattle.report_text.specs.declared.report.ConnState.{ConnState}
 use Rattle.report_text.specs.declared.report.ConnState.TheVariants.{Stopped, Idle, Busy}
@@ -76,8 +76,9 @@ report_in s journals c = record {
   sent = (s.lanes c).went;
 }
 
--- A connection was opened last at these ends, and some of the bytes that were sent on it came. For
--- all trees that agree with what the script's files told: what was emitted is the beginning of the
+-- A connection was opened last at these ends, and some of the bytes that were sent on it came. Where
+-- the race check names no variable of the site, for all trees that agree with what the script's
+-- files told: what was emitted is the beginning of the
 -- answers that the site gives to these bytes at these ends, by the requests that were started;
 -- while no cause stops the connection, what was emitted and what is still to come are the answers,
 -- however it goes on; where it is idle, all has been emitted; and where it is to be closed before
@@ -86,35 +87,39 @@ report_in s journals c = record {
 -- the last; where it is idle, of each. And it is no more and no less than what is left: where it is
 -- busy, with a further request some of the answers are still to be emitted or logged; one that is
 -- to be closed is idle, and one that is idle is to be closed exactly where the core was told that
--- its input has ended, or where the answers close it.
-pub record Answered (site : Built) (told : Told) (v : ConnView) (lane : Lane)
+-- its input has ended, or where the answers close it. Whether variables are named or not, one that is
+-- to be closed is idle.
+pub record Answered (raceless : Bool) (site : Built) (told : Told) (v : ConnView) (lane : Lane)
     (sent : List ℕ) : Type 0 where
   pub ends : LinkEnds
   pub opened : lane.ends ≡ Some ends
   pub came : List ℕ
   pub arrived : sent ≡ came ++ lane.queue
-  pub front : (trees : Trees) → Agree told.trees told.newest trees →
+  pub front : raceless ≡ true → (trees : Trees) → Agree told.trees told.newest trees →
       IsPrefixOf lane.went (answers (service_of site.patterns site.site ends.local ends.peer) 0 trees came v.starts)
-  pub on : v.cause ≡ None → (trees : Trees) → Agree told.trees told.newest trees →
+  pub on : raceless ≡ true → v.cause ≡ None → (trees : Trees) →
+      Agree told.trees told.newest trees →
       (more : List ℕ) (later : List Start) →
       answers (service_of site.patterns site.site ends.local ends.peer) 0 trees (came ++ more)
       (v.starts ++ later) ≡ lane.went ++ v.course.bytes trees more later
-  pub whole : is_idle v ≡ true → (trees : Trees) → Agree told.trees told.newest trees →
+  pub whole : raceless ≡ true → is_idle v ≡ true → (trees : Trees) →
+      Agree told.trees told.newest trees →
       (later : List Start) →
       answers (service_of site.patterns site.site ends.local ends.peer) 0 trees came (v.starts ++ later) ≡ lane.went
-  pub closes : v.cause ≡ None → v.shut ≡ true → is_given lane.tail ≡ false → (trees : Trees) →
-      Agree told.trees told.newest trees → (more : List ℕ) (later : List Start) →
+  pub closes : raceless ≡ true → v.cause ≡ None → v.shut ≡ true → is_given lane.tail ≡ false →
+      (trees : Trees) → Agree told.trees told.newest trees → (more : List ℕ) (later : List Start) →
       answers (service_of site.patterns site.site ends.local ends.peer) 0 trees (came ++ more)
       (v.starts ++ later) ≡ lane.went
-  pub logged : (trees : Trees) → Agree told.trees told.newest trees →
+  pub logged : raceless ≡ true → (trees : Trees) → Agree told.trees told.newest trees →
       Logged v.logs
       (logs_in (responses (service_of site.patterns site.site ends.local ends.peer) 0 trees came v.starts))
-  pub all_logged : is_idle v ≡ true → (trees : Trees) → Agree told.trees told.newest trees →
+  pub all_logged : raceless ≡ true → is_idle v ≡ true → (trees : Trees) →
+      Agree told.trees told.newest trees →
       (later : List Start) →
       v.logs ≡ map (λ l. Some l)
       (logs_in (responses (service_of site.patterns site.site ends.local ends.peer) 0 trees came
       (v.starts ++ later)))
-  pub busy : v.cause ≡ None → is_idle v ≡ false → (trees : Trees) →
+  pub busy : raceless ≡ true → v.cause ≡ None → is_idle v ≡ false → (trees : Trees) →
       Agree told.trees told.newest trees → (start : Start) (later : List Start) →
       answers (service_of site.patterns site.site ends.local ends.peer) 0 trees came
       (v.starts ++ start ∷ later) ≡ lane.went →
@@ -122,22 +127,25 @@ pub record Answered (site : Built) (told : Told) (v : ConnView) (lane : Lane)
       (logs_in (responses (service_of site.patterns site.site ends.local ends.peer) 0 trees came
       (v.starts ++ start ∷ later)))
   pub rests : v.cause ≡ None → v.shut ≡ true → is_idle v ≡ true
-  pub shuts : is_idle v ≡ true → (trees : Trees) → Agree told.trees told.newest trees →
+  pub shuts : raceless ≡ true → is_idle v ≡ true → (trees : Trees) →
+      Agree told.trees told.newest trees →
       (later : List Start) →
       v.shut ≡ (is_given lane.tail || close_in
       (responses (service_of site.patterns site.site ends.local ends.peer) 0 trees came (v.starts ++ later)))
 
--- A run of a script's lines, over its tree, on a new core of a site, and the text that is printed
+-- A run of a script's lines, over its tree, on a new core of a site, of which the race check names no
+-- variable, or some, and the text that is printed
 -- of it: a report on each connection, by number, and the counts of the lines that were skipped and
 -- refused. The ends of each connection are those of a line that opens it.
-pub record Ran (site : Built) (tree : List TreeLine) (events : List EventLine)
+pub record Ran (raceless : Bool) (site : Built) (tree : List TreeLine) (events : List EventLine)
     (text : List ℕ) : Type 0 where
   pub first : Stage
   pub last : Stage
   pub skipped : ℕ
   pub refused : ℕ
   pub begins : IsNew first
-  pub plays : Plays (site_terms site.patterns site.site) events (told_first tree) first 0 0 last skipped refused
+  pub plays : Plays (site_terms raceless site.patterns site.site) events (told_first tree) first 0 0
+      last skipped refused
   pub conns : List ℕ
   pub held : AreHeld conns last.view
   pub journals : ℕ → List Entry
@@ -147,15 +155,17 @@ pub record Ran (site : Built) (tree : List TreeLine) (events : List EventLine)
       Contains events (line.Open c ends.local ends.peer)
   pub printed : text ≡ run_text (map (report_in last journals) conns) skipped refused
   pub answered : (c : ℕ) → Contains conns c →
-      Answered site (told_in events (told_first tree)) (last.view c) (last.lanes c)
+      Answered raceless site (told_in events (told_first tree)) (last.view c) (last.lanes c)
       (sent_in events c)
 
--- A run on the site that a script's configurations describe. Unless it was asked for although variables are named, none is.
+-- A run on the site that a script's configurations describe. Unless it was asked for although variables are named, none is:
+-- then what is so where none is named is so of the run.
 pub record RanOn (racy : Bool) (script : Script) (text : List ℕ) : Type 0 where
   pub found : Found
   pub are : AreFound script.confs found
+  pub names : racy ≡ false → has_items (conflicts_of found) ≡ false
   pub raceless : racy ≡ false → AreRaceless found.built
-  pub ran : Ran found.built script.tree script.events text
+  pub ran : Ran (not (has_items (conflicts_of found))) found.built script.tree script.events text
 
 -- Variables are named of a script's configurations.
 pub record IsRacy (confs : List Conf) (text : List ℕ) : Type 0 where

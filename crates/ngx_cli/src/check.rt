@@ -100,7 +100,7 @@ pub(crate) fn put_found<O: Sink>(alloc: Global, found: &Found, out: &mut O) -> R
 }
 
 /// Whether variables are named.
-fn is_racy(found: &Found) -> bool
+pub(crate) fn is_racy(found: &Found) -> bool
     ensures { result ≡ has_items (conflicts_of found.now) }
 {
     !found.races.conflicts.is_empty()

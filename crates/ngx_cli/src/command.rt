@@ -1,12 +1,13 @@
 // The program.
-ghost use Rattle.std.specs.Prelude.{map, string_bytes};
+ghost use Rattle.std.specs.Prelude.{◌≡◌, [], map, string_bytes};
 ghost use Rattle.report_text.specs.Lines.{ended};
 ghost use Rattle.report_text.specs.Faults.{conf_fault_line};
 ghost use Rattle.site_service.specs.Serving.{AreNew, Outside};
 ghost use Rattle.command_line.specs.Words.{request_in};
+ghost use Rattle.ngx_cli.specs.Sites.{AreRaceless, conflicts_of};
 ghost use Rattle.ngx_cli.specs.Commands.{Ends, EndsWith, FoundEnds, Made, Output, ReplayEnds, ServeEnds, PutsText};
 
-use crate::check::{is_refused, put_found, run_check};
+use crate::check::{is_racy, is_refused, put_found, run_check};
 use crate::help::{put_help, put_version};
 use crate::script::{placed_fault_text, replay};
 use crate::site::{Found, SiteError, site_at};
@@ -88,6 +89,7 @@ fn serve_found<F: Files, L: Links, C: Clock, O: Sink>(
     out: &mut O,
 ) -> Status
     requires links { AreNew (L.seen links.old) }
+    requires quiet { conflicts_of found ≡ [] → AreRaceless found.built }
     ensures { FoundEnds found racy (record {
       files = F.seen files.old;
       files' = F.seen files.new;
@@ -103,8 +105,9 @@ fn serve_found<F: Files, L: Links, C: Clock, O: Sink>(
             Err(status) => status,
         };
     }
+    let raceless = !is_racy(&found);
     let Built { site, patterns } = found.built;
-    match serve_site(alloc, site, patterns, files, links, clock, turns) {
+    match serve_site(alloc, site, raceless, patterns, files, links, clock, turns) {
         Ok(ending) => served_status(ending),
         Err(OutOfMemory) => Status::OutOfMemory,
     }
@@ -217,7 +220,8 @@ fn run<F: Files, L: Links, C: Clock, O: Sink, M: PatternMaker>(
 /// memory ran out. 8: the script is outside its grammar, and its first fault is printed. 9: all turns were used. 10: the
 /// maker refused a pattern of the configuration, which is printed.
 ///
-/// On each connection of a run, and on each link that is served, the bytes emitted are a prefix of the concatenated
+/// Where variables can't show in which order subrequests run, and so always without `--racy`: on each connection of a run, and on
+/// each link that is served, the bytes emitted are a prefix of the concatenated
 /// responses that the meaning of serving gives the requests in the bytes that arrived on it, at its two ends. They are all of
 /// them where it is idle; of a link, unless a cause stopped it, once it is closed, and at the end of serving, unless it takes
 /// no more. A link is closed without such a cause only where its input ended, or where nothing that could still arrive would

@@ -1,5 +1,5 @@
 // Runs a script.
-ghost use Rattle.std.specs.Prelude.{◌≡◌, [], ◌++◌, ℕ, List, Ok, Err, IfOk, IfErr, OnOk, map, is_some, if◌then◌else◌};
+ghost use Rattle.std.specs.Prelude.{◌≡◌, true, [], ◌++◌, ℕ, List, Ok, Err, IfOk, IfErr, OnOk, map, is_some, if◌then◌else◌};
 ghost use Rattle.report_text.specs.declared.report.ConnState.TheVariants.{Stopped, Idle, Busy};
 ghost use Rattle.replay_run.specs.Scene.{stage, AreHeld};
 ghost use Rattle.connection_core.specs.Core.{view_at, now_at, journal_at, conns_held};
@@ -7,10 +7,10 @@ ghost use Rattle.report_text.specs.Report.{run_text, report_of};
 ghost use Rattle.report_text.specs.Lines.{ended};
 ghost use Rattle.report_text.specs.Faults.{conf_fault_line};
 ghost use Rattle.ngx_outside.specs.Causes.{Rose};
-ghost use Rattle.ngx_cli.specs.Sites.{OnFault, OnRefused};
+ghost use Rattle.ngx_cli.specs.Sites.{AreRaceless, OnFault, OnRefused};
 ghost use Rattle.ngx_cli.specs.Running.{main_path as path_of_main, AreFound, Describe, report_in, Ran, RunsOn, Replays};
 
-use crate::check::{found_text, is_refused};
+use crate::check::{found_text, is_racy, is_refused};
 use crate::site::{Found, SiteError, site_at};
 use byte_text::{ByteText, OutOfMemory};
 use conf_include::PlacedFault;
@@ -122,16 +122,19 @@ fn put_run(
     Ok(())
 }
 
-// Runs a script's lines, over its tree, on a new core, and prints the run.
+// Runs a script's lines, over its tree, on a new core of a site, of which the race check names no variable, or some, and prints
+// the run.
 fn run(
     alloc: Global,
     built: Built,
+    raceless: bool,
     tree: &[TreeLine],
     events: &[EventLine],
     out: &mut ByteText,
 ) -> Result<(), OutOfMemory>
+    requires quiet { raceless ≡ true → AreRaceless built }
     ensures { OnOk result ((text : List ℕ) × (out.new ≡ out.old ++ text) ×
-        Ran built tree.now events.now text) }
+        Ran raceless built tree.now events.now text) }
 {
     tracks_begin();
     all_is_sent_when_idle();
@@ -140,7 +143,7 @@ fn run(
     all_is_logged_when_idle();
     cores_are_sound();
     let Built { site, patterns } = built;
-    let served = ServedSite::new(alloc, site)?;
+    let served = ServedSite::new(alloc, site, raceless)?;
     let mut hub = Hub::new(alloc, served, patterns);
     let mut player = Player::new(alloc);
     let mut files = files_of(alloc, tree)?;
@@ -174,9 +177,11 @@ fn run_found(
         found_text(&found, out)?;
         return Ok(Outcome::Racy);
     }
+    let raceless = !is_racy(&found);
     run(
         alloc,
         found.built,
+        raceless,
         script.tree.as_slice(),
         script.events.as_slice(),
         out,

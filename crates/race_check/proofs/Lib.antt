@@ -6,3 +6,4 @@ mod Programs
 pub mod Numbering
 mod Telling
 mod Deciding
+pub mod Shared

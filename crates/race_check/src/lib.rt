@@ -5,6 +5,7 @@
 mod conflict;
 mod items;
 mod levels;
+mod listed;
 mod marks;
 mod names;
 mod reads;
@@ -15,5 +16,6 @@ mod values;
 pub use conflict::{Named, named_in};
 pub use items::{step_names, target_names, text_names, tries_names};
 pub use levels::{block_numbers, level_numbers};
+pub use listed::ListKind;
 pub use names::NameSet;
-pub use values::{auth_sets_of, place_text, rules_of};
+pub use values::{auth_sets_of, index_names, place_text, rules_of};

@@ -11,24 +11,25 @@ ghost use Rattle.race_check.specs.Names.{has as has_name};
 ghost use Rattle.race_check.specs.Texts.{known, told};
 ghost use Rattle.race_check.specs.Numbers.{set_name};
 
+use crate::listed::{ListKind, shared_lists};
 use crate::names::NameSet;
 use crate::reads::note_program;
 use crate::texts::SetTexts;
-use crate::values::{note_auth_sets, note_values};
+use crate::values::{note_auth_sets, note_levels, note_lists};
 use byte_text::OutOfMemory;
 use site_model::{Level, RewriteStep, Site};
 use std::alloc::Global;
 
-/// The variables that `auth_request_set` sets in these levels.
+/// The variables that `auth_request_set` sets in these levels. Each list of them is gone through once, in however many levels it
+/// holds.
 pub fn set_by_auth(alloc: Global, site: &Site, levels: &[u32]) -> Result<NameSet, OutOfMemory>
     ensures { IfOk result (λ auth. (name : List ℕ) → has_name auth name
         ≡ list_any (λ number. auth_sets_it name (values_seen site.now (raw_level site.now number)))
         levels.now) }
 {
+    let lists = shared_lists(alloc, site, levels, ListKind::AuthSets)?;
     let mut auth = NameSet::new(alloc);
-    for number in levels {
-        note_auth_sets(&mut auth, site, site.level(*number))?;
-    }
+    note_auth_sets(&mut auth, site, lists.as_slice())?;
     Ok(auth)
 }
 
@@ -40,9 +41,17 @@ pub fn read_by_values(alloc: Global, site: &Site, levels: &[u32]) -> Result<Name
 {
     let settled = NameSet::new(alloc);
     let mut exposed = NameSet::new(alloc);
-    for number in levels {
-        note_values(&mut exposed, &settled, site, site.level(*number))?;
-    }
+    note_levels(&mut exposed, &settled, site, levels)?;
+    note_lists(&mut exposed, &settled, alloc, site, ListKind::Index, levels)?;
+    note_lists(&mut exposed, &settled, alloc, site, ListKind::Pages, levels)?;
+    note_lists(
+        &mut exposed,
+        &settled,
+        alloc,
+        site,
+        ListKind::AuthSets,
+        levels,
+    )?;
     Ok(exposed)
 }
 

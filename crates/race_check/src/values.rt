@@ -1,18 +1,21 @@
-// Which variables the values of a level read, and which a subrequest sets by them.
-ghost use Rattle.std.specs.Prelude.{◌≡◌, ◌||◌, ◌&&◌, not, ℕ, List, map, option_map, bytes_eq, OnOk};
+// Which variables the values of levels read, and which a subrequest sets by them.
+ghost use Rattle.std.specs.Prelude.{◌≡◌, ◌||◌, ◌&&◌, not, ℕ, List, Some, map, option_map, bytes_eq, OnOk};
 ghost use Rattle.std.specs.List.{list_any};
 ghost use Rattle.ngx_variables.specs.Paths.{text_of};
+ghost use Rattle.site_model.specs.Levels.{raw_level};
 ghost use Rattle.site_views.specs.Values.{IndexName as NameView, PageRule as RuleView, Text};
-ghost use Rattle.site_whole.specs.Whole.{index_at, index_seen, last_seen, tries_seen, target_seen, page_seen, pages_at, auth_set_seen, auth_sets_at, values_seen};
-ghost use Rattle.race_meaning.specs.Reads.{in_text, in_last, in_tries, in_target, in_values};
-ghost use Rattle.race_meaning.specs.Named.{auth_sets_it};
+ghost use Rattle.site_whole.specs.Whole.{index_at, index_seen, last_seen, tries_seen, target_seen, page_seen, pages_at, auth_set_seen, auth_sets_at};
+ghost use Rattle.race_meaning.specs.Reads.{in_text, in_last, in_tries, in_target};
+ghost use Rattle.race_check.specs.Lists.{in_list, in_own, lists_of, sets_by_auth};
 ghost use Rattle.race_check.specs.Names.{has as has_name, Notes};
 
+use crate::listed::{ListKind, shared_lists};
 use crate::names::NameSet;
 use crate::reads::note_text;
 use byte_text::OutOfMemory;
 use ngx_variables::{Place, Value};
 use site_model::{AuthSet, IndexName, LastTry, Level, PageRule, PageTarget, Site, Tries};
+use std::alloc::Global;
 
 pub fn place_text(place: &Place) -> &Value
     ensures { result.now ≡ text_of place.now }
@@ -38,25 +41,12 @@ fn note_names(
     Ok(())
 }
 
-/// Where none is stated, `index.html` reads nothing.
-fn note_index(
-    exposed: &mut NameSet,
-    settled: &NameSet,
-    site: &Site,
-    number: Option<u32>,
-) -> Result<(), OutOfMemory>
-    ensures { OnOk result (Notes settled.now exposed.old exposed.new
-        (λ name. list_any (λ (i : NameView). in_text name i.text) (index_at site.now number))) }
+pub fn index_names(site: &Site, number: u32) -> &[IndexName]
+    ensures { map index_seen result.now ≡ index_at site.now (Some number) }
 {
-    match number {
-        Some(number) => match site.indexes.get(number as usize) {
-            Some(index) => {
-                note_names(exposed, settled, index.names.as_slice())?;
-                Ok(())
-            }
-            None => Ok(()),
-        },
-        None => Ok(()),
+    match site.indexes.get(number as usize) {
+        Some(index) => index.names.as_slice(),
+        None => &[],
     }
 }
 
@@ -172,21 +162,93 @@ pub fn auth_sets_of<'a>(site: &'a Site, number: Option<u32>) -> &'a [AuthSet]
     }
 }
 
-/// Notes what a level's values read that isn't settled.
-pub fn note_values(
+/// Notes what a level's values read that isn't settled, but for those in lists that levels share.
+fn note_own(exposed: &mut NameSet, settled: &NameSet, level: &Level) -> Result<(), OutOfMemory>
+    ensures { OnOk result
+        (Notes settled.now exposed.old exposed.new (λ name. in_own name level.now)) }
+{
+    note_text(exposed, settled, place_text(&level.place))?;
+    note_tries(exposed, settled, &level.tries)?;
+    Ok(())
+}
+
+/// The same for each of these levels.
+pub fn note_levels(
     exposed: &mut NameSet,
     settled: &NameSet,
     site: &Site,
-    level: &Level,
+    levels: &[u32],
 ) -> Result<(), OutOfMemory>
     ensures { OnOk result (Notes settled.now exposed.old exposed.new
-        (λ name. in_values name (values_seen site.now level.now))) }
+        (λ name. list_any (λ number. in_own name (raw_level site.now number)) levels.now)) }
 {
-    note_text(exposed, settled, place_text(&level.place))?;
-    note_index(exposed, settled, site, level.index)?;
-    note_tries(exposed, settled, &level.tries)?;
-    note_pages(exposed, settled, rules_of(site, level.pages))?;
-    note_auth_texts(exposed, settled, auth_sets_of(site, level.auth_sets))?;
+    for number in levels {
+        note_own(exposed, settled, site.level(*number))?;
+    }
+    Ok(())
+}
+
+/// Notes what a list reads that isn't settled.
+fn note_list(
+    exposed: &mut NameSet,
+    settled: &NameSet,
+    site: &Site,
+    kind: ListKind,
+    number: u32,
+) -> Result<(), OutOfMemory>
+    ensures { OnOk result (Notes settled.now exposed.old exposed.new
+        (λ name. in_list site.now kind name number)) }
+{
+    match kind {
+        ListKind::Index => note_names(exposed, settled, index_names(site, number))?,
+        ListKind::Pages => note_pages(exposed, settled, rules_of(site, Some(number)))?,
+        ListKind::AuthSets => note_auth_texts(exposed, settled, auth_sets_of(site, Some(number)))?,
+    }
+    Ok(())
+}
+
+fn note_numbers(
+    exposed: &mut NameSet,
+    settled: &NameSet,
+    site: &Site,
+    kind: ListKind,
+    numbers: &[u32],
+) -> Result<(), OutOfMemory>
+    ensures { OnOk result (Notes settled.now exposed.old exposed.new
+        (λ name. list_any (in_list site.now kind name) numbers.now)) }
+{
+    for number in numbers {
+        note_list(exposed, settled, site, kind, *number)?;
+    }
+    Ok(())
+}
+
+/// Notes what the lists of a kind read that hold in these levels, where it isn't settled. Each list is gone through once, in
+/// however many levels it holds.
+pub fn note_lists(
+    exposed: &mut NameSet,
+    settled: &NameSet,
+    alloc: Global,
+    site: &Site,
+    kind: ListKind,
+    levels: &[u32],
+) -> Result<(), OutOfMemory>
+    ensures { OnOk result (Notes settled.now exposed.old exposed.new
+        (λ name. list_any (in_list site.now kind name) (lists_of site.now kind levels.now))) }
+{
+    let numbers = shared_lists(alloc, site, levels, kind)?;
+    note_numbers(exposed, settled, site, kind, numbers.as_slice())?;
+    Ok(())
+}
+
+/// Notes the variables that these lists of `auth_request_set`s set.
+pub fn note_auth_sets(auth: &mut NameSet, site: &Site, numbers: &[u32]) -> Result<(), OutOfMemory>
+    ensures { OnOk result ((name : List ℕ) → has_name auth.new name
+        ≡ (list_any (sets_by_auth site.now name) numbers.now || has_name auth.old name)) }
+{
+    for number in numbers {
+        note_set_names(auth, auth_sets_of(site, Some(*number)))?;
+    }
     Ok(())
 }
 
@@ -198,15 +260,5 @@ fn note_set_names(auth: &mut NameSet, sets: &[AuthSet]) -> Result<(), OutOfMemor
     for set in sets {
         auth.add(set.name.as_slice())?;
     }
-    Ok(())
-}
-
-/// Notes the variables that a subrequest for access sets by a level's values (`auth_request_set`).
-#[tactic(auto, unfolding(site_whole::specs::Whole::values_seen))]
-pub fn note_auth_sets(auth: &mut NameSet, site: &Site, level: &Level) -> Result<(), OutOfMemory>
-    ensures { OnOk result ((name : List ℕ) → has_name auth.new name
-        ≡ (auth_sets_it name (values_seen site.now level.now) || has_name auth.old name)) }
-{
-    note_set_names(auth, auth_sets_of(site, level.auth_sets))?;
     Ok(())
 }

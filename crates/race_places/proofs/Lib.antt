@@ -1,3 +1,4 @@
+mod Among
 mod Indexing
 mod Lines
 mod Placing

@@ -1,12 +1,7 @@
 -- Lines added one after another.
-use Rattle.std.proofs.Common.{◌≡◌, ℕ, zero, suc, ◌+◌, ◌<◌, ◌≤◌, Bool, true, false, List, [], ◌∷◌, ◌++◌, Option, None, Some, option_map, unwrap_or, slice_get, get_or, length, drop, map, refl, ap, sym, ◌∙◌, append_assoc, arith, if◌then◌else◌}
+use Rattle.std.proofs.Common.{◌≡◌, ℕ, ◌+◌, Bool, true, false, List, [], ◌∷◌, ◌++◌, length, drop, map, refl, ap, sym, ◌∙◌, append_assoc, arith, if◌then◌else◌}
 use Rattle.std.proofs.lemmas.List.{append-nil}
 use Rattle.source_lines.specs.declared.line.Line.{Line}
-use Rattle.site_model.specs.declared.site.Site.{Site}
-use Rattle.site_model.specs.declared.values.IndexNames.{IndexNames}
-use Rattle.site_views.specs.Values.{IndexName}
-use Rattle.site_whole.specs.Whole.{default_index, index_seen, index_at}
-use Rattle.race_meaning.specs.Reads.{in_text}
 use Rattle.race_places.specs.Places.{lines_of, keep_if, over_both}
 
 -- the first of a list, and the first of its lines
@@ -69,49 +64,3 @@ module _ {X Y A B : Type 0} (f : A → B → List Line) (seen : X → A) (given 
   pub both_over : (left : List Y) (old whole : List Line) → drop i xs ≡ [] → old ++ over_both f (map seen (drop i xs)) (map given left) ≡ whole → old ≡ whole
   unfolding over_both
   both_over left old whole over w = sym (append-nil old) ∙ ap (λ l. old ++ over_both f (map seen l) (map given left)) (sym over) ∙ w
-
--- two, one after the other
-added : (o m n x y : List Line) → m ≡ o ++ x → n ≡ m ++ y → n ≡ o ++ (x ++ y)
-added o m n x y a b = b ∙ ap (λ l. l ++ y) a ∙ append_assoc o x y
-
--- the lines of five values
-pub five_added : (o o1 o2 o3 o4 o5 p i t g u : List Line) → o1 ≡ o ++ p → o2 ≡ o1 ++ i → o3 ≡ o2 ++ t → o4 ≡ o3 ++ g → o5 ≡ o4 ++ u → o5 ≡ o ++ ((((p ++ i) ++ t) ++ g) ++ u)
-five_added o o1 o2 o3 o4 o5 p i t g u a b c d e =
-    added o o4 o5 (((p ++ i) ++ t) ++ g) u (added o o3 o4 ((p ++ i) ++ t) g (added o o2 o3 (p ++ i) t (added o o1 o2 p i a b) c) d) e
-
--- ---- elements of a list by their places
-
-pub get_none : {X : Type 0} (xs : List X) (n : ℕ) → length xs ≤ n → slice_get xs n ≡ None
-get_none [] n h = refl
-get_none (x ∷ xs) zero h = absurd (omega (arith, h))
-get_none (x ∷ xs) (suc n) h = get_none xs n (omega (arith, h))
-
-pub get_some : {X : Type 0} (xs : List X) (n : ℕ) (x : X) → n < length xs → x ≡ get_or xs n x → slice_get xs n ≡ Some x
-get_some [] n x h e = absurd (omega (arith, h))
-get_some (y ∷ ys) zero x h e = ap Some (sym e)
-get_some (y ∷ ys) (suc n) x h e = get_some ys n x (omega (arith, h)) e
-
--- ---- where nothing is stated
-
-pub default_reads_none : (name : List ℕ) (lines : List Line) → lines_of (λ (i : IndexName). in_text name i.text) default_index lines ≡ []
-unfolding default_index in_text
-default_reads_none name [] = refl
-default_reads_none name (l ∷ ls) = refl
-
-pub no_index : (site : Site) (number : Option ℕ) (name : List ℕ) (lines out : List Line) → number ≡ None → out ≡ out ++ lines_of (λ (i : IndexName). in_text name i.text) (index_at site number) lines
-no_index site number name lines out is =
-    sym (append-nil out) ∙ ap (λ x. out ++ x) (sym (default_reads_none name lines)) ∙ ap (λ n. out ++ lines_of (λ (i : IndexName). in_text name i.text) (index_at site n) lines) (sym is)
-
-nothing_at : (site : Site) (names : Option IndexNames) (name : List ℕ) (lines : List Line) → names ≡ None → lines_of (λ (i : IndexName). in_text name i.text) (unwrap_or (option_map (λ (n : IndexNames). map index_seen n.names.items) names) []) lines ≡ []
-nothing_at site names name lines is = ap (λ n. lines_of (λ (i : IndexName). in_text name i.text) (unwrap_or (option_map (λ (n : IndexNames). map index_seen n.names.items) n) []) lines) is
-
-pub no_names : (site : Site) (number : Option ℕ) (n : ℕ) (name : List ℕ) (lines out : List Line) → number ≡ Some n → slice_get site.indexes.items n ≡ None
-    → out ≡ out ++ lines_of (λ (i : IndexName). in_text name i.text) (index_at site number) lines
-no_names site number n name lines out is none =
-    sym (append-nil out) ∙ ap (λ x. out ++ x) (sym (nothing_at site (slice_get site.indexes.items n) name lines none)) ∙ ap (λ n. out ++ lines_of (λ (i : IndexName). in_text name i.text) (index_at site n) lines) (sym is)
-
--- ---- programs
-
--- the lines of a level: of its values, of its program, and of its blocks
-pub three_added : (o o1 o2 o3 p q r : List Line) → o1 ≡ o ++ p → o2 ≡ o1 ++ q → o3 ≡ o2 ++ r → o3 ≡ o ++ ((p ++ q) ++ r)
-three_added o o1 o2 o3 p q r a b c = added o o2 o3 (p ++ q) r (added o o1 o2 p q a b) c

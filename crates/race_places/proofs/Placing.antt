@@ -1,5 +1,5 @@
 -- The lines of the named variables are those that their server's meaning tells.
-use Rattle.std.proofs.Common.{◌≡◌, ℕ, zero, suc, ◌<◌, ◌==◌, nat_lt, Bool, true, false, List, [], ◌∷◌, ◌++◌, length, map, flat_map, get_or, Contains, AllPairs, refl, ap, sym, ◌∙◌, subst, arith, if◌then◌else◌}
+use Rattle.std.proofs.Common.{◌≡◌, ℕ, zero, suc, ◌<◌, ◌==◌, nat_lt, Bool, true, false, List, [], ◌∷◌, ◌++◌, length, map, flat_map, get_or, Contains, AllPairs, ◌↔◌, refl, ap, sym, ◌∙◌, subst, arith, if◌then◌else◌}
 use Rattle.std.specs.declared.cmp.Ordering.{Ordering}
 use Rattle.std.specs.declared.cmp.Ordering.TheVariants.{Less}
 use Rattle.std.specs.List.Sorted.{IsStrictlySortedBy}
@@ -26,13 +26,15 @@ use Rattle.race_meaning.specs.Levels.{levels, block_values}
 use Rattle.race_meaning.specs.Reads.{in_text, in_tries, in_target, in_directive}
 use Rattle.race_meaning.specs.Named.{is_shown}
 use Rattle.race_meaning.specs.Conflicts as meaning
-use Rattle.race_meaning.specs.Conflicts.{Source, LevelSources, lines_where, if_so, reads_in, sets_in, sets_it, is_before, AreLines, Tells, name_before, AreConflicts}
+use Rattle.race_meaning.specs.Conflicts.{Source, LevelSources, lines_where, if_so, reads_in, sets_in, sets_it, is_before, AreLines, name_before, AreConflicts}
 use Rattle.race_check.specs.Numbers.{level_numbers}
 use Rattle.race_check.specs.Told.{AreNamed, named_at, HasNamed}
 use Rattle.race_check.proofs.Numbering.{levels_seen}
+use Rattle.race_places.specs.Index.{is_among}
 use Rattle.race_places.specs.Places.{Origins, LevelOrigins, over_both, source_at, line_list, seen, sources_by, block_sources, level_sources, server_sources, lines_of, keep_if, value_reads, level_reads, level_sets, all_reads, all_sets, AreInOrder, IsPlaced, ArePlaced, conflict_seen}
 use Rattle.race_check.specs.declared.conflict.Named.{Named}
 use Rattle.race_places.specs.declared.told.Conflict.{Conflict}
+use Rattle.race_places.proofs.Among.{same_lines}
 
 -- ---- lists
 
@@ -306,8 +308,8 @@ module _ (sets reads : List ℕ → List Line) (all : List Named) (first : List 
 
 -- ---- a server
 
--- by lines that are the same for each name
-placed_by : (f g sets reads : List ℕ → List Line) → ((name : List ℕ) → f name ≡ sets name) → ((name : List ℕ) → g name ≡ reads name) → (named : List Named) (here : List Conflict) → ArePlaced f g named here → ArePlaced sets reads named here
+-- by lines that are the same for each name, or the same ones in another order
+placed_by : (f g sets reads : List ℕ → List Line) → ((name : List ℕ) → f name ≡ sets name) → ((name : List ℕ) (l : Line) → Contains (g name) l ↔ Contains (reads name) l) → (named : List Named) (here : List Conflict) → ArePlaced f g named here → ArePlaced sets reads named here
 unfolding ArePlaced
 placed_by f g sets reads s r [] [] p = p
 placed_by f g sets reads s r [] (c ∷ cs) p = absurd p
@@ -318,7 +320,10 @@ placed_by f g sets reads s r (n ∷ ns) (c ∷ cs) p = (
     name = p.0.name;
     documents = p.0.documents;
     set_at = subst (λ l. AreInOrder l c.sets.items) (s n.name) p.0.set_at;
-    read_at = subst (λ l. AreInOrder l c.reads.items) (r n.name) p.0.read_at;
+    read_at = record {
+      same = λ l. (λ h. (p.0.read_at.same l).0 ((r n.name l).1 h), λ h. (r n.name l).0 ((p.0.read_at.same l).1 h));
+      rising = p.0.read_at.rising;
+    };
   },
   placed_by f g sets reads s r ns cs p.1,
 )
@@ -328,7 +333,7 @@ pub server_placed : (files : ℕ → List ℕ) (patterns : List Pattern) (site :
     → (numbers : List ℕ) → numbers ≡ level_numbers s → (numbers' : List ℕ) → numbers' ≡ level_numbers s
     → (set_at read_at : List ℕ → List Line)
     → ((name : List ℕ) → set_at name ≡ all_sets name (map (level_whole patterns site) numbers) lines)
-    → ((name : List ℕ) → read_at name ≡ all_reads name (map (level_whole patterns site) numbers') lines)
+    → ((name : List ℕ) (line : Line) → is_among line (read_at name) ≡ is_among line (all_reads name (map (level_whole patterns site) numbers') lines))
     → (conflicts old : List Conflict) → old ≡ []
     → (here : List Conflict) × ArePlaced set_at read_at named here × (conflicts ≡ old ++ here)
     → AreConflicts number (server_whole patterns site s) (server_sources files (server_whole patterns site s) lines) (map (conflict_seen files) conflicts)
@@ -337,6 +342,6 @@ server_placed files patterns site s lines number named h numbers l numbers' l' s
     let views : (ns : List ℕ) → ns ≡ level_numbers s → map (level_whole patterns site) ns ≡ levels server = λ ns e. ap (map (level_whole patterns site)) e ∙ levels_seen patterns site s in
     let these = placed_by set_at read_at (sets files server lines number) (reads files server lines number)
     (λ name. is_set name ∙ ap (λ v. all_sets name v lines) (views numbers l))
-    (λ name. is_read name ∙ ap (λ v. all_reads name v lines) (views numbers' l')) named p.0 p.1 in
+    (λ name. same_lines (read_at name) (reads files server lines number name) (λ l. is_read name l ∙ ap (λ v. is_among l (all_reads name v lines)) (views numbers' l'))) named p.0 p.1 in
     let whole = subst (λ ns. ArePlaced (sets files server lines number) (reads files server lines number) ns p.0) h.2 these in
     subst (λ cs. AreConflicts number server (server_sources files server lines) (map (conflict_seen files) cs)) (sym (p.2 ∙ ap (λ o. o ++ p.0) none)) (are_conflicts files server lines number h.0 h.1 p.0 whole)

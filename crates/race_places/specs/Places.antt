@@ -1,8 +1,7 @@
 -- Where variables are set and read, by the lines of the levels of a server.
-use Rattle.std.specs.Prelude.{◌≡◌, ℕ, Bool, true, List, [], ◌∷◌, ◌++◌, map, flat_map, Option, None, Some, Contains, AllPairs, ◌↔◌, if◌then◌else◌}
+use Rattle.std.specs.Prelude.{◌≡◌, ℕ, Bool, true, List, [], ◌∷◌, ◌++◌, map, flat_map, Option, None, Some, unwrap_or, slice_get, Contains, AllPairs, ◌↔◌, if◌then◌else◌}
 use Rattle.ngx_variables.specs.Paths.{text_of}
 use Rattle.source_lines.specs.declared.line.Line.{Line}
-use Rattle.source_lines.specs.declared.line.LevelLines.{LevelLines}
 use Rattle.source_lines.specs.Lines.{is_before}
 use Rattle.site_views.specs.Values.{Values, Text, IndexName, PageRule}
 use Rattle.site_views.specs.Rewrites.{Program}
@@ -12,7 +11,9 @@ use Rattle.race_meaning.specs.Reads.{in_text, in_tries, in_target, in_directive}
 use Rattle.race_meaning.specs.Conflicts.{Source, LevelSources, sets_it}
 use Rattle.race_meaning.specs.Conflicts as meaning
 use Rattle.race_check.specs.declared.conflict.Named.{Named}
+use Rattle.race_places.specs.declared.lined.HeldLines.{HeldLines}
 use Rattle.race_places.specs.declared.lined.LinedLevel.{LinedLevel}
+use Rattle.race_places.specs.declared.lined.ServerLines.{ServerLines}
 use Rattle.race_places.specs.declared.told.Conflict.{Conflict}
 
 -- what comes of the items of two lists, pair by pair, as long as both have some
@@ -37,18 +38,27 @@ pub record LevelOrigins : Type 0 where
   pub own : Origins
   pub blocks : List Origins
 
-abbrev pub origins_by : LevelLines → Origins
-origins_by l = record {
+-- the lines of a list of values, by its number
+abbrev pub list_at : List (List Line) → Option ℕ → List Line
+list_at lists None = []
+list_at lists (Some number) = unwrap_or (slice_get lists number) []
+
+abbrev pub origins_by : List (List Line) → HeldLines → Origins
+origins_by lists l = record {
   place = l.place;
-  index = l.index.items;
+  index = list_at lists l.index;
   tries = l.tries;
-  pages = l.pages.items;
-  auth_sets = l.auth_sets.items;
+  pages = list_at lists l.pages;
+  auth_sets = list_at lists l.auth_sets;
   program = l.program.items;
 }
 
-abbrev pub level_by : LinedLevel → LevelOrigins
-level_by l = record { own = origins_by l.own; blocks = map origins_by l.blocks.items }
+abbrev pub level_by : List (List Line) → LinedLevel → LevelOrigins
+level_by lists l =
+    record { own = origins_by lists l.own; blocks = map (origins_by lists) l.blocks.items }
+
+abbrev pub levels_by : ServerLines → List LevelOrigins
+levels_by lines = map (level_by lines.lists.items) lines.levels.items
 
 -- a line, with the path of its file
 abbrev pub source_at : (files : ℕ → List ℕ) → Line → Source

@@ -3,8 +3,10 @@
 
 mod index;
 mod lined;
+mod marks;
 mod places;
+mod reads;
 mod told;
 
-pub use lined::LinedLevel;
+pub use lined::{HeldLines, LineList, LinedLevel, ServerLines};
 pub use told::{Conflict, placed};

@@ -5,12 +5,13 @@ ghost use Rattle.site_whole.specs.Whole.{server_whole};
 ghost use Rattle.race_meaning.specs.Conflicts.{AreConflicts};
 ghost use Rattle.race_check.specs.Told.{HasNamed};
 ghost use Rattle.race_places.specs.Index.{at};
-ghost use Rattle.race_places.specs.Places.{AreInOrder, IsPlaced, ArePlaced, level_by, server_sources, conflict_seen};
+ghost use Rattle.race_places.specs.Places.{AreInOrder, IsPlaced, ArePlaced, levels_by, server_sources, conflict_seen};
 ghost use Rattle.race_places.specs.declared.told.Conflict.{Conflict as Told};
 
 use crate::index::LineIndex;
-use crate::lined::LinedLevel;
-use crate::places::{reads_of, sets_of};
+use crate::lined::ServerLines;
+use crate::places::sets_of;
+use crate::reads::reads_of;
 use byte_text::{ByteText, OutOfMemory};
 use race_check::{Named, level_numbers};
 use site_model::{Server, Site};
@@ -79,25 +80,24 @@ fn push_placed(
 /// The variables that are named in a server with their places, by the lines of the server's levels: its own, those of its
 /// locations, and those of its locations `@name`, each in the order of the text. So these are exactly the server's variables
 /// that can show in which order the subrequests of a page ran, in the order of their bytes, each with the lines where it is
-/// set and where it is read. The levels are gone through once, for all variables.
+/// set and where it is read. The levels, and the lists that they share, are gone through once, for all variables.
 pub fn placed(
     alloc: Global,
     site: &Site,
     server: &Server,
     number: usize,
-    lines: &[LinedLevel],
+    lines: &ServerLines,
     named: &[Named],
 ) -> Result<Vec<Conflict>, OutOfMemory>
     requires { (patterns : List Pattern) → HasNamed number
         (server_whole patterns site.now server.now) [] named.now }
     ensures { IfOk result (λ conflicts. (files : ℕ → List ℕ) (patterns : List Pattern)
         → AreConflicts number (server_whole patterns site.now server.now)
-        (server_sources files (server_whole patterns site.now server.now)
-        (map level_by lines.now))
+        (server_sources files (server_whole patterns site.now server.now) (levels_by lines.now))
         (map (conflict_seen files) conflicts.items)) }
 {
     let numbers = level_numbers(alloc, server)?;
-    let sets = sets_of(alloc, site, numbers.as_slice(), lines)?;
+    let sets = sets_of(alloc, site, numbers.as_slice(), lines.levels.as_slice())?;
     let reads = reads_of(alloc, site, numbers.as_slice(), lines)?;
     let mut conflicts = Vec::new(alloc);
     push_placed(&mut conflicts, alloc, &sets, &reads, named)?;

@@ -22,7 +22,7 @@ use Rattle.request_reply.specs.Replies.{IsReply}
 use Rattle.request_reply.specs.declared.reply.Reply.{Reply}
 use Rattle.request_flow.specs.declared.flow.Terms.{Terms}
 use Rattle.request_flow.specs.declared.page.PageHead.{PageHead}
-use Rattle.request_flow.specs.Openings.{terms_seen}
+use Rattle.request_flow.specs.Terms.{terms_seen}
 use Rattle.request_flow.specs.Pages.{framed_if, page_by}
 use Rattle.request_flow.specs.Rests.{Follows, act_rest, came_rest, finished}
 use Rattle.request_flow.specs.Sents.{head_with, stays_seen, with_length}

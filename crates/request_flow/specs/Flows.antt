@@ -17,7 +17,7 @@ use Rattle.request_flow.specs.declared.flow.Stage.{Stage}
 use Rattle.request_flow.specs.declared.flow.Stage.TheVariants.{Asked, Told, Reading, Came}
 use Rattle.request_flow.specs.declared.flow.Flow.{Flow}
 use Rattle.request_flow.specs.declared.run.Heard.{Heard}
-use Rattle.request_flow.specs.Openings.{terms_seen}
+use Rattle.request_flow.specs.Terms.{terms_seen}
 use Rattle.request_flow.specs.Padded.{padded}
 use Rattle.request_flow.specs.Rests.{Rest, no_rest, act_rest}
 
@@ -97,11 +97,6 @@ may_run (Told request wait node) = true
 may_run (Reading sending left) = false
 may_run (Came sending left placed) = nat_lt placed placed_most
 
--- the job of a request waits for an answer, where one is in flight
-abbrev pub is_waiting : Option Flow → Bool
-is_waiting None = false
-is_waiting (Some flow) = waits flow.stage
-
 -- the jobs of a request
 abbrev pub jobs_of : Option Flow → List Job
 jobs_of None = []
@@ -114,21 +109,12 @@ shown_by (Told request wait node) = shown_most
 shown_by (Reading sending left) = shown_most
 shown_by (Came sending left placed) = if nat_lt placed shown_most then placed else shown_most
 
-abbrev pub shown_of : Option Flow → ℕ
-shown_of None = shown_most
-shown_of (Some flow) = shown_by flow.stage
-
 -- where this many of them were written
 abbrev pub stage_written : Stage → ℕ → Stage
 stage_written (Asked request wait) count = Asked request wait
 stage_written (Told request wait node) count = Told request wait node
 stage_written (Reading sending left) count = Reading sending left
 stage_written (Came sending left placed) count = Came sending left (placed - count)
-
-abbrev pub flow_written : Option Flow → ℕ → Option Flow
-flow_written None count = None
-flow_written (Some flow) count =
-    Some (record { ask = flow.ask; stage = stage_written flow.stage count })
 
 -- ---- what fits
 

@@ -1,4 +1,4 @@
-pub mod Openings
+pub mod Terms
 pub mod Padded
 pub mod Rests
 pub mod Flows

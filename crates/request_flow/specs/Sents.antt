@@ -26,7 +26,7 @@ use Rattle.request_flow.specs.declared.steps.FileAt.{FileAt}
 use Rattle.request_flow.specs.declared.steps.Known.{Known}
 use Rattle.request_flow.specs.declared.steps.Known.TheVariants.{Nothing, Told}
 use Rattle.request_flow.specs.Flows.{item_asked}
-use Rattle.request_flow.specs.Openings.{terms_seen}
+use Rattle.request_flow.specs.Terms.{terms_seen}
 use Rattle.request_flow.specs.Padded.{padded}
 use Rattle.request_flow.specs.Rests.{Rest, came_rest, act_rest}
 

@@ -1,5 +1,5 @@
 // The blocks of a file.
-ghost use Rattle.std.specs.Prelude.{◌≡◌, ◌≤◌, ℕ, true};
+ghost use Rattle.std.specs.Prelude.{◌≡◌, ◌≤◌, true};
 ghost use Rattle.file_tree.specs.Tree.{Trees, tree_of};
 ghost use Rattle.request_flow.specs.Flows.{is_block, item_asked};
 

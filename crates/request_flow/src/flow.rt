@@ -1,12 +1,12 @@
 // A request in flight.
 ghost use Rattle.std.specs.Prelude.{◌≡◌, ◌≤◌};
-ghost use Rattle.request_flow.specs.Flows.{waits as waits_for, may_run as can_run, shown_by as shown_at, stage_written, flow_written, shown_of, stage_server, stage_length};
+ghost use Rattle.request_flow.specs.Flows.{waits as waits_for, may_run as can_run, shown_by as shown_at, stage_written, stage_server, stage_length};
 
-use crate::asked::blank as blank_phases;
 use crate::blocks::Sending;
 use file_tree::{Ask, Node};
 use http_types::Version;
 use ngx_variables::VarTable;
+use request_opening::blank as blank_phases;
 use request_phases::{Phases, Wait};
 use std::alloc::Global;
 
@@ -237,17 +237,6 @@ pub fn shown_by(stage: &Stage) -> usize
     }
 }
 
-/// The same, where a request is in flight or none is.
-#[tactic(auto, unfolding(crate::specs::Flows::shown_most))]
-pub fn shown(flow: &Option<Flow>) -> usize
-    ensures { result ≡ shown_of flow.now }
-{
-    match flow {
-        Some(flow) => shown_by(&flow.stage),
-        None => SHOWN,
-    }
-}
-
 /// Where this many of the placed bytes were written.
 fn stage_after(stage: Stage, count: usize) -> Stage
     requires { count ≤ shown_at stage }
@@ -275,16 +264,5 @@ pub fn wrote(flow: Flow, count: usize) -> Flow
     Flow {
         ask: flow.ask,
         stage: stage_after(flow.stage, count),
-    }
-}
-
-/// The same, where a request is in flight or none is.
-pub fn written(flow: Option<Flow>, count: usize) -> Option<Flow>
-    requires { count ≤ shown_of flow }
-    ensures { result ≡ flow_written flow count }
-{
-    match flow {
-        Some(flow) => Some(wrote(flow, count)),
-        None => None,
     }
 }

@@ -2,7 +2,6 @@
 //! after another.
 #![tactic(auto)]
 
-mod asked;
 mod blocks;
 mod flow;
 mod page;
@@ -11,13 +10,12 @@ mod run;
 mod slot;
 mod steps;
 
-pub use asked::Opening;
 pub use blocks::Sending;
 pub use flow::{
-    Flow, InPhases, Onward, Stage, Terms, length_of, may_run, server_of, shown, shown_by, waits,
-    written, wrote,
+    Flow, InPhases, Onward, Stage, Terms, length_of, may_run, server_of, shown_by, waits, wrote,
 };
 pub use page::{PageHead, PageStart, Went};
 pub use reply::{Workspace, put_refusal};
-pub use run::{answered, run_any, run_on};
-pub use steps::{FileAt, Known, start, start_any};
+pub use request_opening::Opening;
+pub use run::{answered, run_on};
+pub use steps::{FileAt, Known, start};

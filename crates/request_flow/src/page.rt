@@ -9,7 +9,7 @@ ghost use Rattle.request_phases.specs.declared.state.Step.TheVariants.{Answers a
 ghost use Rattle.request_flow.specs.Pages.{page_rest};
 ghost use Rattle.request_flow.specs.Rests.{Follows};
 ghost use Rattle.request_flow.specs.Sents.{known_bytes, known_len, known_tree, step_rest, with_length as told_length};
-ghost use Rattle.std.specs.Prelude.{List, ℕ, [], Some};
+ghost use Rattle.std.specs.Prelude.{List, ℕ, Some};
 
 use crate::flow::{InPhases, Onward, Terms};
 use crate::reply::{Workspace, head_alone, stays};

@@ -1,10 +1,10 @@
 // The response to what a request is replied: its head, and its body where that isn't a file.
-ghost use Rattle.std.specs.Prelude.{◌≡◌, ◌≤◌, ◌+◌, ◌==◌, ◌++◌, ◌&&◌, [], nat_lt, not, length, IfOk, OnOk, option_map, if◌then◌else◌};
+ghost use Rattle.std.specs.Prelude.{◌≡◌, ◌≤◌, ◌+◌, ◌==◌, ◌++◌, ◌&&◌, [], nat_lt, not, length, IfOk, OnOk, if◌then◌else◌};
 ghost use Rattle.ngx_outside.specs.Views.{Start};
 ghost use Rattle.answers_meaning.specs.Answers.{refusal};
 ghost use Rattle.resp_head.specs.Head.{head_of};
 ghost use Rattle.request_meaning.specs.Responses.{framing, may_stay};
-ghost use Rattle.request_flow.specs.Sents.{head_seen, head_with, sent_now, content_now, put_now, stays_seen};
+ghost use Rattle.request_flow.specs.Sents.{head_with, sent_now, content_now, put_now, stays_seen};
 
 use crate::flow::{InPhases, Terms, blank};
 use crate::slot::put;

@@ -10,13 +10,13 @@ ghost use Rattle.request_flow.specs.Flows.{waits as waits_for, may_run as can_ru
 ghost use Rattle.request_flow.specs.Rests.{Follows};
 ghost use Rattle.request_flow.specs.Pages.{GoesTo, IfOn, IfPage, IsServed, IsTold, closing_of, tree_of_went};
 ghost use Rattle.request_flow.specs.Reached.{FlowReached, WentReached};
-ghost use Rattle.request_flow.specs.declared.flow.Stage.TheVariants.{Told as AtTold, Came as AtCame};
+ghost use Rattle.request_flow.specs.declared.flow.Stage.TheVariants.{Came as AtCame};
 
 use crate::blocks::{Sending, next_block};
 use crate::flow::{Flow, InPhases, Onward, Stage};
 use crate::page::Went;
 use crate::reply::Workspace;
-use crate::steps::{FileAt, Known, alone, go_on};
+use crate::steps::{FileAt, Known, go_on};
 use byte_text::{ByteQueue, OutOfMemory};
 use file_tree::{Ask, JobAnswer, Node};
 use request_phases::{Ground, Wait, resume};
@@ -166,7 +166,7 @@ fn run_came(
 ///
 /// # Errors
 /// `OutOfMemory`; the request is then not to be answered.
-pub fn run_any(
+pub fn run_on(
     space: &mut Workspace,
     ground: &Ground<'_>,
     flow: Flow,
@@ -229,40 +229,6 @@ pub fn run_any(
             left: _,
         } => unreachable!(),
     }
-}
-
-/// Runs a request on, to its next job or its end.
-///
-/// # Errors
-/// `OutOfMemory`; the request is then not to be answered.
-pub fn run_on(
-    space: &mut Workspace,
-    ground: &Ground<'_>,
-    flow: Flow,
-    out: &mut ByteQueue,
-    closing: bool,
-) -> Result<Onward, OutOfMemory>
-    requires ground { IsGround ground.now }
-    requires fits { flow_fits (Some flow) (length out.old) ≡ true }
-    requires runs { can_run flow.stage ≡ true }
-    ensures goes { (trees : Trees) →
-        let w = world_in space.old.patterns ground.now shipped in
-        let site = ground.now.site.now in
-        IfOk result (λ o. Follows site (flow_rest w space.old.patterns site (Some flow) trees)
-        (flow_rest w space.old.patterns site o.flow trees) out.old out.new closing o.closing o.log
-        o.level) }
-    ensures over { IfOk result (λ o. is_some o.log ≡ not (is_some o.flow)) }
-    ensures fits { IfOk result (λ o. flow_fits o.flow (length out.new) ≡ true) }
-    ensures lowers { IfOk result (λ o. length out.new + flow_left o.flow (length out.new)
-        < length out.old + flow_left (Some flow) (length out.old)) }
-    ensures by { IfOk result (λ o. IsServedBy (stage_server flow.stage)
-        (stage_length flow.stage) o.flow) }
-    ensures asked { IfOk result (λ o. tree_asked o.flow ≤ tree_of flow.ask) }
-    ensures closes { IfOk result (λ o. closing ≡ true → o.closing ≡ true) }
-    ensures kept { space.new.patterns ≡ space.old.patterns }
-{
-    let went = run_any(space, ground, flow, out, closing)?;
-    Ok(alone(went)?)
 }
 
 /// Its job is answered: what is at its path is told, or a block of its file is put after the bytes

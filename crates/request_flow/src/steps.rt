@@ -9,17 +9,16 @@ ghost use Rattle.request_meaning.specs.Laws.{shipped};
 ghost use Rattle.request_meaning.specs.Serving.{is_head as is_head_method};
 ghost use Rattle.request_phases.specs.Rounds.{IsGround, world_in};
 ghost use Rattle.request_phases.specs.declared.state.Step.TheVariants.{Answers as ToAnswer, Asks as ToAsk};
-ghost use Rattle.request_flow.specs.Openings.{main_at, terms_at, terms_seen};
+ghost use Rattle.request_opening.specs.Openings.{main_at};
+ghost use Rattle.request_flow.specs.Terms.{terms_at, terms_seen};
 ghost use Rattle.site_model.specs.declared.site.Site.{Site as SiteRow};
 ghost use Rattle.request_meaning.specs.Serving.{World};
 ghost use Rattle.request_flow.specs.Flows.{flow_rest, file_rest, item_asked, flow_fits, flow_left, flow_most, asking_most, tree_asked, IsServedBy};
 ghost use Rattle.request_flow.specs.Rests.{Follows, opened_rest};
 ghost use Rattle.request_flow.specs.Pages.{GoesTo, IfOn, IfPage, IsServed, IsTold, closing_of, tree_of_went};
 ghost use Rattle.request_flow.specs.Reached.{FlowReached, StepReached, WentReached};
-ghost use Rattle.request_flow.specs.declared.page.Went.TheVariants.{On as WentOn};
 ghost use Rattle.request_flow.specs.Sents.{known_bytes, known_tree, known_len, with_length as told_length, step_rest, is_plain as plain_reply, sends_file, file_known};
 
-use crate::asked::{Opening, put_phases};
 use crate::blocks::{Sending, next_block};
 use crate::flow::{Flow, InPhases, Onward, Stage, Terms};
 use crate::page::{PageStart, Went, compose, composes};
@@ -29,9 +28,9 @@ use byte_text::{ByteQueue, ByteText, OutOfMemory};
 use file_tree::Ask;
 use http_types::Method;
 use ngx_variables::VarTable;
+use request_opening::{Opening, put_phases};
 use request_phases::{Ground, Outcome, Step, Wait, begin};
 use request_reply::{Body, Reply, reply_of};
-use site_model::Level;
 
 /// What a job told of its path, and how many bytes of it are a file's.
 #[derive(Drop)]
@@ -447,7 +446,7 @@ fn begun(
 ///
 /// # Errors
 /// `OutOfMemory`; the request is then not to be answered.
-pub fn start_any(
+pub fn start(
     space: &mut Workspace,
     ground: &Ground<'_>,
     server: u32,
@@ -492,53 +491,4 @@ pub fn start_any(
             Err(OutOfMemory)
         }
     }
-}
-
-/// What went on alone. A page isn't served yet: there is no memory for one.
-pub(crate) fn alone(went: Went) -> Result<Onward, OutOfMemory>
-    ensures { IfOk result (λ o. went ≡ WentOn o) }
-{
-    match went {
-        Went::On(onward) => Ok(onward),
-        Went::Page(page) => {
-            drop(page);
-            Err(OutOfMemory)
-        }
-    }
-}
-
-/// Starts a main request: up to its first question to the files, or the whole response where it
-/// asks none. `server` is the number of the ground's server, which is kept for the caller.
-///
-/// # Errors
-/// `OutOfMemory`; the request is then not to be answered.
-pub fn start(
-    space: &mut Workspace,
-    ground: &Ground<'_>,
-    server: u32,
-    opening: Opening,
-    out: &mut ByteQueue,
-) -> Result<Onward, OutOfMemory>
-    requires ground { IsGround ground.now }
-    requires unsent { out.old ≡ [] }
-    ensures goes { (trees : Trees) →
-        let w = world_in space.old.patterns ground.now shipped in
-        let site = ground.now.site.now in
-        IfOk result (λ o. Follows site
-        (opened_rest w (trees opening.tree) (terms_at opening)
-        (main_at ground.now opening) (request_of
-        (server_whole (patterns_seen space.old.patterns) site ground.now.server.now)
-        opening.head))
-        (flow_rest w space.old.patterns site o.flow trees) out.old out.new false o.closing o.log
-        o.level) }
-    ensures over { IfOk result (λ o. is_some o.log ≡ not (is_some o.flow)) }
-    ensures fits { IfOk result (λ o. flow_fits o.flow (length out.new) ≡ true) }
-    ensures lowers { IfOk result (λ o. length out.new + flow_left o.flow (length out.new)
-        < asking_most) }
-    ensures by { IfOk result (λ o. IsServedBy server ground.now.length o.flow) }
-    ensures asked { IfOk result (λ o. tree_asked o.flow ≤ opening.tree) }
-    ensures kept { space.new.patterns ≡ space.old.patterns }
-{
-    let went = start_any(space, ground, server, opening, out)?;
-    Ok(alone(went)?)
 }

@@ -13,7 +13,7 @@ use Rattle.subrequests.proofs.Numbers.{job_is}
 use Rattle.page_response.specs.declared.pages.Pages.{Pages}
 use Rattle.request_flow.specs.Flows.{jobs_of, waits}
 use Rattle.request_flow.specs.declared.flow.Flow.{Flow}
-use Rattle.response_flow.specs.Flights.{is_stuck, page_ready}
+use Rattle.response_flow.specs.Flights.{ends_first, page_ready}
 
 -- ---- what can run
 
@@ -29,7 +29,7 @@ no_ready : (at : ℕ) → is_among at [] ≡ false
 unfolding is_among
 no_ready at = refl
 
-pub stuck_ready : (p : Pages) (at : ℕ) → is_stuck p ≡ true → is_among at (page_ready p) ≡ (0 == at)
+pub stuck_ready : (p : Pages) (at : ℕ) → ends_first p ≡ true → is_among at (page_ready p) ≡ (0 == at)
 stuck_ready p at e = ap (λ b. is_among at (cond b (0 ∷ []) (ready_of p.family))) e ∙ one_ready at
 
 pub none_ready : (at : ℕ) → false ≡ is_among at []

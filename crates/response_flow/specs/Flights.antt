@@ -1,11 +1,15 @@
 -- A response in flight: what is still to come of it, what it waits for, and how far it is.
-use Rattle.std.specs.Prelude.{◌≡◌, ℕ, ◌≤◌, ◌+◌, ◌-◌, ◌*◌, ◌^◌, Bool, true, ◌&&◌, List, [], ◌∷◌, length, take, is_none, Option, None, Some, if◌then◌else◌}
+use Rattle.std.specs.Prelude.{◌≡◌, ℕ, ◌≤◌, ◌+◌, ◌-◌, ◌*◌, ◌^◌, ◌==◌, Bool, true, false, not, ◌&&◌, ◌||◌, List, [], ◌∷◌, length, take, is_none, Option, None, Some, if◌then◌else◌}
 use Rattle.file_tree.specs.Tree.{Trees}
 use Rattle.ngx_outside.specs.Views.{Job, no_bytes}
 use Rattle.ngx_pattern.specs.Pattern.{Pattern as SetPattern}
 use Rattle.site_model.specs.declared.site.Site.{Site}
 use Rattle.request_meaning.specs.Serving.{World}
 use Rattle.outgoing.specs.Leaving.{most}
+use Rattle.std.specs.List.{list_all}
+use Rattle.node_turn.specs.Stages.{is_ending}
+use Rattle.node_turn.specs.declared.node.Node.{Node}
+use Rattle.subrequests.specs.Families.{over_node}
 use Rattle.subrequests.specs.Moved.{IsWhole}
 use Rattle.subrequests.specs.Wants as family
 use Rattle.page_response.specs.Pages.{IsReached, bytes_left, nodes_asked, pages_left, whole_length}
@@ -66,13 +70,25 @@ abbrev pub jobs_of : Option Flight → List Job
 jobs_of None = []
 jobs_of (Some flight) = jobs_by flight
 
--- The nodes of a page that can run. Where none can, none asks the files and nothing is to be written, the page is shown to go on
--- by its first node.
+-- the first node has come to its answer, and no other goes on
+abbrev pub is_last : Node → Bool
+is_last n = is_ending n.stage && (not n.over && n.children == 0)
+
+abbrev pub are_done : List Node → Bool
+are_done [] = false
+are_done (n ∷ nodes) = is_last n && list_all over_node nodes
+
+-- The first node of a page is the one that can run: to end the page, where no other goes on; and, so that a page always goes on,
+-- where no node can run, none asks the files and nothing is to be written.
 abbrev pub is_stuck : Pages → Bool
 is_stuck p = no_bytes p.outgoing.pending && (is_none (family.first_job (family.jobs_of p.family)) && is_none (family.first_of (family.ready_of p.family)))
 
+abbrev pub ends_first : Pages → Bool
+ends_first p = are_done p.family.nodes.items || is_stuck p
+
+-- the nodes of a page that can run
 abbrev pub page_ready : Pages → List ℕ
-page_ready p = if is_stuck p then 0 ∷ [] else family.ready_of p.family
+page_ready p = if ends_first p then 0 ∷ [] else family.ready_of p.family
 
 abbrev pub ready_by : Flight → List ℕ
 ready_by (Alone flow) = if may_run flow.stage then 0 ∷ [] else []

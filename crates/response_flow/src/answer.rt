@@ -1,5 +1,5 @@
 // The job of a node is answered.
-ghost use Rattle.std.specs.Prelude.{◌≡◌, ◌<◌, ◌+◌, ℕ, Bool, List, true, length, IfOk, None, Some};
+ghost use Rattle.std.specs.Prelude.{◌≡◌, ◌<◌, ◌+◌, Bool, List, true, length, IfOk, None, Some};
 ghost use Rattle.file_tree.specs.Tree.{IsFrom, Trees, is_fitting};
 ghost use Rattle.file_tree.specs.declared.job.Ask.{Ask as AskView};
 ghost use Rattle.ngx_outside.specs.Views.{ask_in};

@@ -16,7 +16,8 @@ ghost use Rattle.outgoing.specs.Leaving.{most};
 ghost use Rattle.page_response.specs.Pages.{IsAllOver, IsReached, pages_left};
 ghost use Rattle.request_flow.specs.Flows.{asking_most, flow_fits, flow_left, flow_rest, tree_asked};
 ghost use Rattle.request_flow.specs.Flows.{IsServedBy};
-ghost use Rattle.request_flow.specs.Openings.{main_at, terms_at};
+ghost use Rattle.request_opening.specs.Openings.{main_at};
+ghost use Rattle.request_flow.specs.Terms.{terms_at};
 ghost use Rattle.request_flow.specs.Pages.{IsTold, start_rest};
 ghost use Rattle.request_flow.specs.Reached.{FlowReached, PageReached};
 ghost use Rattle.request_flow.specs.Rests.{Follows, Rest, opened_rest};
@@ -31,7 +32,8 @@ use byte_text::{ByteQueue, OutOfMemory};
 use family_rest::row_tells_still;
 use page_response::Pages;
 use request_flow::{
-    Flow, Onward as FlowOnward, Opening, PageStart, Went, Workspace, run_any, start_any,
+    Flow, Onward as FlowOnward, Opening, PageStart, Went, Workspace, run_on as flow_run_on,
+    start as flow_start,
 };
 use request_phases::Ground;
 use subrequests::Ran as FamilyRan;
@@ -111,8 +113,8 @@ fn ends(
     })
 }
 
-/// Runs a node of a page on. `level` is the number of the level that answers where its head was put
-/// now.
+/// Runs a node of a page on; that of the first one ends the page, where no other goes on. `level` is
+/// the number of the level that answers where its head was put now.
 fn run_page(
     space: &mut Workspace,
     ground: &Ground<'_>,
@@ -159,7 +161,7 @@ fn run_page(
     let inside = &mut *pages;
     match inside.run(space.alloc, ground, &mut space.patterns, at) {
         Ok(FamilyRan::Rests) => {
-            if pages.family.is_done() {
+            if at == 0 && pages.family.is_done() {
                 return Ok(Ran::On(ends(Box::into_inner(pages), out, closing, level)?));
             }
             Ok(Ran::On(Onward {
@@ -257,7 +259,7 @@ pub fn start(
     ensures asked { IfOk result (λ ran. IfOn ran (λ o. flight_tree o.flight ≤ opening.tree)) }
     ensures kept { space.new.patterns ≡ space.old.patterns }
 {
-    match start_any(space, ground, server, opening, out)? {
+    match flow_start(space, ground, server, opening, out)? {
         Went::On(onward) => Ok(Ran::On(alone(onward))),
         Went::Page(page) => Ok(opens(space, ground, page, out)?),
     }
@@ -303,7 +305,7 @@ pub fn run_on(
     ensures kept { space.new.patterns ≡ space.old.patterns }
 {
     match flight {
-        Flight::Alone(flow) => match run_any(space, ground, flow, out, closing)? {
+        Flight::Alone(flow) => match flow_run_on(space, ground, flow, out, closing)? {
             Went::On(onward) => Ok(Ran::On(alone(onward))),
             Went::Page(page) => Ok(opens(space, ground, page, out)?),
         },

@@ -18,10 +18,12 @@ use site_model::{IndexName, Listens, Server, Site};
 use std::alloc::Global;
 use try_index::default_index;
 
-/// A site as it is served. A number that no server has stands for a server that listens nowhere.
+/// A site as it is served. A number that no server has is that of a server that listens nowhere. `raceless` says that the race
+/// check named no variable of it.
 #[derive(Drop)]
 pub struct ServedSite {
     site: Site,
+    raceless: bool,
     servers: Servers,
     locations: Vec<Locations>,
     index: Vec<IndexName>,
@@ -59,7 +61,7 @@ fn locations_of(alloc: Global, servers: &[Server]) -> Result<Vec<Locations>, Out
 }
 
 impl ServedSite {
-    ghost use Rattle.std.specs.Prelude.{◌≡◌, ℕ, List, None, IfOk, option_map};
+    ghost use Rattle.std.specs.Prelude.{◌≡◌, ◌<◌, ℕ, List, None, IfOk, IfSome, length, option_map};
     ghost use Rattle.ngx_pattern.specs.Pattern.{Pattern as SetPattern};
     ghost use Rattle.site_views.specs.Choice.{server_of, default_server};
     ghost use Rattle.pattern_search.specs.Found.{patterns_seen, found as found_in};
@@ -68,9 +70,13 @@ impl ServedSite {
     ghost use Rattle.request_phases.specs.Rounds.{IsGround};
     ghost use Rattle.served_site.specs.Served.{raw_server, raw_locations, server_numbered};
 
-    /// A site that is to be served.
-    pub fn new(alloc: Global, site: Site) -> Result<Self, OutOfMemory>
-        ensures { IfOk result (λ served. served.site ≡ site) }
+    /// A site that is to be served, of which the race check named no variable, or not.
+    ///
+    /// # Errors
+    /// `OutOfMemory`.
+    pub fn new(alloc: Global, site: Site, raceless: bool) -> Result<Self, OutOfMemory>
+        ensures site { IfOk result (λ served. served.site ≡ site) }
+        ensures raceless { IfOk result (λ served. served.raceless ≡ raceless) }
     {
         let servers = Servers::new(alloc, &site)?;
         let locations = locations_of(alloc, site.servers.as_slice())?;
@@ -79,6 +85,7 @@ impl ServedSite {
         let spare_locations = Locations::new(alloc, &spare)?;
         Ok(ServedSite {
             site,
+            raceless,
             servers,
             locations,
             index,
@@ -95,9 +102,10 @@ impl ServedSite {
 
     /// A number that a server has.
     fn known(&self, number: Option<u32>) -> Option<u32>
-        ensures { (patterns : List SetPattern) → option_map
+        ensures server { (patterns : List SetPattern) → option_map
             (server_numbered patterns self.now) result
             ≡ server_at (whole (patterns_seen patterns) self.now.site) number }
+        ensures within { IfSome result (λ n. n < length self.now.site.servers.items) }
     {
         match number {
             Some(number) => {
@@ -116,6 +124,7 @@ impl ServedSite {
         ensures chosen { option_map (server_numbered patterns.old self.now) result
             ≡ server_of found_in (whole (patterns_seen patterns.old) self.now.site).servers local
             host.now }
+        ensures within { IfSome result (λ n. n < length self.now.site.servers.items) }
         ensures kept { patterns.new ≡ patterns.old }
     {
         let mut spans = Spans::new();

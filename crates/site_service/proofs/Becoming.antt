@@ -1,5 +1,5 @@
 -- What became of each link that was served.
-use Rattle.std.proofs.Common.{◌≡◌, ◌≢◌, ℕ, ◌≤◌, Bool, true, false, ◌&&◌, ◌||◌, List, [], ◌∷◌, ◌++◌, map, flat_map, None, refl, sym, ap, ◌∙◌, subst, arith}
+use Rattle.std.proofs.Common.{◌≡◌, ℕ, ◌≤◌, Bool, true, false, ◌&&◌, ◌||◌, List, [], ◌∷◌, ◌++◌, map, flat_map, None, refl, sym, ap, ◌∙◌, subst, arith}
 use Rattle.std.specs.Prelude.{is_none}
 use Rattle.ngx_outside.specs.Causes.{Rose}
 use Rattle.ngx_outside.specs.Linked.{LinkView}
@@ -23,7 +23,7 @@ use Rattle.site_whole.specs.Whole.{whole, server_whole, listen_seen}
 use Rattle.http_connection.specs.Conn.{fresh_course}
 use Rattle.connection_core.specs.Core.{site_terms}
 use Rattle.site_service.specs.Ends.{each_once}
-use Rattle.site_service.specs.Serving.{Outside, LinkServed, Became, addresses_of, addresses}
+use Rattle.site_service.specs.Serving.{Outside, Became, addresses_of, addresses, fresh_at}
 use Rattle.site_service.specs.Serving.Became.{TurnedAway as WasTurnedAway, Served}
 
 -- a count that rose since a moment rose since an earlier one
@@ -75,49 +75,49 @@ reason_since terms l r (NobodyAnswers h) = NobodyAnswers h
 reason_since terms l r (NoPlaceLeft h) = NoPlaceLeft h
 reason_since terms l r (NoMemory h) = NoMemory (r h)
 
-pub became : AllIsSentWhenIdle → ShutIsExact → ClosedUnstoppedSentAll → ClosedUnendedSentAll → (patterns : List SetPattern) (site : Site) (o : Outside) (rests : Type 0) (ticks : List Tick) (before id : ℕ) (v : ConnView) → IsSound v →
+pub became : AllIsSentWhenIdle → ShutIsExact → ClosedUnstoppedSentAll → ClosedUnendedSentAll → (raceless : Bool) (patterns : List SetPattern) (site : Site) (o : Outside) (rests : Type 0) (ticks : List Tick) (before id : ℕ) (v : ConnView) → IsSound v →
     (rests → v.held ≡ true → AtRest (Unit {0}) (Unit {0}) v (o.links'.link id)) → o.links'.used id ≡ true →
-    Stands (Rose (o.links.link_faults id) (o.links'.link_faults id)) (Rose o.files.faults o.files'.faults) (Rose before o.links'.refused) (site_terms patterns site) (fresh_course patterns site) o.files' ticks v (o.links'.link id) (o.links'.used id) (o.links'.is_open id) →
-    Became patterns site o rests ticks id
-became idle_sent shut_exact closed_sent unended_sent patterns site o rests ticks before id v sound at used (Unused held shut unused) = never (o.links'.used id) used unused
-became idle_sent shut_exact closed_sent unended_sent patterns site o rests ticks before id v sound at used (TurnedAway held shut taken sent why) = WasTurnedAway shut taken sent (reason_since (site_terms patterns site) (o.links'.link id) (rose_since 0 before o.links'.refused (omega arith)) why)
-became idle_sent shut_exact closed_sent unended_sent patterns site o rests ticks before id v sound at used (Open held is a) = Served (record {
+    Stands (Rose (o.links.link_faults id) (o.links'.link_faults id)) (Rose o.files.faults o.files'.faults) (Rose before o.links'.refused) (site_terms raceless patterns site) (fresh_course raceless patterns site) o.files' ticks v (o.links'.link id) (o.links'.used id) (o.links'.is_open id) →
+    Became raceless patterns site o rests ticks id
+became idle_sent shut_exact closed_sent unended_sent raceless patterns site o rests ticks before id v sound at used (Unused held shut unused) = never (o.links'.used id) used unused
+became idle_sent shut_exact closed_sent unended_sent raceless patterns site o rests ticks before id v sound at used (TurnedAway held shut taken sent why) = WasTurnedAway shut taken sent (reason_since (site_terms raceless patterns site) (o.links'.link id) (rose_since 0 before o.links'.refused (omega arith)) why)
+became idle_sent shut_exact closed_sent unended_sent raceless patterns site o rests ticks before id v sound at used (Open held is a) = Served (record {
   last = v;
   sound = sound;
-  front = λ trees agree. a.tracked.front refl trees agree;
-  closed = λ none shut. never (o.links'.is_open id) is shut;
-  unended = λ none shut. never (o.links'.is_open id) is shut;
-  rested = λ none was resting room trees agree later.
+  front = λ quiet trees agree. a.tracked.front quiet trees agree;
+  closed = λ quiet none shut. never (o.links'.is_open id) is shut;
+  unended = λ quiet none shut. never (o.links'.is_open id) is shut;
+  rested = λ quiet none was resting room trees agree later.
       let r : AtRest (Unit {0}) (Unit {0}) v (o.links'.link id) = at resting held in
-      idle_sent (fresh_course patterns site (o.links'.link id).local (o.links'.link id).peer) o.files'.trees o.files'.newest v (o.links'.link id).taken (o.links'.link id).sent a.tracked sound
-      (idle v (live v held none) (written (Unit {0}) v (o.links'.link id) r room) r.ready r.jobs) refl trees agree later;
-  stays = λ none was resting room trees agree later.
+      idle_sent (fresh_at raceless patterns site o id) o.files'.trees o.files'.newest v (o.links'.link id).taken (o.links'.link id).sent a.tracked sound
+      (idle v (live v held none) (written (Unit {0}) v (o.links'.link id) r room) r.ready r.jobs) quiet trees agree later;
+  stays = λ quiet none was resting room trees agree later.
       let r : AtRest (Unit {0}) (Unit {0}) v (o.links'.link id) = at resting held in
       second (v.ended) _
-      (sym (shut_exact (fresh_course patterns site (o.links'.link id).local (o.links'.link id).peer) o.files'.trees o.files'.newest v (o.links'.link id).taken (o.links'.link id).sent a.tracked sound
-      (idle v (live v held none) (written (Unit {0}) v (o.links'.link id) r room) r.ready r.jobs) refl trees agree later) ∙ r.shut);
+      (sym (shut_exact (fresh_at raceless patterns site o id) o.files'.trees o.files'.newest v (o.links'.link id).taken (o.links'.link id).sent a.tracked sound
+      (idle v (live v held none) (written (Unit {0}) v (o.links'.link id) r room) r.ready r.jobs) quiet trees agree later) ∙ r.shut);
   read = λ none was resting room.
       let r : AtRest (Unit {0}) (Unit {0}) v (o.links'.link id) = at resting held in
       r.read tt (sound.reads (idle v (live v held none) (written (Unit {0}) v (o.links'.link id) r room) r.ready r.jobs) r.shut);
-  stopped = λ cause e. weaker ((fresh_course patterns site (o.links'.link id).local (o.links'.link id).peer).timed ≡ true) (λ l. l) (λ f. f) (rose_since 0 before o.links'.refused (omega arith)) (λ h. h refl) cause (a.cause cause e);
+  stopped = λ cause e. weaker ((fresh_at raceless patterns site o id).timed ≡ true) (λ l. l) (λ f. f) (rose_since 0 before o.links'.refused (omega arith)) (λ h. h) cause (a.cause cause e);
   dated = a.dated;
   shut = λ cause e resting. never v.shut (sound.stopped cause held e) (at resting held).shut;
   left = λ resting was. at resting held;
 })
-became idle_sent shut_exact closed_sent unended_sent patterns site o rests ticks before id v sound at used (Closed last held shut sound' closing a) = Served (record {
+became idle_sent shut_exact closed_sent unended_sent raceless patterns site o rests ticks before id v sound at used (Closed last held shut sound' closing a) = Served (record {
   last = last;
   sound = sound';
-  front = λ trees agree. a.tracked.front refl trees agree;
-  closed = λ none is trees agree later.
-      closed_sent (fresh_course patterns site (o.links'.link id).local (o.links'.link id).peer) o.files' ticks last (o.links'.link id).taken (o.links'.link id).sent (o.links'.link id).ended (bare a) sound' closing none refl trees agree later;
-  unended = λ none is unended trees agree more later.
-      let whole : Course = fresh_course patterns site (o.links'.link id).local (o.links'.link id).peer in
+  front = λ quiet trees agree. a.tracked.front quiet trees agree;
+  closed = λ quiet none is trees agree later.
+      closed_sent (fresh_at raceless patterns site o id) o.files' ticks last (o.links'.link id).taken (o.links'.link id).sent (o.links'.link id).ended (bare a) sound' closing none quiet trees agree later;
+  unended = λ quiet none is unended trees agree more later.
+      let whole : Course = fresh_at raceless patterns site o id in
       unended_sent whole o.files' ticks last (o.links'.link id).taken (o.links'.link id).sent
-      (subst (λ t. Account (Unit {0}) (Unit {0}) (Unit {0}) whole o.files' ticks last (o.links'.link id).taken (o.links'.link id).sent t) unended (bare a)) sound' closing none refl trees agree more later;
-  rested = λ none was resting room. never (o.links'.is_open id) was shut;
-  stays = λ none was resting room. never (o.links'.is_open id) was shut;
+      (subst (λ t. Account (Unit {0}) (Unit {0}) (Unit {0}) whole o.files' ticks last (o.links'.link id).taken (o.links'.link id).sent t) unended (bare a)) sound' closing none quiet trees agree more later;
+  rested = λ quiet none was resting room. never (o.links'.is_open id) was shut;
+  stays = λ quiet none was resting room. never (o.links'.is_open id) was shut;
   read = λ none was resting room. never (o.links'.is_open id) was shut;
-  stopped = λ cause e. weaker ((fresh_course patterns site (o.links'.link id).local (o.links'.link id).peer).timed ≡ true) (λ l. l) (λ f. f) (rose_since 0 before o.links'.refused (omega arith)) (λ h. h refl) cause (a.cause cause e);
+  stopped = λ cause e. weaker ((fresh_at raceless patterns site o id).timed ≡ true) (λ l. l) (λ f. f) (rose_since 0 before o.links'.refused (omega arith)) (λ h. h) cause (a.cause cause e);
   dated = a.dated;
   shut = λ cause e resting. shut;
   left = λ resting was. never (o.links'.is_open id) was shut;

@@ -1,6 +1,7 @@
 // Serves a site over links.
 ghost use Rattle.std.specs.Prelude.{◌≡◌, ◌≤◌, true, IfOk, OnOk, Ok};
 ghost use Rattle.ngx_outside.specs.Causes.{Rose};
+ghost use Rattle.connection_core.specs.Core.{IsRacelessSite};
 ghost use Rattle.site_service.specs.Serving.{AreNew, Outside, Serving};
 
 use crate::ends::addresses;
@@ -13,10 +14,12 @@ use served_site::ServedSite;
 use site_model::Site;
 use std::alloc::Global;
 
-/// Serves a site over new links, on each of its addresses once, for that many turns, with the set of its patterns.
+/// Serves a site over new links, on each of its addresses once, for that many turns, with the set of its patterns. `raceless`
+/// says that the race check names no variable of it: then the bytes of each connection are those of the meaning of serving.
 pub fn serve_site<F: Files, L: Links, C: Clock>(
     alloc: Global,
     site: Site,
+    raceless: bool,
     patterns: PatternSet,
     files: &mut F,
     links: &mut L,
@@ -24,7 +27,8 @@ pub fn serve_site<F: Files, L: Links, C: Clock>(
     turns: u64,
 ) -> Result<Ending, OutOfMemory>
     requires links { AreNew (L.seen links.old) }
-    ensures serving { IfOk result (λ e. Serving patterns site turns e (record {
+    requires quiet { raceless ≡ true → IsRacelessSite patterns site }
+    ensures serving { IfOk result (λ e. Serving raceless patterns site turns e (record {
       files = F.seen files.old;
       files' = F.seen files.new;
       links = L.seen links.old;
@@ -46,7 +50,7 @@ pub fn serve_site<F: Files, L: Links, C: Clock>(
     shut_is_exact();
     cores_are_sound();
     let addrs = addresses(alloc, site.servers.as_slice())?;
-    let served = ServedSite::new(alloc, site)?;
+    let served = ServedSite::new(alloc, site, raceless)?;
     let mut hub = Hub::new(alloc, served, patterns);
     let ending = serve(
         alloc,

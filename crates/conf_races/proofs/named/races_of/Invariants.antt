@@ -7,12 +7,12 @@ use Rattle.conf_block.specs.Forest.{forest_of}
 use Rattle.conf_block.specs.Blocks.{blocks_of}
 use Rattle.race_meaning.specs.Conflicts.{Conflict}
 use Rattle.race_places.specs.Places.{conflict_seen}
-use Rattle.conf_races.specs.Origins.{outer_by}
+use Rattle.conf_races.specs.Origins.{Outer, Means}
 use Rattle.conf_races.specs.Races.{AreRaces}
 use Rattle.conf_races.proofs.named.races_of.Given as goal
 
 abbrev pub invariant-loop-server : goal.invariant-loop-server
 invariant-loop-server l =
-    (l.number ≡ l.server-index) × ((files : ℕ → List ℕ) (patterns : List Pattern) (later : List Conflict) →
-    AreRaces files (holds l.known.keys) (outer_by l.outer) (l.server-index + 1) (map (server_whole patterns l.site) (drop l.server-index l.server-items)) (blocks_of (codes "server") (forest_of l.rest)) later →
-    AreRaces files (holds l.known.keys) (outer_by l.outer) 1 (map (server_whole patterns l.site) l.site.servers.items) (blocks_of (codes "server") (forest_of l.http)) (map (conflict_seen files) l.conflicts.items ++ later))
+    (l.number ≡ l.server-index) × ((outer : Outer) → Means l.around.lists.items l.around.lines outer → (files : ℕ → List ℕ) (patterns : List Pattern) (later : List Conflict) →
+    AreRaces files (holds l.known.keys) outer (l.server-index + 1) (map (server_whole patterns l.site) (drop l.server-index l.server-items)) (blocks_of (codes "server") (forest_of l.rest)) later →
+    AreRaces files (holds l.known.keys) outer 1 (map (server_whole patterns l.site) l.site.servers.items) (blocks_of (codes "server") (forest_of l.http)) (map (conflict_seen files) l.conflicts.items ++ later))

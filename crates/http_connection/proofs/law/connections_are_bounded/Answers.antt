@@ -3,4 +3,4 @@ use Rattle.http_connection.proofs.Sound.{bounded}
 use Rattle.http_connection.proofs.law.connections_are_bounded.Goals as goal
 
 pub returns : goal.returns
-returns c = λ s. (s.few, bounded s.flow (length s.out) s.flowing)
+returns c = λ s. (s.few, bounded s.flight (length s.out) s.flying)

@@ -1,4 +1,4 @@
-use Rattle.std.proofs.Common.{◌≡◌, ◌≤◌, sym, subst, arith}
+use Rattle.std.proofs.Common.{◌≡◌, ◌≤◌, subst, arith}
 use Rattle.http_connection.specs.Times.{after, soonest, seconds_in}
 use Rattle.http_connection.proofs.times.shortest_after.Goals as goal
 

@@ -10,6 +10,6 @@ unfolding wants_at
 returns c = λ site.
     let k = c.args.conn.now in
     c.first_want.ensures
-    ∙ next_is site (service_in site k.local k.peer) k.cause k.flow k.out c.pending.result.now k.journal.items k.closing k.ended k.body k.held k.next c.args.number c.args.due c.args.full
-    c.room_due.result c.is_ready.result c.is_waiting.result c.is_empty.result c.is_shut.result
-    (c.room_due.ensures ∙ ap (room_if c.args.due) c.room.ensures) c.is_ready.ensures c.is_waiting.ensures c.pending.ensures c.is_empty.ensures c.is_shut.ensures
+    ∙ next_is site (service_in site k.local k.peer) k.cause k.flight k.out c.pending.result.now k.journal.items k.closing k.ended k.body k.held k.next c.args.number c.args.due c.args.full
+    c.room_due.result c.first_ready.result c.first_job.result c.is_empty.result c.is_shut.result
+    (c.room_due.ensures ∙ ap (room_if c.args.due) c.room.ensures) c.first_ready.ensures c.first_job.ensures c.pending.ensures c.is_empty.ensures c.is_shut.ensures

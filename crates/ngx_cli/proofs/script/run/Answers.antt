@@ -1,4 +1,4 @@
-use Rattle.std.proofs.Common.{◌≡◌, [], refl, sym, ap, ◌∙◌, subst}
+use Rattle.std.proofs.Common.{◌≡◌, true, [], refl, sym, ap, ◌∙◌, subst}
 use Rattle.std.specs.Prelude.{map}
 use Rattle.ngx_outside.specs.Views.{Start}
 use Rattle.replay_run.specs.Told.{Told, told_of, told_first, told_in}
@@ -7,7 +7,8 @@ use Rattle.replay_run.specs.Plays.{Plays, sent_in}
 use Rattle.replay_run.specs.Standing.{AllStanding}
 use Rattle.ngx_outside.specs.Seen.{Terms}
 use Rattle.http_connection.specs.Conn.{fresh_course}
-use Rattle.connection_core.specs.Core.{view_at, now_at, fresh_at, terms_at, site_terms, journal_at, conns_held}
+use Rattle.site_model.specs.declared.site.Site.{Site}
+use Rattle.connection_core.specs.Core.{view_at, now_at, fresh_at, terms_at, site_terms, journal_at, conns_held, IsRacelessSite}
 use Rattle.report_text.specs.Report.{run_text}
 use Rattle.ngx_cli.specs.Running.{IsNew, report_in}
 use Rattle.ngx_cli.proofs.Answering.{answered, begins_standing, opened_by_lines}
@@ -16,10 +17,11 @@ use Rattle.ngx_cli.proofs.script.run.Goals as goal
 pub returns : goal.returns
 returns c =
     let site = c.args.built in
+    let raceless = c.args.raceless in
     let events = c.args.events.now in
     let hub = c.new-hub.result in
-    let terms : terms_at hub ≡ site_terms site.patterns site.site =
-    c.new-hub.ensures.terms ∙ ap (site_terms site.patterns) c.in_ok-served.ensures in
+    let terms : terms_at hub ≡ site_terms raceless site.patterns site.site =
+    c.new-hub.ensures.terms ∙ ap (λ r. site_terms r site.patterns c.in_ok-served.served.site) c.in_ok-served.ensures.raceless ∙ ap (site_terms raceless site.patterns) c.in_ok-served.ensures.site in
     let files = c.in_ok-files.files in
     let told : told_of files ≡ told_first c.args.tree.now = c.in_ok-files.ensures.told in
     let end = c.run_lines.new.core in
@@ -35,7 +37,7 @@ returns c =
         skipped = counts.skipped;
         refused = counts.refused;
         begins = new;
-        plays = subst (λ t. Plays (site_terms site.patterns site.site) events t first 0 0 last counts.skipped counts.refused) told
+        plays = subst (λ t. Plays (site_terms raceless site.patterns site.site) events t first 0 0 last counts.skipped counts.refused) told
             (subst (λ (m : Terms). Plays m events (told_of files) first 0 0 last counts.skipped counts.refused) terms c.in_ok-counts.ensures.plays);
         conns = conns_held end;
         held = c.put_run.ensures.held;
@@ -44,11 +46,19 @@ returns c =
         logged = λ q. (c.cores_are_sound.ensures end q).logged;
         opened = opened_by_lines events first last.lanes new c.in_ok-counts.ensures.opened;
         printed = refl;
-        answered = λ q among. answered c.all_is_sent_when_idle.ensures c.all_is_sent_when_shut.ensures c.shut_is_exact.ensures c.all_is_logged_when_idle.ensures site (told_in events (told_first c.args.tree.now)) (last.view q) (last.lanes q) (sent_in events q) ((c.put_run.ensures.held.held q).0 among) (c.cores_are_sound.ensures end q).sound (c.cores_are_sound.ensures end q).exact
-            (subst (λ t. AllStanding (fresh_course site.patterns site.site) (told_in events t) last (λ k. sent_in events k)) told
+        answered = λ q among. answered c.all_is_sent_when_idle.ensures c.all_is_sent_when_shut.ensures c.shut_is_exact.ensures c.all_is_logged_when_idle.ensures raceless site (told_in events (told_first c.args.tree.now)) (last.view q) (last.lanes q) (sent_in events q) ((c.put_run.ensures.held.held q).0 among) (c.cores_are_sound.ensures end q).sound (c.cores_are_sound.ensures end q).exact
+            (subst (λ t. AllStanding (fresh_course raceless site.patterns site.site) (told_in events t) last (λ k. sent_in events k)) told
             (subst (λ (m : Terms). AllStanding m.fresh (told_in events (told_of files)) last (λ k. sent_in events k)) terms (c.in_ok-counts.ensures.stands (λ k. []) (begins_standing (fresh_at hub) (told_of files) first new))) q);
       },
     )
+
+-- the site says that no variable is named only where none is
+pub new-hub-requires : goal.new-hub-requires
+new-hub-requires c = record {
+  quiet =
+      subst (λ (s : Site). c.in_ok-served.served.raceless ≡ true → IsRacelessSite c.args.built.patterns s) (sym c.in_ok-served.ensures.site)
+      (λ r. c.requires.quiet (sym c.in_ok-served.ensures.raceless ∙ r));
+}
 
 pub run_lines-requires-clause-newest : goal.run_lines-requires-clause-newest
 run_lines-requires-clause-newest c = ap (λ (t : Told). t.newest) c.in_ok-files.ensures.told ∙ sym (ap (λ (s : Start). s.tree) c.new-hub.ensures.now)

@@ -1,22 +1,29 @@
-use Rattle.std.proofs.Common.{◌<◌, ◌||◌, length, ap, sym, ◌∙◌, arith}
+use Rattle.std.proofs.Common.{ℕ, ◌||◌, Bool, List, sym, ◌∙◌}
+use Rattle.std.specs.List.{list_any}
 use Rattle.site_model.specs.Levels.{raw_level}
-use Rattle.site_whole.specs.Whole.{values_seen}
-use Rattle.race_meaning.specs.Reads.{in_values}
-use Rattle.race_check.specs.Names.{has}
-use Rattle.race_check.proofs.Lists.{number_at, any_more, any_over}
-use Rattle.race_check.proofs.Notes.{all_noted}
+use Rattle.race_check.specs.declared.listed.ListKind.{ListKind}
+use Rattle.race_check.specs.declared.listed.ListKind.TheVariants as kinds
+use Rattle.race_check.specs.Lists.{in_own, in_list, lists_of}
+use Rattle.race_check.proofs.Notes.{notes_both, first_noted}
+use Rattle.race_check.proofs.Shared.{read_once}
 use Rattle.race_check.proofs.marks.read_by_values.Goals as goal
 
-pub loop-number-preserved : goal.loop-number-preserved
-loop-number-preserved c = λ name.
-    let xs = c.args.levels.now in
-    let i = c.loop-number.number-index in
-    let inside : i < length xs = omega arith in
-    any_more xs i _ (number_at xs i inside) (λ n. in_values name (values_seen c.args.site.now (raw_level c.args.site.now n))) (has c.loop-number.exposed name) (has c.note_values.new.exposed name)
-    (all_noted c.new-settled.result c.loop-number.exposed c.note_values.new.exposed _ c.new-settled.ensures c.in_ok-note_values.ensures name
-    ∙ ap (λ l. in_values name (values_seen c.args.site.now l) || has c.loop-number.exposed name) c.level.ensures)
-    ∙ c.loop-number.invariant name
-
 pub returns : goal.returns
-returns c = λ name.
-    sym (any_over c.args.levels.now c.loop-number.number-index (omega arith) (λ n. in_values name (values_seen c.args.site.now (raw_level c.args.site.now n))) (has c.loop-number.exposed name)) ∙ c.loop-number.invariant name
+returns c =
+    let site = c.args.site.now in
+    let levels = c.args.levels.now in
+    let s = c.new-settled.result in
+    let start = c.new-exposed.result in
+    let one = c.note_levels.new.exposed in
+    let two = c.note_lists.new.exposed in
+    let three = c.note_lists-2.new.exposed in
+    let last = c.note_lists-3.new.exposed in
+    let own : List ℕ → Bool = λ name. list_any (λ n. in_own name (raw_level site n)) levels in
+    let of : ListKind → List ℕ → Bool = λ kind name. list_any (in_list site kind name) (lists_of site kind levels) in
+    let noted =
+    notes_both s start three last (λ n. (own n || of kinds.Index n) || of kinds.Pages n) (of kinds.AuthSets)
+    (notes_both s start two three (λ n. own n || of kinds.Index n) (of kinds.Pages)
+    (notes_both s start one two own (of kinds.Index) c.in_ok-note_levels.ensures c.in_ok-note_lists.ensures)
+    c.in_ok-note_lists-2.ensures)
+    c.in_ok-note_lists-3.ensures in
+    λ name. first_noted s start last (λ n. ((own n || of kinds.Index n) || of kinds.Pages n) || of kinds.AuthSets n) c.new-settled.ensures c.new-exposed.ensures noted name ∙ sym (read_once site name levels)

@@ -8,7 +8,7 @@ use Rattle.race_places.proofs.places.add_sets.Goals as goal
 
 pub returns : goal.returns
 unfolding level_whole
-returns c = λ patterns name.
+returns c = λ lists patterns name.
     let site = c.args.site.now in
     let out = at c.args.sets.now name in
     let test = sets_it name in

@@ -3,7 +3,7 @@ use Rattle.request_meaning.specs.Laws.{shipped}
 use Rattle.rewrite_code.specs.Places.{standing_seen}
 use Rattle.request_phases.specs.Rounds.{world_in, asked_in, prepared_as}
 use Rattle.request_flow.specs.declared.page.PageHead.{PageHead}
-use Rattle.request_flow.specs.Openings.{terms_seen}
+use Rattle.request_flow.specs.Terms.{terms_seen}
 use Rattle.request_flow.specs.Sents.{known_bytes, known_tree}
 use Rattle.request_flow.proofs.Puts.{reply_is, same_outcome, values_are}
 use Rattle.request_flow.proofs.Composing as composing

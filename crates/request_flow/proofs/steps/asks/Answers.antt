@@ -4,7 +4,7 @@ use Rattle.file_tree.specs.Tree.{Item}
 use Rattle.request_phases.specs.Rounds.{phases_told}
 use Rattle.request_flow.specs.declared.flow.InPhases.{InPhases}
 use Rattle.request_flow.specs.Flows.{told_rest}
-use Rattle.request_flow.specs.Openings.{terms_seen}
+use Rattle.request_flow.specs.Terms.{terms_seen}
 use Rattle.request_flow.specs.Reached.{IsReachedAt}
 use Rattle.request_flow.specs.Rests.{act_rest, finished}
 use Rattle.request_flow.specs.Sents.{known_tree}

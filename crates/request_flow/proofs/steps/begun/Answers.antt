@@ -9,7 +9,8 @@ use Rattle.request_meaning.specs.Replies.{outside}
 use Rattle.request_meaning.specs.Serving.From.{Start}
 use Rattle.request_phases.specs.Rounds.{world_in, phases_left, asked_from}
 use Rattle.request_phases.specs.declared.state.Phases.{Phases}
-use Rattle.request_flow.specs.Openings.{main_at, terms_seen}
+use Rattle.request_opening.specs.Openings.{main_at}
+use Rattle.request_flow.specs.Terms.{terms_seen}
 use Rattle.request_flow.specs.Reached.{Settles}
 use Rattle.request_flow.specs.Rests.{act_rest, finished, opened_rest}
 use Rattle.request_flow.proofs.Padding.{padded_none}

@@ -15,8 +15,8 @@ use Rattle.response_flow.proofs.Goes as goes
 use Rattle.response_flow.proofs.Wanting.{alone_runs}
 use Rattle.response_flow.proofs.run.run_on.Goals as goal
 
-pub run_any-requires-clause-runs : goal.run_any-requires-clause-runs
-run_any-requires-clause-runs c =
+pub run_on-requires-clause-runs : goal.run_on-requires-clause-runs
+run_on-requires-clause-runs c =
     alone_runs (may_run c.in-Alone.flow.stage) c.args.at (subst (λ (f : Flight). is_among c.args.at (ready_by f) ≡ true) c.in-Alone.is c.requires.runs)
 
 pub returns-in-On-clause-runs : goal.returns-in-On-clause-runs
@@ -26,9 +26,9 @@ returns-in-On-clause-runs c = λ trees raceless reached.
     let w = world_in patterns c.args.ground.now shipped in
     let flow = c.in-Alone.flow in
     let out = c.args.out.now in
-    goes.said site (flow_rest w patterns site (Some flow) trees) _ _ _ out c.run_any.new.out c.args.closing _ _ _ _ _ _
+    goes.said site (flow_rest w patterns site (Some flow) trees) _ _ _ out c.run_on.new.out c.args.closing _ _ _ _ _ _
     (ap (rest_of w patterns site trees) c.in-Alone.is) (c.alone.ensures.rest w patterns site trees) c.alone.ensures.others.0 c.alone.ensures.others.1 c.alone.ensures.others.2
-    (subst (λ x. GoesTo w patterns site trees (flow_rest w patterns site (Some flow) trees) out c.run_any.new.out c.args.closing x) c.in-On.is (c.in_ok-onward-in-Alone.ensures.goes trees))
+    (subst (λ x. GoesTo w patterns site trees (flow_rest w patterns site (Some flow) trees) out c.run_on.new.out c.args.closing x) c.in-On.is (c.in_ok-onward-in-Alone.ensures.goes trees))
 
 pub returns-in-On-clause-reached : goal.returns-in-On-clause-reached
 returns-in-On-clause-reached c = λ reached.
@@ -54,8 +54,8 @@ returns-in_ok-opens-in-Page-2-clause-runs c = λ trees raceless reached.
     let out = c.args.out.now in
     let before = rest_of w patterns site trees c.args.flight in
     let ran = c.in_ok-onward-in-Alone.ensures in
-    let put = subst (λ x. IfPage x (λ q. c.run_any.new.out ≡ [])) c.in-Page-2.is ran.put in
-    let follows = subst (λ x. GoesTo w patterns site trees (flow_rest w patterns site (Some flow) trees) out c.run_any.new.out c.args.closing x) c.in-Page-2.is (ran.goes trees) in
+    let put = subst (λ x. IfPage x (λ q. c.run_on.new.out ≡ [])) c.in-Page-2.is ran.put in
+    let follows = subst (λ x. GoesTo w patterns site trees (flow_rest w patterns site (Some flow) trees) out c.run_on.new.out c.args.closing x) c.in-Page-2.is (ran.goes trees) in
     subst (λ (ps : List SetPattern). IsRaceless (world_in ps g shipped).server → PageReached (world_in ps g shipped) ps site p
     → Follows site before (start_rest (world_in ps g shipped) ps site trees p) out [] c.args.closing p.closing None (Some p.level)
     → RunsOn (world_in ps g shipped) ps site trees before out c.opens.new.out c.args.closing c.in_ok-opens-in-Page-2.field-0) ran.kept

@@ -6,7 +6,8 @@ use Rattle.site_whole.specs.Whole.{server_whole}
 use Rattle.race_meaning.specs.Named.{IsRaceless}
 use Rattle.request_meaning.specs.Laws.{shipped}
 use Rattle.request_phases.specs.Rounds.{world_in}
-use Rattle.request_flow.specs.Openings.{main_at, terms_at}
+use Rattle.request_opening.specs.Openings.{main_at}
+use Rattle.request_flow.specs.Terms.{terms_at}
 use Rattle.request_flow.specs.Pages.{GoesTo, IfPage, IsServed, start_rest}
 use Rattle.request_flow.specs.Reached.{PageReached, WentReached}
 use Rattle.request_flow.specs.Rests.{Follows, opened_rest}
@@ -22,9 +23,9 @@ returns-in-On-clause-runs c = λ trees raceless.
     let w = world_in patterns g shipped in
     let opening = c.args.opening in
     let before = opened_rest w (trees opening.tree) (terms_at opening) (main_at g opening) (request_of (server_whole (patterns_seen patterns) site g.server.now) opening.head) in
-    goes.said site before before _ _ c.args.out.now c.start_any.new.out false _ _ _ _ _ _
+    goes.said site before before _ _ c.args.out.now c.start.new.out false _ _ _ _ _ _
     refl (c.alone.ensures.rest w patterns site trees) c.alone.ensures.others.0 c.alone.ensures.others.1 c.alone.ensures.others.2
-    (subst (λ x. GoesTo w patterns site trees before c.args.out.now c.start_any.new.out false x) c.in-On.is (c.in_ok-onward.ensures.goes trees))
+    (subst (λ x. GoesTo w patterns site trees before c.args.out.now c.start.new.out false x) c.in-On.is (c.in_ok-onward.ensures.goes trees))
 
 pub returns-in-On-clause-reached : goal.returns-in-On-clause-reached
 returns-in-On-clause-reached c =
@@ -47,8 +48,8 @@ returns-in_ok-opens-in-Page-clause-runs c = λ trees raceless.
     let before = opened_rest w (trees opening.tree) (terms_at opening) (main_at g opening) (request_of (server_whole (patterns_seen patterns) site g.server.now) opening.head) in
     let out = c.args.out.now in
     let ran = c.in_ok-onward.ensures in
-    let put = subst (λ x. IfPage x (λ q. c.start_any.new.out ≡ [])) c.in-Page.is ran.put in
-    let follows = subst (λ x. GoesTo w patterns site trees before out c.start_any.new.out false x) c.in-Page.is (ran.goes trees) in
+    let put = subst (λ x. IfPage x (λ q. c.start.new.out ≡ [])) c.in-Page.is ran.put in
+    let follows = subst (λ x. GoesTo w patterns site trees before out c.start.new.out false x) c.in-Page.is (ran.goes trees) in
     subst (λ (ps : List SetPattern). IsRaceless (world_in ps g shipped).server → PageReached (world_in ps g shipped) ps site p
     → Follows site before (start_rest (world_in ps g shipped) ps site trees p) out [] false p.closing None (Some p.level)
     → RunsOn (world_in ps g shipped) ps site trees before out c.opens.new.out false c.in_ok-opens-in-Page.field-0) ran.kept

@@ -1,13 +1,21 @@
 use Rattle.std.proofs.Common.{ap, ◌∙◌, sym, subst}
 use Rattle.served_site.specs.declared.served.ServedSite.{ServedSite}
 use Rattle.connection_core.specs.Core.{site_terms}
-use Rattle.connection_core.specs.Table.{AllKnown}
+use Rattle.connection_core.specs.Table.{AllKnown, AllReached, serves_with}
+use Rattle.connection_core.proofs.Told.{told_of, told_still}
 use Rattle.connection_core.proofs.hub.Hub.new.Goals as goal
 
 pub returns-clause-terms : goal.returns-clause-terms
 returns-clause-terms c =
-    ap (λ p. site_terms p c.new-2.result.served.site) c.new.ensures
-    ∙ ap (λ (s : ServedSite). site_terms c.args.patterns s.site) c.new-2.ensures.0
+    ap (λ p. site_terms c.new-2.result.served.raceless p c.new-2.result.served.site) c.new.ensures
+    ∙ ap (λ (s : ServedSite). site_terms s.raceless c.args.patterns s.site) c.new-2.ensures.0
 
 pub invariant_of-result : goal.invariant_of-result
-invariant_of-result c = record { known = subst (AllKnown 0) (sym c.new-2.ensures.2) tt }
+invariant_of-result c =
+    let space = c.new.result in
+    let table = c.new-2.result in
+    record {
+      known = subst (AllKnown 0) (sym c.new-2.ensures.2) tt;
+      told = told_still c.args.patterns space.patterns c.args.served table.served c.new.ensures c.new-2.ensures.0 (told_of c.args.patterns c.args.served c.requires.quiet);
+      reached = subst (AllReached (serves_with space.patterns table.served)) (sym c.new-2.ensures.2) tt;
+    }

@@ -1,4 +1,4 @@
-use Rattle.std.proofs.Common.{◌≡◌, ℕ, length, sym, ap, ◌∙◌, subst, arith}
+use Rattle.std.proofs.Common.{◌≡◌, ℕ, length, refl, sym, ap, ◌∙◌, subst, arith}
 use Rattle.ngx_outside.specs.Views.{Start, Steps, Ticked, LeftBy, kept_moment, OpensIf, CountsHeld, CountsRefused, TakesNone, now_after, ended_after, nobody}
 use Rattle.ngx_outside.specs.declared.event.StepAnswer.TheVariants.{Done}
 use Rattle.ngx_outside.specs.Seen.{opens_at}
@@ -6,6 +6,8 @@ use Rattle.connection_core.specs.Core.{serves_at, view_at, fresh_at, now_at, lef
 use Rattle.connection_core.specs.Table.{serves_with, view_in, left_in, AllTicked}
 use Rattle.connection_core.proofs.Ticks.{ticked_in, ticked_ended, ticked_left, ticked_known}
 use Rattle.connection_core.proofs.Ends.{known_later, opens_as}
+use Rattle.connection_core.proofs.Reached.{ticked_reached}
+use Rattle.connection_core.proofs.Told.{told_still, reached_still}
 use Rattle.connection_core.proofs.Steps.{kept_is, gone_counts, ended_opened, ended_gone}
 use Rattle.connection_core.proofs.hub.HubEventCore.step.Goals as goal
 
@@ -92,7 +94,12 @@ tick-requires c = let e = c.min-moment.ensures in omega (arith, e)
 pub invariant_of-self-in-Tick : goal.invariant_of-self-in-Tick
 invariant_of-self-in-Tick c =
     let h = c.args.self.now in
-    record { known = ticked_known h.tree c.min-moment.result h.table.conns.items c.tick.new.self.conns.items c.tick.ensures.ticked h.known }
+    let n = c.tick.new.self in
+    record {
+      known = ticked_known h.tree c.min-moment.result h.table.conns.items n.conns.items c.tick.ensures.ticked h.known;
+      told = told_still h.space.patterns h.space.patterns h.table.served n.served refl c.tick.ensures.served h.told;
+      reached = reached_still h.space.patterns h.space.patterns h.table.served n.served n.conns.items refl c.tick.ensures.served (ticked_reached (serves_at h) c.min-moment.result h.table.conns.items n.conns.items c.tick.ensures.ticked h.reached);
+    }
 
 pub returns-in-Tick-clause-now : goal.returns-in-Tick-clause-now
 returns-in-Tick-clause-now c =
@@ -114,14 +121,28 @@ returns-in-Gone-clause-refused c =
 pub invariant_of-self : goal.invariant_of-self
 invariant_of-self c =
     let h = c.args.self.now in
-    record { known = c.open-answer.ensures.known h.tree h.known }
+    let n = c.open-answer.new.self in
+    record {
+      known = c.open-answer.ensures.known h.tree h.known;
+      told = told_still h.space.patterns h.space.patterns h.table.served n.served refl c.open-answer.ensures.served h.told;
+      reached = reached_still h.space.patterns h.space.patterns h.table.served n.served n.conns.items refl c.open-answer.ensures.served (c.open-answer.ensures.reached (serves_at h) h.reached);
+    }
 
 pub invariant_of-self-in-Tree : goal.invariant_of-self-in-Tree
 invariant_of-self-in-Tree c =
     let h = c.args.self.now in
-    record { known = known_later h.tree c.in-Tree.to h.table.conns.items (omega (arith, c.if-to-self.false)) h.known }
+    record {
+      known = known_later h.tree c.in-Tree.to h.table.conns.items (omega (arith, c.if-to-self.false)) h.known;
+      told = h.told;
+      reached = h.reached;
+    }
 
 pub invariant_of-self-in-Gone : goal.invariant_of-self-in-Gone
 invariant_of-self-in-Gone c =
     let h = c.args.self.now in
-    record { known = c.close.ensures.known h.tree h.known }
+    let n = c.close.new.self in
+    record {
+      known = c.close.ensures.known h.tree h.known;
+      told = told_still h.space.patterns h.space.patterns h.table.served n.served refl c.close.ensures.served h.told;
+      reached = reached_still h.space.patterns h.space.patterns h.table.served n.served n.conns.items refl c.close.ensures.served (c.close.ensures.reached (serves_at h) h.reached);
+    }

@@ -6,6 +6,7 @@ use Rattle.connection_core.specs.Table.{serves_with}
 use Rattle.connection_core.proofs.Held.{seat_at, seen, unseen, here_is, stands_in, belongs_in}
 use Rattle.connection_core.proofs.Ends.{cut_rising, cut_steps, cut_known, keeps_open}
 use Rattle.connection_core.proofs.Ticks.{cut_later}
+use Rattle.connection_core.proofs.Reached.{cut_reached}
 use Rattle.connection_core.proofs.table.Table.close.Goals as goal
 
 pub returns-then-not-is_shut-clause-steps : goal.returns-then-not-is_shut-clause-steps
@@ -43,6 +44,14 @@ returns-else-not-is_shut-clause-known c = λ tree known.
     let stands = stands_in c.args.conn c.in-Ok.at c.as_slice.result.now t.ids.items c.as_slice.ensures.value c.in-Ok.ensures in
     let s = seat_at c.args.conn c.in-Ok.at t.ids.items t.conns.items stands even in
     cut_known tree c.args.conn c.in-Ok.at t.ids.items t.conns.items c.take_out-in-Ok.new.items.items s c.take_out-in-Ok.ensures.items known
+
+pub returns-else-not-is_shut-clause-reached : goal.returns-else-not-is_shut-clause-reached
+returns-else-not-is_shut-clause-reached c = λ x led.
+    let t = c.args.self.now in
+    let even : length t.conns.items ≡ length t.ids.items = omega (arith, t.paired, t.ids.ok.0, t.conns.ok.0) in
+    let stands = stands_in c.args.conn c.in-Ok.at c.as_slice.result.now t.ids.items c.as_slice.ensures.value c.in-Ok.ensures in
+    let s = seat_at c.args.conn c.in-Ok.at t.ids.items t.conns.items stands even in
+    cut_reached x c.args.conn c.in-Ok.at t.ids.items t.conns.items c.take_out-in-Ok.new.items.items s c.take_out-in-Ok.ensures.items led
 
 pub invariant_of-self : goal.invariant_of-self
 invariant_of-self c =

@@ -8,6 +8,7 @@ use Rattle.http_connection.specs.Rests.{Serves}
 use Rattle.connection_core.specs.Table.{serves_with, view_in}
 use Rattle.connection_core.proofs.Held.{stands_in, belongs_in}
 use Rattle.connection_core.proofs.Ends.{gap_at, put_steps, put_left, put_known, opens_full, opens_deaf, opens_held, opens_free}
+use Rattle.connection_core.proofs.Reached.{put_reached}
 use Rattle.connection_core.proofs.table.Table.open.Goals as goal
 use Rattle.connection_core.proofs.table.Table.open.Goals.{then-len-ge-MOST-via-then-len-ge-MOST, then-len-ge-MOST-via-else-len-ge-MOST+then-not-is_listening}
 
@@ -33,7 +34,7 @@ returns-in-Ok-make-clause-steps c = λ patterns now.
     let g = gap_at c.args.conn c.in-Err.at t.ids.items t.conns.items (belongs_in c.args.conn c.in-Err.at c.as_slice.result.now t.ids.items c.as_slice.ensures.value c.in-Err.ensures) even in
     let ids : n.ids.items ≡ insert t.ids.items c.in-Err.at c.args.conn = c.put.ensures.ids ∙ ap (λ l. insert l c.in-Err.at c.args.conn) c.make.ensures.ids in
     let conns : n.conns.items ≡ insert t.conns.items c.in-Err.at c.in-Ok-make.fresh = c.put.ensures.conns ∙ ap (λ l. insert l c.in-Err.at c.in-Ok-make.fresh) c.make.ensures.conns in
-    subst (λ s. OneSteps c.args.conn (StepsOwn (fresh_course patterns t.served.site c.args.local c.args.peer) now (ev.Opened c.args.conn c.args.local c.args.peer) (Done 0)) (view_in x t.ids.items t.conns.items) (view_in (serves_with patterns s) n.ids.items n.conns.items)) (sym (c.put.ensures.served ∙ c.make.ensures.served))
+    subst (λ s. OneSteps c.args.conn (StepsOwn (fresh_course t.served.raceless patterns t.served.site c.args.local c.args.peer) now (ev.Opened c.args.conn c.args.local c.args.peer) (Done 0)) (view_in x t.ids.items t.conns.items) (view_in (serves_with patterns s) n.ids.items n.conns.items)) (sym (c.put.ensures.served ∙ c.make.ensures.served))
     (put_steps x c.args.conn c.in-Err.at t.ids.items n.ids.items t.conns.items n.conns.items c.in-Ok-make.fresh g ids conns c.args.local c.args.peer (c.in-Ok-make.ensures.fresh x) now 0)
 
 pub returns-in-Ok-make-clause-opens : goal.returns-in-Ok-make-clause-opens
@@ -63,3 +64,12 @@ returns-in-Ok-make-clause-known c = λ tree known.
     let g = gap_at c.args.conn c.in-Err.at t.ids.items t.conns.items (belongs_in c.args.conn c.in-Err.at c.as_slice.result.now t.ids.items c.as_slice.ensures.value c.in-Err.ensures) even in
     let conns : n.conns.items ≡ insert t.conns.items c.in-Err.at c.in-Ok-make.fresh = c.put.ensures.conns ∙ ap (λ l. insert l c.in-Err.at c.in-Ok-make.fresh) c.make.ensures.conns in
     put_known tree c.args.conn c.in-Err.at t.ids.items t.conns.items n.conns.items c.in-Ok-make.fresh g conns c.in-Ok-make.ensures.asked known
+
+pub returns-in-Ok-make-clause-reached : goal.returns-in-Ok-make-clause-reached
+returns-in-Ok-make-clause-reached c = λ x led.
+    let t = c.args.self.now in
+    let n = c.put.new.self in
+    let even : length t.conns.items ≡ length t.ids.items = omega (arith, t.paired, t.ids.ok.0, t.conns.ok.0) in
+    let g = gap_at c.args.conn c.in-Err.at t.ids.items t.conns.items (belongs_in c.args.conn c.in-Err.at c.as_slice.result.now t.ids.items c.as_slice.ensures.value c.in-Err.ensures) even in
+    let conns : n.conns.items ≡ insert t.conns.items c.in-Err.at c.in-Ok-make.fresh = c.put.ensures.conns ∙ ap (λ l. insert l c.in-Err.at c.in-Ok-make.fresh) c.make.ensures.conns in
+    put_reached x c.args.conn c.in-Err.at t.ids.items t.conns.items n.conns.items c.in-Ok-make.fresh g conns c.in-Ok-make.ensures.flight led

@@ -7,6 +7,7 @@ use Rattle.connection_core.specs.Table.{serves_with, view_in, Placed}
 use Rattle.connection_core.proofs.Ticks.{set_later}
 use Rattle.connection_core.proofs.Held.{here_is, seat_at, one_steps, one_ended, left_after, none_steps, stands_in, belongs_in}
 use Rattle.connection_core.proofs.Ends.{own_known}
+use Rattle.connection_core.proofs.Reached.{led_at, own_reached}
 use Rattle.connection_core.proofs.table.Table.own.Goals as goal
 
 pub happen_at-answer-requires : goal.happen_at-answer-requires
@@ -16,7 +17,7 @@ happen_at-answer-requires c =
     record { placed = (seat_at c.args.conn c.in-Ok.at t.ids.items t.conns.items (stands_in c.args.conn c.in-Ok.at c.as_slice.result.now t.ids.items c.as_slice.ensures.value c.in-Ok.ensures) even).placed }
 
 pub returns-in-Ok-clause-steps : goal.returns-in-Ok-clause-steps
-returns-in-Ok-clause-steps c =
+returns-in-Ok-clause-steps c = λ told led.
     let t = c.args.self.now in
     let even : length t.conns.items ≡ length t.ids.items = omega (arith, t.paired, t.ids.ok.0, t.conns.ok.0) in
     let s = seat_at c.args.conn c.in-Ok.at t.ids.items t.conns.items (stands_in c.args.conn c.in-Ok.at c.as_slice.result.now t.ids.items c.as_slice.ensures.value c.in-Ok.ensures) even in
@@ -24,7 +25,7 @@ returns-in-Ok-clause-steps c =
     let x : Serves = serves_with c.args.space.now.patterns t.served in
     let n = c.happen_at-answer.new in
     subst (λ p. OneSteps c.args.conn (StepsOwn nobody.course now c.args.event c.happen_at-answer.result) (view_in x t.ids.items t.conns.items) (view_in (serves_with p t.served) t.ids.items n.conns.items)) (sym c.happen_at-answer.ensures.patterns)
-    (one_steps x c.args.conn c.in-Ok.at t.ids.items t.conns.items c.happen_at-answer.new.conns.items now c.args.event c.happen_at-answer.result s (c.happen_at-answer.ensures.replaced c.requires.own s.placed) nobody.course)
+    (one_steps x c.args.conn c.in-Ok.at t.ids.items t.conns.items c.happen_at-answer.new.conns.items now c.args.event c.happen_at-answer.result s (c.happen_at-answer.ensures.replaced c.requires.own s.placed) told (led_at x c.args.conn c.in-Ok.at t.ids.items t.conns.items s led) nobody.course)
 
 pub returns-in-Ok-clause-left : goal.returns-in-Ok-clause-left
 returns-in-Ok-clause-left c =
@@ -54,7 +55,7 @@ returns-in-Ok-clause-taken c =
     (c.happen_at-answer.ensures.replaced c.requires.own s.placed).does.taken
 
 pub returns-in-Err-clause-steps : goal.returns-in-Err-clause-steps
-returns-in-Err-clause-steps c =
+returns-in-Err-clause-steps c = λ told led.
     let t = c.args.self.now in
     let now : Start = record { moment = c.args.moment; tree = c.args.tree } in
     let x : Serves = serves_with c.args.space.now.patterns t.served in
@@ -68,6 +69,15 @@ returns-in-Ok-clause-known c = λ known.
     let now : Start = record { moment = c.args.moment; tree = c.args.tree } in
     let x : Serves = serves_with c.args.space.now.patterns t.served in
     own_known x c.args.conn c.in-Ok.at t.conns.items c.happen_at-answer.new.conns.items now c.args.event c.happen_at-answer.result s.placed (c.happen_at-answer.ensures.replaced c.requires.own s.placed) known
+
+pub returns-in-Ok-clause-reached : goal.returns-in-Ok-clause-reached
+returns-in-Ok-clause-reached c = λ led.
+    let t = c.args.self.now in
+    let even : length t.conns.items ≡ length t.ids.items = omega (arith, t.paired, t.ids.ok.0, t.conns.ok.0) in
+    let s = seat_at c.args.conn c.in-Ok.at t.ids.items t.conns.items (stands_in c.args.conn c.in-Ok.at c.as_slice.result.now t.ids.items c.as_slice.ensures.value c.in-Ok.ensures) even in
+    let now : Start = record { moment = c.args.moment; tree = c.args.tree } in
+    let x : Serves = serves_with c.args.space.now.patterns t.served in
+    own_reached x c.in-Ok.at t.conns.items c.happen_at-answer.new.conns.items now c.args.event c.happen_at-answer.result s.placed (c.happen_at-answer.ensures.replaced c.requires.own s.placed) led
 
 pub invariant_of-self : goal.invariant_of-self
 invariant_of-self c =

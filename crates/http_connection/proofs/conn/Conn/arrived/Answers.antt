@@ -3,13 +3,15 @@ use Rattle.std.specs.Prelude.{is_some, ◌==◌}
 use Rattle.std.proofs.lemmas.List.{length-take}
 use Rattle.ngx_outside.specs.Views.{Went}
 use Rattle.ngx_outside.specs.Views.Ground.{Always}
+use Rattle.ngx_outside.specs.declared.event.StopCause.TheVariants as stop
 use Rattle.http_connection.specs.Conn.{view_at}
 use Rattle.http_connection.proofs.Kept.{held_few, held_drained, none_fits, none_held}
-use Rattle.http_connection.proofs.Moves.{room_some, arrived_went, arrived_left, some_taken, refused, refused_left}
+use Rattle.http_connection.proofs.Moves.{room_some, arrived_went, arrived_left, some_taken, refused, stopped_left}
 use Rattle.http_connection.proofs.Timed.{went_until, refused_until}
 use Rattle.http_connection.proofs.conn.Conn.arrived.Goals as goal
 use Rattle.http_connection.specs.Rests.{service_in}
-use Rattle.request_flow.specs.Flows.{tree_asked}
+use Rattle.response_flow.specs.Flights.{flight_tree}
+use Rattle.http_connection.specs.Rests.{ReachedIn}
 
 pub returns-in-Ok-clause-steps : goal.returns-in-Ok-clause-steps
 returns-in-Ok-clause-steps c = λ site now conn.
@@ -30,12 +32,13 @@ returns-in-Ok-clause-steps c = λ site now conn.
     let e = length-take c.min-taken.result c.args.bytes.now in
     omega (arith, a, b, e) in
     record {
-      own = λ course. (
+      own = λ tells led course. (
         record { most = c.in-Some.room; has_room = has; takes = c.min-taken.ensures; some = some_taken (length c.args.bytes.now) c.in-Some.room c.min-taken.result c.min-taken.ensures some r.3 },
-        went_until _ _ Always _ _ _ [] [] (subst (λ b. Went Always (view_at site service s.cause s.flow s.out s.journal.items s.closing s.ended s.body s.held s.next) (view_at site service s.cause s.flow s.out s.journal.items d.broken s.ended d.body n.held n.next) b [] []) c.first_bytes-bytes.ensures
-            (arrived_went site service s.cause s.flow s.out s.journal.items s.closing d.broken s.ended s.body d.body s.held n.held kept s.next n.next first r.0 r.1 s.drained c.drop_rest-dropped.ensures.none drops held (s.logged r.0))),
+        went_until _ _ Always _ _ _ [] [] (subst (λ b. Went Always (view_at site service s.cause s.flight s.out s.journal.items s.closing s.ended s.body s.held s.next) (view_at site service s.cause s.flight s.out s.journal.items d.broken s.ended d.body n.held n.next) b [] []) c.first_bytes-bytes.ensures
+            (arrived_went site service s.cause s.flight s.out s.journal.items s.closing d.broken s.ended s.body d.body s.held n.held kept s.next n.next first r.0 r.1 s.drained c.drop_rest-dropped.ensures.none drops held (s.logged r.0))),
       );
-      left = arrived_left s.cause s.flow s.out s.closing d.broken s.held n.held kept c.args.bytes.now c.min-taken.result r.1 held few;
+      reached = λ led. led;
+      left = arrived_left s.cause s.flight s.out s.closing d.broken s.held n.held kept c.args.bytes.now c.min-taken.result r.1 held few;
       ended = refl;
       taken = tt;
       asked = inl (omega arith);
@@ -49,11 +52,12 @@ returns-in-Err-clause-steps c = λ site now conn.
     let has = sym c.room.ensures ∙ c.in-Some.is in
     let r = room_some (is_some s.cause) s.closing s.ended s.held c.in-Some.room has in
     record {
-      own = λ course. refused_until _ _ now _ _ (refused site now service s.cause s.flow c.put.new.slot s.out c.clear.new.self s.journal.items s.journal.items s.closing s.closing s.ended s.ended s.body None s.held c.clear-in-Err.new.self s.next n.next r.0 c.clear.ensures refl);
-      left = refused_left s.cause s.flow c.put.new.slot s.out c.clear.new.self s.closing s.closing s.held c.clear-in-Err.new.self r.0;
+      own = λ tells led course. refused_until _ _ now _ _ (refused site now service s.cause s.flight c.put.new.slot s.out c.clear.new.self s.journal.items s.journal.items s.closing s.closing s.ended s.ended s.body None s.held c.clear-in-Err.new.self s.next n.next r.0 c.put.ensures c.clear.ensures refl);
+      reached = λ led. ∣ subst (ReachedIn site) (sym c.put.ensures) tt ∣₁;
+      left = stopped_left stop.Memory s.cause s.flight c.put.new.slot s.out c.clear.new.self s.closing s.closing s.held c.clear-in-Err.new.self r.0;
       ended = refl;
       taken = tt;
-      asked = inl (let e = ap tree_asked c.put.ensures in omega (arith, e));
+      asked = inl (let e = ap flight_tree c.put.ensures in omega (arith, e));
     }
 
 pub invariant_of-self : goal.invariant_of-self
@@ -76,7 +80,7 @@ invariant_of-self c =
       looked = λ h. c.in-Ok.ensures.next;
       dropped = s.dropped;
       quit = s.quit;
-      flowing = s.flowing;
+      flying = s.flying;
       few = held_few (is_some s.cause) s.closing s.ended s.held n.held kept c.in-Some.room c.min-taken.result has held few within;
       drained = held_drained s.body d.body s.held n.held first kept d.broken s.drained c.drop_rest-dropped.ensures.none drops.drained held;
       unended = drops.unended;
@@ -89,7 +93,7 @@ invariant_of-self-in-Err c = record {
   looked = λ h. cc;
   dropped = λ h. c.clear.ensures;
   quit = λ h. c.put.ensures;
-  flowing = none_fits c.put.new.slot c.clear.new.self c.put.ensures c.clear.ensures;
+  flying = none_fits c.put.new.slot c.clear.new.self c.put.ensures c.clear.ensures;
   few = none_held c.clear-in-Err.new.self c.clear-in-Err.ensures;
   drained = λ h. cc;
   unended = λ h. cc;

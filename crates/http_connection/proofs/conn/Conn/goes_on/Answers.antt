@@ -1,103 +1,180 @@
-use Rattle.std.proofs.Common.{◌≡◌, ◌<◌, ◌+◌, Some, [], inl, refl, sym, ap, ◌∙◌, subst, length, true, arith}
+use Rattle.std.proofs.Common.{◌≡◌, ◌<◌, ◌+◌, Some, [], inl, refl, sym, ap, ◌∙◌, subst, length, arith}
 use Rattle.std.specs.Prelude.{is_some}
 use Rattle.ngx_outside.specs.Views.{Goes}
 use Rattle.ngx_outside.specs.Views.Ground.{Raceless}
+use Rattle.ngx_outside.specs.declared.event.StopCause.TheVariants as stop
 use Rattle.http_connection.specs.Conn.{ready_at, PaceRan}
 use Rattle.http_connection.specs.Steps.{IsLogged}
-use Rattle.http_connection.specs.Times.{or_values}
-use Rattle.http_connection.proofs.Moves.{goes_went, goes_left, refused, refused_left, node_ready, waits_live, same_length, not_over}
+use Rattle.http_connection.proofs.Moves.{goes_halts, goes_went, goes_left, refused, stopped_left, waits_live, same_length, not_over}
 use Rattle.http_connection.proofs.Kept.{never, none_fits}
-use Rattle.http_connection.proofs.Opens.{goes_by, level_is}
+use Rattle.http_connection.proofs.Going.{Runs, on_by, on_runs, over_runs, ran_keeps, ran_level, ran_over, ran_reached}
+use Rattle.http_connection.proofs.Opens.{level_is}
+use Rattle.http_connection.proofs.Readies.{ready_contains, ready_flying}
 use Rattle.served_site.specs.Served.{raw_server}
-use Rattle.http_connection.proofs.Timed.{went_until, refused_until, marks_by}
+use Rattle.http_connection.proofs.Timed.{went_until, ran_until, refused_until, marks_by, mark_rests}
 use Rattle.http_connection.proofs.conn.Conn.goes_on.Goals as goal
-use Rattle.http_connection.specs.Rests.{Serves, service_in, rest_in, values_at}
-use Rattle.request_flow.specs.Flows.{flow_left, flow_fits, tree_asked, stage_server, stage_length}
-use Rattle.request_flow.specs.Rests.{Follows}
+use Rattle.http_connection.specs.Rests.{ReachedIn, Serves, service_in, rest_in, values_at}
+use Rattle.response_flow.specs.Flights.{FlightFits, flight_left, flight_tree}
 
 pub finish-requires : goal.finish-requires
 finish-requires c =
     let s = c.args.self.now in
-    let is : s.flow ≡ Some c.in-Some.flow = sym c.take.ensures.value ∙ c.in-Some.is in
-    subst (λ b. IsLogged b s.journal.items) (ap is_some is) (s.logged (waits_live s.cause s.flow c.in-Some.flow s.quit is))
+    let is : s.flight ≡ Some c.in-Some.flight = sym c.take.ensures.value ∙ c.in-Some.is in
+    subst (λ b. IsLogged b s.journal.items) (ap is_some is) (s.logged (waits_live s.cause s.flight c.in-Some.flight s.quit is))
 
-pub returns-in-Ok-clause-steps : goal.returns-in-Ok-clause-steps
-returns-in-Ok-clause-steps c = λ now conn.
+pub run_on-requires-clause-fits : goal.run_on-requires-clause-fits
+run_on-requires-clause-fits c =
     let s = c.args.self.now in
-    let site : Serves = record { patterns = c.args.space.now.patterns; served = c.args.served.now } in
-    let service = service_in site s.local s.peer in
-    let flow = c.in-Some.flow in
-    let onward = c.in-Ok.onward in
-    let is : s.flow ≡ Some flow = sym c.take.ensures.value ∙ c.in-Some.is in
-    let live = waits_live s.cause s.flow flow s.quit is in
+    subst (λ f. FlightFits f (length s.out)) (sym c.take.ensures.value ∙ c.in-Some.is) s.flying
+
+pub run_on-requires-clause-runs : goal.run_on-requires-clause-runs
+run_on-requires-clause-runs c =
+    let s = c.args.self.now in
+    ready_flying (is_some s.cause) s.flight c.in-Some.flight s.closing s.out s.body s.next c.args.node (sym c.take.ensures.value ∙ c.in-Some.is) c.requires.ready
+
+pub returns-in-Ok-On-clause-steps : goal.returns-in-Ok-On-clause-steps
+returns-in-Ok-On-clause-steps c = λ now conn.
+    let s = c.args.self.now in
+    let x : Serves = record { patterns = c.args.space.now.patterns; served = c.args.served.now } in
+    let service = service_in x s.local s.peer in
+    let flight = c.in-Some.flight in
+    let ran = c.in-Ok-On.field-0 in
+    let onward = c.in-Ok-On.onward in
+    let on = c.in-Ok-On.field-0-is in
+    let is : s.flight ≡ Some flight = sym c.take.ensures.value ∙ c.in-Some.is in
+    let live = waits_live s.cause s.flight flight s.quit is in
     let starts = c.finish.ensures.starts in
-    let f' = c.put.new.slot in
-    let p : onward.flow ≡ f' = sym c.put.ensures in
+    let f' = c.put-in-Ok-On.new.slot in
+    let p : onward.flight ≡ f' = sym c.put-in-Ok-On.ensures in
+    let g = c.ground-ground.result in
+    let over = on_by _ ran onward on c.in-Ok-On.ensures.over in
+    let by = on_by _ ran onward on c.in-Ok-On.ensures.by in
+    let lowers = on_by _ ran onward on c.in-Ok-On.ensures.lowers in
+    let asked = on_by _ ran onward on c.in-Ok-On.ensures.asked in
+    let closes = on_by _ ran onward on c.in-Ok-On.ensures.closes in
+    let runs : Runs x g s.flight flight = record { is = is; site = c.ground-ground.ensures.site; server = c.ground-ground.ensures.server ∙ ap (raw_server x.served) c.server_of.ensures; size = c.ground-ground.ensures.length ∙ c.length_of.ensures } in
     record {
-      own = λ course. (
-        node_ready (ready_at (is_some s.cause) s.flow s.closing s.out s.body s.next) 0 c.requires.ready refl,
-        Goes [] (inl refl) (went_until _ _ _ _ _ [] [] [] (goes_went site (Raceless true) service s.cause s.flow f' s.out c.run_on.new.out s.journal.items c.finish.new.journal.items s.closing onward.closing s.ended s.body s.held s.next onward.log onward.level live (same_length s.journal.items c.finish.new.journal.items starts) starts c.finish.ensures.log
-            (subst (λ b. IsLogged b c.finish.new.journal.items) (not_over (is_some onward.log) (is_some onward.flow) c.in-Ok.ensures.over ∙ ap is_some p) c.finish.ensures.logged)
-            (λ trees r. subst (λ f. Follows site.served.site (rest_in site s.flow trees) (rest_in site f trees) s.out c.run_on.new.out s.closing onward.closing onward.log onward.level) p (goes_by site c.ground-ground.result s.flow flow (stage_server flow.stage) (stage_length flow.stage) onward.flow s.out c.run_on.new.out s.closing onward.closing onward.log onward.level trees c.ground-ground.ensures.site (c.ground-ground.ensures.server ∙ ap (raw_server site.served) c.server_of.ensures) (c.ground-ground.ensures.length ∙ c.length_of.ensures) is c.in-Ok.ensures.by (c.in-Ok.ensures.goes trees) refl)))),
+      own = λ tells led course. (
+        ready_contains (ready_at (is_some s.cause) s.flight s.closing s.out s.body s.next) c.args.node c.requires.ready,
+        Goes [] (inl refl) (went_until _ _ _ _ _ [] [] [] (goes_went x (Raceless x.served.raceless) service s.cause s.flight f' s.out c.run_on.new.out s.journal.items c.finish.new.journal.items s.closing onward.closing s.ended s.body s.held s.next onward.log live (same_length s.journal.items c.finish.new.journal.items starts) starts c.finish.ensures.log
+            (subst (λ b. IsLogged b c.finish.new.journal.items) (not_over (is_some onward.log) (is_some onward.flight) over ∙ ap is_some p) c.finish.ensures.logged)
+            (λ trees told. ran_keeps x g s.flight flight onward f' s.out c.run_on.new.out s.closing trees p runs by (λ raceless reached. on_runs _ _ _ _ _ _ _ _ ran onward on (c.in-Ok-On.ensures.runs trees raceless reached)) tells led told))),
       );
-      left = goes_left s.cause s.flow f' s.out c.run_on.new.out s.closing onward.closing s.held live c.in-Ok.ensures.closes
-          (subst (λ f. length c.run_on.new.out + flow_left f (length c.run_on.new.out) < length s.out + flow_left s.flow (length s.out)) p (subst (λ f. length c.run_on.new.out + flow_left onward.flow (length c.run_on.new.out) < length s.out + flow_left f (length s.out)) (sym is) c.in-Ok.ensures.lowers));
+      reached = λ led. ran_reached x g s.flight flight onward.flight f' p runs by (λ reached. on_by _ ran onward on (c.in-Ok-On.ensures.reached reached)) led;
+      left = goes_left s.cause s.flight f' s.out c.run_on.new.out s.closing onward.closing s.held live closes
+          (subst (λ f. length c.run_on.new.out + flight_left f (length c.run_on.new.out) < length s.out + flight_left s.flight (length s.out)) p (subst (λ f. length c.run_on.new.out + flight_left onward.flight (length c.run_on.new.out) < length s.out + flight_left f (length s.out)) (sym is) lowers));
       ended = refl;
       taken = refl;
-      asked = inl (let a = c.in-Ok.ensures.asked in let b = ap tree_asked is in let d = ap tree_asked p in omega (arith, a, b, d));
+      asked = inl (let b = ap flight_tree is in let d = ap flight_tree p in omega (arith, asked, b, d));
+    }
+
+pub returns-in-Ok-TooMany-clause-steps : goal.returns-in-Ok-TooMany-clause-steps
+returns-in-Ok-TooMany-clause-steps c = λ now conn.
+    let s = c.args.self.now in
+    let x : Serves = record { patterns = c.args.space.now.patterns; served = c.args.served.now } in
+    let service = service_in x s.local s.peer in
+    let flight = c.in-Some.flight in
+    let is : s.flight ≡ Some flight = sym c.take.ensures.value ∙ c.in-Some.is in
+    let live = waits_live s.cause s.flight flight s.quit is in
+    let g = c.ground-ground.result in
+    let f' = c.put.new.slot in
+    let out' = c.clear.new.self in
+    let runs : Runs x g s.flight flight = record { is = is; site = c.ground-ground.ensures.site; server = c.ground-ground.ensures.server ∙ ap (raw_server x.served) c.server_of.ensures; size = c.ground-ground.ensures.length ∙ c.length_of.ensures } in
+    record {
+      own = λ tells led course. ran_until _ _ _ now c.args.node _ _ (
+        ready_contains (ready_at (is_some s.cause) s.flight s.closing s.out s.body s.next) c.args.node c.requires.ready,
+        goes_halts x now service 1000 s.cause s.flight f' s.out out' s.journal.items s.journal.items s.closing s.closing s.ended s.ended s.body s.body s.held s.held s.next s.next live c.put.ensures c.clear.ensures refl
+            (λ told trees. ran_over x g s.flight flight trees runs (λ raceless reached. over_runs _ _ _ _ _ _ _ _ c.in-Ok-TooMany.field-0 c.in-Ok-TooMany.field-0-is (c.in-Ok-TooMany.ensures.runs trees raceless reached)) tells led told),
+      );
+      reached = λ led. ∣ subst (ReachedIn x) (sym c.put.ensures) tt ∣₁;
+      left = stopped_left (stop.SubLimit 1000) s.cause s.flight f' s.out out' s.closing s.closing s.held s.held live;
+      ended = refl;
+      taken = refl;
+      asked = inl (let e = ap flight_tree c.put.ensures in omega (arith, e));
     }
 
 pub returns-in-Err-clause-steps : goal.returns-in-Err-clause-steps
 returns-in-Err-clause-steps c = λ now conn.
     let s = c.args.self.now in
-    let site : Serves = record { patterns = c.args.space.now.patterns; served = c.args.served.now } in
-    let service = service_in site s.local s.peer in
-    let is : s.flow ≡ Some c.in-Some.flow = sym c.take.ensures.value ∙ c.in-Some.is in
-    let live = waits_live s.cause s.flow c.in-Some.flow s.quit is in
+    let x : Serves = record { patterns = c.args.space.now.patterns; served = c.args.served.now } in
+    let service = service_in x s.local s.peer in
+    let is : s.flight ≡ Some c.in-Some.flight = sym c.take.ensures.value ∙ c.in-Some.is in
+    let live = waits_live s.cause s.flight c.in-Some.flight s.quit is in
     record {
-      own = λ course. refused_until _ _ now _ _ (refused site now service s.cause s.flow c.put-in-Err.new.slot s.out c.clear.new.self s.journal.items s.journal.items s.closing s.closing s.ended s.ended s.body s.body s.held s.held s.next s.next live c.clear.ensures refl);
-      left = refused_left s.cause s.flow c.put-in-Err.new.slot s.out c.clear.new.self s.closing s.closing s.held s.held live;
+      own = λ tells led course. refused_until _ _ now _ _ (refused x now service s.cause s.flight c.put-in-Err.new.slot s.out c.clear-in-Err.new.self s.journal.items s.journal.items s.closing s.closing s.ended s.ended s.body s.body s.held s.held s.next s.next live c.put-in-Err.ensures c.clear-in-Err.ensures refl);
+      reached = λ led. ∣ subst (ReachedIn x) (sym c.put-in-Err.ensures) tt ∣₁;
+      left = stopped_left stop.Memory s.cause s.flight c.put-in-Err.new.slot s.out c.clear-in-Err.new.self s.closing s.closing s.held s.held live;
       ended = refl;
       taken = tt;
-      asked = inl (let e = ap tree_asked c.put-in-Err.ensures in omega (arith, e));
+      asked = inl (let e = ap flight_tree c.put-in-Err.ensures in omega (arith, e));
     }
 
-pub returns-in-Ok-clause-times : goal.returns-in-Ok-clause-times
-returns-in-Ok-clause-times c = λ now conn m.
+pub returns-in-Ok-On-clause-times : goal.returns-in-Ok-On-clause-times
+returns-in-Ok-On-clause-times c = λ now conn m.
     let s = c.args.self.now in
     let x : Serves = record { patterns = c.args.space.now.patterns; served = c.args.served.now } in
-    let flow = c.in-Some.flow in
-    let onward = c.in-Ok.onward in
-    let is : s.flow ≡ Some flow = sym c.take.ensures.value ∙ c.in-Some.is in
+    let flight = c.in-Some.flight in
+    let ran = c.in-Ok-On.field-0 in
+    let onward = c.in-Ok-On.onward in
+    let on = c.in-Ok-On.field-0-is in
+    let is : s.flight ≡ Some flight = sym c.take.ensures.value ∙ c.in-Some.is in
+    let g = c.ground-ground.result in
+    let by = on_by _ ran onward on c.in-Ok-On.ensures.by in
+    let runs : Runs x g (Some flight) flight = record { is = refl; site = c.ground-ground.ensures.site; server = c.ground-ground.ensures.server ∙ ap (raw_server x.served) c.server_of.ensures; size = c.ground-ground.ensures.length ∙ c.length_of.ensures } in
     record {
-      mark = marks_by s.times.mark c.args.moment now.moment c.marked-self.result _ _ _ _ _ _ _ _ c.marked-self.ensures m c.sending-before.ensures.pending c.sending-before.ensures.in_flight c.sending-after.ensures.pending c.sending-after.ensures.in_flight;
+      mark = marks_by s.times.mark c.args.moment now.moment c.marked-self-in-Ok-On.result _ _ _ _ _ _ _ _ c.marked-self-in-Ok-On.ensures m c.sending-before.ensures.pending c.sending-before.ensures.in_flight c.sending-after.ensures.pending c.sending-after.ensures.in_flight;
       head = refl;
-      pace = subst (λ f. PaceRan x now f s c.put.new.slot c.pace_after-pace.result) (sym is) (record {
+      pace = λ alive. subst (λ f. PaceRan x now f s c.put-in-Ok-On.new.slot c.pace_after-pace.result) (sym is) (record {
         told = values_at c.args.served.now onward.level;
         pace = c.pace_after-pace.ensures;
-        level = λ trees. subst (λ f. or_values (values_at c.args.served.now onward.level) (rest_in x f trees).values ≡ (rest_in x (Some flow) trees).values) (sym c.put.ensures)
-            (sym (level_is x onward.level (rest_in x onward.flow trees).values)
-            ∙ (goes_by x c.ground-ground.result (Some flow) flow (stage_server flow.stage) (stage_length flow.stage) onward.flow s.out c.run_on.new.out s.closing onward.closing onward.log onward.level trees c.ground-ground.ensures.site (c.ground-ground.ensures.server ∙ ap (raw_server x.served) c.server_of.ensures) (c.ground-ground.ensures.length ∙ c.length_of.ensures) refl c.in-Ok.ensures.by (c.in-Ok.ensures.goes trees) refl).level);
+        level = λ so trees. sym (level_is x onward.level (rest_in x c.put-in-Ok-On.new.slot trees).values)
+            ∙ (ran_level x g (Some flight) flight onward c.put-in-Ok-On.new.slot s.out c.run_on.new.out s.closing trees (sym c.put-in-Ok-On.ensures) runs by (λ raceless reached. on_runs _ _ _ _ _ _ _ _ ran onward on (c.in-Ok-On.ensures.runs trees raceless reached)) so.0 so.1).level;
       });
+    }
+
+pub returns-in-Ok-TooMany-clause-times : goal.returns-in-Ok-TooMany-clause-times
+returns-in-Ok-TooMany-clause-times c = λ now conn m.
+    let s = c.args.self.now in
+    record {
+      mark = c.marked-self.ensures ∙ mark_rests s.times.mark c.args.moment now.moment _ _ _ _ c.put.new.slot c.clear.new.self m c.sending-before.ensures.pending c.sending-before.ensures.in_flight c.put.ensures c.clear.ensures;
+      head = refl;
+      pace = λ alive. cc;
+    }
+
+pub invariant_of-self-in-Ok-On : goal.invariant_of-self-in-Ok-On
+invariant_of-self-in-Ok-On c =
+    let s = c.args.self.now in
+    let flight = c.in-Some.flight in
+    let ran = c.in-Ok-On.field-0 in
+    let onward = c.in-Ok-On.onward in
+    let on = c.in-Ok-On.field-0-is in
+    let is : s.flight ≡ Some flight = sym c.take.ensures.value ∙ c.in-Some.is in
+    let live = waits_live s.cause s.flight flight s.quit is in
+    record {
+      looked = s.looked;
+      dropped = λ h. never (is_some s.cause) live h;
+      quit = λ h. never (is_some s.cause) live h;
+      flying = subst (λ f. FlightFits f (length c.run_on.new.out)) (sym c.put-in-Ok-On.ensures) (on_by _ ran onward on c.in-Ok-On.ensures.fits);
+      few = s.few;
+      drained = s.drained;
+      unended = s.unended;
+      logged = λ h. subst (λ b. IsLogged b c.finish.new.journal.items) (not_over (is_some onward.log) (is_some onward.flight) (on_by _ ran onward on c.in-Ok-On.ensures.over) ∙ ap is_some (sym c.put-in-Ok-On.ensures)) c.finish.ensures.logged;
+      brief = c.shortest_after-self.ensures;
     }
 
 pub invariant_of-self : goal.invariant_of-self
 invariant_of-self c =
     let s = c.args.self.now in
-    let flow = c.in-Some.flow in
-    let onward = c.in-Ok.onward in
-    let is : s.flow ≡ Some flow = sym c.take.ensures.value ∙ c.in-Some.is in
-    let live = waits_live s.cause s.flow flow s.quit is in
     record {
-      looked = s.looked;
-      dropped = λ h. never (is_some s.cause) live h;
-      quit = λ h. never (is_some s.cause) live h;
-      flowing = subst (λ f. flow_fits f (length c.run_on.new.out) ≡ true) (sym c.put.ensures) c.in-Ok.ensures.fits;
+      looked = λ h. cc;
+      dropped = λ h. c.clear.ensures;
+      quit = λ h. c.put.ensures;
+      flying = none_fits c.put.new.slot c.clear.new.self c.put.ensures c.clear.ensures;
       few = s.few;
       drained = s.drained;
       unended = s.unended;
-      logged = λ h. subst (λ b. IsLogged b c.finish.new.journal.items) (not_over (is_some onward.log) (is_some onward.flow) c.in-Ok.ensures.over ∙ ap is_some (sym c.put.ensures)) c.finish.ensures.logged;
-      brief = c.shortest_after-self.ensures;
+      logged = λ h. cc;
+      brief = s.brief;
     }
 
 pub invariant_of-self-in-Err : goal.invariant_of-self-in-Err
@@ -105,9 +182,9 @@ invariant_of-self-in-Err c =
     let s = c.args.self.now in
     record {
       looked = λ h. cc;
-      dropped = λ h. c.clear.ensures;
+      dropped = λ h. c.clear-in-Err.ensures;
       quit = λ h. c.put-in-Err.ensures;
-      flowing = none_fits c.put-in-Err.new.slot c.clear.new.self c.put-in-Err.ensures c.clear.ensures;
+      flying = none_fits c.put-in-Err.new.slot c.clear-in-Err.new.self c.put-in-Err.ensures c.clear-in-Err.ensures;
       few = s.few;
       drained = s.drained;
       unended = s.unended;

@@ -1,92 +1,156 @@
-use Rattle.std.proofs.Common.{◌≡◌, ◌≤◌, ◌<◌, ◌+◌, Bool, true, false, inr, refl, sym, subst, length, vec_len, cond, [], ◌∷◌, arith}
+use Rattle.std.proofs.Common.{◌≡◌, ◌≤◌, ◌<◌, ◌+◌, Bool, true, false, inl, inr, refl, sym, ap, ◌∙◌, subst, length, vec_len, None, Some, arith}
 use Rattle.std.specs.Prelude.{is_some}
 use Rattle.std.specs.List.{Contains}
-use Rattle.file_tree.specs.Tree.{Trees, Nothing}
 use Rattle.ngx_outside.specs.Views.{Start, Ran}
-use Rattle.request_flow.specs.Flows.{tree_asked, asking_most, flow_left, flow_fits}
-use Rattle.http_connection.specs.Rests.{Serves, service_in, rest_in, values_at}
+use Rattle.ngx_outside.specs.declared.event.StopCause.TheVariants as stop
+use Rattle.request_flow.specs.Flows.{asking_most}
+use Rattle.response_flow.specs.Flights.{FlightFits, flight_left, flight_tree, page_most}
+use Rattle.http_connection.specs.Rests.{ReachedIn, Serves, service_in, rest_in, values_at}
 use Rattle.http_connection.specs.Times.{LevelFor}
-use Rattle.http_connection.specs.Steps.{RanOne, IsLogged}
+use Rattle.http_connection.proofs.Going.{on_by}
+use Rattle.http_connection.specs.Steps.{log_ran, RanOne, RanOver, IsLogged}
 use Rattle.http_connection.specs.Conn.{view_at, starts_at, ready_at, left_at, PaceRan}
 use Rattle.http_connection.proofs.Begins.{ran_few, ran_drained, ran_unended}
-use Rattle.http_connection.proofs.Moves.{starts_if, node_ready, ran_over, ran_went, ran_left, entered_logged, lighter}
-use Rattle.http_connection.proofs.Timed.{ran_until, marks_by}
+use Rattle.http_connection.proofs.Moves.{starts_if, node_ready, ran_on_one, ran_over_one, ran_over, ran_went, ran_halts, ran_left, entered_logged, lighter, refused, stopped_left}
+use Rattle.http_connection.proofs.Timed.{ran_until, refused_until, mark_begins, mark_starts}
 use Rattle.http_connection.proofs.conn.Conn.starts_one.Goals as goal
 
 never : {A : Type 0} (b : Bool) → b ≡ false → b ≡ true → A
 never true e f = cc
 never false e f = cc
 
-pub returns-in-Ok-clause-steps : goal.returns-in-Ok-clause-steps
-returns-in-Ok-clause-steps c = λ conn.
+pub returns-in-Ok-On-clause-steps : goal.returns-in-Ok-On-clause-steps
+returns-in-Ok-On-clause-steps c = λ conn.
     let s = c.args.self.now in
     let n = c.run_one.new in
     let x : Serves = record { patterns = c.args.space.now.patterns; served = c.args.served.now } in
     let site = service_in x s.local s.peer in
     let start : Start = record { moment = c.args.moment; tree = c.args.tree } in
-    let o = c.in-Ok.onward in
-    let f' = c.put.new.slot in
-    let p : o.flow ≡ f' = sym c.put.ensures in
+    let ran' = c.in-Ok-On.field-0 in
+    let o = c.in-Ok-On.onward in
+    let on = c.in-Ok-On.field-0-is in
+    let f' = c.put-in-Ok-On.new.slot in
+    let p : o.flight ≡ f' = sym c.put-in-Ok-On.ensures in
     let st = starts_if (is_some s.cause) s.closing s.out s.body s.next c.requires.ready in
     let looked = s.looked st.0 in
-    let entry = c.in-Ok.ensures.journal in
+    let entry = c.in-Ok-On.ensures.journal in
     let count : vec_len s.journal ≡ length s.journal.items = omega (arith, s.journal.ok.0) in
-    let ran = λ (trees : Trees). subst (λ f. RanOne x site trees start (length s.journal.items) s.next s.held n.held n.body f s.out n.out o.closing o.log) p (subst (λ k. RanOne x site trees start k s.next s.held n.held n.body o.flow s.out n.out o.closing o.log) count (c.in-Ok.ensures.ran trees)) in
+    let ran = subst (λ f. RanOne x site start (length s.journal.items) s.next s.held n.held n.body f s.out n.out o.closing o.log) p (subst (λ k. RanOne x site start k s.next s.held n.held n.body o.flight s.out n.out o.closing o.log) count (ran_on_one x site start (vec_len s.journal) s.next s.held n.held n.body s.out n.out ran' o on c.in-Ok-On.ensures.ran)) in
     let told : IsLogged (is_some f') n.journal.items =
-    subst (IsLogged (is_some f')) (sym entry.3) (entered_logged (is_some f') s.journal.items entry.0 o.log entry.2 (subst (λ f. IsLogged (is_some f) s.journal.items) c.requires.none (s.logged st.0))
-    (ran_over x site (λ of path. Nothing) start (length s.journal.items) s.next s.held n.held n.body f' s.out n.out o.closing o.log (ran (λ of path. Nothing)))) in
+    subst (IsLogged (is_some f')) (sym entry.3) (entered_logged (is_some f') s.journal.items entry.0 o.log (entry.2 ∙ ap log_ran on) (subst (λ f. IsLogged (is_some f) s.journal.items) c.requires.none (s.logged st.0))
+    (ran_over x site start (length s.journal.items) s.next s.held n.held n.body f' s.out n.out o.closing o.log ran)) in
     record {
-      own = λ course. ran_until _ _ _ start 0 _ _ (subst
-          (λ f. Contains (cond (ready_at (is_some s.cause) f s.closing s.out s.body s.next) (0 ∷ []) []) 0 × Ran start (view_at x site s.cause f s.out s.journal.items s.closing s.ended s.body s.held s.next) (view_at x site s.cause f' n.out n.journal.items o.closing s.ended n.body n.held n.next)) (sym c.requires.none) (
-            node_ready (starts_at (is_some s.cause) s.closing s.out s.body s.next) 0 c.requires.ready refl,
-            ran_went x c.head_stays.ensures c.refusal_stays.ensures c.size_fits.ensures site start s.cause f' s.out n.out s.journal.items n.journal.items entry.0 s.closing o.closing s.ended s.body n.body s.held n.held s.next n.next o.log st.0 st.1 st.3 looked entry.1 entry.2 entry.3 ran told,
+      own = λ tells led course. ran_until _ _ _ start 0 _ _ (subst
+          (λ f. Contains (ready_at (is_some s.cause) f s.closing s.out s.body s.next) 0 × Ran start (view_at x site s.cause f s.out s.journal.items s.closing s.ended s.body s.held s.next) (view_at x site s.cause f' n.out n.journal.items o.closing s.ended n.body n.held n.next)) (sym c.requires.none) (
+            node_ready (starts_at (is_some s.cause) s.closing s.out s.body s.next) c.requires.ready,
+            ran_went x c.head_stays.ensures c.refusal_stays.ensures c.size_fits.ensures site start s.cause f' s.out n.out s.journal.items n.journal.items entry.0 s.closing o.closing s.ended s.body n.body s.held n.held s.next n.next o.log st.0 st.1 st.3 looked entry.1 (entry.2 ∙ ap log_ran on) entry.3 tells ran told,
           ));
+      reached = λ led. ∣ subst (ReachedIn x) p (on_by _ ran' o on c.in-Ok-On.ensures.reached) ∣₁;
       left = subst (λ f. left_at s.cause f' n.out o.closing n.held < left_at s.cause f s.out s.closing s.held) (sym c.requires.none)
-          (ran_left x c.size_fits.ensures site (λ of path. Nothing) start (length s.journal.items) s.cause f' s.out n.out s.closing o.closing n.body s.held n.held s.next o.log st.0 st.1 looked (lighter f' (length n.out) (subst (λ f. length n.out + flow_left f (length n.out) < asking_most) p c.in-Ok.ensures.lowers)) (ran (λ of path. Nothing)));
+          (ran_left x c.size_fits.ensures site start (length s.journal.items) s.cause f' s.out n.out s.closing o.closing n.body s.held n.held s.next o.log st.0 st.1 looked (lighter f' (length n.out) (subst (λ f. length n.out + flight_left f (length n.out) < page_most + asking_most) p (on_by _ ran' o on c.in-Ok-On.ensures.lowers))) ran);
       ended = refl;
       taken = refl;
-      asked = inr (subst (λ f. tree_asked f ≤ c.args.tree) p c.in-Ok.ensures.asked);
+      asked = inr (subst (λ f. flight_tree f ≤ c.args.tree) p (on_by _ ran' o on c.in-Ok-On.ensures.asked));
     }
 
-pub invariant_of-self : goal.invariant_of-self
-invariant_of-self c =
+pub returns-in-Ok-TooMany-clause-steps : goal.returns-in-Ok-TooMany-clause-steps
+returns-in-Ok-TooMany-clause-steps c = λ conn.
     let s = c.args.self.now in
     let n = c.run_one.new in
     let x : Serves = record { patterns = c.args.space.now.patterns; served = c.args.served.now } in
     let site = service_in x s.local s.peer in
     let start : Start = record { moment = c.args.moment; tree = c.args.tree } in
-    let o = c.in-Ok.onward in
     let st = starts_if (is_some s.cause) s.closing s.out s.body s.next c.requires.ready in
+    let looked = s.looked st.0 in
+    let over = c.in-Ok-TooMany.field-0-is in
+    let entry = c.in-Ok-TooMany.ensures.journal in
     let f' = c.put.new.slot in
-    let p : o.flow ≡ f' = sym c.put.ensures in
-    let ran = subst (λ f. RanOne x site (λ of path. Nothing) start (vec_len s.journal) s.next s.held n.held n.body f s.out n.out o.closing o.log) p (c.in-Ok.ensures.ran (λ of path. Nothing)) in
-    let entry = c.in-Ok.ensures.journal in
+    let out' = c.clear.new.self in
+    let held' = c.clear-in-Ok-TooMany.new.self in
+    let count : vec_len s.journal ≡ length s.journal.items = omega (arith, s.journal.ok.0) in
+    let ran : RanOver x site start (length s.journal.items) s.next = subst (λ k. RanOver x site start k s.next) count (ran_over_one x site start (vec_len s.journal) s.next s.held n.held n.body s.out n.out c.in-Ok-TooMany.field-0 over c.in-Ok-TooMany.ensures.ran) in
+    let told : IsLogged false s.journal.items = subst (λ f. IsLogged (is_some f) s.journal.items) c.requires.none (s.logged st.0) in
     record {
-      looked = λ h. c.in-Ok.ensures.looked;
+      own = λ tells led course. ran_until _ _ _ start 0 _ _ (subst
+          (λ f. Contains (ready_at (is_some s.cause) f s.closing s.out s.body s.next) 0 × Ran start (view_at x site s.cause f s.out s.journal.items s.closing s.ended s.body s.held s.next) (view_at x site (Some (stop.SubLimit 1000)) f' out' n.journal.items s.closing s.ended None held' n.next)) (sym c.requires.none) (
+            node_ready (starts_at (is_some s.cause) s.closing s.out s.body s.next) c.requires.ready,
+            ran_halts x c.head_stays.ensures c.size_fits.ensures site start 1000 s.cause f' s.out out' s.journal.items n.journal.items entry.0 s.closing s.closing s.ended s.ended s.body None s.held held' s.next n.next st.0 st.1 st.3 looked c.put.ensures c.clear.ensures entry.1 (entry.2 ∙ ap log_ran over) entry.3 tells ran told,
+          ));
+      reached = λ led. ∣ subst (ReachedIn x) (sym c.put.ensures) tt ∣₁;
+      left = stopped_left (stop.SubLimit 1000) s.cause s.flight f' s.out out' s.closing s.closing s.held held' st.0;
+      ended = refl;
+      taken = refl;
+      asked = inl (let e = ap flight_tree c.put.ensures in omega (arith, e));
+    }
+
+pub returns-in-Err-clause-steps : goal.returns-in-Err-clause-steps
+returns-in-Err-clause-steps c = λ conn.
+    let s = c.args.self.now in
+    let n = c.run_one.new in
+    let x : Serves = record { patterns = c.args.space.now.patterns; served = c.args.served.now } in
+    let start : Start = record { moment = c.args.moment; tree = c.args.tree } in
+    let st = starts_if (is_some s.cause) s.closing s.out s.body s.next c.requires.ready in
+    record {
+      own = λ tells led course. refused_until _ _ start _ _ (refused x start (service_in x s.local s.peer) s.cause s.flight c.put-in-Err.new.slot s.out c.clear-in-Err.new.self s.journal.items n.journal.items s.closing s.closing s.ended s.ended s.body None s.held c.clear-in-Err-2.new.self s.next n.next st.0 c.put-in-Err.ensures c.clear-in-Err.ensures c.in-Err.ensures.kept);
+      reached = λ led. ∣ subst (ReachedIn x) (sym c.put-in-Err.ensures) tt ∣₁;
+      left = stopped_left stop.Memory s.cause s.flight c.put-in-Err.new.slot s.out c.clear-in-Err.new.self s.closing s.closing s.held c.clear-in-Err-2.new.self st.0;
+      ended = refl;
+      taken = tt;
+      asked = inl (let e = ap flight_tree c.put-in-Err.ensures in omega (arith, e));
+    }
+
+pub invariant_of-self-in-Ok-On : goal.invariant_of-self-in-Ok-On
+invariant_of-self-in-Ok-On c =
+    let s = c.args.self.now in
+    let n = c.run_one.new in
+    let x : Serves = record { patterns = c.args.space.now.patterns; served = c.args.served.now } in
+    let site = service_in x s.local s.peer in
+    let start : Start = record { moment = c.args.moment; tree = c.args.tree } in
+    let ran' = c.in-Ok-On.field-0 in
+    let o = c.in-Ok-On.onward in
+    let on = c.in-Ok-On.field-0-is in
+    let st = starts_if (is_some s.cause) s.closing s.out s.body s.next c.requires.ready in
+    let f' = c.put-in-Ok-On.new.slot in
+    let p : o.flight ≡ f' = sym c.put-in-Ok-On.ensures in
+    let ran = subst (λ f. RanOne x site start (vec_len s.journal) s.next s.held n.held n.body f s.out n.out o.closing o.log) p (ran_on_one x site start (vec_len s.journal) s.next s.held n.held n.body s.out n.out ran' o on c.in-Ok-On.ensures.ran) in
+    let entry = c.in-Ok-On.ensures.journal in
+    record {
+      looked = λ h. on_by _ ran' o on c.in-Ok-On.ensures.looked;
       dropped = λ h. never (is_some s.cause) st.0 h;
       quit = λ h. never (is_some s.cause) st.0 h;
-      flowing = subst (λ f. flow_fits f (length n.out) ≡ true) p c.in-Ok.ensures.fits;
-      few = ran_few x site (λ of path. Nothing) start (vec_len s.journal) s.next s.held n.held n.body f' s.out n.out o.closing o.log s.few ran;
-      drained = ran_drained x site (λ of path. Nothing) start (vec_len s.journal) s.next s.held n.held n.body f' s.out n.out o.closing o.log ran;
-      unended = ran_unended x site (λ of path. Nothing) start (vec_len s.journal) s.next s.held n.held n.body f' s.out n.out o.closing o.log ran;
-      logged = λ h. subst (IsLogged (is_some f')) (sym entry.3) (entered_logged (is_some f') s.journal.items entry.0 o.log entry.2 (subst (λ f. IsLogged (is_some f) s.journal.items) c.requires.none (s.logged st.0))
-          (ran_over x site (λ of path. Nothing) start (vec_len s.journal) s.next s.held n.held n.body f' s.out n.out o.closing o.log ran));
+      flying = subst (λ f. FlightFits f (length n.out)) p (on_by _ ran' o on c.in-Ok-On.ensures.fits);
+      few = ran_few x site start (vec_len s.journal) s.next s.held n.held n.body f' s.out n.out o.closing o.log s.few ran;
+      drained = ran_drained x site start (vec_len s.journal) s.next s.held n.held n.body f' s.out n.out o.closing o.log ran;
+      unended = ran_unended x site start (vec_len s.journal) s.next s.held n.held n.body f' s.out n.out o.closing o.log ran;
+      logged = λ h. subst (IsLogged (is_some f')) (sym entry.3) (entered_logged (is_some f') s.journal.items entry.0 o.log (entry.2 ∙ ap log_ran on) (subst (λ f. IsLogged (is_some f) s.journal.items) c.requires.none (s.logged st.0))
+          (ran_over x site start (vec_len s.journal) s.next s.held n.held n.body f' s.out n.out o.closing o.log ran));
       brief = c.shortest_after-self.ensures;
     }
 
-pub returns-in-Ok-clause-times : goal.returns-in-Ok-clause-times
-returns-in-Ok-clause-times c = λ conn.
+pub returns-in-Ok-On-clause-times : goal.returns-in-Ok-On-clause-times
+returns-in-Ok-On-clause-times c = λ conn.
     let s = c.args.self.now in
     let x : Serves = record { patterns = c.args.space.now.patterns; served = c.args.served.now } in
     let now : Start = record { moment = c.args.moment; tree = c.args.tree } in
+    let st = starts_if (is_some s.cause) s.closing s.out s.body s.next c.requires.ready in
     record {
-      mark = marks_by s.times.mark c.args.moment c.args.moment c.marked-self.result _ _ _ _ _ _ _ _ c.marked-self.ensures refl c.sending-before.ensures.pending c.sending-before.ensures.in_flight c.sending-after.ensures.pending c.sending-after.ensures.in_flight;
+      mark = mark_begins s.times.mark c.args.moment c.marked-self.result _ _ s.flight s.out _ _ c.marked-self.ensures c.requires.none st.4 c.sending-after.ensures.pending c.sending-after.ensures.in_flight;
       head = refl;
-      pace = subst (λ f. PaceRan x now f s c.put.new.slot c.pace_after-pace.result) (sym c.requires.none) (record {
-        told = values_at c.args.served.now c.in-Ok.onward.level;
+      pace = λ on. subst (λ f. PaceRan x now f s c.put-in-Ok-On.new.slot c.pace_after-pace.result) (sym c.requires.none) (record {
+        told = values_at c.args.served.now c.in-Ok-On.onward.level;
         pace = c.pace_after-pace.ensures;
-        level = subst (λ f. LevelFor (service_in x s.local s.peer) now s.next (λ trees. (rest_in x f trees).values) (values_at c.args.served.now c.in-Ok.onward.level)) (sym c.put.ensures) c.in-Ok.ensures.level;
+        level = λ so. subst (λ f. LevelFor (service_in x s.local s.peer) now s.next (λ trees. (rest_in x f trees).values) (values_at c.args.served.now c.in-Ok-On.onward.level)) (sym c.put-in-Ok-On.ensures) (on_by _ c.in-Ok-On.field-0 c.in-Ok-On.onward c.in-Ok-On.field-0-is c.in-Ok-On.ensures.level so);
       });
+    }
+
+pub returns-in-Ok-TooMany-clause-times : goal.returns-in-Ok-TooMany-clause-times
+returns-in-Ok-TooMany-clause-times c = λ conn.
+    let s = c.args.self.now in
+    let st = starts_if (is_some s.cause) s.closing s.out s.body s.next c.requires.ready in
+    record {
+      mark = mark_starts s.times.mark c.args.moment s.flight c.put.new.slot s.out c.clear.new.self c.requires.none st.4 c.put.ensures c.clear.ensures;
+      head = refl;
+      pace = λ alive. cc;
     }
 
 pub returns-in-Err-clause-times : goal.returns-in-Err-clause-times
