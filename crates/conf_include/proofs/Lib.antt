@@ -8,3 +8,4 @@ pub mod FileLaws
 pub mod IncludeLaws
 pub mod MainLaws
 pub mod WholeLaws
+pub mod AskedLaws

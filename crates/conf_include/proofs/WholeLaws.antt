@@ -47,7 +47,7 @@ own_deeper n k [] = refl
 own_deeper n k (x ∷ xs) = deep_by k (is_of n x) x (own_of n (deeper k xs)) (own_of n xs) (own_deeper n k xs)
 
 -- a path by its number, where more were read
-path_before : (ps more : List (List ℕ)) (n : ℕ) → n < length ps → get_or (ps ++ more) n [] ≡ get_or ps n []
+pub path_before : (ps more : List (List ℕ)) (n : ℕ) → n < length ps → get_or (ps ++ more) n [] ≡ get_or ps n []
 path_before [] more n h = absurd (omega arith)
 path_before (p ∷ ps) more zero h = refl
 path_before (p ∷ ps) more (suc n) h = path_before ps more n (omega arith)
@@ -319,7 +319,7 @@ number_if : (tree : Tree) (path : List ℕ) (before : List (List ℕ)) (f : ℕ 
 number_if tree path before f e true h = tt
 number_if tree path before f e false h = h
 
-open_if : (tree : Tree) (at : Spot) (path : List ℕ) (t : Tally) → OpenedIf tree path t.paths (open_file tree at path t)
+pub open_if : (tree : Tree) (at : Spot) (path : List ℕ) (t : Tally) → OpenedIf tree path t.paths (open_file tree at path t)
 unfolding open_file next_number
 open_if tree at path t =
     number_if tree path t.paths

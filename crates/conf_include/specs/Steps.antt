@@ -1,5 +1,5 @@
 -- What the functions that read files compute, a step at a time.
-use Rattle.std.specs.Prelude.{◌≡◌, ◌≢◌, ℕ, zero, suc, ◌+◌, ◌≤◌, Bool, false, List, ◌++◌, length, drop, slice_index_or, Contains, ◌↔◌, Result, Ok, Err}
+use Rattle.std.specs.Prelude.{◌≡◌, ◌≢◌, ℕ, zero, suc, ◌+◌, ◌≤◌, ◌<◌, Bool, false, List, [], ◌++◌, length, Some, drop, slice_index_or, Contains, ◌↔◌, Result, Ok, Err}
 use Rattle.std.specs.List.{AllByRecursion}
 use Rattle.file_tree.specs.Tree.{Tree, Item, AFile, AFolder, IsChild, HoldsBytes}
 use Rattle.ngx_outside.specs.Causes.{Rose}
@@ -16,7 +16,8 @@ use Rattle.conf_include.specs.Masks.{matches}
 use Rattle.conf_include.specs.Listings.{Names, IsNaming}
 use Rattle.ngx_outside.specs.Seen.{FilesSeen}
 use Rattle.conf_include.specs.Told.{IsTold}
-use Rattle.conf_include.specs.Expansion.{Tally, tally, Faulty, Outcome, Spot, fault_about, text_in, deeper}
+use Rattle.conf_include.specs.Expansion.{Tally, tally, Faulty, Outcome, Spot, spot, fault_about, text_in, deeper, include_word, named_by}
+use Rattle.conf_include.specs.Asked.{IsIn, IsPart, IsAskedAt}
 
 -- a row tells of each end of a name, the longest first, whether a mask matches it
 pub record IsRow (mask name : List ℕ) (row : List Bool) : Type 0 where
@@ -81,6 +82,44 @@ IsCaused (Err (stop.Fault fault)) before now = Unit {0}
 IsCaused (Err (stop.Failed fault)) before now = (fault.kind ≡ ReadFault) × Rose before now
 IsCaused (Err stop.OutOfMemory) before now = Unit {0}
 
+-- what holds of the fault that is told where the files failed
+abbrev pub OnFailed : {X : Type 0} → Result X Stop → (ConfFault → Type 0) → Type 0
+OnFailed (Ok x) P = Unit {0}
+OnFailed (Err (stop.Fault fault)) P = Unit {0}
+OnFailed (Err (stop.Failed fault)) P = P fault
+OnFailed (Err stop.OutOfMemory) P = Unit {0}
+
+-- it is about this path, and stands there
+abbrev pub FailsAbout : {X : Type 0} → Spot → List ℕ → Result X Stop → Type 0
+FailsAbout at path result = OnFailed result (λ fault. fault ≡ fault_about ReadFault at path)
+
+-- these files aren't asked
+abbrev pub NeverFails : {X : Type 0} → Result X Stop → Type 0
+NeverFails result = OnFailed result (λ fault. ⊥)
+
+-- what holds of the tree that the files tell, and of its names
+abbrev pub WhereTold : ℕ → FilesSeen → (Tree → Names → Type 0) → Type 0
+WhereTold of t P = (tree : Tree) (names : Names) → IsTold of tree t → IsNaming tree names → P tree names
+
+-- a directive of a file that was read, where these are the paths of all by their numbers
+pub record IsRead (tree : Tree) (names : Names) (main : List ℕ) (paths : List (List ℕ)) (d : Directive) : Type 0 where
+  pub within : d.file < length paths
+  pub part : IsPart tree names main d.file (slice_index_or paths d.file [])
+  pub among : IsIn tree d.file (slice_index_or paths d.file []) d
+
+-- a path that an include of such a file names, and where that include stands
+pub record IsNamed (tree : Tree) (names : Names) (main : List ℕ) (paths : List (List ℕ)) (at : Spot) (path : List ℕ) : Type 0 where
+  pub line : Directive
+  pub word : List ℕ
+  pub read : IsRead tree names main paths line
+  pub says : include_word line ≡ Some word
+  pub stands : at ≡ spot line.file line.line
+  pub named : Contains (named_by names main word) path
+
+-- paths of files with those of more files
+abbrev pub IsLonger : List (List ℕ) → List (List ℕ) → Type 0
+IsLonger old new = (more : List (List ℕ)) × (new ≡ old ++ more)
+
 abbrev pub tally_of : Reading → Tally
 tally_of r = tally r.paths r.size
 
@@ -95,12 +134,18 @@ Puts what of t depth old new result =
     (tree : Tree) (names : Names) → IsTold of tree t → IsNaming tree names
     → Answers (λ _. (new.lines, tally_of new)) result (onto old.lines depth (what tree names)) new.paths
 
--- What was answered of a whole configuration is its expansion, unless the files failed or memory ran out.
-abbrev pub Expands : Result Expanded ExpandError → Result (List Directive × List (List ℕ)) (ConfFault × List ℕ) → Type 0
-Expands (Ok e) outcome = outcome ≡ Ok (e.directives, e.paths)
-Expands (Err (error.Fault placed)) outcome = outcome ≡ Err (placed.fault, placed.path)
-Expands (Err (error.Failed placed)) outcome = Unit {0}
-Expands (Err error.OutOfMemory) outcome = Unit {0}
+-- Where the files failed, what is told is where they were asked.
+abbrev pub FailsWhere : ℕ → (main : List ℕ) → FilesSeen → Reading → Result (Unit {0}) Stop → Type 0
+FailsWhere of main t new result =
+    OnFailed result (λ fault. WhereTold of t (λ tree names. IsAskedAt tree names main fault (slice_index_or new.paths fault.file [])))
+
+-- What was answered of a whole configuration is its expansion, unless the files failed or memory ran out. Where the files
+-- failed, what is told is where they were asked.
+abbrev pub Expands : (ConfFault → List ℕ → Type 0) → Result Expanded ExpandError → Result (List Directive × List (List ℕ)) (ConfFault × List ℕ) → Type 0
+Expands asked (Ok e) outcome = outcome ≡ Ok (e.directives, e.paths)
+Expands asked (Err (error.Fault placed)) outcome = outcome ≡ Err (placed.fault, placed.path)
+Expands asked (Err (error.Failed placed)) outcome = asked placed.fault placed.path
+Expands asked (Err error.OutOfMemory) outcome = Unit {0}
 
 -- the files are said to have failed only where their count of faults rose
 abbrev pub FailsIf : Result Expanded ExpandError → ℕ → ℕ → Type 0

@@ -1,8 +1,9 @@
 // Directives with each include replaced by its files.
 ghost use Rattle.std.specs.Prelude.{◌≡◌, ◌≤◌, ◌<◌, ◌+◌, ◌*◌, ◌^◌, ℕ, List, length, IfOk, OnOk, option_copied};
+ghost use Rattle.std.specs.List.{AllByRecursion};
 ghost use Rattle.conf_include.specs.Expansion.{spot, directives_in, include_word, next_number};
 ghost use Rattle.conf_include.specs.Told.{Later, IsTold};
-ghost use Rattle.conf_include.specs.Steps.{IsCaused, Answers, one_less, AreShallow};
+ghost use Rattle.conf_include.specs.Steps.{IsCaused, OnFailed, FailsAbout, NeverFails, WhereTold, IsRead, IsNamed, IsLonger, FailsWhere, Answers, one_less, AreShallow};
 
 use crate::listing::paths_named;
 use crate::open::text_of;
@@ -51,6 +52,7 @@ pub fn directives_in(alloc: Global, number: u32, text: &[u8]) -> Result<Directiv
     ensures lines { (paths : List (List ℕ)) → Answers (λ lines. lines) result (directives_in number text.now paths) paths }
     ensures shallow { IfOk result AreShallow }
     ensures cause { (before now : ℕ) → IsCaused result before now }
+    ensures never { NeverFails result }
 {
     match parse(alloc, number, text) {
         Ok(lines) => Ok(lines),
@@ -64,6 +66,7 @@ fn one_less(alloc: Global, left: u32, at: Spot, path: &[u8]) -> Result<u32, Stop
     ensures left { (paths : List (List ℕ)) → Answers (λ n. n) result (one_less left (spot at.file at.line) path.now paths) paths }
     ensures less { IfOk result (λ n. n + 1 ≡ left) }
     ensures cause { (before now : ℕ) → IsCaused result before now }
+    ensures never { NeverFails result }
 {
     if left == 0 {
         return Err(Stop::Fault(fault_about(alloc, FaultKind::TooDeep, at, path)?));
@@ -76,6 +79,7 @@ fn one_less(alloc: Global, left: u32, at: Spot, path: &[u8]) -> Result<u32, Stop
 fn next_number(alloc: Global, at: Spot, path: &[u8], paths: &ByteTexts) -> Result<u32, Stop>
     ensures number { Answers (λ n. n) result (next_number (spot at.file at.line) path.now paths.now) paths.now }
     ensures cause { (before now : ℕ) → IsCaused result before now }
+    ensures never { NeverFails result }
 {
     if paths.len() >= MOST_FILES {
         return Err(Stop::Fault(fault_about(alloc, FaultKind::TooMany, at, path)?));
@@ -100,6 +104,9 @@ impl Reading {
         ensures later { Later (F.seen files.old) (F.seen files.new) }
         ensures cause { IsCaused result (F.seen files.old).faults (F.seen files.new).faults }
         ensures opens { (tree : Tree) → IsTold setting.now.tree tree (F.seen files.new) → Answers (λ lines. (lines, tally_of self.new)) result (open_file tree (spot at.file at.line) path (tally_of self.old)) self.new.paths }
+        ensures place { FailsAbout (spot at.file at.line) path result }
+        ensures paths { OnFailed result (λ fault. self.new.paths ≡ self.old.paths) }
+        ensures grows { IfOk result (λ lines. IsLonger self.old.paths self.new.paths) }
         ensures lines { self.new.lines ≡ self.old.lines }
         ensures shallow { IfOk result AreShallow }
     {
@@ -130,9 +137,12 @@ impl Reading {
     ) -> Result<(), Stop>
         requires known { setting.now.tree ≤ (F.seen files.old).newest }
         requires room { depth + 33 * left < 2 ^ 32 }
+        requires named { WhereTold setting.now.tree (F.seen files.old) (λ tree names. IsNamed tree names setting.now.main.now self.old.paths (spot at.file at.line) path) }
         ensures later { Later (F.seen files.old) (F.seen files.new) }
         ensures cause { IsCaused result (F.seen files.old).faults (F.seen files.new).faults }
         ensures exact { Puts (λ tree names. put_file tree names setting.now.main.now left (spot at.file at.line) path (tally_of self.old)) setting.now.tree (F.seen files.new) depth self.old self.new result }
+        ensures place { FailsWhere setting.now.tree setting.now.main.now (F.seen files.new) self.new result }
+        ensures grows { IfOk result (λ _. IsLonger self.old.paths self.new.paths) }
     {
         let left = one_less(setting.alloc, left, at, path.as_slice())?;
         let lines = self.open(setting, files, at, path)?;
@@ -153,9 +163,12 @@ impl Reading {
     ) -> Result<(), Stop>
         requires known { setting.now.tree ≤ (F.seen files.old).newest }
         requires room { depth + 33 * left < 2 ^ 32 }
+        requires named { WhereTold setting.now.tree (F.seen files.old) (λ tree names. AllByRecursion (IsNamed tree names setting.now.main.now self.old.paths (spot at.file at.line)) paths) }
         ensures later { Later (F.seen files.old) (F.seen files.new) }
         ensures cause { IsCaused result (F.seen files.old).faults (F.seen files.new).faults }
         ensures exact { Puts (λ tree names. put_all (put_file tree names setting.now.main.now left (spot at.file at.line)) paths (tally_of self.old)) setting.now.tree (F.seen files.new) depth self.old self.new result }
+        ensures place { FailsWhere setting.now.tree setting.now.main.now (F.seen files.new) self.new result }
+        ensures grows { IfOk result (λ _. IsLonger self.old.paths self.new.paths) }
     {
         for path in paths.into_vec() {
             self.put_file(setting, files, left, depth, at, path)?;
@@ -176,9 +189,12 @@ impl Reading {
         requires known { setting.now.tree ≤ (F.seen files.old).newest }
         requires room { depth + 32 + 33 * left < 2 ^ 32 }
         requires shallow { line.depth ≤ 32 }
+        requires read { WhereTold setting.now.tree (F.seen files.old) (λ tree names. IsRead tree names setting.now.main.now self.old.paths line) }
         ensures later { Later (F.seen files.old) (F.seen files.new) }
         ensures cause { IsCaused result (F.seen files.old).faults (F.seen files.new).faults }
         ensures exact { Puts (λ tree names. put_line (put_file tree names setting.now.main.now left) (named_by names setting.now.main.now) line (tally_of self.old)) setting.now.tree (F.seen files.new) depth self.old self.new result }
+        ensures place { FailsWhere setting.now.tree setting.now.main.now (F.seen files.new) self.new result }
+        ensures grows { IfOk result (λ _. IsLonger self.old.paths self.new.paths) }
     {
         let depth = depth + line.depth;
         match include_word(&line) {
@@ -212,9 +228,12 @@ impl Reading {
         requires known { setting.now.tree ≤ (F.seen files.old).newest }
         requires room { depth + 32 + 33 * left < 2 ^ 32 }
         requires shallow { AreShallow lines }
+        requires read { WhereTold setting.now.tree (F.seen files.old) (λ tree names. AllByRecursion (IsRead tree names setting.now.main.now self.old.paths) lines) }
         ensures later { Later (F.seen files.old) (F.seen files.new) }
         ensures cause { IsCaused result (F.seen files.old).faults (F.seen files.new).faults }
         ensures exact { Puts (λ tree names. put_lines tree names setting.now.main.now left lines (tally_of self.old)) setting.now.tree (F.seen files.new) depth self.old self.new result }
+        ensures place { FailsWhere setting.now.tree setting.now.main.now (F.seen files.new) self.new result }
+        ensures grows { IfOk result (λ _. IsLonger self.old.paths self.new.paths) }
     {
         for line in lines.into_vec() {
             self.put_line(setting, files, left, depth, line)?;

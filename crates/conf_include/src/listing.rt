@@ -5,9 +5,9 @@ ghost use Rattle.file_tree.specs.Tree.{Tree};
 ghost use Rattle.conf_include.specs.Listings.{byte_order, Names, IsListing, IsNaming};
 ghost use Rattle.conf_include.specs.Paths.{front_of, last_of, folder_of, is_mask};
 ghost use Rattle.conf_include.specs.Masks.{matches};
-ghost use Rattle.conf_include.specs.Expansion.{paths_named};
+ghost use Rattle.conf_include.specs.Expansion.{spot, paths_named};
 ghost use Rattle.conf_include.specs.Told.{Later, IsTold};
-ghost use Rattle.conf_include.specs.Steps.{IsCaused, NamesFound, AreNamed};
+ghost use Rattle.conf_include.specs.Steps.{IsCaused, OnFailed, FailsAbout, NamesFound, AreNamed};
 
 use crate::mask::matches;
 use crate::paths::{folder_of, is_mask, parts_of};
@@ -56,6 +56,7 @@ fn names_of<F: Files>(
 ) -> Result<ByteTexts, Stop>
     ensures later { Later (F.seen files.old) (F.seen files.new) }
     ensures cause { IsCaused result (F.seen files.old).faults (F.seen files.new).faults }
+    ensures place { FailsAbout (spot at.file at.line) path.now result }
     ensures names { (of : ℕ) (tree : Tree) → of ≤ (F.seen files.old).newest → IsTold of tree (F.seen files.new) → NamesFound tree (folder_of path.now) result }
 {
     let mut names = ByteTexts::new(alloc);
@@ -82,6 +83,7 @@ fn paths_matched<F: Files>(
     requires { is_mask path.now ≡ true }
     ensures later { Later (F.seen files.old) (F.seen files.new) }
     ensures cause { IsCaused result (F.seen files.old).faults (F.seen files.new).faults }
+    ensures place { FailsAbout (spot at.file at.line) path.now result }
     ensures paths { (of : ℕ) (tree : Tree) (names : Names) → of ≤ (F.seen files.old).newest → IsTold of tree (F.seen files.new) → IsNaming tree names → AreNamed (paths_named names path.now) result }
 {
     let found = names_of(alloc, files, path, at)?;
@@ -98,6 +100,8 @@ pub fn paths_named<F: Files>(
 ) -> Result<ByteTexts, Stop>
     ensures later { Later (F.seen files.old) (F.seen files.new) }
     ensures cause { IsCaused result (F.seen files.old).faults (F.seen files.new).faults }
+    ensures place { FailsAbout (spot at.file at.line) path result }
+    ensures mask { OnFailed result (λ fault. is_mask path ≡ true) }
     ensures paths { (of : ℕ) (tree : Tree) (names : Names) → of ≤ (F.seen files.old).newest → IsTold of tree (F.seen files.new) → IsNaming tree names → AreNamed (paths_named names path) result }
 {
     if is_mask(path.as_slice()) {

@@ -5,8 +5,9 @@ ghost use Rattle.ngx_outside.specs.Records.{Adds};
 ghost use Rattle.conf_include.specs.declared.main_file.ExpandError.TheVariants.{OutOfMemory as NoMemory};
 ghost use Rattle.conf_include.specs.Listings.{Names, IsNaming};
 ghost use Rattle.conf_include.specs.Expansion.{put_main, expansion};
+ghost use Rattle.conf_include.specs.Asked.{IsAskedAt};
 ghost use Rattle.conf_include.specs.Told.{Later};
-ghost use Rattle.conf_include.specs.Steps.{IsCaused, Puts, Expands, FailsIf};
+ghost use Rattle.conf_include.specs.Steps.{IsCaused, Puts, FailsWhere, Expands, FailsIf};
 
 use crate::include::{Reading, Setting, directives_in};
 use crate::open::text_of;
@@ -65,6 +66,7 @@ fn read_main<F: Files>(
     ensures later { Later (F.seen files.old) (F.seen files.new) }
     ensures cause { IsCaused result (F.seen files.old).faults (F.seen files.new).faults }
     ensures exact { Puts (λ tree names. put_main tree names setting.now.main.now) setting.now.tree (F.seen files.new) 0 reading.old reading.new result }
+    ensures place { FailsWhere setting.now.tree setting.now.main.now (F.seen files.new) reading.new result }
 {
     let at = Spot { file: 0, line: 1 };
     let text = text_of(
@@ -106,11 +108,12 @@ fn path_at(alloc: Global, paths: ByteTexts, number: u32) -> ByteText
 ///
 /// `Fault` for the first fault, in the order of reading: a file is read whole before its includes are. A fault of a file
 /// that an include names stands at the include, and one of the main file at its own line 1; its word is the file's path.
-/// `Failed` only where the files failed in this call. `OutOfMemory`.
+/// `Failed` only where the files failed in this call: it stands at the include that names what they were asked for, or at the
+/// main file's own line 1, and its word is the path that they were asked for, or the include's mask. `OutOfMemory`.
 ///
 /// The number of the newest tree is asked for once, first.
 pub fn expand<F: Files>(alloc: Global, files: &mut F, path: &[u8]) -> Result<Expanded, ExpandError>
-    ensures exact { (F.seen files.old).tells ≡ true → (F.seen files.new).newest ≡ (F.seen files.old).newest → (names : Names) → IsNaming ((F.seen files.old).trees (F.seen files.old).newest) names → Expands result (expansion ((F.seen files.old).trees (F.seen files.old).newest) names path.now) }
+    ensures exact { (F.seen files.old).tells ≡ true → (F.seen files.new).newest ≡ (F.seen files.old).newest → (names : Names) → IsNaming ((F.seen files.old).trees (F.seen files.old).newest) names → Expands (IsAskedAt ((F.seen files.old).trees (F.seen files.old).newest) names path.now) result (expansion ((F.seen files.old).trees (F.seen files.old).newest) names path.now) }
     ensures cause { FailsIf result (F.seen files.old).faults (F.seen files.new).faults }
     ensures tells { (F.seen files.new).tells ≡ (F.seen files.old).tells }
     ensures versions { Adds (F.seen files.old).newest (F.seen files.old).versions (F.seen files.new).versions }

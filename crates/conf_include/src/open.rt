@@ -3,7 +3,7 @@ ghost use Rattle.std.specs.Prelude.{◌≡◌, ◌≤◌, ◌+◌, ℕ, List, le
 ghost use Rattle.file_tree.specs.Tree.{Tree};
 ghost use Rattle.conf_include.specs.Expansion.{spot, tally, text_in};
 ghost use Rattle.conf_include.specs.Told.{Later, IsTold};
-ghost use Rattle.conf_include.specs.Steps.{IsCaused, Answers, IsLenOf, AreBytesOf};
+ghost use Rattle.conf_include.specs.Steps.{IsCaused, FailsAbout, Answers, IsLenOf, AreBytesOf};
 
 use crate::stop::{Spot, Stop, fault_about};
 use byte_text::ByteText;
@@ -27,6 +27,7 @@ fn len_of<F: Files>(
     requires { of ≤ (F.seen files.old).newest }
     ensures later { Later (F.seen files.old) (F.seen files.new) }
     ensures cause { IsCaused result (F.seen files.old).faults (F.seen files.new).faults }
+    ensures place { FailsAbout (spot at.file at.line) path.now result }
     ensures len { (tree : Tree) (paths : List (List ℕ)) → IsTold of tree (F.seen files.new) → IsLenOf (tree path.now) (spot at.file at.line) path.now (tally paths size) result }
     ensures fits { IfOk result (λ len. len + size ≤ 1048576) }
 {
@@ -57,6 +58,7 @@ fn bytes_of<F: Files>(
     requires { of ≤ (F.seen files.old).newest }
     ensures later { Later (F.seen files.old) (F.seen files.new) }
     ensures cause { IsCaused result (F.seen files.old).faults (F.seen files.new).faults }
+    ensures place { FailsAbout (spot at.file at.line) path.now result }
     ensures bytes { (tree : Tree) → IsTold of tree (F.seen files.new) → AreBytesOf (tree path.now) len result }
     ensures count { IfOk result (λ t. length t ≡ len) }
 {
@@ -85,6 +87,7 @@ pub fn text_of<F: Files>(
     requires { of ≤ (F.seen files.old).newest }
     ensures later { Later (F.seen files.old) (F.seen files.new) }
     ensures cause { IsCaused result (F.seen files.old).faults (F.seen files.new).faults }
+    ensures place { FailsAbout (spot at.file at.line) path.now result }
     ensures text { (tree : Tree) (paths : List (List ℕ)) → IsTold of tree (F.seen files.new) → Answers (λ t. t) result (text_in (tree path.now) (spot at.file at.line) path.now (tally paths size)) paths }
     ensures fits { IfOk result (λ t. size + length t ≤ 1048576) }
 {

@@ -27,7 +27,7 @@ use Rattle.conf_inherit.specs.declared.level.Inherited.{Inherited}
 use Rattle.conf_inherit.specs.declared.level.Listed.{Listed}
 use Rattle.conf_inherit.specs.declared.level.Shared.{Shared}
 use Rattle.conf_inherit.specs.declared.shelf.Shelf.{Shelf}
-use Rattle.conf_inherit.specs.Pools.{Keeps, KeepsAll, Holds, Stands, Fits, FitsLists, AreDeep, Added, lists_by, values_by, shelf_of, index_names, page_rules, rules_in, sets_in, level_by, follow, list_seen, patterns_in, level_built, values_built, location_built, named_built}
+use Rattle.conf_inherit.specs.Pools.{Keeps, KeepsAll, Holds, Stands, Fits, FitsLists, AreDeep, Added, entries_by, lists_by, values_by, shelf_of, index_names, page_rules, rules_in, sets_in, level_by, follow, list_seen, patterns_in, level_built, values_built, location_built, named_built}
 use Rattle.conf_inherit.specs.Built.{matching_of, inner_values, location_with, locations_in, named_with, named_in}
 use Rattle.conf_inherit.proofs.NestLaws.{seen-none, seen-one, follow-none, follow-first, deep-append, deep-one}
 
@@ -88,6 +88,17 @@ fits-around a b outer v same number types f lists = record {
   types = ap (λ items. slice_get items v.types) (ap (λ ts. ts.items) same) ∙ ap (slice_get a.types.items) number ∙ f.types ∙ ap Some (sym types);
   lists = lists;
 }
+
+types_inj : {a b : TypeList} → Some a ≡ Some b → a ≡ b
+types_inj e = cc
+
+-- the types under the number of values that state no `types` have the entries around them
+pub beside-around : (a b : Shelf) (outer v : Inherited) → b.types ≡ a.types → v.types ≡ outer.types → (values_by v).types.entries ≡ (values_by outer).types.entries
+    → Fits a outer → (types : TypeList) → slice_get b.types.items v.types ≡ Some types → types.entries ≡ entries_by v.entries
+beside-around a b outer v same number entries f types e =
+    let there : slice_get b.types.items v.types ≡ Some (values_by outer).types =
+    ap (λ items. slice_get items v.types) (ap (λ ts. ts.items) same) ∙ ap (slice_get a.types.items) number ∙ f.types in
+    ap (λ (t : TypeList). t.entries) (types_inj (sym e ∙ there)) ∙ sym entries
 
 none_is_some : {A : Type 0} {x : A} → None ≡ Some x → ⊥
 none_is_some h = cc
@@ -323,6 +334,12 @@ named-shown known b n d body v t e = λ i. record { name = t i; level = e i }
 none-by : {A : Type 0} (o : Option A) → is_some o ≡ false → o ≡ None
 none-by None e = refl
 none-by (Some a) e = cc
+
+pub entries-around : (prefix : Option (List ℕ)) (level : Forest) (v : Values) → is_some (block_of (codes "types") level) ≡ false → (over (stated prefix level) v).types.entries ≡ v.types.entries
+unfolding stated
+entries-around prefix level v t =
+    let entries : entries_in level ≡ None = ap (λ t. cond t (Some (all_entries (blocks_of (codes "types") level))) None) t in
+    ap (λ e. unwrap_or e v.types.entries) entries
 
 pub types-around : (prefix : Option (List ℕ)) (level : Forest) (v : Values) → is_some (block_of (codes "types") level) ≡ false → is_some (block_of (codes "default_type") level) ≡ false
     → (over (stated prefix level) v).types ≡ v.types

@@ -1,5 +1,6 @@
 // The media types that levels state.
-ghost use Rattle.std.specs.Prelude.{◌≡◌, ◌++◌, codes, OnOk, IfOk};
+ghost use Rattle.std.specs.Prelude.{◌≡◌, ◌++◌, codes, OnOk, IfOk, Some, slice_get};
+ghost use Rattle.file_type.specs.Types.{TypeList};
 ghost use Rattle.conf_block.specs.Forest.{forest_of, roots};
 ghost use Rattle.conf_inherit.specs.Values.{entry_with, line_entries, lines_entries, all_entries, default_entries};
 ghost use Rattle.conf_block.specs.Blocks.{blocks_of};
@@ -92,4 +93,21 @@ pub fn types_of(alloc: Global, values: Inherited<'_>) -> Result<Types, OutOfMemo
     let entries = entries_by(alloc, values.entries)?;
     let default_type = ByteText::from_slice(alloc, values.default_type)?;
     Types::new(alloc, entries, default_type)
+}
+
+/// The media types that hold beside these values, where those under the number of the values have the same entries, which are
+/// shared with them.
+pub fn types_beside(
+    alloc: Global,
+    all: &[Types],
+    values: Inherited<'_>,
+) -> Result<Types, OutOfMemory>
+    requires { (types : TypeList) → slice_get all.now values.types ≡ Some types
+        → types.entries ≡ entries_by values.entries }
+    ensures { IfOk result (λ types. types ≡ (values_by values.entry).types) }
+{
+    let Some(around) = all.get(values.types as usize) else {
+        return types_of(alloc, values);
+    };
+    around.with_default(ByteText::from_slice(alloc, values.default_type)?)
 }

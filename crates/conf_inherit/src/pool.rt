@@ -4,7 +4,7 @@ ghost use Rattle.conf_block.specs.Forest.{forest_of};
 ghost use Rattle.conf_inherit.specs.Values.{stated, over, defaults as default_values};
 ghost use Rattle.conf_inherit.specs.Pools.{Keeps, KeepsAll, Fits, none_shared, FitsLists, values_by};
 
-use crate::entries::types_of;
+use crate::entries::{types_beside, types_of};
 use crate::level::{Inherited, defaults, stated_over};
 use crate::shared::{keep, next_number, share};
 use crate::shelf::Shelf;
@@ -87,10 +87,15 @@ impl Pool {
     {
         let lists = share(alloc, &mut self.shelf, block, outer.lists)?;
         let inner = stated_over(prefix, block, lists, outer);
-        if !has_named(block, b"types") && !has_named(block, b"default_type") {
+        if has_named(block, b"types") {
+            let types = self.add_types(types_of(alloc, inner)?)?;
+            return Ok(Inherited { types, ..inner });
+        }
+        if !has_named(block, b"default_type") {
             return Ok(inner);
         }
-        let types = self.add_types(types_of(alloc, inner)?)?;
+        let types = types_beside(alloc, self.shelf.types.as_slice(), inner)?;
+        let types = self.add_types(types)?;
         Ok(Inherited { types, ..inner })
     }
 }

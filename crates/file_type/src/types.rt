@@ -8,6 +8,7 @@ use crate::extension;
 use byte_text::{ByteText, OutOfMemory};
 use std::alloc::Global;
 use std::marker::Model;
+use std::rc::Rc;
 
 /// The type of the files with an extension.
 #[derive(Drop)]
@@ -16,23 +17,38 @@ pub struct TypeEntry {
     pub media_type: ByteText,
 }
 
-/// Types by extension, and the type of any other file. Contracts see them as the list of entries as it was given.
-///
-/// The places of the entries stand in buckets too, by a hash of the extension, so that a look-up reads few of them.
+/// Types by extension, and the type of any other file. Contracts see them as the list of entries as it was given. Types that
+/// differ in the type of any other file alone share their entries.
 #[derive(Drop)]
 pub struct Types {
-    entries: Vec<TypeEntry>,
+    table: Rc<Table>,
     default_type: ByteText,
-    buckets: Vec<Bucket>,
 }
 
 impl Model for Types {
     ghost use Rattle.file_type.specs.Types.{TypeList};
-    ghost use Rattle.file_type.specs.Buckets.{AreBuckets};
 
     ghost Value = { TypeList };
 
-    ghost view = { λ t. record { entries = t.entries.items; default_type = t.default_type } };
+    ghost view = { λ t. record { entries = t.table.value; default_type = t.default_type } };
+}
+
+/// Entries in the order in which they were given. Their places are in buckets too, by a hash of the extension, so that a
+/// look-up reads few of them.
+#[derive(Drop)]
+struct Table {
+    entries: Vec<TypeEntry>,
+    buckets: Vec<Bucket>,
+}
+
+impl Model for Table {
+    ghost use Rattle.std.specs.Prelude.{List};
+    ghost use Rattle.file_type.specs.declared.types.TypeEntry.{TypeEntry};
+    ghost use Rattle.file_type.specs.Buckets.{AreBuckets};
+
+    ghost Value = { List TypeEntry };
+
+    ghost view = { λ t. t.entries.items };
 
     ghost invariant = { λ t. AreBuckets t.buckets.items t.entries.items };
 }
@@ -139,6 +155,36 @@ fn type_among<'t>(
     found
 }
 
+impl Table {
+    fn new(alloc: Global, entries: Vec<TypeEntry>) -> Result<Table, OutOfMemory>
+        ensures { IfOk result (λ table. table ≡ entries.items) }
+    {
+        let buckets = buckets_of(alloc, entries.as_slice())?;
+        Ok(Table { entries, buckets })
+    }
+
+    /// The type of the last entry with this extension, or else the one that was there before.
+    fn find<'t>(&'t self, before: &'t [u8], wanted: &[u8]) -> &'t [u8]
+        ensures { result.now ≡ type_among before.now self.now wanted.now }
+    {
+        let bucket = bucket_of(wanted, self.buckets.len());
+        type_among(
+            self.entries.as_slice(),
+            self.buckets[bucket].as_slice(),
+            before,
+            wanted,
+        )
+    }
+}
+
+/// The same entries once more, without a copy of them.
+fn again(table: &Rc<Table>) -> Result<Rc<Table>, OutOfMemory>
+    ensures { IfOk result (λ other. other.value ≡ table.now.value) }
+{
+    let other = table.clone()?;
+    Ok(other)
+}
+
 impl Types {
     /// Types from a list of entries, of which the last holds where several have one extension.
     pub fn new(
@@ -148,24 +194,29 @@ impl Types {
     ) -> Result<Types, OutOfMemory>
         ensures { IfOk result (λ types. types ≡ record { entries = entries.items; default_type = default_type }) }
     {
-        let buckets = buckets_of(alloc, entries.as_slice())?;
+        let table = Rc::new(alloc, Table::new(alloc, entries)?)?;
         Ok(Types {
-            entries,
+            table,
             default_type,
-            buckets,
+        })
+    }
+
+    /// The same entries, with another type of any other file. The entries aren't copied.
+    pub fn with_default(&self, default_type: ByteText) -> Result<Types, OutOfMemory>
+        ensures { IfOk result (λ types. types ≡ record { entries = self.now.entries; default_type = default_type }) }
+    {
+        Ok(Types {
+            table: again(&self.table)?,
+            default_type,
         })
     }
 
     fn by_extension(&self, wanted: &[u8]) -> &[u8]
         ensures { result.now ≡ type_among self.now.default_type self.now.entries wanted.now }
     {
-        let bucket = bucket_of(wanted, self.buckets.len());
-        type_among(
-            self.entries.as_slice(),
-            self.buckets[bucket].as_slice(),
-            self.default_type.as_slice(),
-            wanted,
-        )
+        self.table
+            .as_ref()
+            .find(self.default_type.as_slice(), wanted)
     }
 
     /// The type of the file with this path: that of its extension, which is compared without regard to ASCII case, or

@@ -19,7 +19,7 @@ pub fn connections_are_exact()
 {}
 
 /// Whatever is served, and however slowly a peer reads: a connection holds no more than 8192 bytes of its input, and keeps no
-/// more than 114688 bytes for its peer.
+/// more than 2^26 bytes for its peer.
 pub fn connections_are_bounded()
     ensures { AllBounded }
 {}

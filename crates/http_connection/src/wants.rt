@@ -1,46 +1,27 @@
 // What is to be done next on a connection.
-ghost use Rattle.std.specs.Prelude.{◌≡◌, ◌&&◌, not, Option};
+ghost use Rattle.std.specs.Prelude.{◌≡◌, ◌&&◌, not, None, is_some};
 ghost use Rattle.ngx_outside.specs.Wants.{wants_at, first_doable};
-ghost use Rattle.http_connection.specs.Conn.{view_of};
+ghost use Rattle.http_connection.specs.Conn.{room_at, view_of};
 ghost use Rattle.http_connection.specs.Wants.{first_of, room_if};
 
 use crate::Conn;
 use ngx_outside::Want;
 
-// What may be done on a connection: how many bytes it reads, the first nodes that can run and that have a job, whether bytes are
-// pending and its link is to be closed.
-#[derive(Clone, Copy)]
-struct Doings {
-    room: Option<usize>,
-    runs: Option<u32>,
-    waits: Option<u32>,
-    writes: bool,
-    shut: bool,
-}
-
 // How many bytes are read, where the link is due to be read.
-fn room_due(due: bool, room: Option<usize>) -> Option<usize>
-    ensures { result ≡ room_if due room }
+fn room_due(due: bool, conn: &Conn) -> Option<usize>
+    ensures { result ≡ room_if due (room_at (is_some conn.now.cause) conn.now.closing
+        conn.now.ended conn.now.held) }
 {
-    if due { room } else { None }
+    if due { conn.room() } else { None }
 }
 
-// The first want that can be served, on a link that is full or not.
-fn first_want(conn: u32, full: bool, may: Doings) -> Option<Want>
-    ensures { result ≡ first_of conn may.room may.runs may.waits (not full && may.writes) may.shut }
+// What is to be done where nothing is read, no node can run and none has a job.
+fn last_want(conn: u32, full: bool, is_empty: bool, shut: bool) -> Option<Want>
+    ensures { result ≡ first_of conn None None None (not full && not is_empty) shut }
 {
-    if let Some(room) = may.room {
-        return Some(Want::Read { conn, room });
-    }
-    if let Some(node) = may.runs {
-        return Some(Want::Run { conn, node });
-    }
-    if let Some(node) = may.waits {
-        return Some(Want::Job { conn, node });
-    }
-    if !full && may.writes {
+    if !full && !is_empty {
         Some(Want::Write { conn })
-    } else if may.shut {
+    } else if shut {
         Some(Want::Close { conn })
     } else {
         None
@@ -48,17 +29,19 @@ fn first_want(conn: u32, full: bool, may: Doings) -> Option<Want>
 }
 
 /// The first want of a connection that can be served, under its number, where its link is due to be read or not, and full or
-/// not.
+/// not. What comes after that is not looked at.
 pub fn next_want(conn: &Conn, number: u32, due: bool, full: bool) -> Option<Want>
     ensures { (site : _) → result ≡ first_doable due full
         (wants_at number (view_of site conn.now)) }
 {
-    let may = Doings {
-        room: room_due(due, conn.room()),
-        runs: conn.first_ready(),
-        waits: conn.first_job(),
-        writes: !conn.pending().is_empty(),
-        shut: conn.is_shut(),
-    };
-    first_want(number, full, may)
+    if let Some(room) = room_due(due, conn) {
+        return Some(Want::Read { conn: number, room });
+    }
+    if let Some(node) = conn.first_ready() {
+        return Some(Want::Run { conn: number, node });
+    }
+    if let Some(node) = conn.first_job() {
+        return Some(Want::Job { conn: number, node });
+    }
+    last_want(number, full, conn.pending().is_empty(), conn.is_shut())
 }

@@ -6,6 +6,7 @@ use Rattle.ngx_outside.specs.Seen.{FilesSeen}
 use Rattle.ready_loop.specs.declared.service.Ending.{Ending}
 use Rattle.ready_loop.specs.declared.service.Ending.TheVariants as ending
 use Rattle.conf_include.specs.Listings.{Names, IsNaming}
+use Rattle.conf_include.specs.Asked.{IsAskedAt}
 use Rattle.conf_include.specs.declared.main_file.PlacedFault.{PlacedFault}
 use Rattle.conf_inherit.specs.Values.{has_items}
 use Rattle.conf_inherit.specs.declared.site.Purpose.{Purpose}
@@ -22,7 +23,7 @@ use Rattle.ngx_cli.specs.declared.site.SiteError.{SiteError}
 use Rattle.ngx_cli.specs.declared.site.SiteError.TheVariants as error
 use Rattle.ngx_cli.specs.declared.status.Status.{Status}
 use Rattle.ngx_cli.specs.declared.status.Status.TheVariants as status
-use Rattle.ngx_cli.specs.Commands.{Output, Made, Printed, CutShort, ComesTo, Describes, Finds, Served, ServedFound, Played, IsFaultLine, OfFirst, OfFiles, OfMaker, IsCheckLine, OfSite, OfNoSite, IsRefusal, OfRaces, OfFault, FoundEnds, ReplayEnds, CheckEnds, ServeEnds, PutsText, served_status, status_of}
+use Rattle.ngx_cli.specs.Commands.{Output, Made, Printed, CutShort, ComesTo, Describes, Finds, Served, ServedFound, Played, Unread, IsFaultLine, OfFirst, OfFiles, OfMaker, IsCheckLine, OfSite, OfNoSite, IsRefusal, OfRaces, OfFault, FoundEnds, ReplayEnds, CheckEnds, ServeEnds, PutsText, served_status, status_of}
 
 -- a site was served
 pub served : (found : Found) (racy : Bool) (o : Outside) (out : Output) (turns : ℕ) (e : Ending) → ServedFound found racy o out turns e → (e ≡ ending.Ended → o.links'.over ≡ true) → (e ≡ ending.ListenFault → Rose o.links.faults o.links'.faults) → (e ≡ ending.NextFault → Rose o.links.faults o.links'.faults) →
@@ -144,21 +145,28 @@ played files files' made out path racy outcome.Racy p = p
 played files files' made out path racy outcome.PatternFault p = p
 played files files' made out path racy (outcome.ScriptFault fault) p = (fault, p)
 
--- a configuration's first fault, as it was found
-pub fault_described : (purpose : Purpose) (files files' : FilesSeen) (path : List ℕ) (e : SiteError) (placed : PlacedFault) → e ≡ error.Fault placed → Reading files files' →
-    (files.tells ≡ true → files'.newest ≡ files.newest → (names : Names) → IsNaming (files.trees files.newest) names → IsDescribed (Err e) (site_at purpose (files.trees files.newest) names path)) →
-    Describes purpose files files' path (Err (error.Fault placed))
-fault_described purpose files files' path e placed is reads exact = record {
-  reads = reads;
-  is = subst (λ (x : SiteError). files.tells ≡ true → files'.newest ≡ files.newest → (names : Names) → IsNaming (files.trees files.newest) names → IsDescribed (Err x) (site_at purpose (files.trees files.newest) names path)) is exact;
-}
+-- what was found of a configuration, of this error
+abbrev pub IsErrorOf : Purpose → (files files' : FilesSeen) → (path : List ℕ) → SiteError → Type 0
+IsErrorOf purpose files files' path e =
+    files.tells ≡ true → files'.newest ≡ files.newest → (names : Names) → IsNaming (files.trees files.newest) names → IsDescribed (IsAskedAt (files.trees files.newest) names path) (Err e) (site_at purpose (files.trees files.newest) names path)
+
+pub error_described : (purpose : Purpose) (files files' : FilesSeen) (path : List ℕ) (e other : SiteError) → e ≡ other → Reading files files' → IsErrorOf purpose files files' path e →
+    Describes purpose files files' path (Err other)
+error_described purpose files files' path e other is reads exact = record { reads = reads; is = subst (IsErrorOf purpose files files' path) is exact }
 
 -- a file that couldn't be read
-pub is_files_line : (purpose : Purpose) (files files' : FilesSeen) (made : Made) (path : List ℕ) (e : SiteError) (placed : PlacedFault) → e ≡ error.Failed placed → FailsIf {A = Found} (Err e) files.faults files'.faults made.before made.after →
+pub is_files_line : (purpose : Purpose) (files files' : FilesSeen) (made : Made) (path : List ℕ) (e : SiteError) (placed : PlacedFault) → e ≡ error.Failed placed → Reading files files' → IsErrorOf purpose files files' path e → FailsIf {A = Found} (Err e) files.faults files'.faults made.before made.after →
     IsFaultLine purpose files files' made path (ended (conf_fault_line placed.path placed.fault))
-is_files_line purpose files files' made path e placed is cause =
+is_files_line purpose files files' made path e placed is reads exact cause =
     let c : FailsIf {A = Found} (Err (error.Failed placed)) files.faults files'.faults made.before made.after = subst (λ (x : SiteError). FailsIf {A = Found} (Err x) files.faults files'.faults made.before made.after) is cause in
-    OfFiles placed.fault placed.path c.0 c.1 refl
+    OfFiles placed c.0 c.1 (error_described purpose files files' path e (error.Failed placed) is reads exact) refl
+
+-- and was printed
+pub unread_printed : (purpose : Purpose) (files files' : FilesSeen) (made : Made) (out : Output) (path : List ℕ) (e : SiteError) (placed : PlacedFault) → e ≡ error.Failed placed → Reading files files' → IsErrorOf purpose files files' path e → FailsIf {A = Found} (Err e) files.faults files'.faults made.before made.after →
+    Printed out (ended (conf_fault_line placed.path placed.fault)) → Unread purpose files files' out path
+unread_printed purpose files files' made out path e placed is reads exact cause printed =
+    let c : FailsIf {A = Found} (Err (error.Failed placed)) files.faults files'.faults made.before made.after = subst (λ (x : SiteError). FailsIf {A = Found} (Err x) files.faults files'.faults made.before made.after) is cause in
+    record { placed = placed; described = error_described purpose files files' path e (error.Failed placed) is reads exact; kind = c.0; rose = c.1; printed = printed }
 
 -- a pattern that the maker refused
 pub is_maker_line : (purpose : Purpose) (files files' : FilesSeen) (made : Made) (path : List ℕ) (e : SiteError) (placed : PlacedFault) → e ≡ error.TooBig placed → FailsIf {A = Found} (Err e) files.faults files'.faults made.before made.after →

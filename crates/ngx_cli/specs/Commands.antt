@@ -9,6 +9,7 @@ use Rattle.replay_text.specs.declared.faults.ScriptFault.{ScriptFault}
 use Rattle.conf_text.specs.declared.fault.ConfFault.{ConfFault}
 use Rattle.conf_text.specs.declared.fault.FaultKind.TheVariants.{ReadFault, PatternTooBig}
 use Rattle.conf_include.specs.Listings.{Names, IsNaming}
+use Rattle.conf_include.specs.Asked.{IsAskedAt}
 use Rattle.conf_include.specs.declared.main_file.PlacedFault.{PlacedFault}
 use Rattle.conf_inherit.specs.Values.{has_items}
 use Rattle.conf_inherit.specs.declared.site.Purpose.{Purpose}
@@ -122,13 +123,14 @@ ReplayEnds files files' made out path racy status.OutOfMemory = Printed out []
 ReplayEnds files files' made out path racy s = ⊥
 
 -- The configuration at a path, read for this purpose, comes to this, as far as the files tell and
--- their newest tree stays while it is read.
+-- their newest tree stays while it is read; where they failed, they were asked where that is told.
 pub record Describes (purpose : Purpose) (files reading : FilesSeen) (path : List ℕ)
     (outcome : Result Found SiteError) : Type 0 where
   pub reads : Reading files reading
   pub is : files.tells ≡ true → reading.newest ≡ files.newest → (names : Names) →
       IsNaming (files.trees files.newest) names →
-      IsDescribed outcome (site_at purpose (files.trees files.newest) names path)
+      IsDescribed (IsAskedAt (files.trees files.newest) names path) outcome
+      (site_at purpose (files.trees files.newest) names path)
 
 -- and its site with its named variables was found
 pub record Finds (purpose : Purpose) (files reading : FilesSeen) (path : List ℕ)
@@ -144,8 +146,10 @@ pub data IsFaultLine (purpose : Purpose) (files files' : FilesSeen) (made : Made
       Describes purpose files files' path (Err (error.Fault placed)) →
       text ≡ ended (conf_fault_line placed.path placed.fault) →
       IsFaultLine purpose files files' made path text
-  OfFiles : (fault : ConfFault) (at : List ℕ) → fault.kind ≡ ReadFault →
-      Rose files.faults files'.faults → text ≡ ended (conf_fault_line at fault) →
+  OfFiles : (placed : PlacedFault) → placed.fault.kind ≡ ReadFault →
+      Rose files.faults files'.faults →
+      Describes purpose files files' path (Err (error.Failed placed)) →
+      text ≡ ended (conf_fault_line placed.path placed.fault) →
       IsFaultLine purpose files files' made path text
   OfMaker : (fault : ConfFault) (at : List ℕ) → fault.kind ≡ PatternTooBig →
       Rose made.before made.after → text ≡ ended (conf_fault_line at fault) →
@@ -158,13 +162,14 @@ pub record Faulty (purpose : Purpose) (files files' : FilesSeen) (out : Output)
   pub described : Describes purpose files files' path (Err (error.Fault placed))
   pub printed : Printed out (ended (conf_fault_line placed.path placed.fault))
 
--- a file couldn't be read, which was printed, with the path of the file that names it
-pub record Unread (files files' : FilesSeen) (out : Output) : Type 0 where
+-- a file of the configuration at a path couldn't be read, which was printed, with the path of the file that names it
+pub record Unread (purpose : Purpose) (files files' : FilesSeen) (out : Output)
+    (path : List ℕ) : Type 0 where
+  pub placed : PlacedFault
+  pub described : Describes purpose files files' path (Err (error.Failed placed))
+  pub kind : placed.fault.kind ≡ ReadFault
   pub rose : Rose files.faults files'.faults
-  pub fault : ConfFault
-  pub at : List ℕ
-  pub kind : fault.kind ≡ ReadFault
-  pub printed : Printed out (ended (conf_fault_line at fault))
+  pub printed : Printed out (ended (conf_fault_line placed.path placed.fault))
 
 -- the maker refused a pattern, which was printed, with the path of its file
 pub record Unmade (made : Made) (out : Output) : Type 0 where
@@ -197,7 +202,8 @@ CheckEnds files files' made out path status.Done = Checked files files' out path
 CheckEnds files files' made out path status.Racy = Checked files files' out path true
 CheckEnds files files' made out path status.ConfFault =
     Faulty purposes.Reading files files' out path
-CheckEnds files files' made out path status.FilesFault = Unread files files' out
+CheckEnds files files' made out path status.FilesFault =
+    Unread purposes.Reading files files' out path
 CheckEnds files files' made out path status.PatternFault = Unmade made out
 CheckEnds files files' made out path status.SinkFault =
     CutShort (IsCheckLine files files' made path) out
@@ -278,7 +284,8 @@ ServeEnds o made out path turns racy status.Racy =
     (racy ≡ false) × Unserved o out path
 ServeEnds o made out path turns racy status.ConfFault =
     Faulty purposes.Serving o.files o.files' out path
-ServeEnds o made out path turns racy status.FilesFault = Unread o.files o.files' out
+ServeEnds o made out path turns racy status.FilesFault =
+    Unread purposes.Serving o.files o.files' out path
 ServeEnds o made out path turns racy status.PatternFault = Unmade made out
 ServeEnds o made out path turns racy status.LinksFault =
     Rose o.links.faults o.links'.faults ×

@@ -92,14 +92,16 @@ configuration_of found ds =
     record { site = site_built found.built; directives = ds; paths = found.paths }
 
 -- A site is the one that is described, with exactly the named variables of its directives, and a fault is the first one,
--- unless the files failed, the maker refused a pattern, or memory ran out.
-abbrev pub Describes : Result Found SiteError → Result Configuration (ConfFault × List ℕ) → Type 0
-Describes (Ok found) outcome = (ds : List Directive) ×
+-- unless the files failed, the maker refused a pattern, or memory ran out. Where the files failed, what is told is where they
+-- were asked.
+abbrev pub Describes : (asked : ConfFault → List ℕ → Type 0) → Result Found SiteError →
+    Result Configuration (ConfFault × List ℕ) → Type 0
+Describes asked (Ok found) outcome = (ds : List Directive) ×
     (outcome ≡ Ok (configuration_of found ds)) × AreRacesOf found ds
-Describes (Err (error.Fault placed)) outcome = outcome ≡ Err (placed.fault, placed.path)
-Describes (Err (error.Failed placed)) outcome = Unit {0}
-Describes (Err (error.TooBig placed)) outcome = Unit {0}
-Describes (Err error.OutOfMemory) outcome = Unit {0}
+Describes asked (Err (error.Fault placed)) outcome = outcome ≡ Err (placed.fault, placed.path)
+Describes asked (Err (error.Failed placed)) outcome = asked placed.fault placed.path
+Describes asked (Err (error.TooBig placed)) outcome = Unit {0}
+Describes asked (Err error.OutOfMemory) outcome = Unit {0}
 
 abbrev pub unread_by : ExpandError → SiteError
 unread_by (expand.Fault placed) = error.Fault placed

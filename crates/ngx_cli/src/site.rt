@@ -3,6 +3,7 @@ ghost use Rattle.std.specs.Prelude.{◌≡◌, true, slice_index_or, [], IfOk, I
 ghost use Rattle.ngx_outside.specs.Records.{Adds};
 ghost use Rattle.ready_loop.specs.Seen.{Grown};
 ghost use Rattle.conf_include.specs.Listings.{Names, IsNaming};
+ghost use Rattle.conf_include.specs.Asked.{IsAskedAt};
 ghost use Rattle.ngx_cli.specs.declared.site.SiteError.TheVariants.{OutOfMemory as NoMemory};
 ghost use Rattle.ngx_cli.specs.Sites.{AreRaceless, AreRacesOf, conflicts_of, Describes, FailsIf, Reading, unread_by, site_at as site_found};
 
@@ -91,7 +92,8 @@ fn site_read<F: Files, M: PatternMaker>(
     ensures exact { (F.seen files.old).tells ≡ true →
         (F.seen files.new).newest ≡ (F.seen files.old).newest → (names : Names) →
         IsNaming ((F.seen files.old).trees (F.seen files.old).newest) names →
-        Describes result (site_found purpose
+        Describes (IsAskedAt ((F.seen files.old).trees (F.seen files.old).newest) names path.now)
+        result (site_found purpose
         ((F.seen files.old).trees (F.seen files.old).newest) names path.now) }
     ensures none { IfOk result (λ found. conflicts_of found ≡ [] → AreRaceless found.built) }
     ensures cause { FailsIf result (F.seen files.old).faults (F.seen files.new).faults
@@ -130,8 +132,8 @@ fn site_read<F: Files, M: PatternMaker>(
 /// # Errors
 ///
 /// `Fault` for the first fault of its files' texts, or of its directives; of a site that is to be served then for the first
-/// directive that has no effect yet. `Failed` only where the files failed in this call, and `TooBig` only where the maker
-/// refused a pattern in it. `OutOfMemory`.
+/// directive that has no effect yet. `Failed` only where the files failed in this call, for a place at which they were asked,
+/// and `TooBig` only where the maker refused a pattern in it. `OutOfMemory`.
 pub fn site_at<F: Files, M: PatternMaker>(
     alloc: Global,
     purpose: Purpose,
@@ -142,7 +144,8 @@ pub fn site_at<F: Files, M: PatternMaker>(
     ensures exact { (F.seen files.old).tells ≡ true →
         (F.seen files.new).newest ≡ (F.seen files.old).newest → (names : Names) →
         IsNaming ((F.seen files.old).trees (F.seen files.old).newest) names →
-        Describes result (site_found purpose
+        Describes (IsAskedAt ((F.seen files.old).trees (F.seen files.old).newest) names path.now)
+        result (site_found purpose
         ((F.seen files.old).trees (F.seen files.old).newest) names path.now) }
     ensures none { IfOk result (λ found. conflicts_of found ≡ [] → AreRaceless found.built) }
     ensures cause { FailsIf result (F.seen files.old).faults (F.seen files.new).faults

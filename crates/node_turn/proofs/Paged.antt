@@ -16,15 +16,21 @@ use Rattle.ssi_exec.specs.declared.document.Scene.{Scene}
 use Rattle.family_meaning.specs.Suspended.{document_rest}
 use Rattle.request_meaning.specs.Bodies.{machines}
 use Rattle.ssi_text.specs.Marks.{marks}
-use Rattle.page_body.specs.Pages.{IsOf, page_rest, waiting, stages_of}
+use Rattle.acts.specs.Act.{◌>>=◌}
+use Rattle.request_meaning.specs.Commands.{captured}
+use Rattle.page_body.specs.Pages.{IsOf, page_captured, page_rest, waiting, stages_of}
 use Rattle.page_body.specs.declared.page.Page.{Page}
-use Rattle.node_turn.specs.Nodes.{answer_seen, doc_at, page_at}
+use Rattle.node_turn.specs.Nodes.{answer_seen, captured_at, doc_at, page_at}
 use Rattle.node_turn.specs.Turns.{IsSceneOf}
 use Rattle.node_turn.specs.declared.answered.Answered.{Answered}
 
 -- a page with a document
 abbrev page_doc : World → Answer → Doc → Page → List ℕ → Serving Answer
 page_doc w answer d page bytes = document_rest w answer d (marks (waiting page)) (machines w page.facts) (stages_of page) bytes
+
+-- and behind a body that goes into a variable of it
+abbrev captured_page : World → Answer → Doc → Page → (bytes name text : List ℕ) → Serving Answer
+captured_page w answer d page bytes name text = captured d name text >>= λ doc. page_doc w answer doc page bytes
 
 module _ (g : Ground) (p : Phases) (left : ℕ) (scene : Scene) (is : IsSceneOf g p left scene) where
   pub values_are : values_of scene ≡ (standing_seen g.site.now p.at).values
@@ -40,6 +46,10 @@ module _ (g : Ground) (p : Phases) (left : ℕ) (scene : Scene) (is : IsSceneOf 
   pub page_is : (w : World) (answer : Answer) (page : Page) (bytes : List ℕ) → page_rest w answer scene page bytes ≡ page_at w g.site.now p left answer page bytes
   unfolding page_rest page_at
   page_is w answer page bytes = ap (λ d. page_doc w answer d page bytes) (doc_is page.document)
+
+  pub captured_is : (w : World) (answer : Answer) (page : Page) (bytes : List ℕ) → (λ name text. page_captured w answer scene page name text bytes) ≡ captured_at w g.site.now p left answer page bytes
+  unfolding page_captured captured_at
+  captured_is w answer page bytes = ap (λ d. captured_page w answer d page bytes) (doc_is page.document)
 
   pub is_of : (a : Answered) → IsOf scene (answer_seen g.site.now p a)
   is_of a = record { main = sym is.main; request = sym is.request; values = sym values_are }

@@ -1,5 +1,5 @@
 -- Bytes of a node that are placed.
-use Rattle.std.proofs.Common.{◌≤◌, ℕ, ◌+◌, List, ◌++◌, length, take, drop, Option, None, Some, sym, ap, ◌∙◌, append_assoc, take-append-drop, drop-drop, drop_of_length-le}
+use Rattle.std.proofs.Common.{◌≤◌, ℕ, ◌+◌, List, [], ◌++◌, length, take, drop, Option, None, Some, refl, sym, ap, ◌∙◌, append-nil, append_assoc, take-append-drop, drop-drop, drop_of_length-le}
 use Rattle.acts.specs.Vars.{Vars}
 use Rattle.acts.specs.Act.{Done, Write}
 use Rattle.site_model.specs.declared.site.Site.{Site}
@@ -30,6 +30,24 @@ module _ (w : World) (site : Site) (p : Phases) (left : ℕ) (answer : Answer) w
         rest = rest;
         writes = ap (λ t. Write t rest) (sym (take-append-drop count h));
         works = λ vars. same_work (ap (λ t. Write t rest) (drop-drop count from bytes));
+      }
+
+  -- so are all that are at hand
+  pub whole_so : (page : Option Page) (bytes : List ℕ) (from next : ℕ) (later : List ℕ) → length bytes ≤ next →
+      PlacesAs (drop from bytes) (placed_act w site p left answer page (drop from bytes) later) (placed_act w site p left answer page (drop next bytes) later)
+  whole_so None bytes from next later e = record {
+    more = later;
+    rest = Done answer;
+    writes = refl;
+    works = λ vars. same_work (ap (λ t. Write (t ++ later) (Done answer)) (sym (drop_of_length-le bytes e)));
+  }
+  whole_so (Some page) bytes from next later e =
+      let rest = page_at w site p left answer page later in
+      record {
+        more = [];
+        rest = rest;
+        writes = ap (λ t. Write t rest) (sym (append-nil (drop from bytes)));
+        works = λ vars. same_work (ap (λ t. Write t rest) (sym (drop_of_length-le bytes e)));
       }
 
   -- all of them are

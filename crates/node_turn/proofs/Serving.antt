@@ -1,5 +1,5 @@
 -- The parts of a page in the acts of its node.
-use Rattle.std.proofs.Common.{◌≡◌, ℕ, suc, ◌&&◌, ◌==◌, Bool, true, false, List, [], ◌∷◌, ◌++◌, length, Option, refl, ap, ◌∙◌, subst, append_assoc}
+use Rattle.std.proofs.Common.{◌≡◌, ℕ, suc, ◌&&◌, ◌==◌, not, Bool, true, false, List, [], ◌∷◌, ◌++◌, length, Option, refl, ap, ◌∙◌, subst, append_assoc}
 use Rattle.acts.specs.Vars.{Vars}
 use Rattle.acts.specs.Act.{Write}
 use Rattle.request_meaning.specs.Serving.{Serving, Answer}
@@ -11,7 +11,7 @@ use Rattle.site_model.specs.declared.site.Site.{Site}
 use Rattle.request_meaning.specs.Serving.{World}
 use Rattle.request_phases.specs.declared.state.Phases.{Phases}
 use Rattle.page_body.specs.declared.page.Page.{Page}
-use Rattle.node_turn.specs.Nodes.{answer_seen, padded, from_source, hand, later, placed_act, served_act}
+use Rattle.node_turn.specs.Nodes.{answer_seen, captured_act, padded, from_source, hand, later, placed_act, served_act}
 use Rattle.node_turn.specs.declared.answered.Answered.{Answered}
 use Rattle.node_turn.specs.declared.node.Body.{Body}
 use Rattle.node_turn.specs.Served.{is_spent}
@@ -67,8 +67,8 @@ right_of false b e = cc
 pub spent : (s : Source) (file : List ℕ) → is_spent s ≡ true → from_source s file ≡ []
 unfolding padded
 spent s file e =
-    ap (λ t. t ++ padded s.left file) (empty_is s.text (left_of (length s.text == 0) (s.left == 0) e))
-    ∙ ap (λ n. padded n file) (zero_is s.left (right_of (length s.text == 0) (s.left == 0) e))
+    ap (λ t. t ++ padded s.left file) (empty_is s.text (left_of (length s.text == 0) (s.left == 0 && not s.unread) e))
+    ∙ ap (λ n. padded n file) (zero_is s.left (left_of (s.left == 0) (not s.unread) (right_of (length s.text == 0) (s.left == 0 && not s.unread) e)))
 
 -- ---- bodies
 
@@ -79,6 +79,12 @@ module _ (w : World) (site : Site) (p : Phases) (left : ℕ) (b : Body) (answere
       ap (λ (a : Answered). served_act w site p left (answer_seen site p a) b.page (later b file)) same.0
       ∙ (ap (λ (s : Source). served_act w site p left (answer_seen site p answered) b.page (from_source s file)) same.1
       ∙ ap (λ x. served_act w site p left (answer_seen site p answered) x (from_source source file)) same.2)
+
+  pub body_captured : (name : List ℕ) → captured_act w site p left (answer_seen site p b.answered) b.page (later b file) name ≡ captured_act w site p left (answer_seen site p answered) page (from_source source file) name
+  body_captured name =
+      ap (λ (a : Answered). captured_act w site p left (answer_seen site p a) b.page (later b file) name) same.0
+      ∙ (ap (λ (s : Source). captured_act w site p left (answer_seen site p answered) b.page (from_source s file) name) same.1
+      ∙ ap (λ x. captured_act w site p left (answer_seen site p answered) x (from_source source file) name) same.2)
 
   pub body_placed : (bytes : List ℕ) → hand b ≡ bytes →
       placed_act w site p left (answer_seen site p b.answered) b.page (hand b) (later b file) ≡ placed_act w site p left (answer_seen site p answered) page bytes (from_source source file)

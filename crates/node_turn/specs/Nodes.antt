@@ -15,6 +15,7 @@ use Rattle.ssi_text.specs.Marks.{marks}
 use Rattle.request_meaning.specs.Serving.{World, Serving, Answer, Prepared, Body as MeantBody}
 use Rattle.request_meaning.specs.Serving.From.{Start}
 use Rattle.request_meaning.specs.Bodies.{written, machines}
+use Rattle.request_meaning.specs.Commands.{captured}
 use Rattle.request_meaning.specs.Documents.{Doc}
 use Rattle.request_meaning.specs.Phases.{rounds}
 use Rattle.family_meaning.specs.Suspended.{document_rest}
@@ -34,7 +35,7 @@ use Rattle.node_turn.specs.declared.answered.Answered.{Answered}
 use Rattle.node_turn.specs.declared.node.Body.{Body}
 use Rattle.node_turn.specs.declared.node.Source.{Source}
 use Rattle.node_turn.specs.declared.node.Stage.{Stage}
-use Rattle.node_turn.specs.declared.node.Stage.TheVariants.{Begins, Asks, Told, Places, Serves, Reads, Ends}
+use Rattle.node_turn.specs.declared.node.Stage.TheVariants.{Begins, Asks, Told, Places, Serves, Reads, Captures, Ends}
 
 -- ---- the main request, which a family keeps once
 
@@ -153,6 +154,16 @@ unfoldable pub page_at : World → Site → Phases → (left : ℕ) → Answer �
 page_at w site p left answer page bytes =
     document_rest w answer (doc_at site p left page.document) (marks (waiting page)) (machines w page.facts) (stages_of page) bytes
 
+-- the same behind a subrequest whose body goes into the variable of this name
+unfoldable pub captured_at : World → Site → Phases → (left : ℕ) → Answer → Page → (bytes name text : List ℕ) → Serving Answer
+captured_at w site p left answer page bytes name text = do
+  doc ← captured (doc_at site p left page.document) name text
+  document_rest w answer doc (marks (waiting page)) (machines w page.facts) (stages_of page) bytes
+
+abbrev pub captured_act : World → Site → Phases → (left : ℕ) → Answer → Option Page → (more name text : List ℕ) → Serving Answer
+captured_act w site p left answer None more name text = Done answer
+captured_act w site p left answer (Some page) more name text = captured_at w site p left answer page more name text
+
 -- bytes that are placed next, and what follows, where this is still to come of the file
 abbrev pub placed_act : World → Site → Phases → (left : ℕ) → Answer → Option Page → (bytes more : List ℕ) → Serving Answer
 placed_act w site p left answer None bytes more = Write (bytes ++ more) (Done answer)
@@ -183,4 +194,18 @@ stage_act w patterns site p left path (Places b) text =
     placed_act w site p left (answer_seen site p b.answered) b.page (hand b) (later b text)
 stage_act w patterns site p left path (Serves b) text = served_act w site p left (answer_seen site p b.answered) b.page (later b text)
 stage_act w patterns site p left path (Reads b) text = served_act w site p left (answer_seen site p b.answered) b.page (later b text)
+stage_act w patterns site p left path (Captures c) text =
+    captured_act w site p left (answer_seen site p c.body.answered) c.body.page (later c.body text) c.name c.text
 stage_act w patterns site p left path (Ends answered) text = Done (answer_seen site p answered)
+
+-- the same behind a subrequest for whose body the node waits
+abbrev pub stage_heard : World → List SetPattern → Site → Phases → (left : ℕ) → (path : List ℕ) → Stage → (text body : List ℕ) → Serving Answer
+stage_heard w patterns site p left path (Begins ssi) text body = stage_act w patterns site p left path (Begins ssi) text
+stage_heard w patterns site p left path (Asks wait ssi) text body = stage_act w patterns site p left path (Asks wait ssi) text
+stage_heard w patterns site p left path (Told wait file ssi) text body = stage_act w patterns site p left path (Told wait file ssi) text
+stage_heard w patterns site p left path (Places b) text body = stage_act w patterns site p left path (Places b) text
+stage_heard w patterns site p left path (Serves b) text body = stage_act w patterns site p left path (Serves b) text
+stage_heard w patterns site p left path (Reads b) text body = stage_act w patterns site p left path (Reads b) text
+stage_heard w patterns site p left path (Captures c) text body =
+    captured_act w site p left (answer_seen site p c.body.answered) c.body.page (later c.body text) c.name body
+stage_heard w patterns site p left path (Ends answered) text body = stage_act w patterns site p left path (Ends answered) text

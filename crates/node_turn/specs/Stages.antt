@@ -1,17 +1,19 @@
 -- How far a node is, and what it still does from there.
-use Rattle.std.specs.Prelude.{◌≡◌, ℕ, ◌==◌, ◌&&◌, ◌||◌, min, nat_lt, not, is_none, Bool, true, false, List, [], length, drop, Option, None, Some}
+use Rattle.std.specs.Prelude.{◌≡◌, ℕ, ◌==◌, ◌&&◌, ◌||◌, min, nat_lt, not, is_none, Bool, true, false, List, [], ◌++◌, length, drop, Option, None, Some}
 use Rattle.file_tree.specs.Tree.{Item, Trees, text_of}
 use Rattle.file_tree.specs.declared.job.Ask.{Ask}
 use Rattle.file_tree.specs.declared.job.Ask.TheVariants as asks
 use Rattle.ngx_pattern.specs.Pattern.{Pattern as SetPattern}
 use Rattle.ngx_variables.specs.declared.request.Main.{Main}
 use Rattle.site_model.specs.declared.site.Site.{Site}
-use Rattle.postpone_filter.specs.Row.{Row, room}
+use Rattle.postpone_filter.specs.Row.{Row as Order, room}
 use Rattle.request_meaning.specs.Serving.{World, Serving, Answer}
-use Rattle.node_turn.specs.Nodes.{asked_path, hand, lent, stage_act}
+use Rattle.node_turn.specs.Nodes.{asked_path, hand, lent, stage_act, stage_heard}
 use Rattle.node_turn.specs.declared.node.Node.{Node}
+use Rattle.node_turn.specs.declared.node.Place.{Place}
+use Rattle.node_turn.specs.declared.node.Place.TheVariants.{Row, Stub, Captured}
 use Rattle.node_turn.specs.declared.node.Stage.{Stage}
-use Rattle.node_turn.specs.declared.node.Stage.TheVariants.{Begins, Asks, Told, Places, Serves, Reads, Ends}
+use Rattle.node_turn.specs.declared.node.Stage.TheVariants.{Begins, Asks, Told, Places, Serves, Reads, Captures, Ends}
 
 -- ---- stages
 
@@ -23,6 +25,7 @@ is_asking (Told wait file ssi) = false
 is_asking (Places b) = false
 is_asking (Serves b) = false
 is_asking (Reads b) = false
+is_asking (Captures c) = false
 is_asking (Ends answered) = false
 
 -- a block of its file is asked
@@ -33,6 +36,7 @@ is_reading (Told wait file ssi) = false
 is_reading (Places b) = false
 is_reading (Serves b) = false
 is_reading (Reads b) = true
+is_reading (Captures c) = false
 is_reading (Ends answered) = false
 
 -- its phases go on next
@@ -43,6 +47,7 @@ is_turning (Told wait file ssi) = true
 is_turning (Places b) = false
 is_turning (Serves b) = false
 is_turning (Reads b) = false
+is_turning (Captures c) = false
 is_turning (Ends answered) = false
 
 -- bytes are placed next
@@ -53,6 +58,7 @@ is_placing (Told wait file ssi) = false
 is_placing (Places b) = true
 is_placing (Serves b) = false
 is_placing (Reads b) = false
+is_placing (Captures c) = false
 is_placing (Ends answered) = false
 
 -- the bytes that are placed next
@@ -63,6 +69,7 @@ hand_at (Told wait file ssi) = []
 hand_at (Places b) = hand b
 hand_at (Serves b) = []
 hand_at (Reads b) = []
+hand_at (Captures c) = []
 hand_at (Ends answered) = []
 
 -- the next part of its page is taken up next
@@ -73,6 +80,7 @@ is_serving (Told wait file ssi) = false
 is_serving (Places b) = false
 is_serving (Serves b) = true
 is_serving (Reads b) = false
+is_serving (Captures c) = true
 is_serving (Ends answered) = false
 
 -- it has come to its answer
@@ -83,13 +91,32 @@ is_ending (Told wait file ssi) = false
 is_ending (Places b) = false
 is_ending (Serves b) = false
 is_ending (Reads b) = false
+is_ending (Captures c) = false
 is_ending (Ends answered) = true
+
+-- ---- where its bytes go
+
+-- to the order
+abbrev pub is_in_row : Place → Bool
+is_in_row Row = true
+is_in_row (Stub stub text) = false
+is_in_row (Captured text) = false
+
+-- with more bytes of a body of which it isn't known whether it is shown
+abbrev pub held_more : List ℕ → Place → Place
+held_more bytes Row = Row
+held_more bytes (Stub stub text) = Stub stub (text ++ bytes)
+held_more bytes (Captured text) = Captured (text ++ bytes)
 
 -- ---- what it still does
 
 -- what a node still does, where the file that it reads still has this text
 abbrev pub node_act : World → List SetPattern → Site → Main → Node → (text : List ℕ) → Serving Answer
 node_act w patterns site main n text = stage_act w patterns site (lent main n.phases) n.left (asked_path n.ask) n.stage text
+
+-- and behind a subrequest for whose body it waits
+abbrev pub node_heard : World → List SetPattern → Site → Main → Node → (text body : List ℕ) → Serving Answer
+node_heard w patterns site main n text body = stage_heard w patterns site (lent main n.phases) n.left (asked_path n.ask) n.stage text body
 
 -- ---- its job
 
@@ -138,6 +165,7 @@ pub record IsSameNode (old new : Node) : Type 0 where
   pub left : new.left ≡ old.left
   pub children : new.children ≡ old.children
   pub over : new.over ≡ old.over
+  pub asks : new.asks ≡ old.asks
 
 -- ---- whether it can run
 
@@ -148,6 +176,6 @@ can_place room other = true
 
 -- It can run: it waits neither for its job nor for the end of a subrequest, it isn't at its end, and there is room for what it
 -- places.
-abbrev pub can_run : Row → (at : ℕ) → Node → Bool
+abbrev pub can_run : Order → (at : ℕ) → Node → Bool
 can_run row at n =
     not n.over && ((is_turning n.stage || (is_serving n.stage && is_none n.waits)) || (is_placing n.stage && can_place (room at row.pieces) n.stage))

@@ -1,14 +1,16 @@
 -- What a node comes to where the next part of its page is taken up.
 use Rattle.acts.specs.Vars.{Vars}
-use Rattle.acts.specs.Act.{Inner}
+use Rattle.std.specs.Prelude.{ℕ, List}
+use Rattle.acts.specs.Act.{Call, Inner}
 use Rattle.ngx_variables.specs.declared.request.Main.{Main}
 use Rattle.request_meaning.specs.Serving.{Serving, Answer}
 use Rattle.ssi_exec.specs.Scenes.{child_seen}
 use Rattle.node_turn.specs.Turns.{Works}
 use Rattle.node_turn.specs.declared.turn.Turn.{Turn}
-use Rattle.node_turn.specs.declared.turn.Turn.TheVariants.{On, Opens}
+use Rattle.node_turn.specs.declared.turn.Turn.TheVariants.{On, Opens, Asks}
 
--- Variables are read, and the node goes on, maybe behind a subrequest whose body stands here.
-abbrev pub TakesTo : Main → Vars → (old new : Serving Answer) → Turn → Type 0
-TakesTo main vars old new On = Works vars old new
-TakesTo main vars old new (Opens child) = Works vars old (Inner (child_seen main child) new)
+-- Variables are read, and the node goes on, maybe behind a subrequest whose body stands here; or it waits for the body of one.
+abbrev pub TakesTo : Main → Vars → (old new : Serving Answer) → (heard : List ℕ → Serving Answer) → Turn → Type 0
+TakesTo main vars old new heard On = Works vars old new
+TakesTo main vars old new heard (Opens child) = Works vars old (Inner (child_seen main child) new)
+TakesTo main vars old new heard (Asks child) = Works vars old (Call (child_seen main child) (λ reply. heard reply.body))

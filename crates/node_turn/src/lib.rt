@@ -14,7 +14,7 @@ mod turn;
 
 pub use answered::Answered;
 pub use lending::lend;
-pub use node::{Body, Node, Source, Stage};
+pub use node::{Body, Capture, Node, Place, Source, Stage};
 pub use phase::answering;
 pub use slot::{put, take};
-pub use turn::{Placed, Turn, places, takes, turns};
+pub use turn::{Placed, Turn, holds, places, takes, turns};

@@ -8,11 +8,13 @@ use page_body::Page;
 use request_phases::{Phases, Wait};
 use ssi_values::Table;
 
-/// What a body comes from: a text, and then this many bytes of a file.
+/// What a body comes from: a text, and then this many bytes of a file, which is read at least once,
+/// an empty one too: it is unread where no block of it came yet.
 #[derive(Drop)]
 pub struct Source {
     pub text: ByteText,
     pub left: u64,
+    pub unread: bool,
 }
 
 /// The body of a node: what is answered beside it; bytes that are placed next, from `from` on; what
@@ -25,6 +27,15 @@ pub struct Body {
     pub source: Source,
     pub page: Option<Page>,
     ghost within: { from ≤ length bytes },
+}
+
+/// A body whose page has a variable of this name for the body of a subrequest, which is this text
+/// once the node doesn't wait for it any more.
+#[derive(Drop)]
+pub struct Capture {
+    pub body: Body,
+    pub name: ByteText,
+    pub text: ByteText,
 }
 
 /// How far a node is. Until its body begins it has the variables with which its document begins.
@@ -49,8 +60,22 @@ pub enum Stage {
     Serves(Body),
     /// A block of its file is asked.
     Reads(Body),
+    /// The body of a subrequest goes into a variable of its page.
+    Captures(Capture),
     /// It has come to its answer.
     Ends(Answered),
+}
+
+/// Where the bytes of a node go.
+#[derive(Drop)]
+pub enum Place {
+    /// To the order, at its place there.
+    Row,
+    /// It isn't known yet whether its stub stands at its place or its body: these bytes of its body
+    /// came so far.
+    Stub { stub: ByteText, text: ByteText },
+    /// To its parent, which waits for its body: these bytes of it came so far.
+    Captured(ByteText),
 }
 
 /// A node of a family.
@@ -64,6 +89,9 @@ pub struct Node {
     /// if there is one.
     pub children: u32,
     pub waits: Option<u32>,
+    /// The number of the subrequest for whose body it waits, if there is one.
+    pub asks: Option<u32>,
+    pub place: Place,
     /// Its phases, in which the main request's method alone counts.
     pub phases: Phases,
     /// Its job, or its last one, and from which byte on its file is read next.

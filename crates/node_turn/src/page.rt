@@ -10,12 +10,12 @@ ghost use Rattle.request_phases.specs.declared.state.Phases.{Phases as PhasesVie
 ghost use Rattle.ssi_exec.specs.declared.document.Scene.{Scene as SceneView};
 ghost use Rattle.acts.specs.Act.{Done};
 ghost use Rattle.page_body.specs.Pages.{Does, page_rest, stop_of, waits};
-ghost use Rattle.node_turn.specs.Nodes.{answer_seen, from_source, hand, later, page_at, served_act};
+ghost use Rattle.node_turn.specs.Nodes.{answer_seen, captured_act, captured_at, from_source, hand, later, page_at, served_act};
 ghost use Rattle.node_turn.specs.Served.{ServesTo, is_spent as source_spent};
 ghost use Rattle.node_turn.specs.Turns.{IsSceneOf};
 
 use crate::answered::Answered;
-use crate::node::{Body, Source, Stage};
+use crate::node::{Body, Capture, Source, Stage};
 use byte_text::{ByteText, OutOfMemory};
 use ngx_variables::VarTable;
 use page_body::{Doing, Page};
@@ -29,6 +29,8 @@ pub(crate) enum Served {
     On(Stage),
     /// The body of a subrequest stands here, and the node goes on.
     Opens(Child, Stage),
+    /// A subrequest is asked for, whose body goes into a variable.
+    Asks(Child, Stage),
     /// A block of its file is to be asked.
     Wants(Body),
 }
@@ -52,7 +54,7 @@ fn body_of(answered: Answered, bytes: ByteText, source: Source, page: Option<Pag
 fn is_spent(source: &Source) -> bool
     ensures { result ≡ source_spent source.now }
 {
-    source.text.is_empty() && source.left == 0
+    source.text.is_empty() && source.left == 0 && !source.unread
 }
 
 /// A page that takes the text of its source.
@@ -102,6 +104,7 @@ fn more(
         let source = Source {
             text: ByteText::new(alloc),
             left: source.left,
+            unread: source.unread,
         };
         return Ok(Served::On(Stage::Serves(body_of(answered, none, source, Some(page)))));
     }
@@ -124,10 +127,11 @@ fn done(
     requires { stop_of doing ≡ Some false → waits page ≡ false }
     ensures { IfOk result (λ served. (g : GroundView) (p : PhasesView) (levels : ℕ)
         (patterns : List SetPattern) (path file : List ℕ) (vars : Vars) (old : Serving Answer)
-        (captures : List ℕ → List ℕ → Serving Answer) → IsSceneOf g p levels scene.now
+        → IsSceneOf g p levels scene.now
         → let w = world_in patterns g shipped in let answer = answer_seen g.site.now p answered in
         let new = page_at w g.site.now p levels answer page (from_source source file) in
-        Does p.main vars doing old new captures
+        Does p.main vars doing old new
+        (captured_at w g.site.now p levels answer page (from_source source file))
         → (stop_of doing ≡ Some true → source_spent source ≡ true → old ≡ Done answer)
         → ServesTo g p levels patterns path file vars old served) }
 {
@@ -144,7 +148,16 @@ fn done(
             let body = body_of(answered, ByteText::new(alloc), source, Some(page));
             Ok(Served::Opens(child, Stage::Serves(body)))
         }
-        Doing::Captures { .. } => Err(OutOfMemory),
+        Doing::Captures { name, child } => {
+            let none = ByteText::new(alloc);
+            let body = body_of(answered, ByteText::new(alloc), source, Some(page));
+            let capture = Capture {
+                body,
+                name,
+                text: none,
+            };
+            Ok(Served::Asks(child, Stage::Captures(capture)))
+        }
         Doing::NeedsMore => Ok(more(alloc, scene, answered, source, page)?),
         Doing::Over => {
             if !is_spent(&source) {
@@ -202,6 +215,43 @@ pub(crate) fn serves(
                 return Ok(Served::On(Stage::Ends(answered)));
             }
             Ok(Served::Wants(body_of(answered, bytes, source, None)))
+        }
+    }
+}
+
+/// Goes on with a body whose page has the body of a subrequest now.
+pub(crate) fn hears(
+    alloc: Global,
+    scene: &Scene<'_>,
+    capture: Capture,
+) -> Result<Served, OutOfMemory>
+    ensures { IfOk result (λ served. (g : GroundView) (p : PhasesView) (levels : ℕ)
+        (patterns : List SetPattern) (path file : List ℕ) (vars : Vars)
+        → IsSceneOf g p levels scene.now → ServesTo g p levels patterns path file vars
+        (captured_act (world_in patterns g shipped) g.site.now p levels
+        (answer_seen g.site.now p capture.body.answered) capture.body.page
+        (later capture.body file) capture.name capture.text) served) }
+{
+    let Capture { body, name, text } = capture;
+    let Body {
+        answered,
+        bytes: _,
+        from: _,
+        source,
+        page,
+    } = body;
+    let Some(page) = page else {
+        return Err(OutOfMemory);
+    };
+    let mut page = page;
+    match page.captured(alloc, scene, name.as_slice(), text)? {
+        Some(text) => {
+            let body = body_of(answered, text, source, Some(page));
+            Ok(Served::On(Stage::Places(body)))
+        }
+        None => {
+            let body = body_of(answered, ByteText::new(alloc), source, Some(page));
+            Ok(Served::On(Stage::Serves(body)))
         }
     }
 }

@@ -83,7 +83,7 @@ pub(crate) fn scene_of<'a>(ground: &Ground<'a>, phases: &'a Phases, left: u32) -
 }
 
 /// A body that is sent as it is: these bytes, and then this many of a file.
-fn plain(alloc: Global, answered: Answered, bytes: ByteText, left: u64) -> Stage
+fn plain(alloc: Global, answered: Answered, bytes: ByteText, left: u64, unread: bool) -> Stage
     ensures { (g : GroundView) (p : PhasesView) (levels : ℕ) (patterns : List SetPattern)
         (path text : List ℕ) → stage_act (world_in patterns g shipped) patterns g.site.now p levels
         path result text
@@ -96,6 +96,7 @@ fn plain(alloc: Global, answered: Answered, bytes: ByteText, left: u64) -> Stage
         source: Source {
             text: ByteText::new(alloc),
             left,
+            unread,
         },
         page: None,
     })
@@ -110,6 +111,7 @@ fn paged(
     ssi: Table,
     text: ByteText,
     left: u64,
+    unread: bool,
 ) -> Result<Stage, OutOfMemory>
     ensures { IfOk result (λ stage. (g : GroundView) (p : PhasesView) (levels : ℕ)
         (patterns : List SetPattern) (path file : List ℕ) → IsSceneOf g p levels scene.now
@@ -122,7 +124,7 @@ fn paged(
         answered,
         bytes: ByteText::new(alloc),
         from: 0,
-        source: Source { text, left },
+        source: Source { text, left, unread },
         page: Some(page),
     }))
 }
@@ -136,6 +138,7 @@ fn sent(
     ssi: Table,
     text: ByteText,
     left: u64,
+    unread: bool,
 ) -> Result<Stage, OutOfMemory>
     ensures { IfOk result (λ stage. (g : GroundView) (p : PhasesView) (levels : ℕ)
         (patterns : List SetPattern) (path file : List ℕ) (vars : Vars)
@@ -145,8 +148,8 @@ fn sent(
         ≡ (stage_act w patterns g.site.now p levels path stage file, vars)) }
 {
     match facts {
-        None => Ok(plain(alloc, answered, text, left)),
-        Some(facts) => Ok(paged(alloc, scene, answered, facts, ssi, text, left)?),
+        None => Ok(plain(alloc, answered, text, left, unread)),
+        Some(facts) => Ok(paged(alloc, scene, answered, facts, ssi, text, left, unread)?),
     }
 }
 
@@ -177,12 +180,12 @@ pub fn answering(
         ReplyBody::Page(code) => {
             let mut bytes = ByteText::new(alloc);
             page_text(code, &mut bytes)?;
-            Ok(plain(alloc, answered, bytes, 0))
+            Ok(plain(alloc, answered, bytes, 0, false))
         }
-        ReplyBody::Text(text) => Ok(sent(alloc, &scene, answered, facts, ssi, text, 0)?),
+        ReplyBody::Text(text) => Ok(sent(alloc, &scene, answered, facts, ssi, text, 0, false)?),
         ReplyBody::File => {
             let none = ByteText::new(alloc);
-            Ok(sent(alloc, &scene, answered, facts, ssi, none, len)?)
+            Ok(sent(alloc, &scene, answered, facts, ssi, none, len, true)?)
         }
     }
 }

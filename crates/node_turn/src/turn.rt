@@ -12,16 +12,16 @@ ghost use Rattle.request_phases.specs.Rounds.{IsGround, world_in};
 ghost use Rattle.request_phases.specs.declared.ground.Ground.{Ground as GroundView};
 ghost use Rattle.request_phases.specs.declared.state.Phases.{Phases as PhasesView};
 ghost use Rattle.site_model.specs.declared.site.Site.{Site as SiteRow};
-ghost use Rattle.node_turn.specs.Stages.{IsSameNode, ask_or, block_of, hand_at, is_asking, is_placing, is_serving, is_turning, item_asked, main_of, node_act, start_or, can_run};
-ghost use Rattle.node_turn.specs.Nodes.{answer_seen, asked_path, hand, later, lent, placed_act, served_act, stage_act};
+ghost use Rattle.node_turn.specs.Stages.{IsSameNode, ask_or, block_of, hand_at, held_more, is_asking, is_placing, is_serving, is_turning, item_asked, main_of, node_act, node_heard, start_or, can_run};
+ghost use Rattle.node_turn.specs.Nodes.{answer_seen, asked_path, captured_act, hand, later, lent, placed_act, served_act, stage_act};
 ghost use Rattle.node_turn.specs.Served.{ServesTo};
 ghost use Rattle.node_turn.specs.Taken.{TakesTo};
 ghost use Rattle.node_turn.specs.Turns.{PlacesAs, Works};
 ghost use Rattle.node_turn.specs.declared.node.Stage.TheVariants.{Places as PlacesView, Reads as ReadsView};
 
 use crate::lending::lend;
-use crate::node::{Body, Node, Stage};
-use crate::page::{Served, serves};
+use crate::node::{Body, Capture, Node, Place, Stage};
+use crate::page::{Served, hears, serves};
 use crate::phase::{Turned, begins, resumes, scene_of};
 use crate::slot::{put, take};
 use byte_text::{ByteText, OutOfMemory};
@@ -79,6 +79,7 @@ pub fn turns(
         settled (node_act w patterns.old site main.old node.old text) vars.old
         ≡ (node_act w patterns.old site main.old node.new text, vars.new)) }
     ensures node { OnOk result (IsSameNode node.old node.new) }
+    ensures place { OnOk result (node.new.place ≡ node.old.place) }
     ensures file { OnOk result (is_asking node.new.stage ≡ false →
         (node.new.ask ≡ node.old.ask) × (node.new.start ≡ node.old.start)) }
     ensures main { OnOk result (main.new ≡ main.old) }
@@ -150,6 +151,7 @@ pub fn places(alloc: Global, order: &mut Order, id: u32, node: &mut Node) -> Pla
         (node_act w patterns site main node.new text) }
     ensures node { IsSameNode node.old node.new }
     ensures file { (node.new.ask ≡ node.old.ask) × (node.new.start ≡ node.old.start) }
+    ensures place { node.new.place ≡ node.old.place }
     ensures rests { (row : Row) (at : ℕ) → result.all ≡ false → room at row.pieces ≡ 0
         → can_run row at node.new ≡ false }
 {
@@ -165,6 +167,60 @@ pub fn places(alloc: Global, order: &mut Order, id: u32, node: &mut Node) -> Pla
     }
 }
 
+/// No more bytes than these are held of a body of which it isn't known whether it is shown.
+const MOST_HELD: usize = 65536;
+
+/// More bytes of a node with a stub came.
+fn hold(place: &mut Place, bytes: &[u8]) -> Result<(), OutOfMemory>
+    ensures { OnOk result (place.new ≡ held_more bytes.now place.old) }
+{
+    match place {
+        Place::Row => Ok(()),
+        Place::Stub { stub: _, text } => {
+            if text.len().saturating_add(bytes.len()) > MOST_HELD {
+                return Err(OutOfMemory);
+            }
+            text.extend(bytes)?;
+            Ok(())
+        }
+        Place::Captured(text) => {
+            if text.len().saturating_add(bytes.len()) > MOST_HELD {
+                return Err(OutOfMemory);
+            }
+            text.extend(bytes)?;
+            Ok(())
+        }
+    }
+}
+
+/// The bytes that are at hand are held, all of them: it isn't known yet whether they are shown.
+///
+/// # Errors
+/// `OutOfMemory`, where there is no room for them too; the node is then not to go on.
+pub fn holds(alloc: Global, node: &mut Node) -> Result<(), OutOfMemory>
+    requires { is_placing node.old.stage ≡ true }
+    ensures acts { OnOk result ((w : World) (patterns : List SetPattern) (site : SiteRow)
+        (main : MainView) (text : List ℕ) → PlacesAs (hand_at node.old.stage)
+        (node_act w patterns site main node.old text)
+        (node_act w patterns site main node.new text)) }
+    ensures place { OnOk result (node.new.place
+        ≡ held_more (hand_at node.old.stage) node.old.place) }
+    ensures node { OnOk result (IsSameNode node.old node.new) }
+    ensures file { OnOk result
+        ((node.new.ask ≡ node.old.ask) × (node.new.start ≡ node.old.start)) }
+{
+    match stage_of(alloc, node) {
+        Stage::Places(body) => {
+            let count = body.bytes.len() - body.from;
+            hold(&mut node.place, &body.bytes.as_slice()[body.from..])?;
+            let body = advanced(body, count);
+            put(&mut node.stage, stage_after(body));
+            Ok(())
+        }
+        _ => unreachable!(),
+    }
+}
+
 /// What a node comes to where the next part of its page is taken up.
 #[derive(Drop)]
 pub enum Turn {
@@ -172,6 +228,8 @@ pub enum Turn {
     On,
     /// The body of a subrequest stands here, and it goes on.
     Opens(Child),
+    /// It waits for the body of a subrequest.
+    Asks(Child),
 }
 
 /// No more bytes of a file are asked at once.
@@ -240,6 +298,24 @@ fn served(
     Ok(serves(alloc, &scene, vars, body)?)
 }
 
+/// The page of a request in its phases, which has the body of a subrequest now.
+fn heard(
+    alloc: Global,
+    ground: &Ground<'_>,
+    phases: &Phases,
+    left: u32,
+    capture: Capture,
+) -> Result<Served, OutOfMemory>
+    ensures { IfOk result (λ served. (patterns : List SetPattern) (path file : List ℕ)
+        (vars : Vars) → ServesTo ground.now phases.now left patterns path file vars
+        (captured_act (world_in patterns ground.now shipped) ground.now.site.now phases.now left
+        (answer_seen ground.now.site.now phases.now capture.body.answered) capture.body.page
+        (later capture.body file) capture.name capture.text) served) }
+{
+    let scene = scene_of(ground, phases, left);
+    Ok(hears(alloc, &scene, capture)?)
+}
+
 /// What a node comes to by the next part of its page.
 fn put_served(alloc: Global, node: &mut Node, served: Served) -> Turn
     ensures acts { (g : GroundView) (patterns : List SetPattern) (main : MainView)
@@ -247,8 +323,10 @@ fn put_served(alloc: Global, node: &mut Node, served: Served) -> Turn
         ServesTo g (lent main node.old.phases) node.old.left patterns (asked_path node.old.ask) text
         vars old served
         → TakesTo (main_of main node.old) vars old
-        (node_act (world_in patterns g shipped) patterns g.site.now main node.new text) result }
+        (node_act (world_in patterns g shipped) patterns g.site.now main node.new text)
+        (node_heard (world_in patterns g shipped) patterns g.site.now main node.new text) result }
     ensures node { IsSameNode node.old node.new }
+    ensures place { node.new.place ≡ node.old.place }
     ensures phases { node.new.phases ≡ node.old.phases }
     ensures start { node.new.start ≡ node.old.start }
     ensures file { (trees : Trees) → item_asked trees node.new.ask ≡ item_asked trees node.old.ask }
@@ -261,6 +339,10 @@ fn put_served(alloc: Global, node: &mut Node, served: Served) -> Turn
         Served::Opens(child, stage) => {
             put(&mut node.stage, stage);
             Turn::Opens(child)
+        }
+        Served::Asks(child, stage) => {
+            put(&mut node.stage, stage);
+            Turn::Asks(child)
         }
         Served::Wants(body) => {
             put_block(alloc, node, body);
@@ -285,8 +367,10 @@ pub fn takes(
         let w = world_in patterns ground.now shipped in let site = ground.now.site.now in
         TakesTo (main_of main.old node.old) vars.now
         (node_act w patterns site main.old node.old text)
-        (node_act w patterns site main.old node.new text) turn) }
+        (node_act w patterns site main.old node.new text)
+        (node_heard w patterns site main.old node.new text) turn) }
     ensures node { IfOk result (λ turn. IsSameNode node.old node.new) }
+    ensures place { OnOk result (node.new.place ≡ node.old.place) }
     ensures method { IfOk result (λ turn. main_of main.old node.new ≡ main_of main.old node.old) }
     ensures start { IfOk result (λ turn. node.new.start ≡ node.old.start) }
     ensures file { IfOk result (λ turn. (trees : Trees) →
@@ -297,6 +381,12 @@ pub fn takes(
         Stage::Serves(body) => {
             lend(main, &mut node.phases);
             let served = served(alloc, ground, &node.phases, node.left, vars, body)?;
+            lend(main, &mut node.phases);
+            Ok(put_served(alloc, node, served))
+        }
+        Stage::Captures(capture) => {
+            lend(main, &mut node.phases);
+            let served = heard(alloc, ground, &node.phases, node.left, capture)?;
             lend(main, &mut node.phases);
             Ok(put_served(alloc, node, served))
         }

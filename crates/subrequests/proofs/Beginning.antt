@@ -1,5 +1,5 @@
 -- A family of one node.
-use Rattle.std.proofs.Common.{◌≡◌, ℕ, zero, suc, ◌≤◌, ◌==◌, ◌&&◌, Bool, true, false, cond, not, List, [], ◌∷◌, length, slice_get, Some, refl, sym, ap, ◌∙◌, subst, arith}
+use Rattle.std.proofs.Common.{◌≡◌, ℕ, zero, suc, ◌<◌, ◌≤◌, ◌==◌, ◌&&◌, Bool, true, false, cond, not, List, [], ◌∷◌, length, slice_get, None, Some, refl, sym, ap, ◌∙◌, subst, arith}
 use Rattle.std.proofs.lemmas.Bool.Decides.{nat_tests}
 use Rattle.acts.specs.Vars.{Vars}
 use Rattle.acts.specs.Act.{settled}
@@ -14,11 +14,15 @@ use Rattle.family_order.specs.Items.{Family, alone, doing, with_stance}
 use Rattle.family_order.specs.Items.Stance.{Going}
 use Rattle.family_order.specs.Laws.{ShowsTheSame}
 use Rattle.node_turn.specs.Stages.{node_act}
-use Rattle.subrequests.specs.Families.{IsSound, goes_on_at, seen, stance_in}
-use Rattle.subrequests.specs.Moved.{Opening}
+use Rattle.subrequests.specs.Families.{IsSound, captured_at, goes_on_at, is_captured, seen, stance_by_asks, stance_in}
+use Rattle.node_line.specs.Stances.{Opening, stance_at}
+use Rattle.family_order.proofs.Wells.{begun-well}
+use Rattle.family_order.specs.Items.{IsWellRow}
+use Rattle.node_turn.specs.declared.node.Place.TheVariants.{Row as InRow}
+use Rattle.node_line.specs.Stances.Seat.{InRow as InItsRow}
 use Rattle.node_turn.specs.Nodes.{lent, of_method}
 use Rattle.node_turn.specs.declared.node.Node.{Node}
-use Rattle.subrequests.proofs.Steps as steps
+use Rattle.node_line.proofs.Steps as steps
 
 -- a main request that is lent to the phases from which it was taken
 pub given : (blank main : Main) (p back : Phases) → main ≡ of_method blank.method p.main → back ≡ lent blank p → lent main back ≡ p
@@ -47,12 +51,14 @@ module _ (row : Row) (nodes : List Node) (n : Node) (first : row ≡ begun) (one
   there : slice_get nodes 0 ≡ Some n
   there = ap (λ ns. slice_get ns 0) one
 
-  pub sound : n.over ≡ false → IsSound row nodes
+  pub sound : n.over ≡ false → is_captured n.place ≡ false → IsSound row nodes
   unfolding is_open
-  sound over = record {
+  sound over free = record {
+    well = subst (IsWellRow 0) (sym first) (begun-well 0 1 (let e : 0 < 1 = omega arith in e));
     few = subst (λ ns. length ns ≤ 1001) (sym one) (let e : 1 ≤ 1001 = omega arith in e);
     count = ap (λ (r : Row). r.nodes) first ∙ ap length (sym one);
     going = λ j. going j;
+    first = ap captured_at there ∙ free;
   }
     where
       going : (j : ℕ) → is_open j row.pieces ≡ goes_on_at (slice_get nodes j)
@@ -60,13 +66,13 @@ module _ (row : Row) (nodes : List Node) (n : Node) (first : row ≡ begun) (one
       going (suc j) = ap (λ (r : Row). is_open (suc j) r.pieces) first ∙ closed j ∙ ap (λ ns. goes_on_at (slice_get ns (suc j))) (sym one)
 
 module _ (laws : ShowsTheSame) (w : World) (tree : Tree) (ps : List SetPattern) (site : Site) (main : Main) (row : Row) (nodes : List Node) (texts : ℕ → List ℕ) (vars : Vars) (n : Node) (m : Serving Answer)
-    (first : row ≡ begun) (one : nodes ≡ n ∷ []) (left : n.left ≡ 50) where
+    (first : row ≡ begun) (one : nodes ≡ n ∷ []) (left : n.left ≡ 50) (place : n.place ≡ InRow) (none : n.asks ≡ None) where
   pub begins : (table : Vars) → settled m table ≡ (node_act w ps site main n (texts 0), vars) → Opening w tree 0 (alone 0 1 (Going 50 m)) table (seen w ps site main row nodes texts) vars
   begins table e =
       let f : Family = record { row = row; output = []; stance = λ j. Going 50 m; root = 0 } in
       subst (λ (r : Row). Opening w tree 0 (record { row = r; output = []; stance = λ j. Going 50 m; root = 0 }) table (seen w ps site main row nodes texts) vars) first
       (steps.alike (laws.others f (with_stance 0 (Going 50 m) f.stance) (λ j h. same (j == 0)))
-      (steps.then (steps.thinks w tree laws 0 50 f (open_first row nodes n first one) m (node_act w ps site main n (texts 0)) table vars e)
+      (steps.then (steps.thinks w tree laws 0 0 InItsRow 50 f (open_first row nodes n first one) m (node_act w ps site main n (texts 0)) table vars e)
       (steps.alike (laws.others (doing 0 (Going 50 (node_act w ps site main n (texts 0))) f) (stance_in w ps site main nodes texts) (λ j h. is j (only row nodes n first one j h))) steps.stays)))
     where
       same : (b : Bool) → Going 50 m ≡ cond b (Going 50 m) (Going 50 m)
@@ -75,5 +81,6 @@ module _ (laws : ShowsTheSame) (w : World) (tree : Tree) (ps : List SetPattern) 
 
       is : (j : ℕ) → j ≡ 0 → cond (j == 0) (Going 50 (node_act w ps site main n (texts 0))) (Going 50 m) ≡ stance_in w ps site main nodes texts j
       is j h =
-          ap (λ i. cond (i == 0) (Going 50 (node_act w ps site main n (texts 0))) (Going 50 m)) h ∙ ap (λ l. Going l (node_act w ps site main n (texts 0))) (sym left)
+          ap (λ i. cond (i == 0) (Going 50 (node_act w ps site main n (texts 0))) (Going 50 m)) h ∙ ap (λ l. Going l (node_act w ps site main n (texts 0))) (sym left) ∙ ap (λ p. stance_at 0 p n.left (node_act w ps site main n (texts 0))) (sym place)
+          ∙ ap (stance_by_asks w ps site main (n ∷ []) texts 0 n) (sym none)
           ∙ ap (λ ns. stance_in w ps site main ns texts 0) (sym one) ∙ ap (λ i. stance_in w ps site main nodes texts i) (sym h)

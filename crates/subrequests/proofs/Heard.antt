@@ -8,25 +8,24 @@ use Rattle.file_tree.specs.declared.job.JobAnswer.{JobAnswer}
 use Rattle.ngx_pattern.specs.Pattern.{Pattern as SetPattern}
 use Rattle.ngx_variables.specs.declared.request.Main.{Main}
 use Rattle.site_model.specs.declared.site.Site.{Site}
-use Rattle.postpone_filter.specs.Row.{Row, is_open}
+use Rattle.postpone_filter.specs.Row.{Row}
 use Rattle.request_meaning.specs.Serving.{World, Serving, Answer}
 use Rattle.family_order.specs.Acts.{Goes}
-use Rattle.family_order.specs.Acts.Acts.{Learns}
 use Rattle.family_order.specs.Acts.Goes.{Stays, Acting, Alike}
-use Rattle.family_order.specs.Items.{Family, IsAlike, IsWell, with_stance, doing}
-use Rattle.family_order.specs.Items.Stance.{Going}
+use Rattle.family_order.specs.Items.{Stance, Family, IsAlike, IsWell, with_stance, doing}
 use Rattle.family_order.specs.Laws.{ShowsTheSame}
 use Rattle.family_rest.specs.Laws.{QuietIsExact, RowTellsStill}
 use Rattle.family_rest.specs.Still.{subs_still}
 use Rattle.node_turn.specs.Stages.{node_act, text_in}
-use Rattle.subrequests.specs.Families.{text_at, texts_of, stance_of, stance_in, seen}
+use Rattle.subrequests.specs.Families.{text_at, texts_of, stance_in, seen}
 use Rattle.subrequests.specs.Moved.{Keeps}
 use Rattle.subrequests.specs.Told.{Hears}
 use Rattle.subrequests.specs.Told.Hears.{Learned, Came}
 use Rattle.node_turn.specs.declared.node.Node.{Node}
-use Rattle.subrequests.proofs.Members.{eq_self, same_number, other_number}
+use Rattle.subrequests.proofs.Members.{AsOld, Seated, eq_self, same_number, other_number}
 use Rattle.subrequests.proofs.Sets.{get_set_same, get_set_other}
-use Rattle.subrequests.proofs.Steps as steps
+use Rattle.node_line.specs.Stances.{stance_so}
+use Rattle.node_line.proofs.Steps as steps
 
 none_more : (n : ℕ) → 0 + n ≡ n
 none_more n = omega arith
@@ -36,91 +35,93 @@ abbrev pub with_text : ℕ → List ℕ → (ℕ → List ℕ) → ℕ → List 
 with_text at text texts j = cond (j == at) text (texts j)
 
 module _ (laws : ShowsTheSame) (w : World) (patterns : List SetPattern) (site : Site) (main : Main) (row : Row) (nodes : List Node) (at : ℕ) (old new : Node) (there : slice_get nodes at ≡ Some old)
-    (same_left : new.left ≡ old.left) where
+    (like : AsOld old new) (same_place : new.place ≡ old.place) where
   abbrev act : Node → List ℕ → Serving Answer
   act n text = node_act w patterns site main n text
 
   abbrev after : (ℕ → List ℕ) → Family
   after texts = seen w patterns site main row (set nodes at new) texts
 
-  -- the other nodes do the same
-  others : (texts texts' : ℕ → List ℕ) (j : ℕ) → (j == at) ≡ false → texts j ≡ texts' j → stance_in w patterns site main nodes texts j ≡ stance_in w patterns site main (set nodes at new) texts' j
-  others texts texts' j e same =
-      ap (λ t. stance_of w patterns site main t (slice_get nodes j)) same ∙ ap (stance_of w patterns site main (texts' j)) (sym (get_set_other nodes at j new (other_number j at e)))
+  abbrev Agree : (texts texts' : ℕ → List ℕ) → Type 0
+  Agree texts texts' = (j : ℕ) → (j == at) ≡ false → texts j ≡ texts' j
 
-  new_there : (texts : ℕ → List ℕ) → stance_in w patterns site main (set nodes at new) texts at ≡ Going new.left (act new (texts at))
-  new_there texts = ap (stance_of w patterns site main (texts at)) (get_set_same nodes at new old there)
+  -- where it is told of, if its file has this text
+  module _ (texts : ℕ → List ℕ) (s : Seated w patterns site main row nodes texts at old) where
+    abbrev before : Family
+    before = seen w patterns site main row nodes texts
 
-  -- The node does something, and then what it does is another's, and other texts are still to come.
-  likes : (texts texts' : ℕ → List ℕ) (m : Serving Answer) → ((j : ℕ) → (j == at) ≡ false → texts j ≡ texts' j) → m ≡ act new (texts' at) →
-      IsAlike (doing at (Going old.left m) (seen w patterns site main row nodes texts)) (after texts')
-  likes texts texts' m same is = laws.others (doing at (Going old.left m) (seen w patterns site main row nodes texts)) (stance_in w patterns site main (set nodes at new) texts') (λ j e. by j (j == at) refl)
-    where
-      by : (j : ℕ) (b : Bool) → (j == at) ≡ b → cond b (Going old.left m) (stance_in w patterns site main nodes texts j) ≡ stance_in w patterns site main (set nodes at new) texts' j
-      by j true e =
-          ap (λ n. Going n m) (sym same_left) ∙ ap (Going new.left) is ∙ sym (new_there texts') ∙ ap (λ i. stance_in w patterns site main (set nodes at new) texts' i) (sym (same_number j at e))
-      by j false e = others texts texts' j e (same j e)
+    -- what it does where it does this
+    abbrev so : Serving Answer → Stance
+    so m = stance_so (s.seat old.place) at old.left m
 
-  begins : (texts : ℕ → List ℕ) (m : Serving Answer) → act old (texts at) ≡ m → IsAlike (seen w patterns site main row nodes texts) (doing at (Going old.left m) (seen w patterns site main row nodes texts))
-  begins texts m is = laws.others (seen w patterns site main row nodes texts) (with_stance at (Going old.left m) (stance_in w patterns site main nodes texts)) (λ j e. by j (j == at) refl)
-    where
-      by : (j : ℕ) (b : Bool) → (j == at) ≡ b → stance_in w patterns site main nodes texts j ≡ cond b (Going old.left m) (stance_in w patterns site main nodes texts j)
-      by j true e = ap (λ i. stance_in w patterns site main nodes texts i) (same_number j at e) ∙ ap (stance_of w patterns site main (texts at)) there ∙ ap (Going old.left) is
-      by j false e = refl
+    -- so does the other node
+    so_new : (m : Serving Answer) → so m ≡ stance_so (s.seat new.place) at new.left m
+    so_new m = ap (λ n. stance_so (s.seat old.place) at n m) (sym like.left) ∙ ap (λ p. stance_so (s.seat p) at new.left m) (sym same_place)
 
-  -- its question is answered by a tree
-  learns : (tree : Tree) (vars : Vars) (texts texts' : ℕ → List ℕ) (path : List ℕ) (k : Item → Serving Answer) → is_open at row.pieces ≡ true → act old (texts at) ≡ Stat path k →
-      ((j : ℕ) → (j == at) ≡ false → texts j ≡ texts' j) → k (tree path) ≡ act new (texts' at) →
-      Goes w tree (seen w patterns site main row nodes texts) vars (after texts') vars
-  learns tree vars texts texts' path k goes_on asks same told =
-      let f = seen w patterns site main row nodes texts in
-      Alike (begins texts (Stat path k) asks)
-      (Acting (Learns at (steps.does w tree laws at old.left f goes_on (Stat path k)))
-      (Alike (steps.again w tree laws at old.left f goes_on (Going old.left (k (tree path))) (Going old.left (Stat path k)))
-      (Alike (likes texts texts' (k (tree path)) same told) Stays)))
+    -- The node does something, and then what it does is another's, and other texts are still to come.
+    likes : (texts' : ℕ → List ℕ) (m : Serving Answer) → Agree texts texts' → m ≡ act new (texts' at) → IsAlike (doing s.h (so m) before) (after texts')
+    likes texts' m same is = laws.others (doing s.h (so m) before) (stance_in w patterns site main (set nodes at new) texts') (λ j e. by j (j == s.h) refl)
+      where
+        by : (j : ℕ) (b : Bool) → (j == s.h) ≡ b → cond b (so m) (stance_in w patterns site main nodes texts j) ≡ stance_in w patterns site main (set nodes at new) texts' j
+        by j true e =
+            so_new m ∙ ap (stance_so (s.seat new.place) at new.left) is ∙ sym (s.next new like texts' same) ∙ ap (λ i. stance_in w patterns site main (set nodes at new) texts' i) (sym (same_number j s.h e))
+        by j false e = s.same new like texts' same j e
 
-  still_learns : (exact : QuietIsExact) (tells : RowTellsStill) (tree : Tree) (vars : Vars) (texts texts' : ℕ → List ℕ) (path : List ℕ) (k : Item → Serving Answer) → is_open at row.pieces ≡ true →
-      IsWell (seen w patterns site main row nodes texts) → act old (texts at) ≡ Stat path k → ((j : ℕ) → (j == at) ≡ false → texts j ≡ texts' j) → k (tree path) ≡ act new (texts' at) →
-      Keeps w tree (seen w patterns site main row nodes texts) (after texts') vars
-  still_learns exact tells tree vars texts texts' path k goes_on well asks same told =
-      let f = seen w patterns site main row nodes texts in
-      let begun = begins texts (Stat path k) asks in
-      let ask = doing at (Going old.left (Stat path k)) f in
-      let told_so = doing at (Going old.left (k (tree path))) ask in
-      let over = steps.again w tree laws at old.left f goes_on (Going old.left (k (tree path))) (Going old.left (Stat path k)) in
-      let ends = likes texts texts' (k (tree path)) same told in
-      let does = steps.does w tree laws at old.left f goes_on (Stat path k) in
-      let well_then = begun.well well in
-      record {
-        goes = learns tree vars texts texts' path k goes_on asks same told;
-        still =
-            tells.alike w tree f ask vars begun ∙ exact.learns w tree ask vars at old.left path k well_then does
-            ∙ tells.alike w tree told_so (doing at (Going old.left (k (tree path))) f) vars over ∙ tells.alike w tree (doing at (Going old.left (k (tree path))) f) (after texts') vars ends;
-        subs =
-            tells.counts_alike w tree f ask vars begun ∙ (exact.counts w tree ask vars told_so vars well_then (Learns at does) tt ∙ none_more (subs_still w tree told_so vars))
-            ∙ tells.counts_alike w tree told_so (doing at (Going old.left (k (tree path))) f) vars over ∙ tells.counts_alike w tree (doing at (Going old.left (k (tree path))) f) (after texts') vars ends;
-      }
+    begins : (m : Serving Answer) → act old (texts at) ≡ m → IsAlike before (doing s.h (so m) before)
+    begins m is = laws.others before (with_stance s.h (so m) (stance_in w patterns site main nodes texts)) (λ j e. by j (j == s.h) refl)
+      where
+        by : (j : ℕ) (b : Bool) → (j == s.h) ≡ b → stance_in w patterns site main nodes texts j ≡ cond b (so m) (stance_in w patterns site main nodes texts j)
+        by j true e = ap (λ i. stance_in w patterns site main nodes texts i) (same_number j s.h e) ∙ s.is ∙ ap so is
+        by j false e = refl
 
-  -- a block of its file came
-  pub came : (texts texts' : ℕ → List ℕ) → ((j : ℕ) → (j == at) ≡ false → texts j ≡ texts' j) → act old (texts at) ≡ act new (texts' at) →
-      IsAlike (seen w patterns site main row nodes texts) (after texts')
-  came texts texts' same is = laws.others (seen w patterns site main row nodes texts) (stance_in w patterns site main (set nodes at new) texts') (λ j e. by j (j == at) refl)
-    where
-      by : (j : ℕ) (b : Bool) → (j == at) ≡ b → stance_in w patterns site main nodes texts j ≡ stance_in w patterns site main (set nodes at new) texts' j
-      by j true e =
-          ap (λ i. stance_in w patterns site main nodes texts i) (same_number j at e) ∙ ap (stance_of w patterns site main (texts at)) there ∙ ap (Going old.left) is ∙ ap (λ n. Going n (act new (texts' at))) (sym same_left)
-          ∙ sym (new_there texts') ∙ ap (λ i. stance_in w patterns site main (set nodes at new) texts' i) (sym (same_number j at e))
-      by j false e = others texts texts' j e (same j e)
+    -- its question is answered by a tree
+    learns : (tree : Tree) (vars : Vars) (texts' : ℕ → List ℕ) (path : List ℕ) (k : Item → Serving Answer) → act old (texts at) ≡ Stat path k → Agree texts texts' → k (tree path) ≡ act new (texts' at) →
+        Goes w tree before vars (after texts') vars
+    learns tree vars texts' path k asks same told =
+        Alike (begins (Stat path k) asks)
+        (Acting (steps.learning w tree laws s.h at old.left before s.goes_on (s.seat old.place) path k vars).act
+        (Alike (steps.again w tree laws s.h before s.goes_on (so (k (tree path))) (so (Stat path k)))
+        (Alike (likes texts' (k (tree path)) same told) Stays)))
 
-  still_came : (tells : RowTellsStill) (tree : Tree) (vars : Vars) (texts texts' : ℕ → List ℕ) → ((j : ℕ) → (j == at) ≡ false → texts j ≡ texts' j) → act old (texts at) ≡ act new (texts' at) →
-      Keeps w tree (seen w patterns site main row nodes texts) (after texts') vars
-  still_came tells tree vars texts texts' same is =
-      let alike = came texts texts' same is in
-      record {
-        goes = Alike alike Stays;
-        still = tells.alike w tree (seen w patterns site main row nodes texts) (after texts') vars alike;
-        subs = tells.counts_alike w tree (seen w patterns site main row nodes texts) (after texts') vars alike;
-      }
+    still_learns : (exact : QuietIsExact) (tells : RowTellsStill) (tree : Tree) (vars : Vars) (texts' : ℕ → List ℕ) (path : List ℕ) (k : Item → Serving Answer) → IsWell before →
+        act old (texts at) ≡ Stat path k → Agree texts texts' → k (tree path) ≡ act new (texts' at) → Keeps w tree before (after texts') vars
+    still_learns exact tells tree vars texts' path k well asks same told =
+        let f = before in
+        let begun = begins (Stat path k) asks in
+        let ask = doing s.h (so (Stat path k)) f in
+        let told_so = doing s.h (so (k (tree path))) ask in
+        let over = steps.again w tree laws s.h f s.goes_on (so (k (tree path))) (so (Stat path k)) in
+        let ends = likes texts' (k (tree path)) same told in
+        let learns_so = steps.learning w tree laws s.h at old.left f s.goes_on (s.seat old.place) path k vars in
+        let well_then = begun.well well in
+        record {
+          goes = learns tree vars texts' path k asks same told;
+          still =
+              tells.alike w tree f ask vars begun ∙ exact.quiet w tree ask vars told_so vars well_then learns_so.act learns_so.quiet
+              ∙ tells.alike w tree told_so (doing s.h (so (k (tree path))) f) vars over ∙ tells.alike w tree (doing s.h (so (k (tree path))) f) (after texts') vars ends;
+          subs =
+              tells.counts_alike w tree f ask vars begun ∙ (exact.counts w tree ask vars told_so vars well_then learns_so.act learns_so.quiet ∙ ap (λ n. n + subs_still w tree told_so vars) learns_so.none ∙ none_more (subs_still w tree told_so vars))
+              ∙ tells.counts_alike w tree told_so (doing s.h (so (k (tree path))) f) vars over ∙ tells.counts_alike w tree (doing s.h (so (k (tree path))) f) (after texts') vars ends;
+        }
+
+    -- a block of its file came
+    came : (texts' : ℕ → List ℕ) → Agree texts texts' → act old (texts at) ≡ act new (texts' at) → IsAlike before (after texts')
+    came texts' same is = laws.others before (stance_in w patterns site main (set nodes at new) texts') (λ j e. by j (j == s.h) refl)
+      where
+        by : (j : ℕ) (b : Bool) → (j == s.h) ≡ b → stance_in w patterns site main nodes texts j ≡ stance_in w patterns site main (set nodes at new) texts' j
+        by j true e =
+            ap (λ i. stance_in w patterns site main nodes texts i) (same_number j s.h e) ∙ s.is ∙ ap so is ∙ so_new (act new (texts' at))
+            ∙ sym (s.next new like texts' same) ∙ ap (λ i. stance_in w patterns site main (set nodes at new) texts' i) (sym (same_number j s.h e))
+        by j false e = s.same new like texts' same j e
+
+    still_came : (tells : RowTellsStill) (tree : Tree) (vars : Vars) (texts' : ℕ → List ℕ) → Agree texts texts' → act old (texts at) ≡ act new (texts' at) → Keeps w tree before (after texts') vars
+    still_came tells tree vars texts' same is =
+        let alike = came texts' same is in
+        record {
+          goes = Alike alike Stays;
+          still = tells.alike w tree before (after texts') vars alike;
+          subs = tells.counts_alike w tree before (after texts') vars alike;
+        }
 
   -- ---- by what it is told
 
@@ -135,23 +136,24 @@ module _ (laws : ShowsTheSame) (w : World) (patterns : List SetPattern) (site : 
     new_text : (trees : Trees) → texts_of trees (set nodes at new) at ≡ text_in trees new
     new_text trees = ap (text_at trees) (get_set_same nodes at new old there)
 
-    pub keeps : (exact : QuietIsExact) (tells : RowTellsStill) (trees : Trees) (vars : Vars) → is_open at row.pieces ≡ true → IsWell (seen w patterns site main row nodes (texts_of trees nodes)) → IsFrom trees ask answer →
+    pub keeps : (exact : QuietIsExact) (tells : RowTellsStill) (trees : Trees) (vars : Vars) → Seated w patterns site main row nodes (texts_of trees nodes) at old →
+        IsWell (seen w patterns site main row nodes (texts_of trees nodes)) → IsFrom trees ask answer →
         Keeps w (trees (tree_of ask)) (seen w patterns site main row nodes (texts_of trees nodes)) (after (texts_of trees (set nodes at new))) vars
-    keeps exact tells trees vars goes_on well from = by hears
+    keeps exact tells trees vars s well from = by hears
       where
         by : Hears ask answer (λ trees. text_in trees old) (λ trees. text_in trees new) (act old) (act new) →
             Keeps w (trees (tree_of ask)) (seen w patterns site main row nodes (texts_of trees nodes)) (after (texts_of trees (set nodes at new))) vars
         by (Learned path k item asks news told) =
-            still_learns exact tells (trees (tree_of ask)) vars (texts_of trees nodes) (texts_of trees (set nodes at new)) path k goes_on well (asks (texts_of trees nodes at)) (same_files trees)
+            still_learns (texts_of trees nodes) s exact tells (trees (tree_of ask)) vars (texts_of trees (set nodes at new)) path k well (asks (texts_of trees nodes at)) (same_files trees)
             (ap k (sym (told trees from)) ∙ ap (λ t. k (item t)) (sym (new_text trees)) ∙ sym (news (texts_of trees (set nodes at new) at)))
         by (Came bytes acts files) =
-            still_came tells (trees (tree_of ask)) vars (texts_of trees nodes) (texts_of trees (set nodes at new)) (same_files trees)
+            still_came (texts_of trees nodes) s tells (trees (tree_of ask)) vars (texts_of trees (set nodes at new)) (same_files trees)
             (ap (act old) (old_text trees ∙ sym (files trees from)) ∙ acts (text_in trees new) ∙ ap (act new) (sym (new_text trees)))
 
     -- whatever is still to come of the files
-    pub comes : (vars : Vars) (texts : ℕ → List ℕ) → is_open at row.pieces ≡ true →
+    pub comes : (vars : Vars) (texts : ℕ → List ℕ) → ((texts : ℕ → List ℕ) → Seated w patterns site main row nodes texts at old) →
         (tree : Tree) × (before : ℕ → List ℕ) × Goes w tree (seen w patterns site main row nodes before) vars (after texts) vars
-    comes vars texts goes_on = by hears
+    comes vars texts seats = by hears
       where
         other : (bytes : List ℕ) (j : ℕ) → (j == at) ≡ false → with_text at bytes texts j ≡ texts j
         other bytes j e = ap (λ b. cond b bytes (texts j)) e
@@ -159,8 +161,8 @@ module _ (laws : ShowsTheSame) (w : World) (patterns : List SetPattern) (site : 
         by : Hears ask answer (λ trees. text_in trees old) (λ trees. text_in trees new) (act old) (act new) →
             (tree : Tree) × (before : ℕ → List ℕ) × Goes w tree (seen w patterns site main row nodes before) vars (after texts) vars
         by (Learned path k item asks news told) =
-            ((λ p. item (texts at)), texts, learns (λ p. item (texts at)) vars texts texts path k goes_on (asks (texts at)) (λ j e. refl) (sym (news (texts at))))
+            ((λ p. item (texts at)), texts, learns texts (seats texts) (λ p. item (texts at)) vars texts path k (asks (texts at)) (λ j e. refl) (sym (news (texts at))))
         by (Came bytes acts files) =
-            let before = with_text at (bytes ++ texts at) texts in
-            let here : before at ≡ bytes ++ texts at = ap (λ b. cond b (bytes ++ texts at) (texts at)) (eq_self at) in
-            ((λ p. Nothing), before, Alike (came before texts (other (bytes ++ texts at)) (ap (act old) here ∙ acts (texts at))) Stays)
+            let earlier = with_text at (bytes ++ texts at) texts in
+            let here : earlier at ≡ bytes ++ texts at = ap (λ b. cond b (bytes ++ texts at) (texts at)) (eq_self at) in
+            ((λ p. Nothing), earlier, Alike (came earlier (seats earlier) texts (other (bytes ++ texts at)) (ap (act old) here ∙ acts (texts at))) Stays)

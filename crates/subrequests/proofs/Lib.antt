@@ -1,5 +1,4 @@
 mod Sets
-mod Steps
 mod Members
 pub mod Numbers
 mod Hearing
@@ -7,4 +6,5 @@ mod Heard
 mod Wholes
 mod Taking
 mod Opening
+mod Returning
 mod Beginning

@@ -3,10 +3,9 @@ use Rattle.std.proofs.Common.{◌≡◌, ◌≢◌, ℕ, zero, suc, ◌+◌, ◌
 use Rattle.std.proofs.lemmas.Bool.{eqb-true}
 use Rattle.ngx_outside.specs.Views.{ask_in}
 use Rattle.postpone_filter.specs.Row.{Row}
-use Rattle.node_turn.specs.Stages.{can_run}
-use Rattle.subrequests.specs.Wants.{is_waiting, jobs_from, job_of, first_job, first_of, is_among, ready_from, runs_at}
+use Rattle.subrequests.specs.Wants.{can_go, is_waiting, jobs_from, job_of, first_job, first_of, is_among, ready_from, runs_at}
 use Rattle.node_turn.specs.declared.node.Node.{Node}
-use Rattle.subrequests.proofs.Steps as steps
+use Rattle.node_line.proofs.Steps as steps
 
 same_no : {A : Type 0} (b : Bool) → b ≡ true → b ≡ false → A
 same_no true e f = cc
@@ -75,7 +74,7 @@ module _ (row : Row) where
   none_ready : (k j : ℕ) (nodes : List Node) → j < k → is_among j (ready_from row k nodes) ≡ false
   unfolding ready_from is_among
   none_ready k j [] h = refl
-  none_ready k j (n ∷ nodes) h = by (can_run row k n) (none_ready (suc k) j nodes (omega (arith, h)))
+  none_ready k j (n ∷ nodes) h = by (can_go row k n) (none_ready (suc k) j nodes (omega (arith, h)))
     where
       by : (b : Bool) → is_among j (ready_from row (suc k) nodes) ≡ false → is_among j (cond b (k ∷ ready_from row (suc k) nodes) (ready_from row (suc k) nodes)) ≡ false
       by true r = ap (λ b. cond b true (is_among j (ready_from row (suc k) nodes))) (apart k j (λ e. omega (arith, h, e))) ∙ r
@@ -84,17 +83,17 @@ module _ (row : Row) where
   ready_at : (k i : ℕ) (nodes : List Node) → is_among (k + i) (ready_from row k nodes) ≡ runs_at row (k + i) (slice_get nodes i)
   unfolding ready_from is_among
   ready_at k i [] = refl
-  ready_at k zero (n ∷ nodes) = by (can_run row k n) refl
+  ready_at k zero (n ∷ nodes) = by (can_go row k n) refl
     where
       same : k + 0 ≡ k
       same = omega arith
 
-      by : (b : Bool) → can_run row k n ≡ b → is_among (k + 0) (cond b (k ∷ ready_from row (suc k) nodes) (ready_from row (suc k) nodes)) ≡ can_run row (k + 0) n
-      by true e = ap (λ b. cond b true (is_among (k + 0) (ready_from row (suc k) nodes))) (ap (λ m. k == m) same ∙ eq_self k) ∙ sym (ap (λ m. can_run row m n) same ∙ e)
-      by false e = ap (λ m. is_among m (ready_from row (suc k) nodes)) same ∙ none_ready (suc k) k nodes (omega arith) ∙ sym (ap (λ m. can_run row m n) same ∙ e)
+      by : (b : Bool) → can_go row k n ≡ b → is_among (k + 0) (cond b (k ∷ ready_from row (suc k) nodes) (ready_from row (suc k) nodes)) ≡ can_go row (k + 0) n
+      by true e = ap (λ b. cond b true (is_among (k + 0) (ready_from row (suc k) nodes))) (ap (λ m. k == m) same ∙ eq_self k) ∙ sym (ap (λ m. can_go row m n) same ∙ e)
+      by false e = ap (λ m. is_among m (ready_from row (suc k) nodes)) same ∙ none_ready (suc k) k nodes (omega arith) ∙ sym (ap (λ m. can_go row m n) same ∙ e)
   ready_at k (suc i) (n ∷ nodes) =
       let next : k + suc i ≡ suc k + i = omega arith in
-      by (can_run row k n) (ap (λ m. is_among m (ready_from row (suc k) nodes)) next ∙ ready_at (suc k) i nodes ∙ ap (λ m. runs_at row m (slice_get nodes i)) (sym next))
+      by (can_go row k n) (ap (λ m. is_among m (ready_from row (suc k) nodes)) next ∙ ready_at (suc k) i nodes ∙ ap (λ m. runs_at row m (slice_get nodes i)) (sym next))
     where
       by : (b : Bool) → is_among (k + suc i) (ready_from row (suc k) nodes) ≡ runs_at row (k + suc i) (slice_get nodes i) →
           is_among (k + suc i) (cond b (k ∷ ready_from row (suc k) nodes) (ready_from row (suc k) nodes)) ≡ runs_at row (k + suc i) (slice_get nodes i)
@@ -106,11 +105,11 @@ module _ (row : Row) where
       let e : i ≡ 0 + i = omega arith in
       ap (λ m. is_among m (ready_from row 0 nodes)) e ∙ ready_at 0 i nodes ∙ ap (λ m. runs_at row m (slice_get nodes i)) (sym e)
 
-  pub later_ready : (k : ℕ) (n : Node) (nodes : List Node) → can_run row k n ≡ false → ready_from row k (n ∷ nodes) ≡ ready_from row (suc k) nodes
+  pub later_ready : (k : ℕ) (n : Node) (nodes : List Node) → can_go row k n ≡ false → ready_from row k (n ∷ nodes) ≡ ready_from row (suc k) nodes
   unfolding ready_from
   later_ready k n nodes e = ap (λ b. cond b (k ∷ ready_from row (suc k) nodes) (ready_from row (suc k) nodes)) e
 
-  pub first_ready : (k : ℕ) (n : Node) (nodes : List Node) → can_run row k n ≡ true → first_of (ready_from row k (n ∷ nodes)) ≡ Some k
+  pub first_ready : (k : ℕ) (n : Node) (nodes : List Node) → can_go row k n ≡ true → first_of (ready_from row k (n ∷ nodes)) ≡ Some k
   unfolding ready_from
   first_ready k n nodes e = ap (λ b. first_of (cond b (k ∷ ready_from row (suc k) nodes) (ready_from row (suc k) nodes))) e
 

@@ -1,5 +1,5 @@
 -- One of a list's values in place of another.
-use Rattle.std.proofs.Common.{◌≡◌, ◌≢◌, ℕ, zero, suc, List, [], ◌∷◌, ◌++◌, length, set, slice_get, Some, refl, ap}
+use Rattle.std.proofs.Common.{◌≡◌, ◌≢◌, ℕ, zero, suc, List, [], ◌∷◌, ◌++◌, length, set, slice_get, None, Some, refl, ap}
 
 pub get_set_same : {A : Type 0} (xs : List A) (i : ℕ) (y x : A) → slice_get xs i ≡ Some x → slice_get (set xs i y) i ≡ Some y
 get_set_same [] i y x h = cc
@@ -12,6 +12,10 @@ get_set_other (x ∷ xs) zero zero y h = absurd (h refl)
 get_set_other (x ∷ xs) zero (suc j) y h = refl
 get_set_other (x ∷ xs) (suc i) zero y h = refl
 get_set_other (x ∷ xs) (suc i) (suc j) y h = get_set_other xs i j y (λ e. h (ap suc e))
+
+pub get_none : {A : Type 0} (xs : List A) → slice_get xs (length xs) ≡ None
+get_none [] = refl
+get_none (x ∷ xs) = get_none xs
 
 -- the last of a list, and what was there before
 pub get_last : {A : Type 0} (xs : List A) (y : A) → slice_get (xs ++ y ∷ []) (length xs) ≡ Some y

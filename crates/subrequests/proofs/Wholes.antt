@@ -16,9 +16,12 @@ use Rattle.request_phases.specs.declared.ground.Ground.{Ground}
 use Rattle.family_order.specs.Acts.{IsOver}
 use Rattle.family_order.specs.Items.Stance.{Going}
 use Rattle.family_order.specs.Laws.{ShowsTheSame}
-use Rattle.node_turn.specs.Stages.{is_ending, is_placing, is_serving, is_turning, node_act, can_place}
-use Rattle.subrequests.specs.Families.{AreDone, IsSound, goes_on_at, over_node, seen}
-use Rattle.subrequests.specs.Moved.{IsFromAt, Opening, OverrunsBy, Steps, files, fits_at, is_at, meant}
+use Rattle.node_turn.specs.Stages.{is_ending, is_in_row, is_placing, is_serving, is_turning, node_act, can_place}
+use Rattle.subrequests.specs.Families.{AreDone, IsSound, captured_at, goes_on_at, in_row_at, is_captured, over_node, seen, stance_by_asks}
+use Rattle.node_turn.specs.declared.node.Place.{Place}
+use Rattle.node_turn.specs.declared.node.Place.TheVariants.{Row as InRow, Stub, Captured}
+use Rattle.node_line.specs.Stances.{Opening, stance_at}
+use Rattle.subrequests.specs.Moved.{IsFromAt, OverrunsBy, SameFiles, Steps, files, fits_at, is_at, meant}
 use Rattle.node_turn.specs.Nodes.{answer_seen, asked_path, lent, stage_act}
 use Rattle.subrequests.specs.Wants.{runs_at}
 use Rattle.node_turn.specs.declared.answered.Answered.{Answered}
@@ -28,7 +31,7 @@ use Rattle.node_turn.specs.declared.node.Stage.{Stage}
 use Rattle.node_turn.specs.declared.node.Stage.TheVariants as stages
 use Rattle.subrequests.proofs.Members as members
 use Rattle.subrequests.proofs.Sets.{length_set}
-use Rattle.subrequests.proofs.Steps as steps
+use Rattle.node_line.proofs.Steps as steps
 
 pub left_of : (a b : Bool) → (a && b) ≡ true → a ≡ true
 left_of true b e = refl
@@ -62,18 +65,38 @@ going_is p (Some n) e = right_of (p n.stage) (not n.over) e
 pub open_is : (p : Stage → Bool) (row : Row) (nodes : List Node) (at : ℕ) → IsSound row nodes → is_at p (slice_get nodes at) ≡ true → is_open at row.pieces ≡ true
 open_is p row nodes at sound e = sound.going at ∙ going_is p (slice_get nodes at) e
 
+pub found_there : (nodes : List Node) (at : ℕ) (x y : Node) → slice_get nodes at ≡ Some y → x ≡ get_or nodes at x → slice_get nodes at ≡ Some x
+found_there [] at x y e is = cc
+found_there (n ∷ nodes) zero x y e is = ap Some (sym is)
+found_there (n ∷ nodes) (suc at) x y e is = found_there nodes at x y e is
+
 pub not_over : (nodes : List Node) (at : ℕ) (x : Node) → goes_on_at (slice_get nodes at) ≡ true → x ≡ get_or nodes at x → slice_get nodes at ≡ Some x
 not_over [] at x e is = cc
 not_over (n ∷ nodes) zero x e is = ap Some (sym is)
 not_over (n ∷ nodes) (suc at) x e is = not_over nodes at x e is
+
+pub row_is : (place : Place) → is_in_row place ≡ true → place ≡ InRow
+row_is InRow e = refl
+row_is (Stub stub text) e = cc
+row_is (Captured text) e = cc
+
+-- the bytes of the node that is there go to the row, or don't
+pub in_row : (nodes : List Node) (at : ℕ) (x : Node) → in_row_at (slice_get nodes at) ≡ true → slice_get nodes at ≡ Some x → x.place ≡ InRow
+in_row nodes at x e there = row_is x.place (sym (ap in_row_at there) ∙ e)
+
+pub not_in_row : (nodes : List Node) (at : ℕ) (x : Node) → in_row_at (slice_get nodes at) ≡ false → slice_get nodes at ≡ Some x → is_in_row x.place ≡ false
+not_in_row nodes at x e there = sym (ap in_row_at there) ∙ e
+
+-- they come to its parent, or don't
+pub held_is : (nodes : List Node) (at : ℕ) (x : Node) (b : Bool) → captured_at (slice_get nodes at) ≡ b → slice_get nodes at ≡ Some x → is_captured x.place ≡ b
+held_is nodes at x b e there = sym (ap captured_at there) ∙ e
 
 -- ---- steps
 
 pub both_ways : (laws : ShowsTheSame) (patterns : List SetPattern) (g : Ground) (old new : Family) (opened : ℕ) → length new.nodes.items ≡ length old.nodes.items + opened →
     ((tree : Tree) (texts : ℕ → List ℕ) → Opening (world_in patterns g shipped) tree opened (meant (world_in patterns g shipped) patterns g.site.now texts old) old.vars
     (meant (world_in patterns g shipped) patterns g.site.now texts new) new.vars) →
-    ((trees : Trees) (j : ℕ) (n : Node) → slice_get new.nodes.items j ≡ Some n →
-    node_act (world_in patterns g shipped) patterns g.site.now new.main n (files trees old j) ≡ node_act (world_in patterns g shipped) patterns g.site.now new.main n (files trees new j)) →
+    SameFiles old new →
     Steps patterns g old new
 both_ways laws patterns g old new opened grows any same =
     let w = world_in patterns g shipped in
@@ -112,6 +135,7 @@ ended (stages.Told wait file ssi) e = cc
 ended (stages.Places b) e = cc
 ended (stages.Serves b) e = cc
 ended (stages.Reads b) e = cc
+ended (stages.Captures c) e = cc
 ended (stages.Ends a) e = (a, refl)
 
 pub ended_act : (w : World) (patterns : List SetPattern) (site : Site) (main : Main) (n : Node) (text : List ℕ) → is_ending n.stage ≡ true →
@@ -132,19 +156,22 @@ pub done_is : (w : World) (patterns : List SetPattern) (site : Site) (main : Mai
     (answer : Answer) × IsOver (seen w patterns site main row nodes texts) answer
 done_is w patterns site main row [] texts e sound = absurd e
 done_is w patterns site main row (n ∷ nodes) texts e sound =
-    let act = ended_act w patterns site main n (texts 0) e.0 in (
+    let is = e.0 in
+    let act = ended_act w patterns site main n (texts 0) is.0 in (
       act.0,
       record {
         left = n.left;
-        stands = ap (Going n.left) act.1;
-        goes_on = sound.going 0 ∙ ap not e.1;
+        stands =
+            ap (stance_by_asks w patterns site main (n ∷ nodes) texts 0 n) is.3
+            ∙ ap (λ p. stance_at 0 p n.left (node_act w patterns site main n (texts 0))) (row_is n.place is.2) ∙ ap (Going n.left) act.1;
+        goes_on = sound.going 0 ∙ ap not is.1;
         alone = alone;
       },
     )
   where
     alone : (j : ℕ) → is_open j row.pieces ≡ true → j ≡ 0
     alone zero h = refl
-    alone (suc j) h = false_true (sym (none_goes nodes j e.2) ∙ sym (sound.going (suc j)) ∙ h)
+    alone (suc j) h = false_true (sym (none_goes nodes j e.1) ∙ sym (sound.going (suc j)) ∙ h)
 
 -- ---- answers
 
@@ -197,7 +224,13 @@ some_left n m e some = omega (arith, e, some)
 pub over_rests : (row : Row) (at : ℕ) (o : Option Node) → goes_on_at o ≡ false → runs_at row at o ≡ false
 over_rests row at None e = refl
 over_rests row at (Some n) e =
-    ap (λ b. b && ((is_turning n.stage || (is_serving n.stage && is_none n.waits)) || (is_placing n.stage && can_place (room at row.pieces) n.stage))) e
+    ap (λ b. is_none n.asks && ((b && ((is_turning n.stage || (is_serving n.stage && is_none n.waits)) || (is_placing n.stage && can_place (room at row.pieces) n.stage)))
+    || (b && (is_ending n.stage && (n.children == 0 && not (at == 0)))))) e
+    ∙ none_runs (is_none n.asks)
+  where
+    none_runs : (b : Bool) → (b && false) ≡ false
+    none_runs true = refl
+    none_runs false = refl
 
 -- steps before one subrequest too many
 pub then_overruns : (patterns : List SetPattern) (g : Ground) (old mid : Family) → Steps patterns g old mid → OverrunsBy patterns g mid → OverrunsBy patterns g old

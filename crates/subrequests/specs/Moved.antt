@@ -1,6 +1,6 @@
 -- What becomes of a family by its nodes.
 use Rattle.std.specs.Prelude.{◌≡◌, ℕ, ◌+◌, ◌&&◌, ◌==◌, not, Bool, true, false, List, [], length, slice_get, Option, None, Some}
-use Rattle.acts.specs.Act.{Inner, settled}
+use Rattle.acts.specs.Act.{Call, Inner, settled}
 use Rattle.acts.specs.Vars.{Vars}
 use Rattle.file_tree.specs.Tree.{IsFrom, Tree, Trees, is_fitting, tree_of}
 use Rattle.file_tree.specs.declared.job.JobAnswer.{JobAnswer}
@@ -17,13 +17,13 @@ use Rattle.request_phases.specs.declared.ground.Ground.{Ground}
 use Rattle.family_order.specs.Acts.{Goes, IsOver}
 use Rattle.family_order.specs.Items.{Family as Meant, alone, doing}
 use Rattle.family_order.specs.Items.Stance.{Going}
-use Rattle.family_rest.specs.Opened.{opened_going}
 use Rattle.family_rest.specs.Still.{still, subs_still}
 use Rattle.ssi_exec.specs.Scenes.{child_seen}
 use Rattle.ssi_exec.specs.declared.document.Child.{Child}
-use Rattle.node_turn.specs.Stages.{main_of, node_act}
-use Rattle.subrequests.specs.Families.{IsSound, seen, texts_of}
+use Rattle.node_turn.specs.Stages.{main_of, node_act, node_heard}
+use Rattle.subrequests.specs.Families.{IsSound, reads_text, seen, texts_of}
 use Rattle.node_turn.specs.Nodes.{after_phases, bytes_for}
+use Rattle.node_line.specs.Stances.{Opening}
 use Rattle.subrequests.specs.declared.family.Family.{Family}
 use Rattle.node_turn.specs.declared.node.Node.{Node}
 use Rattle.node_turn.specs.declared.node.Stage.{Stage}
@@ -37,11 +37,6 @@ files trees f = texts_of trees f.nodes.items
 
 abbrev pub IsWhole : Family → Type 0
 IsWhole f = IsSound f.order f.nodes.items
-
--- Steps lead from one family to another, by which this many subrequests are opened.
-pub record Opening (w : World) (tree : Tree) (count : ℕ) (f : Meant) (vars : Vars) (g : Meant) (vars' : Vars) : Type 0 where
-  pub goes : Goes w tree f vars g vars'
-  pub opens : opened_going goes ≡ count
 
 -- Its nodes take steps, whatever is still to come of the files that are read; and by the files of any trees. It has a node more for
 -- each subrequest that is opened.
@@ -70,10 +65,22 @@ OpensAt patterns g at child old new =
     → Opening w tree 1 (doing at (Going n.left (Inner (child_seen (main_of old.main n) child) (node_act w patterns site old.main n (texts at)))) (meant w patterns site texts old)) old.vars
     (meant w patterns site texts new) new.vars
 
--- The nodes that are old do the same by the files of any trees, and the new one, whatever file it reads.
+-- The subrequest is asked for that a node waits for, which goes on as it is said in the old family.
+abbrev pub AsksAt : List SetPattern → Ground → (at : ℕ) → Child → (old new : Family) → Type 0
+AsksAt patterns g at child old new =
+    let w = world_in patterns g shipped in
+    let site = g.site.now in
+    (n : Node) → slice_get old.nodes.items at ≡ Some n → (tree : Tree) (texts : ℕ → List ℕ)
+    → Opening w tree 1 (doing at (Going n.left (Call (child_seen (main_of old.main n) child) (λ reply. node_heard w patterns site old.main n (texts at) reply.body))) (meant w patterns site texts old)) old.vars
+    (meant w patterns site texts new) new.vars
+
+-- The texts are the same that nodes read.
+abbrev pub SameTexts : List Node → (texts texts' : ℕ → List ℕ) → Type 0
+SameTexts nodes texts texts' = (j : ℕ) (n : Node) → slice_get nodes j ≡ Some n → reads_text n.stage ≡ true → texts j ≡ texts' j
+
+-- The nodes that are old read the same by the files of any trees, and the new one none.
 abbrev pub SameFiles : (old new : Family) → Type 0
-SameFiles old new = (w : World) (patterns : List SetPattern) (site : Site) (trees : Trees) (j : ℕ) (n : Node) → slice_get new.nodes.items j ≡ Some n →
-    node_act w patterns site new.main n (files trees old j) ≡ node_act w patterns site new.main n (files trees new j)
+SameFiles old new = (trees : Trees) → SameTexts new.nodes.items (files trees old) (files trees new)
 
 -- It goes on, and as much is still to come of it as before, of its answer and of subrequests.
 pub record Keeps (w : World) (tree : Tree) (f g : Meant) (vars : Vars) : Type 0 where

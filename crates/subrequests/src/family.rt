@@ -1,5 +1,5 @@
 // A request and its subrequests.
-ghost use Rattle.std.specs.Prelude.{◌≡◌, ◌≢◌, ◌<◌, ◌+◌, ℕ, List, [], length, IfOk, OnOk, Some, None, true, false, ◌||◌, nat_lt, slice_get, if◌then◌else◌};
+ghost use Rattle.std.specs.Prelude.{◌≡◌, ◌≢◌, ◌<◌, ◌+◌, ℕ, List, [], length, IfOk, OnOk, Some, None, true, false, slice_get, if◌then◌else◌};
 ghost use Rattle.http_types.specs.declared.words.Method.TheVariants.{Get as GetMethod};
 ghost use Rattle.ngx_variables.specs.declared.request.Role.TheVariants.{Content as ContentRole};
 ghost use Rattle.file_tree.specs.Tree.{Trees, text_of};
@@ -12,17 +12,20 @@ ghost use Rattle.request_phases.specs.Rounds.{IsGround};
 ghost use Rattle.request_phases.specs.declared.ground.Ground.{Ground as GroundView};
 ghost use Rattle.site_model.specs.declared.site.Site.{Site as SiteRow};
 ghost use Rattle.ssi_exec.specs.Scenes.{child_seen};
-ghost use Rattle.node_turn.specs.Stages.{is_ending, is_placing, is_serving, is_turning, item_asked, node_act};
-ghost use Rattle.subrequests.specs.Families.{AreDone, IsPushed, goes_on_at, over_node};
+ghost use Rattle.node_turn.specs.Stages.{is_ending, is_in_row as in_row, is_placing, is_serving, is_turning, item_asked, node_act};
+ghost use Rattle.subrequests.specs.Families.{AreDone, HasReply, IsPushed, captured_at, goes_on_at, hears_from as hearing, in_row_at, is_asked as asked_for, is_captured, is_seated as has_seat, over_node, place_for, reads_text};
+ghost use Rattle.node_turn.specs.declared.node.Place.TheVariants.{Captured as CapturedView};
 ghost use Rattle.std.specs.List.{list_all};
 ghost use Rattle.node_turn.specs.Nodes.{of_method};
 ghost use Rattle.node_turn.specs.declared.node.Node.{Node as NodeView};
-ghost use Rattle.subrequests.specs.Moved.{BeginsWith, Comes, IsDone, IsFromAt, IsWhole, Keeps, OpensAt, OverrunsBy, SameFiles, Steps, files, fits_at, meant, stands};
+ghost use Rattle.subrequests.specs.Moved.{AsksAt, BeginsWith, Comes, IsDone, IsFromAt, IsWhole, Keeps, OpensAt, OverrunsBy, SameFiles, Steps, files, fits_at, meant, stands};
 ghost use Rattle.subrequests.specs.Wants.{Stands, StandsAt, runs_at};
 ghost use Rattle.subrequests.specs.Ran.{RunsTo, StepsTo};
+ghost use Rattle.subrequests.specs.declared.family.Next.TheVariants.{Ends as EndsNext, Decides as DecidesNext, Returns as ReturnsNext};
 ghost use Rattle.subrequests.specs.declared.family.Stepped.TheVariants.{On as GoesOn, Rests as RestsNow};
 
 use crate::hear::hears;
+use crate::wants::can_run;
 use byte_text::{ByteText, OutOfMemory};
 use family_order::shows_the_same;
 use family_rest::{quiet_is_exact, row_tells_still};
@@ -30,7 +33,10 @@ use file_tree::{Ask, JobAnswer};
 use http_types::{Addr, Method, Version};
 use ngx_pattern::PatternSet;
 use ngx_variables::{Groups, LocalDate, Main, Request, Role, VarTable};
-use node_turn::{Node, Stage, Turn, answering, lend, places, takes, turns};
+use node_line::{comes, decides};
+use node_turn::{
+    Capture, Node, Place, Stage, Turn, answering, lend, places, put, take, takes, turns,
+};
 use postpone_filter::Order;
 use req_head::HeadFields;
 use request_phases::{Ground, Outcome, Phases};
@@ -58,9 +64,6 @@ const MOST_NODES: usize = 1001;
 
 /// How many levels of subrequests a main request may open.
 const MOST_LEFT: u32 = 50;
-
-/// Subrequests nest no deeper than this.
-const MOST_DEPTH: u32 = 51;
 
 /// No node does more than this in one go: far more than the parts of a block of its page.
 const MOST_STEPS: u32 = u32::MAX;
@@ -99,12 +102,52 @@ pub(crate) enum Next {
     Turns,
     /// Bytes of its body are placed.
     Places,
+    /// Bytes of its body are placed or held: it has a stub.
+    Comes,
     /// The next part of its page is taken up.
     Takes,
     /// It is over.
     Ends,
+    /// It is over, and its stub stands at its place.
+    Decides,
+    /// It is over, and its parent has its body.
+    Returns,
     /// Nothing: it waits, or is over.
     Waits,
+}
+
+/// Whether the bytes of a node go to the order.
+fn is_in_row(place: &Place) -> bool
+    ensures { result ≡ in_row place.now }
+{
+    match place {
+        Place::Row => true,
+        Place::Stub { stub: _, text: _ } => false,
+        Place::Captured(_) => false,
+    }
+}
+
+/// Whether the bytes of a node come to its parent.
+fn is_held(place: &Place) -> bool
+    ensures { result ≡ is_captured place.now }
+{
+    match place {
+        Place::Row => false,
+        Place::Stub { stub: _, text: _ } => false,
+        Place::Captured(_) => true,
+    }
+}
+
+/// How a node is over whose bytes go there.
+fn ends_by(place: &Place) -> Next
+    ensures { result ≡ (if in_row place.now then EndsNext
+        else (if is_captured place.now then ReturnsNext else DecidesNext)) }
+{
+    match place {
+        Place::Row => Next::Ends,
+        Place::Stub { stub: _, text: _ } => Next::Decides,
+        Place::Captured(_) => Next::Returns,
+    }
 }
 
 /// What a node with this number does next.
@@ -114,7 +157,7 @@ fn next_of(nodes: &[Node], at: u32) -> Next
     let Some(node) = nodes.get(at as usize) else {
         return Next::Waits;
     };
-    if node.over {
+    if node.over || node.asks.is_some() {
         return Next::Waits;
     }
     match &node.stage {
@@ -125,17 +168,28 @@ fn next_of(nodes: &[Node], at: u32) -> Next
             file: _,
             ssi: _,
         } => Next::Turns,
-        Stage::Places(_) => Next::Places,
+        Stage::Places(_) => {
+            if is_in_row(&node.place) {
+                return Next::Places;
+            }
+            Next::Comes
+        }
         Stage::Serves(_) => {
             if node.waits.is_some() {
                 return Next::Waits;
             }
             Next::Takes
         }
+        Stage::Captures(_) => {
+            if node.waits.is_none() {
+                return Next::Takes;
+            }
+            Next::Waits
+        }
         Stage::Reads(_) => Next::Waits,
         Stage::Ends(_) => {
             if node.children == 0 && at != 0 {
-                return Next::Ends;
+                return ends_by(&node.place);
             }
             Next::Waits
         }
@@ -212,6 +266,22 @@ fn copied(method: &Method) -> Result<Method, OutOfMemory>
     Ok(copy)
 }
 
+/// Where the bytes of a subrequest go whose body is captured, or that has this stub, or none.
+fn place_of(alloc: Global, stub: Option<ByteText>, captured: bool) -> Place
+    ensures { result ≡ place_for captured stub }
+{
+    if captured {
+        return Place::Captured(ByteText::new(alloc));
+    }
+    match stub {
+        Some(stub) => Place::Stub {
+            stub,
+            text: ByteText::new(alloc),
+        },
+        None => Place::Row,
+    }
+}
+
 /// The node of a subrequest before its phases begin.
 fn child_node(
     alloc: Global,
@@ -220,9 +290,14 @@ fn child_node(
     parent: u32,
     left: u32,
     child: Child,
+    captured: bool,
 ) -> Node
     ensures left { result.left ≡ left }
     ensures over { result.over ≡ false }
+    ensures parent { result.parent ≡ parent }
+    ensures asks { result.asks ≡ None }
+    ensures fresh { reads_text result.stage ≡ false }
+    ensures place { result.place ≡ place_for captured child.stub }
     ensures acts { (w : World) (patterns : List SetPattern) (site : SiteRow) (main : MainView)
         (text : List ℕ) → node_act w patterns site main result text
         ≡ script w left (child_seen (of_method method main) child) }
@@ -231,7 +306,7 @@ fn child_node(
         path,
         args,
         ssi,
-        stub: _,
+        stub,
         waited: _,
     } = child;
     Node {
@@ -239,6 +314,8 @@ fn child_node(
         left,
         children: 0,
         waits: None,
+        asks: None,
+        place: place_of(alloc, stub, captured),
         phases: child_phases(alloc, level, method, path, args),
         ask: Ask::Stat {
             path: ByteText::new(alloc),
@@ -250,14 +327,15 @@ fn child_node(
     }
 }
 
-/// Whether a node may open this subrequest, where there are so many nodes. One with a stub isn't
-/// served yet.
-fn may_open(node: &Node, count: usize, child: &Child) -> bool
-    ensures plain { result ≡ true → child.now.stub ≡ None }
+/// Whether a node may open a subrequest, where there are so many nodes. One of which it isn't known
+/// whether its body is shown opens none yet, and one for whose body its parent waits none either.
+fn may_open(node: &Node, count: usize) -> bool
+    ensures row { result ≡ true → in_row node.now.place ≡ true }
+    ensures free { result ≡ true → node.now.asks ≡ None }
     ensures deep { result ≡ true → node.now.left ≢ 0 }
     ensures few { result ≡ true → count < 1001 }
 {
-    child.stub.is_none() && node.left > 0 && count < MOST_NODES
+    is_in_row(&node.place) && node.asks.is_none() && node.left > 0 && count < MOST_NODES
 }
 
 /// Puts the node of a subrequest, which the node with this number asks for, behind the nodes.
@@ -267,17 +345,51 @@ fn push_child(
     nodes: &mut Vec<Node>,
     at: u32,
     child: Child,
+    captured: bool,
 ) -> Result<(), OutOfMemory>
     ensures { OnOk result ((n : NodeView) → slice_get nodes.old.items at ≡ Some n
-        → IsPushed nodes.old.items nodes.new.items n child) }
+        → IsPushed nodes.old.items nodes.new.items at (place_for captured child.stub) n child) }
 {
     let Some(node) = nodes.get(at as usize) else {
         return Err(OutOfMemory);
     };
     let left = node.left.saturating_sub(1);
     let method = copied(&node.phases.main.method)?;
-    nodes.push(child_node(alloc, level, method, at, left, child))?;
+    nodes.push(child_node(alloc, level, method, at, left, child, captured))?;
     Ok(())
+}
+
+/// Whether the subrequest with this number is the one for whose body a node waits.
+fn is_asked(child: u32, asks: Option<u32>) -> bool
+    ensures { result ≡ asked_for child asks }
+{
+    match asks {
+        Some(asked) => asked == child,
+        None => false,
+    }
+}
+
+/// Whether a node that goes on waits for the body of the subrequest with this number.
+fn hears_from(nodes: &[Node], at: u32, child: u32) -> bool
+    ensures { result ≡ hearing child (slice_get nodes.now at) }
+{
+    match nodes.get(at as usize) {
+        Some(node) => !node.over && is_asked(child, node.asks),
+        None => false,
+    }
+}
+
+/// Whether a node goes on by itself: it waits for no body of a subrequest; and where its own bytes
+/// come to its parent, that waits for them.
+fn is_seated(nodes: &[Node], at: u32) -> bool
+    ensures { result ≡ has_seat nodes.now at (slice_get nodes.now at) }
+{
+    match nodes.get(at as usize) {
+        Some(node) => {
+            node.asks.is_none() && (!is_held(&node.place) || hears_from(nodes, node.parent, at))
+        }
+        None => false,
+    }
 }
 
 /// Whether a node is over.
@@ -295,10 +407,13 @@ fn all_over(nodes: &[Node]) -> bool
 
 /// Whether a node has come to its answer, and no subrequest of it goes on.
 fn is_last(node: &Node) -> bool
-    ensures { result ≡ true → (is_ending node.now.stage ≡ true) × (node.now.over ≡ false) }
+    ensures { result ≡ true → (is_ending node.now.stage ≡ true) × (node.now.over ≡ false)
+        × (in_row node.now.place ≡ true) × (node.now.asks ≡ None) }
 {
     match &node.stage {
-        Stage::Ends(_) => !node.over && node.children == 0,
+        Stage::Ends(_) => {
+            !node.over && is_in_row(&node.place) && node.asks.is_none() && node.children == 0
+        }
         _ => false,
     }
 }
@@ -323,11 +438,50 @@ fn put_child(node: &mut Node, id: u32, waited: bool)
     }
 }
 
-/// Whether a node goes on that placed all bytes that were at hand, or has this room for more.
-fn goes_on(all: bool, room: usize) -> bool
-    ensures { result ≡ (all || nat_lt 0 room) }
+/// A node has one more subrequest, for whose body it waits.
+fn put_asks(node: &mut Node, id: u32)
+    ensures { node.new ≡ record node.old { children = node.new.children; asks = Some id } }
 {
-    all || room > 0
+    node.children = node.children.saturating_add(1);
+    node.asks = Some(id);
+}
+
+/// The bytes of a node for whose body its parent waits: all that came.
+fn taken(alloc: Global, place: &mut Place) -> Result<ByteText, OutOfMemory>
+    ensures { IfOk result (λ text. (place.old ≡ CapturedView text)
+        × (is_captured place.new ≡ true)) }
+{
+    match place {
+        Place::Captured(text) => Ok(take(text, ByteText::new(alloc))),
+        _ => Err(OutOfMemory),
+    }
+}
+
+/// A node has the body for which it waited: it goes on with its page.
+fn put_reply(alloc: Global, node: &mut Node, body: ByteText) -> Result<(), OutOfMemory>
+    ensures { OnOk result (HasReply body node.old node.new) }
+{
+    if !is_in_row(&node.place) {
+        return Err(OutOfMemory);
+    }
+    match take(&mut node.stage, Stage::Begins(Table::new(alloc))) {
+        Stage::Captures(capture) => {
+            let Capture {
+                body: page,
+                name,
+                text: _,
+            } = capture;
+            let capture = Capture {
+                body: page,
+                name,
+                text: body,
+            };
+            put(&mut node.stage, Stage::Captures(capture));
+            node.asks = None;
+            Ok(())
+        }
+        _ => Err(OutOfMemory),
+    }
 }
 
 /// A subrequest of a node is over.
@@ -380,6 +534,8 @@ impl Family {
             left: MOST_LEFT,
             children: 0,
             waits: None,
+            asks: None,
+            place: Place::Row,
             phases,
             ask,
             start: 0,
@@ -415,6 +571,8 @@ impl Family {
         requires ground { IsGround ground.now }
         requires whole { IsWhole self.old }
         requires there { stands is_turning self.old at }
+        requires seated { has_seat self.old.nodes.items at (slice_get self.old.nodes.items at)
+            ≡ true }
         ensures steps { OnOk result (Steps patterns.old ground.now self.old self.new) }
         ensures whole { OnOk result (IsWhole self.new) }
         ensures tree { OnOk result (self.new.tree ≡ self.old.tree) }
@@ -438,17 +596,37 @@ impl Family {
     fn place_at(&mut self, alloc: Global, at: u32) -> bool
         requires whole { IsWhole self.old }
         requires there { stands is_placing self.old at }
+        requires seated { has_seat self.old.nodes.items at (slice_get self.old.nodes.items at)
+            ≡ true }
+        requires row { in_row_at (slice_get self.old.nodes.items at) ≡ true }
         ensures steps { (patterns : List SetPattern) (g : GroundView) →
             Steps patterns g self.old self.new }
         ensures whole { IsWhole self.new }
         ensures tree { self.new.tree ≡ self.old.tree }
-        ensures rests { result ≡ false →
-            runs_at self.new.order at (slice_get self.new.nodes.items at) ≡ false }
+        ensures rests { result ≡ runs_at self.new.order at (slice_get self.new.nodes.items at) }
     {
         shows_the_same();
         let node = &mut self.nodes[at as usize];
-        let placed = places(alloc, &mut self.order, at, node);
-        goes_on(placed.all, self.order.room(at))
+        places(alloc, &mut self.order, at, node);
+        can_run(&self.order, at, &self.nodes[at as usize])
+    }
+
+    /// Bytes of a node with a stub come.
+    fn come_at(&mut self, alloc: Global, at: u32) -> Result<(), OutOfMemory>
+        requires whole { IsWhole self.old }
+        requires there { stands is_placing self.old at }
+        requires seated { has_seat self.old.nodes.items at (slice_get self.old.nodes.items at)
+            ≡ true }
+        requires apart { in_row_at (slice_get self.old.nodes.items at) ≡ false }
+        ensures steps { OnOk result ((patterns : List SetPattern) (g : GroundView) →
+            Steps patterns g self.old self.new) }
+        ensures whole { OnOk result (IsWhole self.new) }
+        ensures tree { OnOk result (self.new.tree ≡ self.old.tree) }
+    {
+        shows_the_same();
+        let node = &mut self.nodes[at as usize];
+        comes(alloc, &mut self.order, at, node)?;
+        Ok(())
     }
 
     /// A node takes up the next part of its page: whether that is no subrequest, or one that may be
@@ -456,6 +634,8 @@ impl Family {
     fn take_at(&mut self, alloc: Global, ground: &Ground<'_>, at: u32) -> Result<bool, OutOfMemory>
         requires whole { IsWhole self.old }
         requires there { stands is_serving self.old at }
+        requires seated { has_seat self.old.nodes.items at (slice_get self.old.nodes.items at)
+            ≡ true }
         ensures steps { (patterns : List SetPattern) → IfOk result (λ on. on ≡ true →
             Steps patterns ground.now self.old self.new) }
         ensures whole { IfOk result (λ on. on ≡ true → IsWhole self.new) }
@@ -472,10 +652,26 @@ impl Family {
                 if node.left == 0 {
                     return Err(OutOfMemory);
                 }
+                if !is_in_row(&node.place) {
+                    return Err(OutOfMemory);
+                }
                 if self.nodes.len() >= MOST_NODES {
                     return Ok(false);
                 }
                 self.open_at(alloc, ground, at, child)?;
+                Ok(true)
+            }
+            Turn::Asks(child) => {
+                if node.left == 0 || child.stub.is_some() {
+                    return Err(OutOfMemory);
+                }
+                if !is_in_row(&node.place) {
+                    return Err(OutOfMemory);
+                }
+                if self.nodes.len() >= MOST_NODES {
+                    return Ok(false);
+                }
+                self.ask_at(alloc, ground, at, child)?;
                 Ok(true)
             }
         }
@@ -501,12 +697,50 @@ impl Family {
         ensures main { OnOk result (self.new.main ≡ self.old.main) }
     {
         shows_the_same();
-        if !may_open(&self.nodes[at as usize], self.nodes.len(), &child) {
+        if !may_open(&self.nodes[at as usize], self.nodes.len()) {
             return Err(OutOfMemory);
         }
         let id = self.order.add_child(alloc, at)?;
         put_child(&mut self.nodes[at as usize], id, child.waited);
-        push_child(alloc, ground.server.level, &mut self.nodes, at, child)?;
+        push_child(
+            alloc,
+            ground.server.level,
+            &mut self.nodes,
+            at,
+            child,
+            false,
+        )?;
+        Ok(())
+    }
+
+    /// A subrequest of a node opens for whose body it waits, where the node has come to. It has a
+    /// place in the order at which nothing is placed.
+    fn ask_at(
+        &mut self,
+        alloc: Global,
+        ground: &Ground<'_>,
+        at: u32,
+        child: Child,
+    ) -> Result<(), OutOfMemory>
+        requires whole { IsWhole self.old }
+        requires there { goes_on_at (slice_get self.old.nodes.items at) ≡ true }
+        requires plain { child.stub ≡ None }
+        ensures asks { (patterns : List SetPattern) → OnOk result
+            (AsksAt patterns ground.now at child self.old self.new) }
+        ensures files { OnOk result (SameFiles self.old self.new) }
+        ensures grows { OnOk result
+            (length self.new.nodes.items ≡ length self.old.nodes.items + 1) }
+        ensures whole { OnOk result (IsWhole self.new) }
+        ensures tree { OnOk result (self.new.tree ≡ self.old.tree) }
+        ensures main { OnOk result (self.new.main ≡ self.old.main) }
+    {
+        shows_the_same();
+        if !may_open(&self.nodes[at as usize], self.nodes.len()) {
+            return Err(OutOfMemory);
+        }
+        let id = self.order.add_child(alloc, at)?;
+        put_asks(&mut self.nodes[at as usize], id);
+        push_child(alloc, ground.server.level, &mut self.nodes, at, child, true)?;
         Ok(())
     }
 
@@ -514,12 +748,13 @@ impl Family {
     fn close_at(&mut self, at: u32) -> u32
         requires whole { IsWhole self.old }
         requires there { stands is_ending self.old at }
+        requires seated { has_seat self.old.nodes.items at (slice_get self.old.nodes.items at)
+            ≡ true }
+        requires row { in_row_at (slice_get self.old.nodes.items at) ≡ true }
         requires child { at ≢ 0 }
         ensures steps { (patterns : List SetPattern) (g : GroundView) →
             Steps patterns g self.old self.new }
         ensures whole { IsWhole self.new }
-        ensures over { (j : ℕ) → goes_on_at (slice_get self.old.nodes.items j) ≡ false
-            → goes_on_at (slice_get self.new.nodes.items j) ≡ false }
         ensures ended { goes_on_at (slice_get self.new.nodes.items at) ≡ false }
         ensures tree { self.new.tree ≡ self.old.tree }
     {
@@ -528,6 +763,56 @@ impl Family {
         let node = &mut self.nodes[at as usize];
         node.over = true;
         node.parent
+    }
+
+    /// A node with a stub that has come to its answer is over: the number of its parent.
+    fn decide_at(&mut self, at: u32) -> Result<u32, OutOfMemory>
+        requires whole { IsWhole self.old }
+        requires there { stands is_ending self.old at }
+        requires seated { has_seat self.old.nodes.items at (slice_get self.old.nodes.items at)
+            ≡ true }
+        requires apart { in_row_at (slice_get self.old.nodes.items at) ≡ false }
+        requires child { at ≢ 0 }
+        ensures steps { OnOk result ((patterns : List SetPattern) (g : GroundView) →
+            Steps patterns g self.old self.new) }
+        ensures whole { OnOk result (IsWhole self.new) }
+        ensures ended { OnOk result
+            (goes_on_at (slice_get self.new.nodes.items at) ≡ false) }
+        ensures tree { OnOk result (self.new.tree ≡ self.old.tree) }
+    {
+        shows_the_same();
+        let node = &mut self.nodes[at as usize];
+        decides(&mut self.order, at, node)?;
+        Ok(node.parent)
+    }
+
+    /// A node for whose body its parent waits has come to its answer: it is over, and its parent,
+    /// whose number this is, has its bytes.
+    fn return_at(&mut self, alloc: Global, at: u32) -> Result<u32, OutOfMemory>
+        requires whole { IsWhole self.old }
+        requires there { stands is_ending self.old at }
+        requires held { captured_at (slice_get self.old.nodes.items at) ≡ true }
+        requires seated { has_seat self.old.nodes.items at (slice_get self.old.nodes.items at)
+            ≡ true }
+        requires child { at ≢ 0 }
+        ensures steps { OnOk result ((patterns : List SetPattern) (g : GroundView) →
+            Steps patterns g self.old self.new) }
+        ensures whole { OnOk result (IsWhole self.new) }
+        ensures ended { OnOk result
+            (goes_on_at (slice_get self.new.nodes.items at) ≡ false) }
+        ensures tree { OnOk result (self.new.tree ≡ self.old.tree) }
+    {
+        shows_the_same();
+        self.order.end(at);
+        let node = &mut self.nodes[at as usize];
+        let text = taken(alloc, &mut node.place)?;
+        node.over = true;
+        let parent = node.parent;
+        if parent as usize >= self.nodes.len() {
+            return Err(OutOfMemory);
+        }
+        put_reply(alloc, &mut self.nodes[parent as usize], text)?;
+        Ok(parent)
     }
 
     /// A node has one subrequest less that goes on.
@@ -569,6 +854,9 @@ impl Family {
         shows_the_same();
         quiet_is_exact();
         row_tells_still();
+        if !is_seated(self.nodes.as_slice(), at) {
+            return Err(OutOfMemory);
+        }
         let node = &mut self.nodes[at as usize];
         hears(alloc, node, answer)?;
         Ok(())
@@ -581,27 +869,57 @@ impl Family {
         next_of(self.nodes.as_slice(), at)
     }
 
-    /// A node that has come to its answer is over where no subrequest of it goes on, and then its
-    /// parent may be, and so on.
-    fn end_up(&mut self, at: u32)
+    /// A node does this, where it goes on by itself.
+    fn goes(
+        &mut self,
+        alloc: Global,
+        ground: &Ground<'_>,
+        patterns: &mut PatternSet,
+        at: u32,
+        next: Next,
+    ) -> Result<Stepped, OutOfMemory>
+        requires ground { IsGround ground.now }
         requires whole { IsWhole self.old }
-        ensures steps { (patterns : List SetPattern) (g : GroundView) →
-            Steps patterns g self.old self.new }
-        ensures whole { IsWhole self.new }
-        ensures over { (j : ℕ) → goes_on_at (slice_get self.old.nodes.items j) ≡ false
-            → goes_on_at (slice_get self.new.nodes.items j) ≡ false }
-        ensures tree { self.new.tree ≡ self.old.tree }
+        requires stands { Stands self.old at next }
+        requires seated { has_seat self.old.nodes.items at (slice_get self.old.nodes.items at)
+            ≡ true }
+        ensures stepped { IfOk result (λ stepped.
+            StepsTo patterns.old ground.now self.old self.new at stepped) }
+        ensures tree { OnOk result (self.new.tree ≡ self.old.tree) }
+        ensures kept { patterns.new ≡ patterns.old }
     {
-        let mut at = at;
-        for _ in 0..MOST_DEPTH {
-            match self.next_at(at) {
-                Next::Ends => {
-                    let parent = self.close_at(at);
-                    self.tell(parent, at);
-                    at = parent;
-                }
-                _ => return,
+        match next {
+            Next::Turns => {
+                self.turn_at(alloc, ground, patterns, at)?;
+                Ok(Stepped::On)
             }
+            Next::Places => Ok(on_or_rests(self.place_at(alloc, at))),
+            Next::Takes => {
+                if !self.take_at(alloc, ground, at)? {
+                    return Ok(Stepped::TooMany);
+                }
+                Ok(Stepped::On)
+            }
+            Next::Comes => {
+                self.come_at(alloc, at)?;
+                Ok(Stepped::On)
+            }
+            Next::Ends => {
+                let parent = self.close_at(at);
+                self.tell(parent, at);
+                Ok(Stepped::Rests)
+            }
+            Next::Decides => {
+                let parent = self.decide_at(at)?;
+                self.tell(parent, at);
+                Ok(Stepped::Rests)
+            }
+            Next::Returns => {
+                let parent = self.return_at(alloc, at)?;
+                self.tell(parent, at);
+                Ok(Stepped::Rests)
+            }
+            Next::Waits => Ok(Stepped::Rests),
         }
     }
 
@@ -620,25 +938,13 @@ impl Family {
         ensures tree { OnOk result (self.new.tree ≡ self.old.tree) }
         ensures kept { patterns.new ≡ patterns.old }
     {
-        match self.next_at(at) {
-            Next::Turns => {
-                self.turn_at(alloc, ground, patterns, at)?;
-                Ok(Stepped::On)
-            }
-            Next::Places => Ok(on_or_rests(self.place_at(alloc, at))),
-            Next::Takes => {
-                if !self.take_at(alloc, ground, at)? {
-                    return Ok(Stepped::TooMany);
-                }
-                Ok(Stepped::On)
-            }
-            Next::Ends => {
-                let parent = self.close_at(at);
-                self.tell(parent, at);
-                self.end_up(parent);
-                Ok(Stepped::Rests)
-            }
+        let next = self.next_at(at);
+        if is_seated(self.nodes.as_slice(), at) {
+            return Ok(self.goes(alloc, ground, patterns, at, next)?);
+        }
+        match next {
             Next::Waits => Ok(Stepped::Rests),
+            _ => Err(OutOfMemory),
         }
     }
 

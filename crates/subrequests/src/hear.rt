@@ -34,6 +34,7 @@ pub(crate) fn waits(stage: &Stage) -> bool
         Stage::Places(_) => false,
         Stage::Serves(_) => false,
         Stage::Reads(_) => true,
+        Stage::Captures(_) => false,
         Stage::Ends(_) => false,
     }
 }
@@ -69,7 +70,11 @@ fn came(alloc: Global, body: Body, bytes: &[u8]) -> Result<Stage, OutOfMemory>
         source,
         page,
     } = body;
-    let Source { mut text, left } = source;
+    let Source {
+        mut text,
+        left,
+        unread: _,
+    } = source;
     text.extend(bytes)?;
     let left = left - bytes.len() as u64;
     let none = ByteText::new(alloc);
@@ -78,14 +83,22 @@ fn came(alloc: Global, body: Body, bytes: &[u8]) -> Result<Stage, OutOfMemory>
             answered,
             bytes: text,
             from: 0,
-            source: Source { text: none, left },
+            source: Source {
+                text: none,
+                left,
+                unread: false,
+            },
             page: None,
         })),
         Some(page) => Ok(Stage::Serves(Body {
             answered,
             bytes: none,
             from: 0,
-            source: Source { text, left },
+            source: Source {
+                text,
+                left,
+                unread: false,
+            },
             page: Some(page),
         })),
     }
@@ -109,6 +122,7 @@ fn put_told(node: &mut Node, wait: Wait, file: FileNode, ssi: Table)
 /// A block of its file came to a node.
 fn put_block(alloc: Global, node: &mut Node, body: Body, bytes: &[u8]) -> Result<(), OutOfMemory>
     ensures node { OnOk result (IsSameNode node.old node.new) }
+    ensures place { OnOk result (node.new.place ≡ node.old.place) }
     ensures acts { OnOk result ((w : World) (patterns : List SetPattern) (site : SiteRow)
         (main : MainView) (text : List ℕ) →
         stage_act w patterns site (lent main node.old.phases) node.old.left
@@ -137,6 +151,7 @@ pub(crate) fn hears(
 ) -> Result<(), OutOfMemory>
     requires { is_fitting node.old.ask answer ≡ true }
     ensures node { OnOk result (IsSameNode node.old node.new) }
+    ensures place { OnOk result (node.new.place ≡ node.old.place) }
     ensures acts { OnOk result ((w : World) (patterns : List SetPattern) (site : SiteRow)
         (main : MainView) → Hears node.old.ask answer.entry (λ trees. text_in trees node.old)
         (λ trees. text_in trees node.new) (node_act w patterns site main node.old)

@@ -3,8 +3,7 @@ ghost use Rattle.std.specs.Prelude.{◌≡◌, ◌==◌, option_copied};
 ghost use Rattle.file_tree.specs.Tree.{tree_of};
 ghost use Rattle.ngx_outside.specs.Views.{ask_in};
 ghost use Rattle.subrequests.specs.Moved.{IsWhole};
-ghost use Rattle.node_turn.specs.Stages.{can_run as can_go};
-ghost use Rattle.subrequests.specs.Wants.{first_job as job_first, first_of, is_among, is_waiting as waits_for, jobs_of, ready_of};
+ghost use Rattle.subrequests.specs.Wants.{can_go, first_job as job_first, first_of, is_among, is_waiting as waits_for, jobs_of, ready_of};
 
 use crate::family::Family;
 use crate::hear::waits;
@@ -34,11 +33,11 @@ fn is_waiting(node: &Node, tree: u64) -> bool
     waits(&node.stage) && !node.over && is_of(&node.ask, tree)
 }
 
-/// Whether a node with this number can run.
-fn can_run(order: &Order, at: u32, node: &Node) -> bool
+/// Whether a node with this number can run, if only to be over.
+pub(crate) fn can_run(order: &Order, at: u32, node: &Node) -> bool
     ensures { result ≡ can_go order.now at node.now }
 {
-    if node.over {
+    if node.over || node.asks.is_some() {
         return false;
     }
     match &node.stage {
@@ -52,7 +51,8 @@ fn can_run(order: &Order, at: u32, node: &Node) -> bool
         Stage::Places(body) => body.from == body.bytes.len() || 0 < order.room(at),
         Stage::Serves(_) => node.waits.is_none(),
         Stage::Reads(_) => false,
-        Stage::Ends(_) => false,
+        Stage::Captures(_) => node.waits.is_none(),
+        Stage::Ends(_) => node.children == 0 && at != 0,
     }
 }
 
@@ -81,7 +81,8 @@ impl Family {
         None
     }
 
-    /// The first node, by its number, that can run.
+    /// The first node, by its number, that can run. One that has come to its answer runs once more
+    /// when its last subrequest is over: then it is over too.
     pub fn first_ready(&self) -> Option<u32>
         requires { IsWhole self.now }
         ensures { result ≡ first_of (ready_of self.now) }

@@ -3,6 +3,8 @@ use Rattle.std.proofs.lemmas.Result.{err_from_is_err_and}
 use Rattle.conf_include.proofs.ToldLaws.{told_before}
 use Rattle.conf_include.proofs.AnswerLaws.{stop_same}
 use Rattle.conf_include.proofs.MainLaws.{main_stop_text, main_stop_lines, main_opened}
+use Rattle.conf_include.specs.Expansion.{tally}
+use Rattle.conf_include.proofs.AskedLaws.{main_read}
 use Rattle.conf_include.proofs.main_file.read_main.Goals as goal
 
 pub returns-in_err-text-clause-exact : goal.returns-in_err-text-clause-exact
@@ -40,3 +42,9 @@ returns-clause-exact g c tree names told naming =
     main_opened tree names c.args.setting.now.main.now reading.lines c.in_ok-lines.lines reading.paths reading.size c.len.result c.in_ok-text.text c.requires.paths c.requires.size c.len.ensures
     (c.in_ok-text.ensures.text tree reading.paths before) (rw c.as_slice.ensures at (c.in_ok-lines.ensures.lines reading.paths))
     ∙ c.in_ok-put_lines.ensures.exact tree names told naming
+
+pub put_lines-requires-clause-read : goal.put_lines-requires-clause-read
+put_lines-requires-clause-read g c tree names told naming =
+    let reading = c.args.reading.now in
+    main_read tree names c.args.setting.now.main.now reading.paths (tally reading.paths reading.size) c.in_ok-text.text c.in_ok-lines.lines c.requires.paths
+    (c.in_ok-text.ensures.text tree reading.paths told) (rw c.as_slice.ensures at (c.in_ok-lines.ensures.lines reading.paths))

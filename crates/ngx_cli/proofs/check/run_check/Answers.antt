@@ -11,7 +11,7 @@ use Rattle.ngx_cli.specs.Checks.{check_text}
 use Rattle.ngx_cli.specs.Commands.{Output, Made, Describes, Finds, CheckEnds, OfFirst, OfSite, OfNoSite}
 use Rattle.report_text.specs.Lines.{ended}
 use Rattle.report_text.specs.Faults.{conf_fault_line}
-use Rattle.ngx_cli.proofs.Endings.{unput_check, checked, fault_described, is_files_line, is_maker_line}
+use Rattle.ngx_cli.proofs.Endings.{unput_check, checked, error_described, is_files_line, unread_printed, is_maker_line}
 use Rattle.ngx_cli.proofs.check.run_check.Goals as goal
 
 pub returns-in-Ok-put_found : goal.returns-in-Ok-put_found
@@ -45,8 +45,14 @@ returns-in-Err-Fault g c =
     let out : Output = record { before = g.O.Sink.seen c.args.out.now; after = g.O.Sink.seen c.put_fault.new.out } in
     let path = c.args.path.now in
     let placed = c.in-Err-Fault.placed in
-    let described : Describes purposes.Reading files files' path (Err (error.Fault placed)) = fault_described purposes.Reading files files' path c.in-Err-Fault.field-0 placed c.in-Err-Fault.field-0-is c.in-Err-Fault.ensures.reading c.in-Err-Fault.ensures.exact in
+    let described : Describes purposes.Reading files files' path (Err (error.Fault placed)) = error_described purposes.Reading files files' path c.in-Err-Fault.field-0 (error.Fault placed) c.in-Err-Fault.field-0-is c.in-Err-Fault.ensures.reading c.in-Err-Fault.ensures.exact in
     unput_check files files' made out path (ended (conf_fault_line placed.path placed.fault)) c.in-Err-put_fault.status (OfNoSite (OfFirst placed described refl)) c.in-Err-put_fault.ensures
+
+pub returns-in-Ok-put_fault-2 : goal.returns-in-Ok-put_fault-2
+returns-in-Ok-put_fault-2 g c =
+    let made : Made = record { before = g.M.PatternMaker.refusals c.args.maker.now; after = g.M.PatternMaker.refusals c.site_at.new.maker } in
+    let out : Output = record { before = g.O.Sink.seen c.args.out.now; after = g.O.Sink.seen c.put_fault-in-Err-Failed.new.out } in
+    unread_printed purposes.Reading (g.F.Files.seen c.args.files.now) (g.F.Files.seen c.site_at.new.files) made out c.args.path.now c.in-Err-Failed.field-0 c.in-Err-Failed.placed c.in-Err-Failed.field-0-is c.in-Err-Failed.ensures.reading c.in-Err-Failed.ensures.exact c.in-Err-Failed.ensures.cause c.in-Ok-put_fault-2.ensures
 
 pub returns-in-Err-Failed : goal.returns-in-Err-Failed
 returns-in-Err-Failed g c =
@@ -56,7 +62,7 @@ returns-in-Err-Failed g c =
     let out : Output = record { before = g.O.Sink.seen c.args.out.now; after = g.O.Sink.seen c.put_fault-in-Err-Failed.new.out } in
     let path = c.args.path.now in
     let placed = c.in-Err-Failed.placed in
-    unput_check files files' made out path (ended (conf_fault_line placed.path placed.fault)) c.in-Err-put_fault-2.status (OfNoSite (is_files_line purposes.Reading files files' made path c.in-Err-Failed.field-0 placed c.in-Err-Failed.field-0-is c.in-Err-Failed.ensures.cause)) c.in-Err-put_fault-2.ensures
+    unput_check files files' made out path (ended (conf_fault_line placed.path placed.fault)) c.in-Err-put_fault-2.status (OfNoSite (is_files_line purposes.Reading files files' made path c.in-Err-Failed.field-0 placed c.in-Err-Failed.field-0-is c.in-Err-Failed.ensures.reading c.in-Err-Failed.ensures.exact c.in-Err-Failed.ensures.cause)) c.in-Err-put_fault-2.ensures
 
 pub returns-in-Err-TooBig : goal.returns-in-Err-TooBig
 returns-in-Err-TooBig g c =

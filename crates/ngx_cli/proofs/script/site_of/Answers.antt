@@ -2,6 +2,7 @@ use Rattle.std.proofs.Common.{◌≡◌, List, ℕ, Result, Ok, Err, refl, ap, �
 use Rattle.replay_text.specs.declared.parts.Conf.{Conf}
 use Rattle.conf_text.specs.declared.fault.ConfFault.{ConfFault}
 use Rattle.conf_include.specs.Listings.{Names, IsNaming}
+use Rattle.conf_include.specs.Asked.{IsAskedAt}
 use Rattle.ngx_cli.specs.declared.site.Found.{Found}
 use Rattle.ngx_cli.specs.declared.site.SiteError.{SiteError}
 use Rattle.ngx_cli.specs.declared.site.SiteError.TheVariants as error
@@ -15,17 +16,17 @@ use Rattle.ngx_cli.proofs.script.site_of.Goals as goal
 
 -- what was answered is said of the configurations, their names and the main one's path
 found : (confs confs' : List Conf) (path path' : List ℕ) (result : Result Found SiteError) → confs' ≡ confs → path' ≡ path →
-    ((names : Names) → IsNaming (conf_tree confs') names → Describes result (site_at purposes.Serving (conf_tree confs') names path')) →
-    Describes result (site_at purposes.Serving (conf_tree confs) (conf_names confs) path)
+    ((names : Names) → IsNaming (conf_tree confs') names → Describes (IsAskedAt (conf_tree confs') names path') result (site_at purposes.Serving (conf_tree confs') names path')) →
+    Describes (IsAskedAt (conf_tree confs) (conf_names confs) path) result (site_at purposes.Serving (conf_tree confs) (conf_names confs) path)
 found confs confs' path path' result c p h =
-    subst (λ (q : List ℕ). Describes result (site_at purposes.Serving (conf_tree confs) (conf_names confs) q)) p
-    (subst (λ (cs : List Conf). (names : Names) → IsNaming (conf_tree cs) names → Describes result (site_at purposes.Serving (conf_tree cs) names path')) c h (conf_names confs) (folders_have_their_names confs).0)
+    subst (λ (q : List ℕ). Describes (IsAskedAt (conf_tree confs) (conf_names confs) q) result (site_at purposes.Serving (conf_tree confs) (conf_names confs) q)) p
+    (subst (λ (cs : List Conf). (names : Names) → IsNaming (conf_tree cs) names → Describes (IsAskedAt (conf_tree cs) names path') result (site_at purposes.Serving (conf_tree cs) names path')) c h (conf_names confs) (folders_have_their_names confs).0)
 
-fault_of : (e : SiteError) (outcome : Result Configuration (ConfFault × List ℕ)) → Describes (Err e) outcome → OnFault e (λ fault at. outcome ≡ Err (fault, at))
-fault_of (error.Fault placed) outcome d = d
-fault_of (error.Failed placed) outcome d = tt
-fault_of (error.TooBig placed) outcome d = tt
-fault_of error.OutOfMemory outcome d = tt
+fault_of : (asked : ConfFault → List ℕ → Type 0) (e : SiteError) (outcome : Result Configuration (ConfFault × List ℕ)) → Describes asked (Err e) outcome → OnFault e (λ fault at. outcome ≡ Err (fault, at))
+fault_of asked (error.Fault placed) outcome d = d
+fault_of asked (error.Failed placed) outcome d = tt
+fault_of asked (error.TooBig placed) outcome d = tt
+fault_of asked error.OutOfMemory outcome d = tt
 
 refused_by : (e : SiteError) (before now made made' : ℕ) → FailsIf {A = Found} (Err e) before now made made' → OnRefused e made made'
 refused_by (error.Fault placed) before now made made' f = tt
@@ -44,6 +45,6 @@ returns-in-Err-clause-refused g c = refused_by c.in-Err.error _ _ _ _ c.in-Err.e
 
 pub returns-in-Err-clause-fault : goal.returns-in-Err-clause-fault
 returns-in-Err-clause-fault g c =
-    fault_of c.in-Err.error (site_at purposes.Serving (conf_tree c.args.confs.now) (conf_names c.args.confs.now) (main_path c.args.confs.now))
+    fault_of _ c.in-Err.error (site_at purposes.Serving (conf_tree c.args.confs.now) (conf_names c.args.confs.now) (main_path c.args.confs.now))
     (found c.args.confs.now c.new-files.result.confs.now (main_path c.args.confs.now) c.main_path.result.now (Err c.in-Err.error)
     (c.new-files.ensures.confs ∙ c.as_slice.ensures) (c.main_path.ensures ∙ ap main_path c.as_slice-2.ensures) (c.in-Err.ensures.exact refl refl))

@@ -2,8 +2,8 @@ use Rattle.std.proofs.Common.{ℕ, List, [], refl, sym, ap, ◌∙◌, subst}
 use Rattle.request_meaning.specs.Laws.{shipped}
 use Rattle.request_meaning.specs.Serving.{Answer, Serving}
 use Rattle.request_phases.specs.Rounds.{world_in}
-use Rattle.page_body.specs.Pages.{Does, page_captured, page_rest}
-use Rattle.node_turn.specs.Nodes.{answer_seen, from_source, page_at}
+use Rattle.page_body.specs.Pages.{Does, page_rest}
+use Rattle.node_turn.specs.Nodes.{answer_seen, captured_at, from_source, page_at}
 use Rattle.node_turn.proofs.Paged as paged
 use Rattle.node_turn.proofs.Serving as serving
 use Rattle.node_turn.proofs.page.page_serves.Goals as goal
@@ -18,12 +18,13 @@ returns c = λ g p levels patterns path file is.
     let vars = c.args.vars.now in
     let doing = c.in_ok-doing.doing in
     let now = c.next.new.self in
-    let captures : List ℕ → List ℕ → Serving Answer = λ name text. page_captured w answer scene now name text bytes in
+    let captures : List ℕ → List ℕ → Serving Answer = captured_at w site p levels answer now bytes in
     let old = page_at w site p levels answer c.args.page bytes in
     let does = c.in_ok-doing.ensures.does w answer bytes (paged.is_at g p levels scene is patterns) in
-    c.in_ok-done.ensures g p levels patterns path file vars old captures is
+    c.in_ok-done.ensures g p levels patterns path file vars old is
     (subst (λ m. Does m vars doing old (page_at w site p levels answer now bytes) captures) is.main
     (subst (λ o. Does scene.main.now vars doing o (page_at w site p levels answer now bytes) captures) (paged.page_is g p levels scene is w answer c.args.page bytes)
-    (subst (λ n. Does scene.main.now vars doing (page_rest w answer scene c.args.page bytes) n captures) (paged.page_is g p levels scene is w answer now bytes) does)))
+    (subst (λ n. Does scene.main.now vars doing (page_rest w answer scene c.args.page bytes) n captures) (paged.page_is g p levels scene is w answer now bytes)
+    (subst (λ k. Does scene.main.now vars doing (page_rest w answer scene c.args.page bytes) (page_rest w answer scene now bytes) k) (paged.captured_is g p levels scene is w answer now bytes) does))))
     (λ stop none. ap (page_at w site p levels answer c.args.page) (serving.spent c.args.source file none)
     ∙ (sym (paged.page_is g p levels scene is w answer c.args.page []) ∙ c.in_ok-doing.ensures.over stop w answer refl))

@@ -2,16 +2,16 @@ use Rattle.std.proofs.Common.{◌≡◌, refl, sym, ◌∙◌, subst}
 use Rattle.request_meaning.specs.Laws.{shipped}
 use Rattle.request_phases.specs.Rounds.{world_in}
 use Rattle.request_phases.specs.declared.state.Phases.{Phases}
-use Rattle.node_turn.specs.Stages.{node_act}
-use Rattle.node_turn.specs.Nodes.{answer_seen, asked_path, later, lent, served_act, stage_act}
+use Rattle.node_turn.specs.Stages.{node_act, node_heard}
+use Rattle.node_turn.specs.Nodes.{answer_seen, asked_path, captured_act, later, lent, served_act, stage_act}
 use Rattle.node_turn.specs.Served.{ServesTo}
 use Rattle.node_turn.specs.Taken.{TakesTo}
 use Rattle.node_turn.specs.declared.node.Node.{Node}
 use Rattle.node_turn.proofs.Phased as phased
 use Rattle.node_turn.proofs.turn.takes.Goals as goal
 
-pub returns-clause-acts : goal.returns-clause-acts
-returns-clause-acts c = λ patterns text.
+pub returns-in_ok-served-in-Serves-clause-acts : goal.returns-in_ok-served-in-Serves-clause-acts
+returns-in_ok-served-in-Serves-clause-acts c = λ patterns text.
     let g = c.args.ground.now in
     let site = g.site.now in
     let w = world_in patterns g shipped in
@@ -25,6 +25,7 @@ returns-clause-acts c = λ patterns text.
     let back = c.lend-in-Serves.new.phases in
     let result = c.put_served.result in
     let new = node_act w patterns site main c.put_served.new.node text in
+    let heard = node_heard w patterns site main c.put_served.new.node text in
     let returned = phased.given_back main c.lend.new.main mid.phases given given back c.lend.ensures.phases refl c.lend-in-Serves.ensures.phases in
     let acts = λ (p : Phases). served_act w site p mid.left (answer_seen site p b.answered) b.page (later b text) in
     let serves = subst (λ (p : Phases). ServesTo g p mid.left patterns (asked_path mid.ask) text vars (acts given) c.in_ok-served-in-Serves.served) (sym returned)
@@ -32,7 +33,35 @@ returns-clause-acts c = λ patterns text.
     let taken = c.put_served.ensures.acts g patterns main text vars (acts given) serves in
     let same : lent main back ≡ lent main mid.phases = returned ∙ c.lend.ensures.phases in
     let is = sym c.stage_of.ensures.stage ∙ c.in-Serves.is in
-    subst (λ s. TakesTo (lent main n.phases).main vars (stage_act w patterns site (lent main n.phases) n.left path s text) new result) (sym is)
-    (subst (λ (m : Node). TakesTo (lent main m.phases).main vars (served_act w site (lent main m.phases) m.left (answer_seen site (lent main m.phases) b.answered) b.page (later b text)) new result) c.stage_of.ensures.node
-    (subst (λ (p : Phases). TakesTo p.main vars (acts p) new result) c.lend.ensures.phases
-    (subst (λ (p : Phases). TakesTo p.main vars (acts given) new result) returned taken)))
+    subst (λ s. TakesTo (lent main n.phases).main vars (stage_act w patterns site (lent main n.phases) n.left path s text) new heard result) (sym is)
+    (subst (λ (m : Node). TakesTo (lent main m.phases).main vars (served_act w site (lent main m.phases) m.left (answer_seen site (lent main m.phases) b.answered) b.page (later b text)) new heard result) c.stage_of.ensures.node
+    (subst (λ (p : Phases). TakesTo p.main vars (acts p) new heard result) c.lend.ensures.phases
+    (subst (λ (p : Phases). TakesTo p.main vars (acts given) new heard result) returned taken)))
+
+pub returns-in_ok-served-in-Captures-clause-acts : goal.returns-in_ok-served-in-Captures-clause-acts
+returns-in_ok-served-in-Captures-clause-acts c = λ patterns text.
+    let g = c.args.ground.now in
+    let site = g.site.now in
+    let w = world_in patterns g shipped in
+    let main = c.args.main.now in
+    let n = c.args.node.now in
+    let b = c.in-Captures.capture.body in
+    let vars = c.args.vars.now in
+    let path = asked_path n.ask in
+    let mid = c.stage_of.new.node in
+    let given = c.lend-in-Captures.new.phases in
+    let back = c.lend-in-Captures-2.new.phases in
+    let result = c.put_served-in-Captures.result in
+    let new = node_act w patterns site main c.put_served-in-Captures.new.node text in
+    let heard = node_heard w patterns site main c.put_served-in-Captures.new.node text in
+    let returned = phased.given_back main c.lend-in-Captures.new.main mid.phases given given back c.lend-in-Captures.ensures.phases refl c.lend-in-Captures-2.ensures.phases in
+    let acts = λ (p : Phases). captured_act w site p mid.left (answer_seen site p b.answered) b.page (later b text) c.in-Captures.capture.name c.in-Captures.capture.text in
+    let serves = subst (λ (p : Phases). ServesTo g p mid.left patterns (asked_path mid.ask) text vars (acts given) c.in_ok-served-in-Captures.served) (sym returned)
+    (c.in_ok-served-in-Captures.ensures patterns (asked_path mid.ask) text vars) in
+    let taken = c.put_served-in-Captures.ensures.acts g patterns main text vars (acts given) serves in
+    let same : lent main back ≡ lent main mid.phases = returned ∙ c.lend-in-Captures.ensures.phases in
+    let is = sym c.stage_of.ensures.stage ∙ c.in-Captures.is in
+    subst (λ s. TakesTo (lent main n.phases).main vars (stage_act w patterns site (lent main n.phases) n.left path s text) new heard result) (sym is)
+    (subst (λ (m : Node). TakesTo (lent main m.phases).main vars (captured_act w site (lent main m.phases) m.left (answer_seen site (lent main m.phases) b.answered) b.page (later b text) c.in-Captures.capture.name c.in-Captures.capture.text) new heard result) c.stage_of.ensures.node
+    (subst (λ (p : Phases). TakesTo p.main vars (acts p) new heard result) c.lend-in-Captures.ensures.phases
+    (subst (λ (p : Phases). TakesTo p.main vars (acts given) new heard result) returned taken)))

@@ -20,6 +20,10 @@ returns c = λ n is.
       items = c.in_ok-push.ensures.items;
       left = made.left ∙ (c.saturating_sub-left.ensures ∙ ap (λ (x : Node). x.left - 1) same);
       over = made.over;
+      goes = made.place;
+      parent = made.parent;
+      asks = made.asks;
+      fresh = made.fresh;
       acts = λ w patterns site main text.
           made.acts w patterns site main text
           ∙ (ap (λ l. script w l (child_seen (of_method c.in_ok-method.method main) c.args.child)) (sym made.left)

@@ -1,10 +1,11 @@
 use Rattle.std.proofs.Common.{◌≡◌, ◌+◌, ◌*◌, length}
+use Rattle.std.specs.List.{AllByRecursion}
 use Rattle.std.specs.Vec.Iter.{into_iter_items, into_iter_len}
 use Rattle.file_tree.specs.Tree.{Tree}
 use Rattle.conf_include.specs.Listings.{Names, IsNaming}
 use Rattle.conf_include.specs.Expansion.{spot, put_all, put_file, put_line, named_by}
 use Rattle.conf_include.specs.Told.{Later, IsTold}
-use Rattle.conf_include.specs.Steps.{AreShallow, onto, tally_of}
+use Rattle.conf_include.specs.Steps.{AreShallow, WhereTold, IsRead, IsNamed, IsLonger, onto, tally_of}
 use Rattle.conf_include.proofs.include.Reading.+include.Given as goal
 
 abbrev pub decreases-put_file : goal.decreases-put_file
@@ -25,6 +26,9 @@ invariant-put_files-loop-path g l = record {
   listed : into_iter_len l.path-iterator ≡ length (into_iter_items l.path-iterator);
   later : Later (g.F.Files.seen l.initial.files)
       (g.F.Files.seen l.files);
+  grows : IsLonger l.initial.self.paths l.self.paths;
+  named : WhereTold l.setting.tree (g.F.Files.seen l.files)
+      (λ tree names. AllByRecursion (IsNamed tree names l.setting.main.now l.self.paths (spot l.at.file l.at.line)) (into_iter_items l.path-iterator));
   left : (tree : Tree) (names : Names)
       → IsTold l.setting.tree tree (g.F.Files.seen l.files) → IsNaming tree names
       → onto l.self.lines l.depth (put_all (put_file tree names l.setting.main.now l.left (spot l.at.file l.at.line)) (into_iter_items l.path-iterator) (tally_of l.self))
@@ -38,6 +42,9 @@ invariant-put_lines-loop-line g l = record {
   shallow : AreShallow (into_iter_items l.line-iterator);
   later : Later (g.F.Files.seen l.initial.files)
       (g.F.Files.seen l.files);
+  grows : IsLonger l.initial.self.paths l.self.paths;
+  read : WhereTold l.setting.tree (g.F.Files.seen l.files)
+      (λ tree names. AllByRecursion (IsRead tree names l.setting.main.now l.self.paths) (into_iter_items l.line-iterator));
   left : (tree : Tree) (names : Names)
       → IsTold l.setting.tree tree (g.F.Files.seen l.files) → IsNaming tree names
       → onto l.self.lines l.depth (put_all (put_line (put_file tree names l.setting.main.now l.left) (named_by names l.setting.main.now)) (into_iter_items l.line-iterator) (tally_of l.self))

@@ -4,6 +4,9 @@ use Rattle.family_rest.specs.Reached.Reached.{Left as HasLeft, Forgot}
 use Rattle.family_rest.specs.Still.{still, subs_still}
 use Rattle.outgoing.specs.Leaving.{to_come}
 use Rattle.postpone_filter.specs.Row.{Row}
+use Rattle.postpone_filter.specs.Runs.Call.{Use}
+use Rattle.family_order.specs.Items.{IsWellRow}
+use Rattle.family_order.proofs.Wells.{step-well}
 use Rattle.subrequests.specs.Families.{seen}
 use Rattle.subrequests.specs.Moved.{files, meant}
 use Rattle.page_response.proofs.Moving as moving
@@ -28,6 +31,17 @@ returns-clause-same c = λ w patterns site trees.
       nodes = ap (λ k. length f.nodes.items + k) (moving.asks tells w tree m f.vars n within
           ∙ ap (λ (r : Row). subs_still w tree (seen w patterns site f.main r f.nodes.items (files trees f)) f.vars) row);
       whole = moving.counted tells w tree m f.vars n within p.sent ∙ ap (λ (r : Row). (p.sent + n) + length (still w tree (seen w patterns site f.main r f.nodes.items (files trees f)) f.vars).body) row;
+    }
+
+pub returns-clause-whole : goal.returns-clause-whole
+returns-clause-whole c = λ sound.
+    let f = c.args.self.now.family in
+    record {
+      well = subst (IsWellRow 0) (sym c.used.ensures.row) (step-well 0 (Use c.put-put.result) f.order sound.well tt);
+      few = sound.few;
+      count = ap (λ (r : Row). r.nodes) c.used.ensures.row ∙ sound.count;
+      going = λ j. c.used.ensures.opened j ∙ sound.going j;
+      first = sound.first;
     }
 
 pub returns-clause-reached : goal.returns-clause-reached

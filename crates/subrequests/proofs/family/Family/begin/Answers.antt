@@ -6,6 +6,7 @@ use Rattle.acts.specs.Act.{settled}
 use Rattle.rewrite_code.specs.Places.{standing_seen}
 use Rattle.node_turn.specs.Nodes.{after_phases, asked_path, bytes_for, lent, stage_act}
 use Rattle.node_turn.specs.declared.node.Node.{Node}
+use Rattle.node_turn.specs.declared.node.Place.TheVariants.{Row as InRow}
 use Rattle.subrequests.proofs.Beginning as beginning
 use Rattle.subrequests.proofs.family.Family.begin.Goals as goal
 
@@ -14,14 +15,14 @@ returns-clause-begins c = λ ps tree texts first table same.
     let g = c.args.ground.now in
     let site = g.site.now in
     let w = world_in ps g shipped in
-    let n : Node = record { parent = 0; left = 50; children = 0; waits = None; phases = c.lend.new.phases; ask = c.args.ask; start = 0; stage = c.in_ok-stage.stage; over = false } in
+    let n : Node = record { parent = 0; left = 50; children = 0; waits = None; asks = None; place = InRow; phases = c.lend.new.phases; ask = c.args.ask; start = 0; stage = c.in_ok-stage.stage; over = false } in
     let path = asked_path c.args.ask in
     let back : lent c.lend.new.main c.lend.new.phases ≡ c.args.phases = beginning.given c.blank_main-main.result c.lend.new.main c.args.phases c.lend.new.phases c.lend.ensures.main c.lend.ensures.phases in
-    beginning.begins c.shows_the_same.ensures w tree ps site c.lend.new.main c.in_ok-order.order c.push.new.self.items texts c.args.vars n first c.in_ok-order.ensures (c.in_ok-push.ensures.items ∙ ap (λ ns. ns ++ n ∷ []) c.new-nodes.ensures.items) refl
+    beginning.begins c.shows_the_same.ensures w tree ps site c.lend.new.main c.in_ok-order.order c.push.new.self.items texts c.args.vars n first c.in_ok-order.ensures (c.in_ok-push.ensures.items ∙ ap (λ ns. ns ++ n ∷ []) c.new-nodes.ensures.items) refl refl refl
     table (same ∙ (ap (λ ssi. settled (after_phases w 50 ssi (prepared_as w (asked_in c.args.phases) (standing_seen site c.args.phases.at) (bytes_for c.args.outcome (texts 0)) c.args.outcome)) c.args.vars) (sym c.new.ensures)
     ∙ (c.in_ok-stage.ensures ps path (texts 0) c.args.vars ∙ ap (λ (p : Phases). (stage_act w ps site p 50 path c.in_ok-stage.stage (texts 0), c.args.vars)) (sym back))))
 
 pub returns-clause-whole : goal.returns-clause-whole
 returns-clause-whole c =
-    let n : Node = record { parent = 0; left = 50; children = 0; waits = None; phases = c.lend.new.phases; ask = c.args.ask; start = 0; stage = c.in_ok-stage.stage; over = false } in
-    beginning.sound c.in_ok-order.order c.push.new.self.items n c.in_ok-order.ensures (c.in_ok-push.ensures.items ∙ ap (λ ns. ns ++ n ∷ []) c.new-nodes.ensures.items) refl
+    let n : Node = record { parent = 0; left = 50; children = 0; waits = None; asks = None; place = InRow; phases = c.lend.new.phases; ask = c.args.ask; start = 0; stage = c.in_ok-stage.stage; over = false } in
+    beginning.sound c.in_ok-order.order c.push.new.self.items n c.in_ok-order.ensures (c.in_ok-push.ensures.items ∙ ap (λ ns. ns ++ n ∷ []) c.new-nodes.ensures.items) refl refl

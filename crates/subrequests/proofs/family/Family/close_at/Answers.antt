@@ -1,13 +1,12 @@
-use Rattle.std.proofs.Common.{true, set, refl, sym, ap, ◌∙◌, subst}
+use Rattle.std.proofs.Common.{◌==◌, ◌&&◌, true, set, refl, sym, ap, ◌∙◌, subst}
 use Rattle.request_meaning.specs.Laws.{shipped}
 use Rattle.request_phases.specs.Rounds.{world_in}
 use Rattle.postpone_filter.specs.Row.{Row, is_open}
-use Rattle.node_turn.specs.Stages.{is_ending, node_act}
-use Rattle.subrequests.specs.Families.{seen, stance_of}
+use Rattle.node_turn.specs.Stages.{is_ending}
+use Rattle.subrequests.specs.Families.{is_captured, seen}
 use Rattle.node_turn.specs.declared.node.Node.{Node}
-use Rattle.subrequests.specs.Moved.{Opening}
+use Rattle.node_line.specs.Stances.{Opening}
 use Rattle.subrequests.proofs.Members as members
-use Rattle.subrequests.proofs.Sets.{get_set_other}
 use Rattle.subrequests.proofs.Wholes as wholes
 use Rattle.subrequests.proofs.family.Family.close_at.Goals as goal
 
@@ -25,16 +24,17 @@ returns-clause-steps c = λ ps g.
     let done = wholes.stage_is is_ending nodes at old c.requires.there there in
     wholes.both_ways c.shows_the_same.ensures ps g f _ 0 (wholes.as_many nodes at new)
     (λ tree texts.
+    let free = ap is_captured (wholes.in_row nodes at old c.requires.row there) in
     let act = wholes.ended_act w ps site f.main old (texts at) done in
     subst (λ (r : Row). Opening w tree 0 (seen w ps site f.main f.order nodes texts) f.vars (seen w ps site f.main r (set nodes at new) texts) f.vars) (sym c.end.ensures.row)
-    (members.over c.shows_the_same.ensures w ps site f.main f.order nodes texts at old there tree f.vars goes_on act.0 (set nodes at new) act.1 c.requires.child
-    (λ j e. ap (stance_of w ps site f.main (texts j)) (sym (get_set_other nodes at j new (members.other_number j at e))))
+    (members.over c.shows_the_same.ensures w ps site f.main f.order nodes texts at old there (members.asks_none nodes at old there c.requires.seated) tree f.vars goes_on act.0 (set nodes at new) (wholes.in_row nodes at old c.requires.row there) act.1 c.requires.child
+    (λ j e. members.other_same w ps site f.main texts nodes at old new j there e (ap (λ b. b && (old.parent == j)) free) (ap (λ b. b && (old.parent == j)) free))
     (λ j. ap (λ (r : Row). is_open j r.pieces) (sym c.end.ensures.row) ∙ c.end.ensures.opened j)))
-    (λ trees. members.set_files w ps site f.main trees nodes at old new there (ap (node_act w ps site f.main new) (members.same_text trees old new (refl, refl))))
+    (λ trees. members.set_files trees nodes at old new there (λ reads. members.same_text trees old new (refl, refl)))
 
 pub returns-clause-whole : goal.returns-clause-whole
 returns-clause-whole c =
     let f = c.args.self.now in
     let old = c.index_mut-node.result.now in
     members.over_sound f.order c.end.new.self f.nodes.items c.args.at old (record old { over = true }) (wholes.here_is is_ending f.nodes.items c.args.at old c.requires.there c.index_mut-node.ensures.value)
-    c.requires.whole (ap (λ (r : Row). r.nodes) c.end.ensures.row) c.end.ensures.opened refl
+    c.requires.whole (members.ended_well f.order c.end.new.self c.args.at c.requires.whole.well c.requires.child c.end.ensures.row) (ap (λ (r : Row). r.nodes) c.end.ensures.row) c.end.ensures.opened refl refl

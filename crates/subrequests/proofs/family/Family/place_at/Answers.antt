@@ -2,9 +2,11 @@ use Rattle.std.proofs.Common.{set, take, sym, ap, ◌∙◌, subst}
 use Rattle.request_meaning.specs.Laws.{shipped}
 use Rattle.request_phases.specs.Rounds.{world_in}
 use Rattle.postpone_filter.specs.Row.{Row, is_open}
-use Rattle.node_turn.specs.Stages.{hand_at, is_placing, node_act}
-use Rattle.subrequests.specs.Families.{seen}
-use Rattle.subrequests.specs.Moved.{Opening}
+use Rattle.node_turn.specs.Stages.{hand_at, is_placing}
+use Rattle.subrequests.specs.Families.{is_captured, seen}
+use Rattle.subrequests.specs.Wants.{runs_at}
+use Rattle.subrequests.proofs.Sets.{get_set_same}
+use Rattle.node_line.specs.Stances.{Opening}
 use Rattle.subrequests.proofs.Members as members
 use Rattle.subrequests.proofs.Wholes as wholes
 use Rattle.subrequests.proofs.family.Family.place_at.Goals as goal
@@ -17,20 +19,32 @@ returns-clause-steps c = λ ps g.
     let nodes = f.nodes.items in
     let at = c.args.at in
     let old = c.index_mut-node.result.now in
-    let new = c.places-placed.new.node in
-    let some = take c.places-placed.result.count (hand_at old.stage) in
-    let is = c.places-placed.ensures in
+    let new = c.places.new.node in
+    let some = take c.places.result.count (hand_at old.stage) in
+    let is = c.places.ensures in
     let there = wholes.here_is is_placing nodes at old c.requires.there c.index_mut-node.ensures.value in
     let goes_on = wholes.open_is is_placing f.order nodes at c.requires.whole c.requires.there in
     wholes.both_ways c.shows_the_same.ensures ps g f _ 0 (wholes.as_many nodes at new)
     (λ tree texts. subst (λ (r : Row). Opening w tree 0 (seen w ps site f.main f.order nodes texts) f.vars (seen w ps site f.main r (set nodes at new) texts) f.vars) (sym is.row)
-    (members.placed c.shows_the_same.ensures w ps site f.main f.order nodes texts at old there tree f.vars goes_on some new is.node.left
+    (members.placed c.shows_the_same.ensures w ps site f.main f.order nodes texts at old there (members.asks_none nodes at old there c.requires.seated) tree f.vars goes_on some new is.node.left (wholes.in_row nodes at old c.requires.row there) is.place is.node.asks
     (ap (λ (r : Row). is_open at r.pieces) (sym is.row) ∙ (is.opened at ∙ goes_on)) (is.acts w ps site f.main (texts at))))
-    (λ trees. members.set_files w ps site f.main trees nodes at old new there (ap (node_act w ps site f.main new) (members.same_text trees old new is.file)))
+    (λ trees. members.set_files trees nodes at old new there (λ reads. members.same_text trees old new is.file))
 
 pub returns-clause-whole : goal.returns-clause-whole
 returns-clause-whole c =
     let f = c.args.self.now in
-    members.set_sound f.order c.places-placed.new.order f.nodes.items c.args.at c.index_mut-node.result.now c.places-placed.new.node
-    (wholes.here_is is_placing f.nodes.items c.args.at c.index_mut-node.result.now c.requires.there c.index_mut-node.ensures.value) c.requires.whole (ap (λ (r : Row). r.nodes) c.places-placed.ensures.row)
-    c.places-placed.ensures.opened c.places-placed.ensures.node.over
+    members.set_sound f.order c.places.new.order f.nodes.items c.args.at c.index_mut-node.result.now c.places.new.node
+    (wholes.here_is is_placing f.nodes.items c.args.at c.index_mut-node.result.now c.requires.there c.index_mut-node.ensures.value) c.requires.whole
+    (members.appended_well f.order c.places.new.order c.args.at (take c.places.result.count (hand_at c.index_mut-node.result.now.stage)) c.requires.whole.well c.places.ensures.row)
+    (ap (λ (r : Row). r.nodes) c.places.ensures.row)
+    c.places.ensures.opened c.places.ensures.node.over (ap is_captured c.places.ensures.place)
+
+pub returns-clause-rests : goal.returns-clause-rests
+returns-clause-rests c =
+    let f = c.args.self.now in
+    let nodes = f.nodes.items in
+    let at = c.args.at in
+    let old = c.index_mut-node.result.now in
+    let new = c.places.new.node in
+    let there = wholes.here_is is_placing nodes at old c.requires.there c.index_mut-node.ensures.value in
+    c.can_run.ensures ∙ ap (runs_at c.places.new.order at) (sym (wholes.found_there (set nodes at new) at c.index.result.now new (get_set_same nodes at new old there) c.index.ensures))

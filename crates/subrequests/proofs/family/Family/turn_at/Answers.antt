@@ -1,10 +1,10 @@
-use Rattle.std.proofs.Common.{set, refl, sym, subst}
+use Rattle.std.proofs.Common.{set, refl, sym, ap, subst}
 use Rattle.ngx_variables.specs.declared.request.Main.{Main}
 use Rattle.request_meaning.specs.Laws.{shipped}
 use Rattle.request_phases.specs.Rounds.{world_in}
 use Rattle.node_turn.specs.Stages.{is_turning}
-use Rattle.subrequests.specs.Families.{seen}
-use Rattle.subrequests.specs.Moved.{Opening}
+use Rattle.subrequests.specs.Families.{is_captured, seen}
+use Rattle.node_line.specs.Stances.{Opening}
 use Rattle.subrequests.proofs.Members as members
 use Rattle.subrequests.proofs.Wholes as wholes
 use Rattle.subrequests.proofs.family.Family.turn_at.Goals as goal
@@ -25,11 +25,12 @@ returns-clause-steps c =
     let is = c.in_ok-turns.ensures in
     wholes.both_ways c.shows_the_same.ensures ps g f _ 0 (wholes.as_many nodes at new)
     (λ tree texts. subst (λ (m : Main). Opening w tree 0 (seen w ps site f.main f.order nodes texts) f.vars (seen w ps site m f.order (set nodes at new) texts) c.turns.new.vars) (sym is.main)
-    (members.turned c.shows_the_same.ensures w ps site f.main f.order nodes texts at old there tree f.vars goes_on c.turns.new.vars new is.node.left (is.acts (texts at))))
-    (λ trees. members.set_files w ps site c.turns.new.main trees nodes at old new there (members.kept_text w ps site c.turns.new.main trees old new is.file))
+    (members.turned c.shows_the_same.ensures w ps site f.main f.order nodes texts at old (members.its_seat w ps site f.main f.order nodes texts at old there c.requires.whole goes_on c.requires.seated)
+    tree f.vars c.turns.new.vars new (members.as_old old new is.node (ap is_captured is.place)) is.place (is.acts (texts at))))
+    (λ trees. members.set_files trees nodes at old new there (members.kept_text trees old new is.file))
 
 pub returns-clause-whole : goal.returns-clause-whole
 returns-clause-whole c =
     let f = c.args.self.now in
     members.set_sound f.order f.order f.nodes.items c.args.at c.index_mut-node.result.now c.turns.new.node
-    (wholes.here_is is_turning f.nodes.items c.args.at c.index_mut-node.result.now c.requires.there c.index_mut-node.ensures.value) c.requires.whole refl (λ j. refl) c.in_ok-turns.ensures.node.over
+    (wholes.here_is is_turning f.nodes.items c.args.at c.index_mut-node.result.now c.requires.there c.index_mut-node.ensures.value) c.requires.whole c.requires.whole.well refl (λ j. refl) c.in_ok-turns.ensures.node.over (ap is_captured c.in_ok-turns.ensures.place)

@@ -1,6 +1,6 @@
 use Rattle.std.proofs.Common.{arith}
 use Rattle.file_type.proofs.BucketLemmas.{bucket_places}
-use Rattle.file_type.proofs.types.Types.by_extension.Goals as goal
+use Rattle.file_type.proofs.types.Table.find.Goals as goal
 
 pub type_among-requires : goal.type_among-requires
 type_among-requires c =

@@ -1,0 +1,42 @@
+-- A node with a stub joins the row: no subrequest is opened by that.
+use Rattle.std.proofs.Common.{◌≡◌, ◌≢◌, ℕ, List, [], ◌∷◌, ◌++◌, map, refl, sym, ap, ◌∙◌, append-nil}
+use Rattle.file_tree.specs.Tree.{Tree}
+use Rattle.acts.specs.Vars.{Vars}
+use Rattle.request_meaning.specs.Serving.{World, Serving, Answer}
+use Rattle.postpone_filter.specs.Row.{longer}
+use Rattle.family_meaning.specs.Line.{front}
+use Rattle.family_meaning.specs.Line.Line.{Nil, Held, Gives}
+use Rattle.family_meaning.specs.Moves.{KeepsBody}
+use Rattle.family_order.specs.Items.{stance_items, Family, IsWell, items, row_items, with_stance, doing, placing}
+use Rattle.family_order.specs.Items.Stance.{Going, Apart}
+use Rattle.family_order.specs.Items.Item.{Byte}
+use Rattle.family_order.specs.Acts.{Does, Acts}
+use Rattle.family_order.specs.Acts.Acts.{Keeps}
+use Rattle.family_order.proofs.Rows.{split, split_items, change_items, ahead_items}
+use Rattle.family_order.proofs.Wells.{well-doing, well-append}
+use Rattle.family_order.proofs.Shown.{stance_now, stance_other, placed_row}
+use Rattle.family_rest.specs.Opened.{opened_by}
+
+module _ (w : World) (tree : Tree) (f : Family) (vars : Vars) (n left : ℕ) (bytes stub : List ℕ) (m : Serving Answer) where
+  some_front : bytes ≢ [] → front (Held bytes (Gives n left m Nil)) ≢ []
+  unfolding front
+  some_front k z = k (sym (append-nil bytes) ∙ z)
+
+  own_items : items (Held bytes (Gives n left m Nil)) ≡ map Byte bytes ++ stance_items n (Going left m)
+  unfolding items
+  own_items = refl
+
+  pub joins : IsWell f → Does f n (Apart (Held bytes (Gives n left m Nil)) stub) → KeepsBody w tree (Held bytes (Gives n left m Nil)) → bytes ≢ [] →
+      (a : Acts w tree f vars (doing n (Going left m) (placing n bytes f)) vars) × (opened_by a ≡ 0)
+  joins h d body some =
+      let own = Held bytes (Gives n left m Nil) in
+      let now = Going left m in
+      let stance = with_stance n now f.stance in
+      let p = split f.row.nodes n f.row.pieces h.row_is.lawful d.goes_on in
+      let act : Acts w tree f vars (doing n (Going left m) (placing n bytes f)) vars = Keeps own stub (ahead_items f.stance p.ahead p.at) (row_items f.stance p.behind)
+      (split_items n f.stance f.row.pieces p ∙ ap (λ s. ahead_items f.stance p.ahead p.at ++ (stance_items n s ++ row_items f.stance p.behind)) d.stands)
+      (change_items n f.stance stance f.row.pieces p (λ q. longer bytes q ∷ []) (map Byte bytes ++ stance_items n now)
+      (λ j u. stance_other n j now f.stance u) (placed_row n stance now bytes p.at (stance_now n now f.stance) p.place)
+      ∙ ap (λ z. ahead_items f.stance p.ahead p.at ++ (z ++ row_items f.stance p.behind)) (sym own_items))
+      refl (well-doing n now (placing n bytes f) (well-append n bytes f h) refl) body (some_front some) in
+      (act, refl)

@@ -1,0 +1,4 @@
+pub mod Joins
+pub mod Keeping
+pub mod Shows
+pub mod Steps

@@ -1,0 +1,2 @@
+pub mod Stances
+pub mod Stubs

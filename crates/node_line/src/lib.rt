@@ -1,0 +1,8 @@
+//! A node of a request's tree, in the row of its family or in a line of its own
+//! (<https://nginx.org/en/docs/http/ngx_http_ssi_module.html>, `stub`): what it still does there,
+//! and how a subrequest with a stub comes to show its body or the stub.
+#![tactic(auto)]
+
+mod stub;
+
+pub use stub::{comes, decides};

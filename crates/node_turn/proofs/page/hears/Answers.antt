@@ -1,0 +1,50 @@
+use Rattle.std.proofs.Common.{sym, ap, ◌∙◌}
+use Rattle.acts.specs.Act.{Write}
+use Rattle.request_meaning.specs.Laws.{shipped}
+use Rattle.request_phases.specs.Rounds.{world_in}
+use Rattle.page_body.specs.Pages.{page_captured, page_rest, text_then}
+use Rattle.node_turn.specs.Nodes.{answer_seen, captured_act, from_source}
+use Rattle.node_turn.proofs.Paged as paged
+use Rattle.node_turn.proofs.Serving as serving
+use Rattle.node_turn.proofs.page.hears.Goals as goal
+
+pub returns-in-Some-2 : goal.returns-in-Some-2
+returns-in-Some-2 c = λ g p levels patterns path file vars is.
+    let w = world_in patterns g shipped in
+    let site = g.site.now in
+    let capture = c.args.capture in
+    let b = capture.body in
+    let answer = answer_seen site p b.answered in
+    let bytes = from_source b.source file in
+    let scene = c.args.scene.now in
+    let page = c.in-Some.page in
+    let now = c.captured.new.self in
+    let text = c.in-Some-2.text in
+    serving.same_work
+    (ap (λ x. captured_act w site p levels answer x bytes capture.name capture.text) c.in-Some.is
+    ∙ (sym (ap (λ k. k capture.name capture.text) (paged.captured_is g p levels scene is w answer page bytes))
+    ∙ (ap (λ name. page_captured w answer scene page name capture.text bytes) (sym c.as_slice.ensures)
+    ∙ (c.in_ok-text.ensures.goes_on w answer bytes
+    ∙ (ap (λ t. text_then t (page_rest w answer scene now bytes)) c.in-Some-2.is
+    ∙ (ap (Write text) (paged.page_is g p levels scene is w answer now bytes)
+    ∙ sym (serving.body_placed w site p levels c.body_of-body.result b.answered _ _ c.body_of-body.ensures.others file text c.body_of-body.ensures.hand)))))))
+
+pub returns : goal.returns
+returns c = λ g p levels patterns path file vars is.
+    let w = world_in patterns g shipped in
+    let site = g.site.now in
+    let capture = c.args.capture in
+    let b = capture.body in
+    let answer = answer_seen site p b.answered in
+    let bytes = from_source b.source file in
+    let scene = c.args.scene.now in
+    let page = c.in-Some.page in
+    let now = c.captured.new.self in
+    serving.same_work
+    (ap (λ x. captured_act w site p levels answer x bytes capture.name capture.text) c.in-Some.is
+    ∙ (sym (ap (λ k. k capture.name capture.text) (paged.captured_is g p levels scene is w answer page bytes))
+    ∙ (ap (λ name. page_captured w answer scene page name capture.text bytes) (sym c.as_slice.ensures)
+    ∙ (c.in_ok-text.ensures.goes_on w answer bytes
+    ∙ (ap (λ t. text_then t (page_rest w answer scene now bytes)) c.in-None.is
+    ∙ (paged.page_is g p levels scene is w answer now bytes
+    ∙ sym (serving.body_served w site p levels c.body_of-body-in-None.result b.answered _ _ c.body_of-body-in-None.ensures.others file)))))))
