@@ -3,7 +3,7 @@
 use crate::samples::{level, text, value};
 use byte_text::{ByteText, ByteTexts};
 use file_type::Types;
-use race_check::{Named, named_in};
+use race_check::{Named, first_lists, named_in};
 use site_model::{
     AuthSet, AuthSets, FileTest, Level, Listens, Location, LocationKind, Program, RewriteStep,
     Server, Site, Test,
@@ -119,9 +119,10 @@ fn site_of(alloc: Global, words: &[u8], visible: Option<ByteTexts>) -> Result<Si
 
 /// The variables that are named in the site's first server.
 fn named_first(alloc: Global, site: &Site) -> Result<Vec<Named>, Fail> {
+    let first = first_lists(alloc, site)?;
     match site.servers.first() {
         None => Ok(Vec::new(alloc)),
-        Some(server) => Ok(named_in(alloc, site, server, 1)?),
+        Some(server) => Ok(named_in(alloc, site, &first, server, 1)?),
     }
 }
 

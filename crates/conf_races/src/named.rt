@@ -8,6 +8,7 @@ ghost use Rattle.conf_block.specs.Forest.{forest_of};
 ghost use Rattle.conf_block.specs.Blocks.{blocks_of};
 ghost use Rattle.race_meaning.specs.Conflicts.{AreConflicts};
 ghost use Rattle.race_meaning.specs.Named.{IsRaceless};
+ghost use Rattle.race_check.specs.Told.{AreFirst};
 ghost use Rattle.race_places.specs.Places.{server_sources, conflict_seen};
 ghost use Rattle.race_places.specs.declared.told.Conflict.{Conflict as Told};
 ghost use Rattle.conf_races.specs.Origins.{Outer, Means, nowhere, outer_over, server_origins};
@@ -21,7 +22,7 @@ use conf_block::{http_in, next_named};
 use conf_check::names_in;
 use conf_text::Directive;
 use conf_values::TextSet;
-use race_check::named_in;
+use race_check::{FirstLists, first_lists, named_in};
 use race_places::{Conflict, LineList, placed};
 use site_model::{Server, Site};
 use std::alloc::Global;
@@ -63,10 +64,12 @@ fn races_in(
     known: &TextSet,
     around: &Around,
     site: &Site,
+    first: &FirstLists,
     server: &Server,
     number: usize,
     block: &[Directive],
 ) -> Result<Vec<Conflict>, OutOfMemory>
+    requires { AreFirst site.now first.now }
     ensures { IfOk result (λ conflicts. (outer : Outer)
         → Means around.now.lists.items around.now.lines outer
         → (files : ℕ → List ℕ) (patterns : List Pattern)
@@ -75,7 +78,7 @@ fn races_in(
         (server_origins (holds known.now.keys) outer (forest_of block.now)))
         (map (conflict_seen files) conflicts.items)) }
 {
-    let named = named_in(alloc, site, server, number)?;
+    let named = named_in(alloc, site, first, server, number)?;
     if named.is_empty() {
         return Ok(Vec::new(alloc));
     }
@@ -100,13 +103,14 @@ fn races_of(
         (blocks_of (codes "server") (forest_of http.now))
         (map (conflict_seen files) conflicts.items)) }
 {
+    let first = first_lists(alloc, site)?;
     let mut conflicts = Vec::new(alloc);
     let mut number = 0;
     let mut rest = http;
     for server in &site.servers {
         number += 1;
         let (block, beside) = next_server(rest);
-        let mut here = races_in(alloc, known, around, site, server, number, block)?;
+        let mut here = races_in(alloc, known, around, site, &first, server, number, block)?;
         conflicts.append(&mut here)?;
         rest = beside;
     }

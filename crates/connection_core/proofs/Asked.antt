@@ -7,7 +7,8 @@ use Rattle.file_tree.specs.Tree.{tree_of}
 use Rattle.file_tree.specs.declared.job.Ask.{Ask}
 use Rattle.ngx_outside.specs.Views.{ask_in}
 use Rattle.node_turn.specs.declared.node.Node.{Node}
-use Rattle.subrequests.specs.Wants.{is_waiting, jobs_from}
+use Rattle.subrequests.specs.Runs.{is_waiting}
+use Rattle.subrequests.specs.Wants.{jobs_from}
 use Rattle.request_flow.specs.Flows.{waits}
 use Rattle.response_flow.specs.declared.flight.Flight.{Flight}
 use Rattle.response_flow.specs.declared.flight.Flight.TheVariants.{Alone, Page}
@@ -45,5 +46,5 @@ asks_known (Some (Alone flow)) node tree (Some ask) e h = by (waits flow.stage) 
     by false f = cc
 asks_known (Some (Page p)) node tree (Some ask) e h =
     let f = p.pages.value.family in
-    let g = page_asks f.tree 0 f.nodes.items node ask.now (sym e) in
+    let g = page_asks f.tree 0 f.nodes node ask.now (sym e) in
     omega (arith, g, h)

@@ -136,18 +136,18 @@ impl Hub {
     }
 
     // An event of one connection.
-    fn own(&mut self, conn: u32, event: Event) -> StepAnswer
-        requires own { is_own event ≡ true }
-        requires conn { event_conn event ≡ conn }
+    fn own(&mut self, conn: u32, event: &Event) -> StepAnswer
+        requires own { is_own event.now ≡ true }
+        requires conn { event_conn event.now ≡ conn }
         ensures steps { (fresh : End → End → Course) →
-            Steps fresh (now_at self.old) event.entry result (view_at self.old) (view_at self.new) }
-        ensures opens { (opens : ℕ → End → Bool) → OpensIf opens event.entry result }
-        ensures ended { (c : ℕ) → (view_at self.new c).ended ≡ ended_after event.entry result c
+            Steps fresh (now_at self.old) event.now result (view_at self.old) (view_at self.new) }
+        ensures opens { (opens : ℕ → End → Bool) → OpensIf opens event.now result }
+        ensures ended { (c : ℕ) → (view_at self.new c).ended ≡ ended_after event.now result c
             (view_at self.old c).ended }
-        ensures taken { TakesNone event.entry result }
-        ensures now { now_at self.new ≡ now_after (now_at self.old) event.entry result }
-        ensures left { LeftBy price_each event.entry result (left_at self.old) (left_at self.new) }
-        ensures refused { CountsRefused event.entry result (refused_at self.old)
+        ensures taken { TakesNone event.now result }
+        ensures now { now_at self.new ≡ now_after (now_at self.old) event.now result }
+        ensures left { LeftBy price_each event.now result (left_at self.old) (left_at self.new) }
+        ensures refused { CountsRefused event.now result (refused_at self.old)
             (refused_at self.new) }
         ensures served { self.new.table.served ≡ self.old.table.served }
         ensures patterns { self.new.space.patterns ≡ self.old.space.patterns }
@@ -176,17 +176,17 @@ impl EventCore for Hub {
                 count(&mut self.refused, answer);
                 answer
             }
-            Event::Arrived { conn, bytes: _ } => self.own(conn, event),
-            Event::Ended { conn } => self.own(conn, event),
-            Event::Wrote { conn, count: _ } => self.own(conn, event),
-            Event::LinkFailed { conn } => self.own(conn, event),
-            Event::FileDone {
+            Event::Arrived { conn, bytes: _ }
+            | Event::Ended { conn }
+            | Event::Wrote { conn, count: _ }
+            | Event::LinkFailed { conn }
+            | Event::FileDone {
                 conn,
                 node: _,
                 answer: _,
-            } => self.own(conn, event),
-            Event::JobFailed { conn, node: _ } => self.own(conn, event),
-            Event::Run { conn, node: _ } => self.own(conn, event),
+            }
+            | Event::JobFailed { conn, node: _ }
+            | Event::Run { conn, node: _ } => self.own(conn, &event),
             Event::Tick { now } => {
                 let moment = now.min(LAST_MOMENT);
                 self.moment = moment;

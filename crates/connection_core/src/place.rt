@@ -96,17 +96,17 @@ pub(crate) fn happen(
     served: &ServedSite,
     moment: u64,
     tree: u64,
-    event: Event,
+    event: &Event,
 ) -> StepAnswer
-    ensures steps { is_own event.entry ≡ true →
+    ensures steps { is_own event.now ≡ true →
         StepsConn (serves_with space.old.patterns served.now)
-        (record { moment = moment; tree = tree }) event.entry result conn.old conn.new }
-    ensures times { is_own event.entry ≡ true →
+        (record { moment = moment; tree = tree }) event.now result conn.old conn.new }
+    ensures times { is_own event.now ≡ true →
         TimesConn (serves_with space.old.patterns served.now)
-        (record { moment = moment; tree = tree }) event.entry result conn.old conn.new }
+        (record { moment = moment; tree = tree }) event.now result conn.old conn.new }
     ensures patterns { space.new.patterns ≡ space.old.patterns }
 {
-    match event {
+    match *event {
         Event::Opened {
             conn: _,
             local: _,
@@ -137,13 +137,13 @@ pub(crate) fn happen_at(
     served: &ServedSite,
     moment: u64,
     tree: u64,
-    event: Event,
+    event: &Event,
 ) -> StepAnswer
     requires placed { Placed at conns.old.items }
-    ensures replaced { is_own event.entry ≡ true → (p : Placed at conns.old.items) →
+    ensures replaced { is_own event.now ≡ true → (p : Placed at conns.old.items) →
         Replaced at conns.old.items
         (λ old new. StepsConn (serves_with space.old.patterns served.now)
-        (record { moment = moment; tree = tree }) event.entry result old new) p conns.new.items }
+        (record { moment = moment; tree = tree }) event.now result old new) p conns.new.items }
     ensures len { vec_len conns.new ≡ vec_len conns.old }
     ensures patterns { space.new.patterns ≡ space.old.patterns }
 {

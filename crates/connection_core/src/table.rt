@@ -175,25 +175,25 @@ impl Table {
         moment: u64,
         tree: u64,
         conn: u32,
-        event: Event,
+        event: &Event,
     ) -> StepAnswer
-        requires own { is_own event ≡ true }
+        requires own { is_own event.now ≡ true }
         ensures steps { TellsRaceless (serves_with space.old.patterns self.old.served) →
             AllReached (serves_with space.old.patterns self.old.served) self.old.conns.items →
             OneSteps conn (StepsOwn nobody.course
-            (record { moment = moment; tree = tree }) event.entry result)
+            (record { moment = moment; tree = tree }) event.now result)
             (view_in (serves_with space.old.patterns self.old.served) self.old.ids.items
             self.old.conns.items)
             (view_in (serves_with space.new.patterns self.new.served) self.new.ids.items
             self.new.conns.items) }
-        ensures left { LeftBy price_each event.entry result (left_in self.old.conns.items)
+        ensures left { LeftBy price_each event.now result (left_in self.old.conns.items)
             (left_in self.new.conns.items) }
         ensures ended { (view_in (serves_with space.new.patterns self.new.served)
             self.new.ids.items self.new.conns.items conn).ended ≡
-            ended_by event.entry result
+            ended_by event.now result
             (view_in (serves_with space.old.patterns self.old.served) self.old.ids.items
             self.old.conns.items conn).ended }
-        ensures taken { TakesNone event.entry result }
+        ensures taken { TakesNone event.now result }
         ensures known { AllKnown tree self.old.conns.items → AllKnown tree self.new.conns.items }
         ensures reached { AllReached (serves_with space.old.patterns self.old.served)
             self.old.conns.items → AllReached (serves_with space.old.patterns self.old.served)

@@ -183,7 +183,7 @@ stuck_runs false true [] (n ∷ ready) h = cc
 stuck_runs false true (j ∷ jobs) ready h = never_all true (no_nodes (cond (false || (true && (false && is_none (family.first_of ready)))) (0 ∷ []) ready)) h
 
 busy_page : (p : Pages) → (no_bytes p.outgoing.pending && no_nodes (page_ready p) && no_jobs (family.jobs_of p.family)) ≡ true → ⊥
-busy_page p h = stuck_runs (are_done p.family.nodes.items) (no_bytes p.outgoing.pending) (family.jobs_of p.family) (family.ready_of p.family) h
+busy_page p h = stuck_runs (are_done p.family.nodes) (no_bytes p.outgoing.pending) (family.jobs_of p.family) (family.ready_of p.family) h
 
 busy : (flight : Flight) (out : List ℕ) → FlightFits (Some flight) (length out) →
     (no_bytes (pending_by flight out) && no_nodes (ready_by flight) && no_jobs (jobs_by flight)) ≡ true → ⊥

@@ -11,7 +11,7 @@ use crate::open::Meeting;
 use crate::sending::{begun, sending};
 use crate::slot::{put, take};
 use crate::start::run_one;
-use crate::times::{AT_REST, Sending, marked, pace_after, shortest_after};
+use crate::times::{AT_REST, Sending, marked, paced_on};
 use byte_text::OutOfMemory;
 use file_tree::{JobAnswer, is_fitting};
 use ngx_outside::{StepAnswer, StopCause};
@@ -215,9 +215,13 @@ impl Conn {
                 self.closing = onward.closing;
                 let after = sending(&self.flight, &self.out);
                 self.times.mark = marked(self.times.mark, moment, before, after);
-                let pace = pace_after(served, onward.level, self.times.pace);
-                self.least = shortest_after(self.least, self.times.head, self.times.pace, pace);
-                self.times.pace = pace;
+                paced_on(
+                    &mut self.times.pace,
+                    &mut self.least,
+                    self.times.head,
+                    served,
+                    onward.level,
+                );
                 StepAnswer::Done { taken: 0 }
             }
             Err(OutOfMemory) => {
@@ -281,9 +285,13 @@ impl Conn {
                 self.closing = onward.closing;
                 let after = sending(&self.flight, &self.out);
                 self.times.mark = marked(self.times.mark, moment, AT_REST, after);
-                let pace = pace_after(served, onward.level, self.times.pace);
-                self.least = shortest_after(self.least, self.times.head, self.times.pace, pace);
-                self.times.pace = pace;
+                paced_on(
+                    &mut self.times.pace,
+                    &mut self.least,
+                    self.times.head,
+                    served,
+                    onward.level,
+                );
                 StepAnswer::Done { taken: 0 }
             }
             Err(OutOfMemory) => {

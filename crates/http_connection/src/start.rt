@@ -16,7 +16,7 @@ use crate::body::drop_body;
 use crate::input::{begins, behind};
 use crate::journal::{enter, make_room};
 use crate::open::{Meeting, open, refuse};
-use crate::slot::{forget, put, take};
+use crate::slot::{put, take};
 use crate::times::own_level;
 use body_frame::BodyState;
 use byte_text::{ByteQueue, OutOfMemory};
@@ -101,11 +101,10 @@ pub(crate) fn run_one(
             make_room(journal)?;
             let dropped = drop_body(BodyState::new(head.body), behind(held, *size));
             let size = *size + dropped.used;
-            let following = read_head(space.alloc, behind(held, size))?;
             let head = take_head(next);
+            put(next, read_head(space.alloc, behind(held, size))?);
             match open(space, served, out, head, journal.len() as u64, meeting) {
                 Ok(Ran::TooMany) => {
-                    forget(following);
                     enter(journal, meeting.moment, meeting.tree, None);
                     Ok(Ran::TooMany)
                 }
@@ -113,14 +112,10 @@ pub(crate) fn run_one(
                     let onward = with_broken(opened, dropped.broken);
                     enter(journal, meeting.moment, meeting.tree, onward.log);
                     held.used(size);
-                    put(next, following);
                     *body = dropped.body;
                     Ok(Ran::On(onward))
                 }
-                Err(OutOfMemory) => {
-                    forget(following);
-                    Err(OutOfMemory)
-                }
+                Err(OutOfMemory) => Err(OutOfMemory),
             }
         }
         HeadStep::Bad { code, no_body } => {

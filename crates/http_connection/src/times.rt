@@ -1,5 +1,5 @@
 // How long a connection waits for its peer.
-ghost use Rattle.std.specs.Prelude.{◌≡◌, List};
+ghost use Rattle.std.specs.Prelude.{◌≡◌, List, true};
 ghost use Rattle.ngx_pattern.specs.Pattern.{Pattern as SetPattern};
 ghost use Rattle.pattern_search.specs.Found.{patterns_seen};
 ghost use Rattle.site_model.specs.declared.site.Site.{Site as SiteRow};
@@ -78,14 +78,12 @@ fn pace_of(level: &Level) -> Pace
     }
 }
 
-/// The pace after a step that put the head of a response by the level with this number, if it put one.
-pub(crate) fn pace_after(served: &ServedSite, level: Option<u32>, before: Pace) -> Pace
-    ensures { result ≡ paced (values_at served.now level) before }
+// Whether a pace is that of a level.
+#[tactic(auto, unfolding(site_whole::specs::Whole::values_seen))]
+fn is_pace_of(level: &Level, pace: Pace) -> bool
+    ensures { (site : SiteRow) → result ≡ true → pace ≡ pace_seen (values_seen site level.now) }
 {
-    match level {
-        Some(number) => pace_of(served.site().level(number)),
-        None => before,
-    }
+    pace.send == level.send_wait && pace.idle == level.idle
 }
 
 /// The number of the own level of the server at a local end.
@@ -179,18 +177,36 @@ fn shortest(head: u64, pace: Pace) -> u64
         .min(seconds(pace.idle))
 }
 
-/// The shortest wait by another pace, which mostly is the one before.
-pub(crate) fn shortest_after(least: u64, head: u64, before: Pace, after: Pace) -> u64
-    requires { NoneShorter head before least }
-    ensures { NoneShorter head after result }
+// The pace of a level, which mostly is the one before, and the shortest wait by it.
+fn pace_by(pace: &mut Pace, least: &mut u64, head: u64, level: &Level)
+    requires { NoneShorter head pace.old least.old }
+    ensures pace { (site : SiteRow) → pace.new ≡ pace_seen (values_seen site level.now) }
+    ensures least { NoneShorter head pace.new least.new }
 {
-    if after.send != before.send {
-        return shortest(head, after);
+    if is_pace_of(level, *pace) {
+        return;
     }
-    if after.idle != before.idle {
-        return shortest(head, after);
+    *pace = pace_of(level);
+    *least = shortest(head, *pace);
+}
+
+/// The pace after a step that put the head of a response by the level with this number, if it put one, and the shortest wait
+/// by it.
+pub(crate) fn paced_on(
+    pace: &mut Pace,
+    least: &mut u64,
+    head: u64,
+    served: &ServedSite,
+    level: Option<u32>,
+)
+    requires { NoneShorter head pace.old least.old }
+    ensures pace { pace.new ≡ paced (values_at served.now level) pace.old }
+    ensures least { NoneShorter head pace.new least.new }
+{
+    match level {
+        Some(number) => pace_by(pace, least, head, served.site().level(number)),
+        None => {}
     }
-    least
 }
 
 /// The mark after a step: this moment where bytes came to be pending or a request came to its end.

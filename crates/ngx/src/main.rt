@@ -7,6 +7,7 @@ use socket_links::{ListenFault, SocketLinks, SystemClock};
 use std::fs::Files;
 use std::io::{Eprint, ErrorKind};
 use std::net::SocketAddr;
+use std::path::{Path, PathBuf};
 use std::process::ExitCode;
 use std::{env, fs, io};
 use std_outside::{HostFiles, HostSink};
@@ -80,6 +81,37 @@ fn tell_why<R: Files + Eprint>(
     }
 }
 
+// Whether the word after these is the path of a configuration that is served. Relative paths in it start at its folder, and no file is
+// found at a path with a `.` or `..` (which a request could ask for): so the folder is named by its whole path.
+fn is_served(words: &[String]) -> bool {
+    match words {
+        [_, command] => command.as_str() == "serve",
+        _ => false,
+    }
+}
+
+// Whether a word is a relative path, and no option (`--help`).
+fn is_relative(word: &str) -> bool {
+    !word.starts_with('/') && !word.starts_with('-')
+}
+
+// The folder of a file by its whole path, without `.` and `..`.
+fn folder_of<R: Files + Alloc>(rt: &R, file: &Path) -> io::Result<PathBuf<R::A>> {
+    match file.parent() {
+        Some(folder) if !folder.as_str().is_empty() => fs::canonicalize(rt, folder),
+        _ => fs::canonicalize(rt, Path::new(".")),
+    }
+}
+
+// The path of a file by the whole path of its folder, if that folder is there.
+fn whole<R: Files + Alloc>(rt: &R, path: &str) -> Option<String<R::A>> {
+    let given = Path::new(path);
+    let name = given.file_name()?;
+    let mut found = folder_of(rt, &given).ok()?;
+    found.push(name).ok()?;
+    Some(found.into_string())
+}
+
 fn main(rt: HostRuntime) -> io::Result<ExitCode> {
     let alloc = rt.alloc();
     let mut words = Vec::new(alloc);
@@ -94,7 +126,12 @@ fn main(rt: HostRuntime) -> io::Result<ExitCode> {
         }
     };
     for word in given {
-        if words.push(word).is_err() {
+        let named = if is_served(&words) && is_relative(word.as_str()) {
+            whole(&rt, word.as_str())
+        } else {
+            None
+        };
+        if words.push(named.unwrap_or(word)).is_err() {
             return Ok(ExitCode::from(OUT_OF_MEMORY));
         }
     }

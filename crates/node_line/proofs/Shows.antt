@@ -11,6 +11,7 @@ use Rattle.request_meaning.specs.Serving.{World, Answer}
 use Rattle.request_phases.specs.declared.state.Phases.{Phases}
 use Rattle.family_meaning.specs.Moves.{AllEnd, IsGood}
 use Rattle.family_meaning.specs.Suspended.{document_rest}
+use Rattle.std.specs.Global.{Box}
 use Rattle.page_body.specs.declared.page.Page.{Page}
 use Rattle.node_turn.specs.Nodes.{answer_seen, asked_path, later, hand, lent, page_at, placed_act, stage_act}
 use Rattle.node_turn.specs.Stages.{hand_at, node_act}
@@ -53,9 +54,10 @@ some_taken (stages.Begins ssi) count e k = cc
 some_taken (stages.Asks wait ssi) count e k = cc
 some_taken (stages.Told wait file ssi) count e k = cc
 some_taken (stages.Places b) count e k =
-    let within = less b.from (length b.bytes) (right_of (nat_lt b.answered.status 400) (nat_lt b.from (length b.bytes)) e) in
-    let size : length (drop b.from b.bytes) ≡ _ = length-drop b.from b.bytes in
-    some_in (drop b.from b.bytes) count k (omega (arith, within, size))
+    let body = b.value in
+    let within = less body.from (length body.bytes) (right_of (nat_lt body.answered.status 400) (nat_lt body.from (length body.bytes)) e) in
+    let size : length (drop body.from body.bytes) ≡ _ = length-drop body.from body.bytes in
+    some_in (drop body.from body.bytes) count k (omega (arith, within, size))
 some_taken (stages.Serves b) count e k = cc
 some_taken (stages.Reads b) count e k = cc
 some_taken (stages.Captures c) count e k = cc
@@ -66,16 +68,17 @@ page_good : (w : World) (site : Site) (p : Phases) (left : ℕ) (answer : Answer
 unfolding page_at document_rest
 page_good w site p left answer page bytes h = all_then IsGood _ (λ u. Done answer) (λ u. h)
 
-placed_good : (w : World) (site : Site) (p : Phases) (left : ℕ) (answer : Answer) (page : Option Page) (bytes more : List ℕ) → IsGood answer → AllEnd IsGood (placed_act w site p left answer page bytes more)
+placed_good : (w : World) (site : Site) (p : Phases) (left : ℕ) (answer : Answer) (page : Option (Box Page)) (bytes more : List ℕ) → IsGood answer → AllEnd IsGood (placed_act w site p left answer page bytes more)
 placed_good w site p left answer None bytes more h = h
-placed_good w site p left answer (Some page) bytes more h = page_good w site p left answer page more h
+placed_good w site p left answer (Some page) bytes more h = page_good w site p left answer page.value more h
 
 stage_good : (w : World) (patterns : List SetPattern) (site : Site) (p : Phases) (left : ℕ) (path : List ℕ) (s : Stage) (text : List ℕ) → shows s ≡ true → AllEnd IsGood (stage_act w patterns site p left path s text)
 stage_good w patterns site p left path (stages.Begins ssi) text e = cc
 stage_good w patterns site p left path (stages.Asks wait ssi) text e = cc
 stage_good w patterns site p left path (stages.Told wait file ssi) text e = cc
 stage_good w patterns site p left path (stages.Places b) text e =
-    placed_good w site p left (answer_seen site p b.answered) b.page (hand b) (later b text) (low b.answered.status (left_of (nat_lt b.answered.status 400) (nat_lt b.from (length b.bytes)) e))
+    placed_good w site p left (answer_seen site p b.value.answered) b.value.page (hand b.value) (later b.value text)
+    (low b.value.answered.status (left_of (nat_lt b.value.answered.status 400) (nat_lt b.value.from (length b.value.bytes)) e))
 stage_good w patterns site p left path (stages.Serves b) text e = cc
 stage_good w patterns site p left path (stages.Reads b) text e = cc
 stage_good w patterns site p left path (stages.Captures c) text e = cc

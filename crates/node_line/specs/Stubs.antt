@@ -21,7 +21,7 @@ abbrev pub shows : Stage → Bool
 shows (Begins ssi) = false
 shows (Asks wait ssi) = false
 shows (Told wait file ssi) = false
-shows (Places b) = nat_lt b.answered.status 400 && nat_lt b.from (length b.bytes)
+shows (Places b) = nat_lt b.value.answered.status 400 && nat_lt b.value.from (length b.value.bytes)
 shows (Serves b) = false
 shows (Reads b) = false
 shows (Captures c) = false

@@ -10,6 +10,7 @@ use Rattle.page_body.specs.Reading.Writing.{Whole, Piece}
 use Rattle.site_model.specs.declared.site.Site.{Site}
 use Rattle.request_meaning.specs.Serving.{World}
 use Rattle.request_phases.specs.declared.state.Phases.{Phases}
+use Rattle.std.specs.Global.{Box}
 use Rattle.page_body.specs.declared.page.Page.{Page}
 use Rattle.node_turn.specs.Nodes.{answer_seen, captured_act, padded, from_source, hand, later, placed_act, served_act}
 use Rattle.node_turn.specs.declared.answered.Answered.{Answered}
@@ -72,7 +73,7 @@ spent s file e =
 
 -- ---- bodies
 
-module _ (w : World) (site : Site) (p : Phases) (left : ℕ) (b : Body) (answered : Answered) (source : Source) (page : Option Page)
+module _ (w : World) (site : Site) (p : Phases) (left : ℕ) (b : Body) (answered : Answered) (source : Source) (page : Option (Box Page))
     (same : (b.answered ≡ answered) × (b.source ≡ source) × (b.page ≡ page)) (file : List ℕ) where
   pub body_served : served_act w site p left (answer_seen site p b.answered) b.page (later b file) ≡ served_act w site p left (answer_seen site p answered) page (from_source source file)
   body_served =

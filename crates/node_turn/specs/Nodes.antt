@@ -31,6 +31,7 @@ use Rattle.http_moment.specs.Shown.{default_format}
 use Rattle.std.specs.Prelude.{option_map, unwrap_or, zero, suc, ◌∷◌}
 use Rattle.page_body.specs.Pages.{waiting, stages_of}
 use Rattle.page_body.specs.declared.page.Page.{Page}
+use Rattle.std.specs.Global.{Box}
 use Rattle.node_turn.specs.declared.answered.Answered.{Answered}
 use Rattle.node_turn.specs.declared.node.Body.{Body}
 use Rattle.node_turn.specs.declared.node.Source.{Source}
@@ -160,19 +161,19 @@ captured_at w site p left answer page bytes name text = do
   doc ← captured (doc_at site p left page.document) name text
   document_rest w answer doc (marks (waiting page)) (machines w page.facts) (stages_of page) bytes
 
-abbrev pub captured_act : World → Site → Phases → (left : ℕ) → Answer → Option Page → (more name text : List ℕ) → Serving Answer
+abbrev pub captured_act : World → Site → Phases → (left : ℕ) → Answer → Option (Box Page) → (more name text : List ℕ) → Serving Answer
 captured_act w site p left answer None more name text = Done answer
-captured_act w site p left answer (Some page) more name text = captured_at w site p left answer page more name text
+captured_act w site p left answer (Some page) more name text = captured_at w site p left answer page.value more name text
 
 -- bytes that are placed next, and what follows, where this is still to come of the file
-abbrev pub placed_act : World → Site → Phases → (left : ℕ) → Answer → Option Page → (bytes more : List ℕ) → Serving Answer
+abbrev pub placed_act : World → Site → Phases → (left : ℕ) → Answer → Option (Box Page) → (bytes more : List ℕ) → Serving Answer
 placed_act w site p left answer None bytes more = Write (bytes ++ more) (Done answer)
-placed_act w site p left answer (Some page) bytes more = Write bytes (page_at w site p left answer page more)
+placed_act w site p left answer (Some page) bytes more = Write bytes (page_at w site p left answer page.value more)
 
 -- what follows them
-abbrev pub served_act : World → Site → Phases → (left : ℕ) → Answer → Option Page → (more : List ℕ) → Serving Answer
+abbrev pub served_act : World → Site → Phases → (left : ℕ) → Answer → Option (Box Page) → (more : List ℕ) → Serving Answer
 served_act w site p left answer None more = Write more (Done answer)
-served_act w site p left answer (Some page) more = page_at w site p left answer page more
+served_act w site p left answer (Some page) more = page_at w site p left answer page.value more
 
 abbrev pub hand : Body → List ℕ
 hand b = drop b.from b.bytes
@@ -191,11 +192,13 @@ stage_act w patterns site p left path (Asks wait ssi) text =
     served_as w left ssi (Stat path (λ item. phases_told w patterns site p wait item))
 stage_act w patterns site p left path (Told wait file ssi) text = served_as w left ssi (phases_told w patterns site p wait (told_item file text))
 stage_act w patterns site p left path (Places b) text =
-    placed_act w site p left (answer_seen site p b.answered) b.page (hand b) (later b text)
-stage_act w patterns site p left path (Serves b) text = served_act w site p left (answer_seen site p b.answered) b.page (later b text)
-stage_act w patterns site p left path (Reads b) text = served_act w site p left (answer_seen site p b.answered) b.page (later b text)
+    placed_act w site p left (answer_seen site p b.value.answered) b.value.page (hand b.value) (later b.value text)
+stage_act w patterns site p left path (Serves b) text =
+    served_act w site p left (answer_seen site p b.value.answered) b.value.page (later b.value text)
+stage_act w patterns site p left path (Reads b) text =
+    served_act w site p left (answer_seen site p b.value.answered) b.value.page (later b.value text)
 stage_act w patterns site p left path (Captures c) text =
-    captured_act w site p left (answer_seen site p c.body.answered) c.body.page (later c.body text) c.name c.text
+    captured_act w site p left (answer_seen site p c.body.value.answered) c.body.value.page (later c.body.value text) c.name c.text
 stage_act w patterns site p left path (Ends answered) text = Done (answer_seen site p answered)
 
 -- the same behind a subrequest for whose body the node waits
@@ -207,5 +210,5 @@ stage_heard w patterns site p left path (Places b) text body = stage_act w patte
 stage_heard w patterns site p left path (Serves b) text body = stage_act w patterns site p left path (Serves b) text
 stage_heard w patterns site p left path (Reads b) text body = stage_act w patterns site p left path (Reads b) text
 stage_heard w patterns site p left path (Captures c) text body =
-    captured_act w site p left (answer_seen site p c.body.answered) c.body.page (later c.body text) c.name body
+    captured_act w site p left (answer_seen site p c.body.value.answered) c.body.value.page (later c.body.value text) c.name body
 stage_heard w patterns site p left path (Ends answered) text body = stage_act w patterns site p left path (Ends answered) text

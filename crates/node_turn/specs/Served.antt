@@ -29,4 +29,4 @@ ServesTo g p levels patterns path file vars old (Opens child stage) =
 ServesTo g p levels patterns path file vars old (Asks child stage) =
     Works vars old (Call (child_seen p.main child) (λ reply. stage_heard (world_in patterns g shipped) patterns g.site.now p levels path stage file reply.body))
 ServesTo g p levels patterns path file vars old (Wants b) =
-    old ≡ served_act (world_in patterns g shipped) g.site.now p levels (answer_seen g.site.now p b.answered) b.page (later b file)
+    old ≡ served_act (world_in patterns g shipped) g.site.now p levels (answer_seen g.site.now p b.value.answered) b.value.page (later b.value file)

@@ -66,7 +66,7 @@ abbrev pub hand_at : Stage → List ℕ
 hand_at (Begins ssi) = []
 hand_at (Asks wait ssi) = []
 hand_at (Told wait file ssi) = []
-hand_at (Places b) = hand b
+hand_at (Places b) = hand b.value
 hand_at (Serves b) = []
 hand_at (Reads b) = []
 hand_at (Captures c) = []
@@ -171,7 +171,7 @@ pub record IsSameNode (old new : Node) : Type 0 where
 
 -- bytes of it can be placed, or none is left to place
 abbrev pub can_place : (room : ℕ) → Stage → Bool
-can_place room (Places b) = b.from == length b.bytes || nat_lt 0 room
+can_place room (Places b) = b.value.from == length b.value.bytes || nat_lt 0 room
 can_place room other = true
 
 -- It can run: it waits neither for its job nor for the end of a subrequest, it isn't at its end, and there is room for what it

@@ -25,7 +25,7 @@ pub struct Body {
     pub bytes: ByteText,
     pub from: usize,
     pub source: Source,
-    pub page: Option<Page>,
+    pub page: Option<Box<Page>>,
     ghost within: { from ≤ length bytes },
 }
 
@@ -33,7 +33,7 @@ pub struct Body {
 /// once the node doesn't wait for it any more.
 #[derive(Drop)]
 pub struct Capture {
-    pub body: Body,
+    pub body: Box<Body>,
     pub name: ByteText,
     pub text: ByteText,
 }
@@ -55,11 +55,11 @@ pub enum Stage {
         ssi: Table,
     },
     /// Bytes of its body are placed next.
-    Places(Body),
+    Places(Box<Body>),
     /// The next part of its page is taken up, or the next block of its file is asked.
-    Serves(Body),
+    Serves(Box<Body>),
     /// A block of its file is asked.
-    Reads(Body),
+    Reads(Box<Body>),
     /// The body of a subrequest goes into a variable of its page.
     Captures(Capture),
     /// It has come to its answer.

@@ -1,5 +1,5 @@
 // The body of a node, part by part.
-ghost use Rattle.std.specs.Prelude.{◌≡◌, ℕ, ◌++◌, true, false, List, [], IfOk, Some};
+ghost use Rattle.std.specs.Prelude.{◌≡◌, ℕ, ◌++◌, true, false, List, [], IfOk, None, Some};
 ghost use Rattle.acts.specs.Vars.{Vars};
 ghost use Rattle.ngx_pattern.specs.Pattern.{Pattern as SetPattern};
 ghost use Rattle.request_meaning.specs.Laws.{shipped};
@@ -10,12 +10,12 @@ ghost use Rattle.request_phases.specs.declared.state.Phases.{Phases as PhasesVie
 ghost use Rattle.ssi_exec.specs.declared.document.Scene.{Scene as SceneView};
 ghost use Rattle.acts.specs.Act.{Done};
 ghost use Rattle.page_body.specs.Pages.{Does, page_rest, stop_of, waits};
-ghost use Rattle.node_turn.specs.Nodes.{answer_seen, captured_act, captured_at, from_source, hand, later, page_at, served_act};
+ghost use Rattle.node_turn.specs.Nodes.{answer_seen, captured_act, captured_at, hand, later, page_at, served_act};
 ghost use Rattle.node_turn.specs.Served.{ServesTo, is_spent as source_spent};
 ghost use Rattle.node_turn.specs.Turns.{IsSceneOf};
 
-use crate::answered::Answered;
 use crate::node::{Body, Capture, Source, Stage};
+use crate::slot::take;
 use byte_text::{ByteText, OutOfMemory};
 use ngx_variables::VarTable;
 use page_body::{Doing, Page};
@@ -32,22 +32,42 @@ pub(crate) enum Served {
     /// A subrequest is asked for, whose body goes into a variable.
     Asks(Child, Stage),
     /// A block of its file is to be asked.
-    Wants(Body),
+    Wants(Box<Body>),
 }
 
-/// A body of which these bytes are placed next.
-fn body_of(answered: Answered, bytes: ByteText, source: Source, page: Option<Page>) -> Body
-    ensures others { (result.answered ≡ answered) × (result.source ≡ source)
-        × (result.page ≡ page) }
-    ensures hand { hand result ≡ bytes }
+/// A body of which these bytes are placed next, with its page again.
+fn with_bytes(body: Box<Body>, bytes: ByteText, page: Option<Box<Page>>) -> Box<Body>
+    ensures others { (result.value.answered ≡ body.value.answered)
+        × (result.value.source ≡ body.value.source) × (result.value.page ≡ page) }
+    ensures hand { hand result.value ≡ bytes }
 {
-    Body {
-        answered,
-        bytes,
-        from: 0,
-        source,
-        page,
-    }
+    let mut body = body;
+    body.from = 0;
+    body.bytes = bytes;
+    body.page = page;
+    body
+}
+
+/// The page of a body, which has none then.
+fn apart(body: Box<Body>) -> (Box<Body>, Option<Box<Page>>)
+    ensures page { result.1 ≡ body.value.page }
+    ensures answered { result.0.value.answered ≡ body.value.answered }
+    ensures source { result.0.value.source ≡ body.value.source }
+    ensures left { result.0.value.page ≡ None }
+{
+    let mut body = body;
+    let page = take(&mut body.page, None);
+    (body, page)
+}
+
+/// A body whose source has no text any more.
+fn without_text(alloc: Global, body: Box<Body>) -> Box<Body>
+    ensures answered { result.value.answered ≡ body.value.answered }
+    ensures source { result.value.source ≡ record body.value.source { text = [] } }
+{
+    let mut body = body;
+    body.source.text = ByteText::new(alloc);
+    body
 }
 
 /// Whether nothing more comes.
@@ -58,11 +78,11 @@ fn is_spent(source: &Source) -> bool
 }
 
 /// A page that takes the text of its source.
-fn fed(alloc: Global, page: Page, text: &[u8]) -> Result<Page, OutOfMemory>
-    requires { waits page ≡ false }
+fn fed(alloc: Global, page: Box<Page>, text: &[u8]) -> Result<Box<Page>, OutOfMemory>
+    requires { waits page.value ≡ false }
     ensures { IfOk result (λ fed. (scene : SceneView) (w : World) (answer : Answer)
-        (bytes : List ℕ) → w.members ≡ shipped → page_rest w answer scene page (text.now ++ bytes)
-        ≡ page_rest w answer scene fed bytes) }
+        (bytes : List ℕ) → w.members ≡ shipped → page_rest w answer scene page.value
+        (text.now ++ bytes) ≡ page_rest w answer scene fed.value bytes) }
 {
     let mut page = page;
     page.feed(alloc, text)?;
@@ -70,11 +90,11 @@ fn fed(alloc: Global, page: Page, text: &[u8]) -> Result<Page, OutOfMemory>
 }
 
 /// A page that comes to its end.
-fn finished(alloc: Global, page: Page) -> Result<Page, OutOfMemory>
-    requires { waits page ≡ false }
+fn finished(alloc: Global, page: Box<Page>) -> Result<Box<Page>, OutOfMemory>
+    requires { waits page.value ≡ false }
     ensures { IfOk result (λ done. (scene : SceneView) (w : World) (answer : Answer)
-        → w.members ≡ shipped → page_rest w answer scene page []
-        ≡ page_rest w answer scene done []) }
+        → w.members ≡ shipped → page_rest w answer scene page.value []
+        ≡ page_rest w answer scene done.value []) }
 {
     let mut page = page;
     page.finish(alloc)?;
@@ -86,71 +106,66 @@ fn finished(alloc: Global, page: Page) -> Result<Page, OutOfMemory>
 fn more(
     alloc: Global,
     scene: &Scene<'_>,
-    answered: Answered,
-    source: Source,
-    page: Page,
+    body: Box<Body>,
+    page: Box<Page>,
 ) -> Result<Served, OutOfMemory>
-    requires { waits page ≡ false }
+    requires { waits page.value ≡ false }
     ensures { IfOk result (λ served. (g : GroundView) (p : PhasesView) (levels : ℕ)
         (patterns : List SetPattern) (path file : List ℕ) (vars : Vars)
         → IsSceneOf g p levels scene.now
         → ServesTo g p levels patterns path file vars
         (page_at (world_in patterns g shipped) g.site.now p levels
-        (answer_seen g.site.now p answered) page (from_source source file)) served) }
+        (answer_seen g.site.now p body.value.answered) page.value
+        (later body.value file)) served) }
 {
     let none = ByteText::new(alloc);
-    if !source.text.is_empty() {
-        let page = fed(alloc, page, source.text.as_slice())?;
-        let source = Source {
-            text: ByteText::new(alloc),
-            left: source.left,
-            unread: source.unread,
-        };
-        return Ok(Served::On(Stage::Serves(body_of(answered, none, source, Some(page)))));
+    if !body.source.text.is_empty() {
+        let page = fed(alloc, page, body.source.text.as_slice())?;
+        let body = with_bytes(without_text(alloc, body), none, Some(page));
+        return Ok(Served::On(Stage::Serves(body)));
     }
-    if !is_spent(&source) {
-        return Ok(Served::Wants(body_of(answered, none, source, Some(page))));
+    if !is_spent(&body.source) {
+        return Ok(Served::Wants(with_bytes(body, none, Some(page))));
     }
     let page = finished(alloc, page)?;
-    Ok(Served::On(Stage::Serves(body_of(answered, none, source, Some(page)))))
+    Ok(Served::On(Stage::Serves(with_bytes(body, none, Some(page)))))
 }
 
 /// What is done for the next part of a page.
 fn done(
     alloc: Global,
     scene: &Scene<'_>,
-    answered: Answered,
-    source: Source,
-    page: Page,
+    body: Box<Body>,
+    page: Box<Page>,
     doing: Doing,
 ) -> Result<Served, OutOfMemory>
-    requires { stop_of doing ≡ Some false → waits page ≡ false }
+    requires { stop_of doing ≡ Some false → waits page.value ≡ false }
     ensures { IfOk result (λ served. (g : GroundView) (p : PhasesView) (levels : ℕ)
         (patterns : List SetPattern) (path file : List ℕ) (vars : Vars) (old : Serving Answer)
         → IsSceneOf g p levels scene.now
-        → let w = world_in patterns g shipped in let answer = answer_seen g.site.now p answered in
-        let new = page_at w g.site.now p levels answer page (from_source source file) in
+        → let w = world_in patterns g shipped in let answer = answer_seen g.site.now p body.value.answered in
+        let new = page_at w g.site.now p levels answer page.value (later body.value file) in
         Does p.main vars doing old new
-        (captured_at w g.site.now p levels answer page (from_source source file))
-        → (stop_of doing ≡ Some true → source_spent source ≡ true → old ≡ Done answer)
+        (captured_at w g.site.now p levels answer page.value (later body.value file))
+        → (stop_of doing ≡ Some true → source_spent body.value.source ≡ true → old ≡ Done answer)
         → ServesTo g p levels patterns path file vars old served) }
 {
     match doing {
         Doing::Nothing => {
-            let body = body_of(answered, ByteText::new(alloc), source, Some(page));
+            let body = with_bytes(body, ByteText::new(alloc), Some(page));
             Ok(Served::On(Stage::Serves(body)))
         }
         Doing::Writes(text) => {
-            let body = body_of(answered, text, source, Some(page));
+            let body = with_bytes(body, text, Some(page));
             Ok(Served::On(Stage::Places(body)))
         }
         Doing::Includes(child) => {
-            let body = body_of(answered, ByteText::new(alloc), source, Some(page));
+            let body = with_bytes(body, ByteText::new(alloc), Some(page));
             Ok(Served::Opens(child, Stage::Serves(body)))
         }
         Doing::Captures { name, child } => {
             let none = ByteText::new(alloc);
-            let body = body_of(answered, ByteText::new(alloc), source, Some(page));
+            let body = with_bytes(body, ByteText::new(alloc), Some(page));
             let capture = Capture {
                 body,
                 name,
@@ -158,12 +173,12 @@ fn done(
             };
             Ok(Served::Asks(child, Stage::Captures(capture)))
         }
-        Doing::NeedsMore => Ok(more(alloc, scene, answered, source, page)?),
+        Doing::NeedsMore => Ok(more(alloc, scene, body, page)?),
         Doing::Over => {
-            if !is_spent(&source) {
+            if !is_spent(&body.source) {
                 return Err(OutOfMemory);
             }
-            Ok(Served::On(Stage::Ends(answered)))
+            Ok(Served::On(Stage::Ends(Box::into_inner(body).answered)))
         }
     }
 }
@@ -173,19 +188,19 @@ fn page_serves(
     alloc: Global,
     scene: &Scene<'_>,
     vars: &VarTable,
-    answered: Answered,
-    source: Source,
-    page: Page,
+    body: Box<Body>,
+    page: Box<Page>,
 ) -> Result<Served, OutOfMemory>
     ensures { IfOk result (λ served. (g : GroundView) (p : PhasesView) (levels : ℕ)
         (patterns : List SetPattern) (path file : List ℕ) → IsSceneOf g p levels scene.now
         → ServesTo g p levels patterns path file vars.now
         (page_at (world_in patterns g shipped) g.site.now p levels
-        (answer_seen g.site.now p answered) page (from_source source file)) served) }
+        (answer_seen g.site.now p body.value.answered) page.value
+        (later body.value file)) served) }
 {
     let mut page = page;
     let doing = page.next(alloc, scene, vars)?;
-    Ok(done(alloc, scene, answered, source, page, doing)?)
+    Ok(done(alloc, scene, body, page, doing)?)
 }
 
 /// Goes on with a body of which nothing is at hand.
@@ -193,28 +208,23 @@ pub(crate) fn serves(
     alloc: Global,
     scene: &Scene<'_>,
     vars: &VarTable,
-    body: Body,
+    body: Box<Body>,
 ) -> Result<Served, OutOfMemory>
     ensures { IfOk result (λ served. (g : GroundView) (p : PhasesView) (levels : ℕ)
         (patterns : List SetPattern) (path file : List ℕ) → IsSceneOf g p levels scene.now
         → ServesTo g p levels patterns path file vars.now
         (served_act (world_in patterns g shipped) g.site.now p levels
-        (answer_seen g.site.now p body.answered) body.page (later body file)) served) }
+        (answer_seen g.site.now p body.value.answered) body.value.page (later body.value file))
+        served) }
 {
-    let Body {
-        answered,
-        bytes,
-        from: _,
-        source,
-        page,
-    } = body;
+    let (body, page) = apart(body);
     match page {
-        Some(page) => Ok(page_serves(alloc, scene, vars, answered, source, page)?),
+        Some(page) => Ok(page_serves(alloc, scene, vars, body, page)?),
         None => {
-            if is_spent(&source) {
-                return Ok(Served::On(Stage::Ends(answered)));
+            if is_spent(&body.source) {
+                return Ok(Served::On(Stage::Ends(Box::into_inner(body).answered)));
             }
-            Ok(Served::Wants(body_of(answered, bytes, source, None)))
+            Ok(Served::Wants(body))
         }
     }
 }
@@ -229,28 +239,22 @@ pub(crate) fn hears(
         (patterns : List SetPattern) (path file : List ℕ) (vars : Vars)
         → IsSceneOf g p levels scene.now → ServesTo g p levels patterns path file vars
         (captured_act (world_in patterns g shipped) g.site.now p levels
-        (answer_seen g.site.now p capture.body.answered) capture.body.page
-        (later capture.body file) capture.name capture.text) served) }
+        (answer_seen g.site.now p capture.body.value.answered) capture.body.value.page
+        (later capture.body.value file) capture.name capture.text) served) }
 {
     let Capture { body, name, text } = capture;
-    let Body {
-        answered,
-        bytes: _,
-        from: _,
-        source,
-        page,
-    } = body;
+    let (body, page) = apart(body);
     let Some(page) = page else {
         return Err(OutOfMemory);
     };
     let mut page = page;
     match page.captured(alloc, scene, name.as_slice(), text)? {
         Some(text) => {
-            let body = body_of(answered, text, source, Some(page));
+            let body = with_bytes(body, text, Some(page));
             Ok(Served::On(Stage::Places(body)))
         }
         None => {
-            let body = body_of(answered, ByteText::new(alloc), source, Some(page));
+            let body = with_bytes(body, ByteText::new(alloc), Some(page));
             Ok(Served::On(Stage::Serves(body)))
         }
     }

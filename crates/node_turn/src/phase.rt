@@ -83,13 +83,19 @@ pub(crate) fn scene_of<'a>(ground: &Ground<'a>, phases: &'a Phases, left: u32) -
 }
 
 /// A body that is sent as it is: these bytes, and then this many of a file.
-fn plain(alloc: Global, answered: Answered, bytes: ByteText, left: u64, unread: bool) -> Stage
-    ensures { (g : GroundView) (p : PhasesView) (levels : ℕ) (patterns : List SetPattern)
-        (path text : List ℕ) → stage_act (world_in patterns g shipped) patterns g.site.now p levels
-        path result text
-        ≡ Write (bytes ++ padded left text) (Done (answer_seen g.site.now p answered)) }
+fn plain(
+    alloc: Global,
+    answered: Answered,
+    bytes: ByteText,
+    left: u64,
+    unread: bool,
+) -> Result<Stage, OutOfMemory>
+    ensures { IfOk result (λ stage. (g : GroundView) (p : PhasesView) (levels : ℕ)
+        (patterns : List SetPattern) (path text : List ℕ) →
+        stage_act (world_in patterns g shipped) patterns g.site.now p levels path stage text
+        ≡ Write (bytes ++ padded left text) (Done (answer_seen g.site.now p answered))) }
 {
-    Stage::Places(Body {
+    let body = Body {
         answered,
         bytes,
         from: 0,
@@ -99,7 +105,8 @@ fn plain(alloc: Global, answered: Answered, bytes: ByteText, left: u64, unread: 
             unread,
         },
         page: None,
-    })
+    };
+    Ok(Stage::Places(Box::new(alloc, body)?))
 }
 
 /// A body on which filters act: a text, and then this many bytes of a file.
@@ -119,14 +126,15 @@ fn paged(
         filtered_rest w levels ssi answer facts (text ++ padded left file)
         ≡ stage_act w patterns g.site.now p levels path stage file) }
 {
-    let page = Page::new(alloc, &facts, ssi)?;
-    Ok(Stage::Places(Body {
+    let page = Box::new(alloc, Page::new(alloc, &facts, ssi)?)?;
+    let body = Body {
         answered,
         bytes: ByteText::new(alloc),
         from: 0,
         source: Source { text, left, unread },
         page: Some(page),
-    }))
+    };
+    Ok(Stage::Places(Box::new(alloc, body)?))
 }
 
 /// The body of a text or a file, as it is sent.
@@ -148,7 +156,7 @@ fn sent(
         ≡ (stage_act w patterns g.site.now p levels path stage file, vars)) }
 {
     match facts {
-        None => Ok(plain(alloc, answered, text, left, unread)),
+        None => Ok(plain(alloc, answered, text, left, unread)?),
         Some(facts) => Ok(paged(alloc, scene, answered, facts, ssi, text, left, unread)?),
     }
 }
@@ -180,7 +188,7 @@ pub fn answering(
         ReplyBody::Page(code) => {
             let mut bytes = ByteText::new(alloc);
             page_text(code, &mut bytes)?;
-            Ok(plain(alloc, answered, bytes, 0, false))
+            Ok(plain(alloc, answered, bytes, 0, false)?)
         }
         ReplyBody::Text(text) => Ok(sent(alloc, &scene, answered, facts, ssi, text, 0, false)?),
         ReplyBody::File => {

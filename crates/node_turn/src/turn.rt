@@ -112,26 +112,37 @@ pub struct Placed {
     pub all: bool,
 }
 
+/// How many bytes of a body are placed once this many more are.
+fn placed_after(body: &Body, count: usize) -> usize
+    requires { body.now.from + count ≤ length body.now.bytes }
+    ensures { result ≡ body.now.from + count }
+{
+    let left = body.bytes.len() - body.from - count;
+    body.bytes.len() - left
+}
+
 /// A body of which this many more bytes were placed.
-fn advanced(body: Body, count: usize) -> Body
-    requires { body.from + count ≤ length body.bytes }
-    ensures from { result.from ≡ body.from + count }
-    ensures bytes { result.bytes ≡ body.bytes }
-    ensures others { (result.answered ≡ body.answered) × (result.source ≡ body.source) ×
-        (result.page ≡ body.page) }
+fn advanced(body: Box<Body>, count: usize) -> Box<Body>
+    requires { body.value.from + count ≤ length body.value.bytes }
+    ensures from { result.value.from ≡ body.value.from + count }
+    ensures bytes { result.value.bytes ≡ body.value.bytes }
+    ensures others { (result.value.answered ≡ body.value.answered)
+        × (result.value.source ≡ body.value.source) × (result.value.page ≡ body.value.page) }
 {
     let mut body = body;
-    body.from += count;
+    body.from = placed_after(&body, count);
     body
 }
 
 /// How far a node is with a body of which bytes were placed.
-fn stage_after(body: Body) -> Stage
+fn stage_after(body: Box<Body>) -> Stage
     ensures works { (w : World) (patterns : List SetPattern) (site : SiteRow) (p : PhasesView)
         (levels : ℕ) (path text : List ℕ) (vars : Vars) → Works vars
-        (placed_act w site p levels (answer_seen site p body.answered) body.page (hand body)
-        (later body text)) (stage_act w patterns site p levels path result text) }
-    ensures waits { (body.from == length body.bytes) ≡ false → result ≡ PlacesView body }
+        (placed_act w site p levels (answer_seen site p body.value.answered) body.value.page
+        (hand body.value) (later body.value text))
+        (stage_act w patterns site p levels path result text) }
+    ensures waits { (body.value.from == length body.value.bytes) ≡ false
+        → result ≡ PlacesView body }
 {
     if body.from == body.bytes.len() {
         return Stage::Serves(body);
@@ -264,10 +275,10 @@ fn next_block(ask: Ask, start: u64, left: u64) -> Ask
 }
 
 /// A node asks for the next block of its file.
-fn put_block(alloc: Global, node: &mut Node, body: Body)
+fn put_block(alloc: Global, node: &mut Node, body: Box<Body>)
     ensures { node.new ≡ record node.old {
       stage = ReadsView body;
-      ask = block_of node.old.ask node.old.start body.source.left;
+      ask = block_of node.old.ask node.old.start body.value.source.left;
     } }
 {
     let none = Ask::Stat {
@@ -286,13 +297,13 @@ fn served(
     phases: &Phases,
     left: u32,
     vars: &VarTable,
-    body: Body,
+    body: Box<Body>,
 ) -> Result<Served, OutOfMemory>
     ensures { IfOk result (λ served. (patterns : List SetPattern) (path file : List ℕ) →
         ServesTo ground.now phases.now left patterns path file vars.now
         (served_act (world_in patterns ground.now shipped) ground.now.site.now phases.now left
-        (answer_seen ground.now.site.now phases.now body.answered) body.page (later body file))
-        served) }
+        (answer_seen ground.now.site.now phases.now body.value.answered) body.value.page
+        (later body.value file)) served) }
 {
     let scene = scene_of(ground, phases, left);
     Ok(serves(alloc, &scene, vars, body)?)
@@ -309,8 +320,9 @@ fn heard(
     ensures { IfOk result (λ served. (patterns : List SetPattern) (path file : List ℕ)
         (vars : Vars) → ServesTo ground.now phases.now left patterns path file vars
         (captured_act (world_in patterns ground.now shipped) ground.now.site.now phases.now left
-        (answer_seen ground.now.site.now phases.now capture.body.answered) capture.body.page
-        (later capture.body file) capture.name capture.text) served) }
+        (answer_seen ground.now.site.now phases.now capture.body.value.answered)
+        capture.body.value.page (later capture.body.value file) capture.name capture.text)
+        served) }
 {
     let scene = scene_of(ground, phases, left);
     Ok(hears(alloc, &scene, capture)?)

@@ -30,7 +30,7 @@ whole_length w patterns site trees p = p.sent + length (left_in w patterns site 
 -- How many nodes it has, with the subrequests that are still asked for: no step makes these more.
 abbrev pub nodes_asked : World → List SetPattern → Site → Trees → Pages → ℕ
 nodes_asked w patterns site trees p =
-    length p.family.nodes.items + subs_still w (trees p.family.tree) (meant w patterns site (files trees p.family) p.family) p.family.vars
+    length p.family.nodes + subs_still w (trees p.family.tree) (meant w patterns site (files trees p.family) p.family) p.family.vars
 
 -- As much is still to come of both.
 pub record IsSame (w : World) (patterns : List SetPattern) (site : Site) (trees : Trees) (p q : Pages) : Type 0 where

@@ -188,9 +188,9 @@ impl Pages {
     pub fn hear(&mut self, alloc: Global, at: u32, answer: JobAnswer<'_>) -> Result<(), OutOfMemory>
         requires whole { IsWhole self.old.family }
         requires fits { fits_at self.old.family.tree
-            (slice_get self.old.family.nodes.items at) answer ≡ true }
+            (slice_get self.old.family.nodes at) answer ≡ true }
         ensures same { OnOk result ((w : World) (patterns : List SetPattern) (site : SiteRow)
-            (trees : Trees) → IsFromAt trees (slice_get self.old.family.nodes.items at) answer.entry
+            (trees : Trees) → IsFromAt trees (slice_get self.old.family.nodes at) answer.entry
             → IsReached w patterns site self.old → IsSame w patterns site trees self.old self.new) }
         ensures reached { OnOk result ((w : World) (patterns : List SetPattern) (site : SiteRow) →
             IsReached w patterns site self.old → IsReached w patterns site self.new) }

@@ -1,10 +1,9 @@
 -- What marks decide of a variable is what its server's meaning says.
-use Rattle.std.proofs.Common.{◌≡◌, ℕ, ◌+◌, ◌||◌, ◌&&◌, Bool, true, false, not, List, [], ◌∷◌, ◌++◌, map, filter, flat_map, is_some, bytes_eq, refl, ap, sym, ◌∙◌, subst, None}
+use Rattle.std.proofs.Common.{◌≡◌, ℕ, ◌||◌, ◌&&◌, Bool, true, false, not, List, [], ◌∷◌, ◌++◌, map, filter, flat_map, is_some, bytes_eq, refl, ap, sym, ◌∙◌, None}
 use Rattle.std.specs.List.{list_any, list_all}
 use Rattle.std.specs.List.Sorted.{IsStrictlySortedBy}
 use Rattle.std.specs.Ordering.{nat_cmp}
 use Rattle.std.specs.Cmp.Lexicographic.{slice_cmp, nat_list_eq_equiv}
-use Rattle.std.proofs.lemmas.List.{append_assoc}
 use Rattle.std.proofs.lemmas.List.Kept.{IsStrictlySortedBy-filter}
 use Rattle.std.proofs.lemmas.Map.Views.{any-filter_same}
 use Rattle.std.proofs.lemmas.Slice.Eq.{bytes_eq-Decides}
@@ -19,6 +18,7 @@ use Rattle.site_whole.specs.Whole.{values_seen, program_seen, level_whole, serve
 use Rattle.race_meaning.specs.Levels.{programs, all_values}
 use Rattle.race_meaning.specs.Reads.{in_values, is_private_in}
 use Rattle.race_meaning.specs.Named.{has_parts, is_open, set_text, set_texts, is_one_text, is_set, auth_sets_it, begins_with_set, is_fixed, is_private, is_shown, is_named}
+use Rattle.race_check.specs.declared.first.FirstLists.{FirstLists}
 use Rattle.race_check.specs.declared.names.NameSet.{NameSet}
 use Rattle.race_check.specs.declared.texts.SetTexts.{SetTexts}
 use Rattle.race_check.specs.declared.conflict.Named.{Named}
@@ -26,7 +26,7 @@ use Rattle.race_check.specs.declared.conflict.Marks.{Marks}
 use Rattle.race_check.specs.Names.{has}
 use Rattle.race_check.specs.Numbers.{level_numbers, value_numbers}
 use Rattle.race_check.specs.Texts.{known, told, is_one}
-use Rattle.race_check.specs.Told.{has_or_all, AreMarks, is_marked, AllSet, marked, named_at, HasNamed}
+use Rattle.race_check.specs.Told.{has_or_all, is_exposed, has_one_value, AreMarks, is_marked, AllSet, marked, named_at, HasNamed}
 use Rattle.race_check.proofs.Lists.{any_map, all_map, flat_of_map}
 use Rattle.race_check.proofs.Numbering.{levels_seen, values_seen_all}
 use Rattle.race_check.proofs.Telling.{is_one_told, is_some_told}
@@ -101,14 +101,14 @@ module _ (patterns : List Pattern) (site : Site) (s : Server) where
   unfolding is_set
   set_marked o e name = ap is_some (e name ∙ ap (told None) (texts_at name)) ∙ is_some_told (set_texts whole_server name)
 
-  pub private_marked : (read exposed : NameSet) →
-      ((name : List ℕ) → has read name ≡ list_any (λ n. in_values name (values_seen site (raw_level site n))) (value_numbers site (level_numbers s))) →
-      ((name : List ℕ) → has exposed name ≡ (not (list_all (λ n. is_private_in name false 0 (program_at n)) (level_numbers s)) || has read name)) →
-      (name : List ℕ) → has exposed name ≡ not (is_private whole_server name)
+  pub private_marked : (read exposed : List ℕ → Bool) →
+      ((name : List ℕ) → read name ≡ list_any (λ n. in_values name (values_seen site (raw_level site n))) (value_numbers site (level_numbers s))) →
+      ((name : List ℕ) → exposed name ≡ (not (list_all (λ n. is_private_in name false 0 (program_at n)) (level_numbers s)) || read name)) →
+      (name : List ℕ) → exposed name ≡ not (is_private whole_server name)
   unfolding is_private
   private_marked read exposed e g name =
       g name
-      ∙ ap (λ b. not b || has read name) (all_programs (is_private_in name false 0))
+      ∙ ap (λ b. not b || read name) (all_programs (is_private_in name false 0))
       ∙ ap (λ a. not (list_all (is_private_in name false 0) (programs whole_server)) || a) (e name ∙ any_values (in_values name))
       ∙ either (list_any (in_values name) (all_values whole_server)) (list_all (is_private_in name false 0) (programs whole_server))
 
@@ -131,16 +131,16 @@ module _ (patterns : List Pattern) (site : Site) (s : Server) where
         (name : List ℕ) → is_some (known o name) ≡ is_set whole_server name
     set_by o e = set_marked o (λ name. e name ∙ ap (λ l. told None (flat_map (λ n. flat_map (set_text name) (program_at n)) l)) all)
 
-    pub private_by : (read exposed : NameSet) →
-        ((name : List ℕ) → has read name ≡ list_any (λ n. in_values name (values_seen site (raw_level site n))) values) →
-        ((name : List ℕ) → has exposed name ≡ (not (list_all (λ n. is_private_in name false 0 (program_at n)) levels) || has read name)) →
-        (name : List ℕ) → has exposed name ≡ not (is_private whole_server name)
+    pub private_by : (read exposed : List ℕ → Bool) →
+        ((name : List ℕ) → read name ≡ list_any (λ n. in_values name (values_seen site (raw_level site n))) values) →
+        ((name : List ℕ) → exposed name ≡ (not (list_all (λ n. is_private_in name false 0 (program_at n)) levels) || read name)) →
+        (name : List ℕ) → exposed name ≡ not (is_private whole_server name)
     private_by read exposed e g = private_marked read exposed
         (λ name. e name ∙ ap (list_any (λ n. in_values name (values_seen site (raw_level site n)))) values_are)
-        (λ name. g name ∙ ap (λ l. not (list_all (λ n. is_private_in name false 0 (program_at n)) l) || has read name) all)
+        (λ name. g name ∙ ap (λ l. not (list_all (λ n. is_private_in name false 0 (program_at n)) l) || read name) all)
 
-    pub auth_by : (auth : NameSet) → ((name : List ℕ) → has auth name ≡ list_any (λ n. auth_sets_it name (values_seen site (raw_level site n))) values) →
-        (name : List ℕ) → has auth name ≡ list_any (auth_sets_it name) (all_values whole_server)
+    pub auth_by : (auth : List ℕ → Bool) → ((name : List ℕ) → auth name ≡ list_any (λ n. auth_sets_it name (values_seen site (raw_level site n))) values) →
+        (name : List ℕ) → auth name ≡ list_any (auth_sets_it name) (all_values whole_server)
     auth_by auth e name = e name ∙ ap (list_any (λ n. auth_sets_it name (values_seen site (raw_level site n)))) values_are ∙ any_values (auth_sets_it name)
 
     pub documents_by : (b : Bool) → b ≡ list_any (λ n. (values_seen site (raw_level site n)).ssi) values → b ≡ list_any (λ (v : Values). v.ssi) (all_values whole_server)
@@ -151,16 +151,16 @@ module _ (patterns : List Pattern) (site : Site) (s : Server) where
 
 -- ---- the names
 
-module _ (server : ServerView) (marks : Marks) (are : AreMarks server marks) (free : is_open server ≡ true) where
+module _ (first : FirstLists) (server : ServerView) (marks : Marks) (are : AreMarks first server marks) (free : is_open server ≡ true) where
   shown_is : (name : List ℕ) → (marks.documents && has_or_all marks.visible name) ≡ is_shown server name
   unfolding is_shown
   shown_is name = ap (λ b. b && has_or_all marks.visible name) are.has_documents ∙ ap (λ b. list_any (λ (v : Values). v.ssi) (all_values server) && b) (are.seen name)
 
-  fixed_is : (name : List ℕ) → (not (has marks.auth name) && is_one (known marks.texts name) && has marks.first name) ≡ is_fixed server name
+  fixed_is : (name : List ℕ) → has_one_value first marks name ≡ is_fixed server name
   unfolding is_fixed
   fixed_is name =
-      ap (λ b. not b && is_one (known marks.texts name) && has marks.first name) (are.by_auth name)
-      ∙ ap (λ b. not (list_any (auth_sets_it name) (all_values server)) && b && has marks.first name) (are.one name)
+      ap (λ b. not b && is_one (known marks.texts name) && has marks.opening name) (are.by_auth name)
+      ∙ ap (λ b. not (list_any (auth_sets_it name) (all_values server)) && b && has marks.opening name) (are.one name)
       ∙ ap (λ b. not (list_any (auth_sets_it name) (all_values server)) && is_one_text (set_texts server name) && b) (are.begins name)
 
   swapped : (o i f r : Bool) → o ≡ true → ((not f && r) && i) ≡ (o && i && not f && r)
@@ -176,27 +176,27 @@ module _ (server : ServerView) (marks : Marks) (are : AreMarks server marks) (fr
       by false false true = refl
       by false false false = refl
 
-  pub marked_is : (name : List ℕ) → (is_marked marks name && is_some (known marks.texts name)) ≡ is_named server name
+  pub marked_is : (name : List ℕ) → (is_marked first marks name && is_some (known marks.texts name)) ≡ is_named server name
   unfolding is_named
   marked_is name =
-      ap (λ f. (not f && ((marks.documents && has_or_all marks.visible name) || has marks.exposed name)) && is_some (known marks.texts name)) (fixed_is name)
-      ∙ ap (λ d. (not (is_fixed server name) && (d || has marks.exposed name)) && is_some (known marks.texts name)) (shown_is name)
+      ap (λ f. (not f && ((marks.documents && has_or_all marks.visible name) || is_exposed first marks name)) && is_some (known marks.texts name)) (fixed_is name)
+      ∙ ap (λ d. (not (is_fixed server name) && (d || is_exposed first marks name)) && is_some (known marks.texts name)) (shown_is name)
       ∙ ap (λ p. (not (is_fixed server name) && (is_shown server name || p)) && is_some (known marks.texts name)) (are.not_private name)
       ∙ ap (λ i. (not (is_fixed server name) && (is_shown server name || not (is_private server name))) && i) (are.is_there name)
       ∙ swapped (is_open server) (is_set server name) (is_fixed server name) (is_shown server name || not (is_private server name)) free
 
-  kept_names : (name : List ℕ) (xs : List (List ℕ)) → list_any (bytes_eq name) (filter (is_marked marks) xs) ≡ (is_marked marks name && list_any (bytes_eq name) xs)
-  kept_names name xs = any-filter_same (bytes_eq name) (is_marked marks) (is_marked marks name) (λ k e. ap (is_marked marks) (sym ((bytes_eq-Decides name k).0 e))) xs
+  kept_names : (name : List ℕ) (xs : List (List ℕ)) → list_any (bytes_eq name) (filter (is_marked first marks) xs) ≡ (is_marked first marks name && list_any (bytes_eq name) xs)
+  kept_names name xs = any-filter_same (bytes_eq name) (is_marked first marks) (is_marked first marks name) (λ k e. ap (is_marked first marks) (sym ((bytes_eq-Decides name k).0 e))) xs
 
   pub has_named : (number : ℕ) (names : List (List ℕ)) (old new : List Named) → AllSet marks.texts names →
-      new ≡ old ++ map (marked number marks) (filter (is_marked marks) names) → HasNamed number server old new
+      new ≡ old ++ map (marked number marks) (filter (is_marked first marks) names) → HasNamed number server old new
   has_named number names old new all e = (
-    filter (is_marked marks) names,
+    filter (is_marked first marks) names,
     record {
-      exact = λ name. kept_names name names ∙ ap (λ b. is_marked marks name && b) (all.all name) ∙ marked_is name;
-      rising = IsStrictlySortedBy-filter (slice_cmp nat_cmp) (is_marked marks) names all.rising;
+      exact = λ name. kept_names name names ∙ ap (λ b. is_marked first marks name && b) (all.all name) ∙ marked_is name;
+      rising = IsStrictlySortedBy-filter (slice_cmp nat_cmp) (is_marked first marks) names all.rising;
     },
-    e ∙ ap (λ l. old ++ l) (map_alike (marked number marks) (named_at number server) (λ name. ap (λ d. record { server = number; name = name; documents = d }) (shown_is name)) (filter (is_marked marks) names)),
+    e ∙ ap (λ l. old ++ l) (map_alike (marked number marks) (named_at number server) (λ name. ap (λ d. record { server = number; name = name; documents = d }) (shown_is name)) (filter (is_marked first marks) names)),
   )
 
 pub none_named : (server : ServerView) (number : ℕ) (old : List Named) → is_open server ≡ false → HasNamed number server old old

@@ -7,3 +7,4 @@ pub mod Numbering
 mod Telling
 mod Deciding
 pub mod Shared
+mod Firsts

@@ -1,5 +1,5 @@
 -- The lists of values that levels share by their numbers.
-use Rattle.std.specs.Prelude.{ℕ, ◌||◌, Bool, List, flat_map, Option, Some, option_map, bytes_eq}
+use Rattle.std.specs.Prelude.{◌≡◌, ℕ, ◌&&◌, ◌||◌, Bool, List, flat_map, Option, Some, option_map, bytes_eq}
 use Rattle.std.specs.List.{list_any}
 use Rattle.ngx_variables.specs.Paths.{text_of}
 use Rattle.site_model.specs.declared.site.Level.{Level}
@@ -10,6 +10,8 @@ use Rattle.site_whole.specs.Whole.{index_at, pages_at, auth_sets_at, tries_seen}
 use Rattle.race_meaning.specs.Reads.{in_text, in_tries, in_target}
 use Rattle.race_check.specs.declared.listed.ListKind.{ListKind}
 use Rattle.race_check.specs.declared.listed.ListKind.TheVariants as kinds
+use Rattle.race_check.specs.declared.listed.HeldLists.{HeldLists}
+use Rattle.race_check.specs.declared.listed.LevelLists.{LevelLists}
 use Rattle.race_check.specs.Numbers.{number_of}
 
 abbrev pub list_number : ListKind → Level → Option ℕ
@@ -39,3 +41,24 @@ sets_by_auth site name number =
 -- a level's values read it elsewhere than in lists that levels share
 abbrev pub in_own : List ℕ → Level → Bool
 in_own name l = in_text name (text_of l.place) || in_tries name (option_map tries_seen l.tries)
+
+-- lists by their numbers, of which the first, under the number 0, is apart from the others: one of them passes a test where one
+-- of those numbers does
+abbrev pub IsHeld : List ℕ → HeldLists → Type 0
+IsHeld numbers lists =
+    (test : ℕ → Bool)
+    → list_any test numbers ≡ ((lists.has_first && test 0) || list_any test lists.others.items)
+
+-- the lists of each kind that hold in levels, by the levels' numbers
+pub record AreHeld (site : Site) (levels : List ℕ) (lists : LevelLists) : Type 0 where
+  pub index : IsHeld (lists_of site kinds.Index levels) lists.index
+  pub pages : IsHeld (lists_of site kinds.Pages levels) lists.pages
+  pub auth_sets : IsHeld (lists_of site kinds.AuthSets levels) lists.auth_sets
+
+-- a variable is read by values of levels, or by one of these lists, the first of each kind aside
+abbrev pub read_by_others : Site → (levels : List ℕ) → LevelLists → List ℕ → Bool
+read_by_others site levels lists name =
+    list_any (λ n. in_own name (raw_level site n)) levels
+    || list_any (in_list site kinds.Index name) lists.index.others.items
+    || list_any (in_list site kinds.Pages name) lists.pages.others.items
+    || list_any (in_list site kinds.AuthSets name) lists.auth_sets.others.items

@@ -4,54 +4,52 @@ ghost use Rattle.std.specs.List.{list_any, list_all};
 ghost use Rattle.site_views.specs.Pattern.{Pattern};
 ghost use Rattle.site_model.specs.declared.site.Site.{Site as SiteRow};
 ghost use Rattle.site_model.specs.Levels.{raw_level};
-ghost use Rattle.site_whole.specs.Whole.{step_seen, program_seen, values_seen};
-ghost use Rattle.race_meaning.specs.Reads.{in_values, is_private_in};
-ghost use Rattle.race_meaning.specs.Named.{auth_sets_it, begins_with_set, set_text};
+ghost use Rattle.site_whole.specs.Whole.{step_seen, program_seen};
+ghost use Rattle.race_meaning.specs.Reads.{is_private_in};
+ghost use Rattle.race_meaning.specs.Named.{begins_with_set, set_text};
+ghost use Rattle.race_check.specs.Lists.{sets_by_auth, read_by_others};
 ghost use Rattle.race_check.specs.Names.{has as has_name};
 ghost use Rattle.race_check.specs.Texts.{known, told};
 ghost use Rattle.race_check.specs.Numbers.{set_name};
 
-use crate::listed::{ListKind, shared_lists};
+use crate::listed::{LevelLists, ListKind};
 use crate::names::NameSet;
 use crate::reads::note_program;
 use crate::texts::SetTexts;
-use crate::values::{note_auth_sets, note_levels, note_lists};
+use crate::values::{note_auth_sets, note_levels, note_numbers};
 use byte_text::OutOfMemory;
 use site_model::{Level, RewriteStep, Site};
 use std::alloc::Global;
 
-/// The variables that `auth_request_set` sets in these levels. Each list of them is gone through once, in however many levels it
-/// holds.
-pub fn set_by_auth(alloc: Global, site: &Site, levels: &[u32]) -> Result<NameSet, OutOfMemory>
+/// The variables that these lists of `auth_request_set`s set.
+pub fn set_by_auth(alloc: Global, site: &Site, numbers: &[u32]) -> Result<NameSet, OutOfMemory>
     ensures { IfOk result (λ auth. (name : List ℕ) → has_name auth name
-        ≡ list_any (λ number. auth_sets_it name (values_seen site.now (raw_level site.now number)))
-        levels.now) }
+        ≡ list_any (sets_by_auth site.now name) numbers.now) }
 {
-    let lists = shared_lists(alloc, site, levels, ListKind::AuthSets)?;
     let mut auth = NameSet::new(alloc);
-    note_auth_sets(&mut auth, site, lists.as_slice())?;
+    note_auth_sets(&mut auth, site, numbers)?;
     Ok(auth)
 }
 
-/// The variables that values of these levels read.
-pub fn read_by_values(alloc: Global, site: &Site, levels: &[u32]) -> Result<NameSet, OutOfMemory>
+/// The variables that values of these levels read, in which these lists hold; but for those that only the first lists read.
+pub fn read_by_values(
+    alloc: Global,
+    site: &Site,
+    levels: &[u32],
+    lists: &LevelLists,
+) -> Result<NameSet, OutOfMemory>
     ensures { IfOk result (λ exposed. (name : List ℕ) → has_name exposed name
-        ≡ list_any (λ number. in_values name (values_seen site.now (raw_level site.now number)))
-        levels.now) }
+        ≡ read_by_others site.now levels.now lists.now name) }
 {
     let settled = NameSet::new(alloc);
     let mut exposed = NameSet::new(alloc);
+    let index = lists.index.others.as_slice();
+    let pages = lists.pages.others.as_slice();
+    let auth_sets = lists.auth_sets.others.as_slice();
     note_levels(&mut exposed, &settled, site, levels)?;
-    note_lists(&mut exposed, &settled, alloc, site, ListKind::Index, levels)?;
-    note_lists(&mut exposed, &settled, alloc, site, ListKind::Pages, levels)?;
-    note_lists(
-        &mut exposed,
-        &settled,
-        alloc,
-        site,
-        ListKind::AuthSets,
-        levels,
-    )?;
+    note_numbers(&mut exposed, &settled, site, ListKind::Index, index)?;
+    note_numbers(&mut exposed, &settled, site, ListKind::Pages, pages)?;
+    note_numbers(&mut exposed, &settled, site, ListKind::AuthSets, auth_sets)?;
     Ok(exposed)
 }
 

@@ -6,16 +6,15 @@ ghost use Rattle.site_model.specs.Levels.{raw_level};
 ghost use Rattle.site_views.specs.Values.{IndexName as NameView, PageRule as RuleView, Text};
 ghost use Rattle.site_whole.specs.Whole.{index_at, index_seen, last_seen, tries_seen, target_seen, page_seen, pages_at, auth_set_seen, auth_sets_at};
 ghost use Rattle.race_meaning.specs.Reads.{in_text, in_last, in_tries, in_target};
-ghost use Rattle.race_check.specs.Lists.{in_list, in_own, lists_of, sets_by_auth};
+ghost use Rattle.race_check.specs.Lists.{in_list, in_own, sets_by_auth};
 ghost use Rattle.race_check.specs.Names.{has as has_name, Notes};
 
-use crate::listed::{ListKind, shared_lists};
+use crate::listed::ListKind;
 use crate::names::NameSet;
 use crate::reads::note_text;
 use byte_text::OutOfMemory;
 use ngx_variables::{Place, Value};
 use site_model::{AuthSet, IndexName, LastTry, Level, PageRule, PageTarget, Site, Tries};
-use std::alloc::Global;
 
 pub fn place_text(place: &Place) -> &Value
     ensures { result.now ≡ text_of place.now }
@@ -189,7 +188,7 @@ pub fn note_levels(
 }
 
 /// Notes what a list reads that isn't settled.
-fn note_list(
+pub fn note_list(
     exposed: &mut NameSet,
     settled: &NameSet,
     site: &Site,
@@ -207,7 +206,8 @@ fn note_list(
     Ok(())
 }
 
-fn note_numbers(
+/// Notes what these lists of a kind read that isn't settled.
+pub fn note_numbers(
     exposed: &mut NameSet,
     settled: &NameSet,
     site: &Site,
@@ -223,24 +223,6 @@ fn note_numbers(
     Ok(())
 }
 
-/// Notes what the lists of a kind read that hold in these levels, where it isn't settled. Each list is gone through once, in
-/// however many levels it holds.
-pub fn note_lists(
-    exposed: &mut NameSet,
-    settled: &NameSet,
-    alloc: Global,
-    site: &Site,
-    kind: ListKind,
-    levels: &[u32],
-) -> Result<(), OutOfMemory>
-    ensures { OnOk result (Notes settled.now exposed.old exposed.new
-        (λ name. list_any (in_list site.now kind name) (lists_of site.now kind levels.now))) }
-{
-    let numbers = shared_lists(alloc, site, levels, kind)?;
-    note_numbers(exposed, settled, site, kind, numbers.as_slice())?;
-    Ok(())
-}
-
 /// Notes the variables that these lists of `auth_request_set`s set.
 pub fn note_auth_sets(auth: &mut NameSet, site: &Site, numbers: &[u32]) -> Result<(), OutOfMemory>
     ensures { OnOk result ((name : List ℕ) → has_name auth.new name
@@ -252,7 +234,7 @@ pub fn note_auth_sets(auth: &mut NameSet, site: &Site, numbers: &[u32]) -> Resul
     Ok(())
 }
 
-fn note_set_names(auth: &mut NameSet, sets: &[AuthSet]) -> Result<(), OutOfMemory>
+pub fn note_set_names(auth: &mut NameSet, sets: &[AuthSet]) -> Result<(), OutOfMemory>
     ensures { OnOk result ((name : List ℕ) → has_name auth.new name
         ≡ (list_any (λ (s : List ℕ × Text). bytes_eq s.0 name) (map auth_set_seen sets.now)
         || has_name auth.old name)) }

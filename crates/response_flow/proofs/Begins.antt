@@ -134,7 +134,7 @@ put_together page came subs pending block status sent body asked ep eb es en ec 
 
 module _ (laws : ReachedStaysWell) (keep : StepsKeepStill) (fit : ShippedAreFit) (patterns : List SetPattern) (g : Ground) (start : PageStart) (p : Pages)
     (told : IsTold start.page) (begins : BeginsWith g start.request.value.phases start.request.value.vars start.page.outcome p.family)
-    (text : (trees : Trees) → files trees p.family 0 ≡ known_text start.page.known trees) (tree_is : p.family.tree ≡ known_tree start.page.known) (one : length p.family.nodes.items ≡ 1) where
+    (text : (trees : Trees) → files trees p.family 0 ≡ known_text start.page.known trees) (tree_is : p.family.tree ≡ known_tree start.page.known) (one : length p.family.nodes ≡ 1) where
   abbrev w : World
   w = world_in patterns g shipped
 
@@ -182,7 +182,7 @@ module _ (laws : ReachedStaysWell) (keep : StepsKeepStill) (fit : ShippedAreFit)
       ∙ (subs_alone w tree s.first s.table ∙ subs_same w tree s.first (act (flow.padded len t)) s.table vars s.same) in
       put_together start.page (run tree (reply w tree most_depth) (act (flow.padded len t)) vars) (act_subs w tree most_depth (act (flow.padded len t)) vars)
       p.outgoing.pending p.outgoing.block p.status p.sent (left_in w patterns site trees p).body _ ep eb es en body
-      (less (length f.nodes.items) (subs_still w tree (meant w patterns site texts f) f.vars) one ∙ subs)
+      (less (length f.nodes) (subs_still w tree (meant w patterns site texts f) f.vars) one ∙ subs)
       ∙ (ap (λ k. page_by start.page (run (trees k) (reply w (trees k) most_depth) (act (flow.padded len t)) vars) (act_subs w (trees k) most_depth (act (flow.padded len t)) vars)) tree_is
       ∙ ap (λ b. page_by start.page (run (trees (known_tree start.page.known)) (reply w (trees (known_tree start.page.known)) most_depth) (act b) vars) (act_subs w (trees (known_tree start.page.known)) most_depth (act b) vars))
       (sym (known_is start.page.known trees)))

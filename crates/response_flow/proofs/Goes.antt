@@ -68,7 +68,7 @@ ends rows w patterns site trees p before from out first closing size level whole
   closes = c.closes;
   logged = ap (λ n. (p.status, n) ∷ []) long ∙ c.logged;
   level = c.level;
-  heavy = few (length p.family.nodes.items) _ whole.few (rows.counts_over w (trees p.family.tree) (meant w patterns site (files trees p.family) p.family) p.family.vars over.0 over.1) ∙ c.heavy;
+  heavy = few (length p.family.nodes) _ whole.few (rows.counts_over w (trees p.family.tree) (meant w patterns site (files trees p.family) p.family) p.family.vars over.0 over.1) ∙ c.heavy;
 }
   where
     few : (nodes asked : ℕ) → nodes ≤ 1001 → asked ≡ 0 → false ≡ nat_lt most_subs (nodes + asked - 1)

@@ -84,7 +84,7 @@ abbrev pub is_stuck : Pages → Bool
 is_stuck p = no_bytes p.outgoing.pending && (is_none (family.first_job (family.jobs_of p.family)) && is_none (family.first_of (family.ready_of p.family)))
 
 abbrev pub ends_first : Pages → Bool
-ends_first p = are_done p.family.nodes.items || is_stuck p
+ends_first p = are_done p.family.nodes || is_stuck p
 
 -- the nodes of a page that can run
 abbrev pub page_ready : Pages → List ℕ

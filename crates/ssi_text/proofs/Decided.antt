@@ -4,8 +4,6 @@ use Rattle.std.proofs.lemmas.List.{take-append-le, take_all, drop-append-le}
 use Rattle.std.proofs.lemmas.Bool.{leb-true, leb-false, le-leb}
 use Rattle.ssi_text.specs.declared.part.Part.{Part}
 use Rattle.ssi_text.specs.declared.part.Part.TheVariants.{Bad}
-use Rattle.ssi_text.specs.declared.place.Place.{Place}
-use Rattle.ssi_text.specs.declared.place.Place.TheVariants.{Outside, Within, Escaped}
 use Rattle.ssi_text.specs.declared.place.Begun.{Begun}
 use Rattle.ssi_text.specs.declared.place.Begun.TheVariants.{Yes, No, Maybe}
 use Rattle.ssi_text.specs.declared.part.Front.{Front}
@@ -13,7 +11,7 @@ use Rattle.ssi_text.specs.declared.part.Front.TheVariants.{Open, Plain, Whole}
 use Rattle.ssi_text.specs.Marks.{Mark, Byte, Other}
 use Rattle.ssi_text.specs.Split as split
 use Rattle.ssi_text.specs.Split.{begins, limit, begun, front, opening, parts}
-use Rattle.ssi_text.specs.Commands.{behind, ends, closes, one_more, size, made}
+use Rattle.ssi_text.specs.Commands.{Place, Outside, Within, Escaped, behind, ends, closes, one_more, size, made}
 
 pub begins-yes : (word bs more : List ℕ) → begins word bs ≡ Yes → begins word (bs ++ more) ≡ Yes
 unfolding begins

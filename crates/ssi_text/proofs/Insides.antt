@@ -1,8 +1,8 @@
 -- The inside of a command, step by step.
-use Rattle.std.proofs.Common.{◌≡◌, ℕ, zero, suc, ◌+◌, ◌-◌, ◌<◌, ◌≤◌, Bool, true, false, ◌&&◌, ◌==◌, List, [], ◌∷◌, ◌++◌, Option, None, Some, length, get_or, take, drop, refl, sym, ap, ◌∙◌, arith, append_assoc, append-nil, length-drop, subst, IfSome, if◌then◌else◌}
+use Rattle.std.proofs.Common.{◌≡◌, ℕ, zero, suc, ◌+◌, ◌-◌, ◌<◌, ◌≤◌, Bool, true, false, ◌&&◌, ◌||◌, ◌==◌, List, [], ◌∷◌, ◌++◌, Option, None, Some, length, get_or, take, drop, refl, sym, ap, ◌∙◌, arith, append_assoc, append-nil, length-drop, subst, IfSome, if◌then◌else◌}
 use Rattle.std.proofs.lemmas.List.{drop_more, drop_all, drop-drop}
 use Rattle.std.proofs.lemmas.Bool.{eq-eqb, ne_eqb}
-use Rattle.std.specs.List.{prefix_len}
+use Rattle.std.specs.List.{prefix_len, list_any}
 use Rattle.ssi_text.specs.declared.part.Param.{Param}
 use Rattle.ssi_text.specs.declared.part.Part.TheVariants.{Bad}
 use Rattle.ssi_text.specs.Commands.{is_quote, is_space, is_word, one_more, quoted, is_escape, unescaped, lowercase, assigned, param_at, with_first, params_within, params, command, made}
@@ -67,6 +67,10 @@ unfolding unescaped
 escape_none b [] e = refl
 escape_none b (c ∷ bs) e = ap (λ t. if t then c ∷ unescaped bs else b ∷ unescaped (c ∷ bs)) e
 
+unescaped_end : unescaped [] ≡ []
+unfolding unescaped
+unescaped_end = refl
+
 pub unescaped-out : (out bs all : List ℕ) (i : ℕ) → is_escape (drop i bs) ≡ true → out ++ unescaped (drop i bs) ≡ all → (out ++ get_or bs (i + 1) 0 ∷ []) ++ unescaped (drop (i + 2) bs) ≡ all
 unescaped-out out bs all i e p =
     let h : i + 1 < length bs = escape-within bs i e in
@@ -84,6 +88,21 @@ unescaped-plain out bs all i h e p =
 pub unescaped-past : (out bs all : List ℕ) (i : ℕ) → length bs ≤ i → out ++ unescaped (drop i bs) ≡ all → out ≡ all
 unfolding unescaped
 unescaped-past out bs all i h p = sym (append-nil out) ∙ ap (λ z. out ++ unescaped z) (sym (drop_all i bs h)) ∙ p
+
+no_more : (x y : Bool) → (x || y) ≡ false → (x ≡ false) × (y ≡ false)
+no_more true y e = cc
+no_more false y e = (refl, e)
+
+escape-no : (b : ℕ) (bs : List ℕ) → (b == 92) ≡ false → is_escape (b ∷ bs) ≡ false
+escape-no b [] e = refl
+escape-no b (c ∷ bs) e = ap (λ t. t && (is_quote c || (c == 92))) e
+
+-- a value with no backslash stands for itself
+pub unescaped-none : (bs : List ℕ) → list_any (λ b. b == 92) bs ≡ false → unescaped bs ≡ bs
+unescaped-none [] e = unescaped_end
+unescaped-none (b ∷ bs) e =
+    let parts : ((b == 92) ≡ false) × (list_any (λ x. x == 92) bs ≡ false) = no_more (b == 92) (list_any (λ x. x == 92) bs) e in
+    escape_none b bs (escape-no b bs parts.0) ∙ ap (λ z. b ∷ z) (unescaped-none bs parts.1)
 
 -- parameters
 

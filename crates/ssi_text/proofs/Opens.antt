@@ -3,14 +3,12 @@ use Rattle.std.proofs.Common.{◌≡◌, ℕ, zero, suc, ◌-◌, ◌<◌, ◌�
 use Rattle.std.proofs.lemmas.List.{take_all, drop-append-le, take-replicate, length-replicate}
 use Rattle.std.proofs.lemmas.Bool.{eqb-true, leb-false, le-leb}
 use Rattle.ssi_text.specs.declared.part.Part.TheVariants.{Bad}
-use Rattle.ssi_text.specs.declared.place.Place.{Place}
-use Rattle.ssi_text.specs.declared.place.Place.TheVariants.{Outside, Within, Escaped}
 use Rattle.ssi_text.specs.declared.place.Begun.{Begun}
 use Rattle.ssi_text.specs.declared.place.Begun.TheVariants.{Yes, No, Maybe}
 use Rattle.ssi_text.specs.declared.part.Front.{Front}
 use Rattle.ssi_text.specs.declared.part.Front.TheVariants.{Open, Plain, Whole}
 use Rattle.ssi_text.specs.Marks.{Mark, Byte, Other}
-use Rattle.ssi_text.specs.Commands.{closes, ends, behind, one_more, size}
+use Rattle.ssi_text.specs.Commands.{Place, Outside, Within, Escaped, closes, ends, behind, one_more, size}
 use Rattle.ssi_text.specs.Split.{split, parts, begins, opening, front, begun, limit}
 use Rattle.ssi_text.specs.Laws.{HeldIsOpen}
 use Rattle.ssi_text.proofs.Decided.{begins-yes, limit-is, take_beyond}

@@ -1,11 +1,11 @@
 -- One step of the scans.
-use Rattle.std.proofs.Common.{◌≡◌, ℕ, ◌+◌, ◌<◌, ◌≤◌, true, false, ◌==◌, List, [], ◌∷◌, Option, None, Some, length, get_or, drop, refl, sym, ap, ◌∙◌, arith, length-drop, if◌then◌else◌}
-use Rattle.std.proofs.lemmas.List.{drop_more, drop_all}
+use Rattle.std.proofs.Common.{◌≡◌, ℕ, suc, ◌+◌, ◌<◌, ◌≤◌, Bool, ◌||◌, ◌&&◌, not, true, false, ◌==◌, List, [], ◌∷◌, Option, None, Some, length, get_or, drop, refl, sym, ap, ◌∙◌, arith, length-drop, if◌then◌else◌}
+use Rattle.std.proofs.lemmas.List.{drop_more, drop_all, drop-drop}
 use Rattle.std.proofs.lemmas.Bool.{eq-eqb, ne_eqb}
-use Rattle.ssi_text.specs.declared.place.Place.{Place}
 use Rattle.ssi_text.specs.declared.place.Begun.TheVariants.{Yes, No, Maybe}
 use Rattle.ssi_text.specs.Split.{begins}
-use Rattle.ssi_text.specs.Commands.{behind, ends, size, one_more}
+use Rattle.std.specs.List.{prefix_len}
+use Rattle.ssi_text.specs.Commands.{Place, Outside, Within, Escaped, behind, closes, ends, is_plain, is_quote, size, one_more, quoted, taken}
 use Rattle.ssi_text.proofs.Decided.{ends-long}
 
 begins-cons : (a b : ℕ) (word bs : List ℕ) → begins (a ∷ word) (b ∷ bs) ≡ (if a == b then begins word bs else No)
@@ -67,3 +67,100 @@ size-past place bs i h = sym (ap (add i) (ap (size place) (drop_all i bs h) ∙ 
 
 pub end-within : (place : Place) (bs : List ℕ) (i : ℕ) → ends place (drop i bs) ≡ true → i + 3 ≤ length bs
 end-within place bs i e = omega (arith, ends-long place (drop i bs) e, length-drop i bs)
+
+-- a run of plain bytes
+
+none_of : (x y : Bool) → not (x || y) ≡ true → (x ≡ false) × (y ≡ false)
+none_of true y e = cc
+none_of false true e = cc
+none_of false false e = (refl, refl)
+
+closes-dash : (b : ℕ) (bs : List ℕ) → (b == 45) ≡ false → closes (b ∷ bs) ≡ false
+closes-dash b [] e = refl
+closes-dash b (c ∷ []) e = refl
+closes-dash b (c ∷ (d ∷ bs)) e = ap (λ t. t && ((c == 45) && (d == 62))) e
+
+size-plain : (b : ℕ) (bs : List ℕ) → is_plain b ≡ true → size Outside (b ∷ bs) ≡ one_more (size Outside bs)
+size-plain b bs e =
+    let parts : ((b == 45) ≡ false) × (is_quote b ≡ false) = none_of (b == 45) (is_quote b) e in
+    size-cons Outside b bs
+    ∙ ap (λ t. if t then Some 3 else one_more (size (behind Outside b) bs)) (closes-dash b bs parts.0)
+    ∙ ap (λ t. one_more (size (if t then Within b else Outside) bs)) parts.1
+
+one_more-add : (n : ℕ) (o : Option ℕ) → one_more (add n o) ≡ add (suc n) o
+one_more-add n None = refl
+one_more-add n (Some k) = ap Some (omega arith)
+
+add-none : (o : Option ℕ) → add 0 o ≡ o
+add-none None = refl
+add-none (Some k) = ap Some (omega arith)
+
+add-add : (i k : ℕ) (o : Option ℕ) → add i (add k o) ≡ add (i + k) o
+add-add i k None = refl
+add-add i k (Some n) = ap Some (omega arith)
+
+past_plain : (bs : List ℕ) → add (prefix_len is_plain bs) (size Outside (drop (prefix_len is_plain bs) bs)) ≡ size Outside bs
+past_plain [] = add-none (size Outside [])
+past_plain (b ∷ bs) =
+    let n = prefix_len is_plain bs in
+    elim (is_plain b) as (λ t. is_plain b ≡ t → add (if t then 1 + n else 0) (size Outside (drop (if t then 1 + n else 0) (b ∷ bs))) ≡ size Outside (b ∷ bs)) [
+      | true ↦ λ e. ap (λ m. add m (size Outside (drop m (b ∷ bs)))) (let one : 1 + n ≡ suc n = omega arith in one) ∙ sym (one_more-add n (size Outside (drop n bs))) ∙ ap one_more (past_plain bs) ∙ sym (size-plain b bs e)
+      | false ↦ λ e. add-none (size Outside (b ∷ bs))
+    ] refl
+
+-- the same from a place on
+pub size-past_plain : (bs rest : List ℕ) (i n : ℕ) → rest ≡ drop i bs → n ≡ prefix_len is_plain rest → add (i + n) (size Outside (drop (i + n) bs)) ≡ add i (size Outside (drop i bs))
+size-past_plain bs rest i n r e =
+    let run : n ≡ prefix_len is_plain (drop i bs) = e ∙ ap (prefix_len is_plain) r in
+    ap (λ z. add (i + n) (size Outside z)) (sym (drop-drop n i bs))
+    ∙ sym (add-add i n (size Outside (drop n (drop i bs))))
+    ∙ ap (λ k. add i (add k (size Outside (drop k (drop i bs))))) run
+    ∙ ap (add i) (past_plain (drop i bs))
+
+-- a byte that isn't plain
+
+abbrev after : List ℕ → Option ℕ → Option ℕ
+after bs None = None
+after bs (Some n) = add n (size Outside (drop n bs))
+
+after-more : (b : ℕ) (bs : List ℕ) (o : Option ℕ) → one_more (after bs o) ≡ after (b ∷ bs) (one_more o)
+after-more b bs None = refl
+after-more b bs (Some n) = one_more-add n (size Outside (drop n bs))
+
+-- from within a quote a command goes on behind the closing one
+size-quoted : (q : ℕ) (bs : List ℕ) → size (Within q) bs ≡ after bs (quoted q bs)
+unfolding size quoted
+size-quoted q [] = refl
+size-quoted q (b ∷ []) = elim (b == q) as (λ t. None ≡ after (b ∷ []) (if t then Some 1 else None)) [ true ↦ refl | false ↦ refl ]
+size-quoted q (b ∷ (c ∷ bs)) =
+    elim (b == q) as (λ t. one_more (size (if t then Outside else (if b == 92 then Escaped q else Within q)) (c ∷ bs)) ≡ after (b ∷ (c ∷ bs)) (if t then Some 1 else (if b == 92 then one_more (one_more (quoted q bs)) else one_more (quoted q (c ∷ bs))))) [
+      | true ↦ ap one_more (sym (add-none (size Outside (c ∷ bs)))) ∙ one_more-add 0 (size Outside (c ∷ bs))
+      | false ↦
+          elim (b == 92) as (λ t. one_more (size (if t then Escaped q else Within q) (c ∷ bs)) ≡ after (b ∷ (c ∷ bs)) (if t then one_more (one_more (quoted q bs)) else one_more (quoted q (c ∷ bs)))) [
+            | true ↦ ap (λ o. one_more (one_more o)) (size-quoted q bs) ∙ ap one_more (after-more c bs (quoted q bs)) ∙ after-more b (c ∷ bs) (one_more (quoted q bs))
+            | false ↦ ap one_more (size-quoted q (c ∷ bs)) ∙ after-more b (c ∷ bs) (quoted q (c ∷ bs))
+          ]
+    ]
+
+abbrev pub from_here : List ℕ → ℕ → Option ℕ → Option ℕ
+from_here bs i None = None
+from_here bs i (Some n) = add (i + n) (size Outside (drop (i + n) bs))
+
+from_here-after : (bs : List ℕ) (i : ℕ) (o : Option ℕ) → from_here bs i (one_more o) ≡ add (i + 1) (after (drop (i + 1) bs) o)
+from_here-after bs i None = refl
+from_here-after bs i (Some k) =
+    let n : i + suc k ≡ (i + 1) + k = omega arith in
+    ap (λ m. add m (size Outside (drop m bs))) n
+    ∙ ap (λ z. add ((i + 1) + k) (size Outside z)) (sym (drop-drop k (i + 1) bs))
+    ∙ sym (add-add (i + 1) k (size Outside (drop k (drop (i + 1) bs))))
+
+pub size-taken : (bs : List ℕ) (i : ℕ) (o : Option ℕ) → i < length bs → closes (drop i bs) ≡ false → o ≡ taken (get_or bs i 0) (drop (i + 1) bs) → from_here bs i o ≡ add i (size Outside (drop i bs))
+size-taken bs i o h e is =
+    let b = get_or bs i 0 in
+    let rest = drop (i + 1) bs in
+    ap (from_here bs i) is
+    ∙ elim (is_quote b) as (λ t. from_here bs i (if t then one_more (quoted b rest) else Some 1) ≡ add (i + 1) (size (if t then Within b else Outside) rest)) [
+      | true ↦ from_here-after bs i (quoted b rest) ∙ ap (add (i + 1)) (sym (size-quoted b rest))
+      | false ↦ refl
+    ]
+    ∙ size-on Outside bs i h e

@@ -1,11 +1,10 @@
 -- One step of the split, by what stands at the front.
 use Rattle.std.proofs.Common.{◌≡◌, ℕ, zero, suc, ◌+◌, ◌-◌, ◌<◌, ◌≤◌, nat_le, true, false, ◌==◌, List, [], ◌∷◌, ◌++◌, Option, None, Some, map, length, get_or, drop, take, refl, sym, ap, ◌∙◌, arith, append_assoc, append-nil, length-drop, length-take, if◌then◌else◌, subst}
 use Rattle.std.proofs.lemmas.List.{drop_all, drop-drop, get_or-drop}
-use Rattle.std.proofs.lemmas.Bool.{eqb-true, le-leb, lt-leb}
-use Rattle.memchr.specs.Find.{OccursAt}
+use Rattle.std.proofs.lemmas.Bool.{eqb-true, eq-eqb, le-leb, lt-leb}
+use Rattle.memchr.specs.Find.{OccursAt, Nowhere, Passes, is_byte}
 use Rattle.ssi_text.specs.declared.part.Part.{Part}
 use Rattle.ssi_text.specs.declared.part.Part.TheVariants.{Text, Command, Bad, Before, After}
-use Rattle.ssi_text.specs.declared.place.Place.TheVariants.{Outside}
 use Rattle.ssi_text.specs.declared.place.Begun.{Begun}
 use Rattle.ssi_text.specs.declared.place.Begun.TheVariants.{Yes, No, Maybe}
 use Rattle.ssi_text.specs.declared.part.Param.{Param}
@@ -14,7 +13,7 @@ use Rattle.ssi_text.specs.declared.part.Front.TheVariants.{Open, Plain, Whole}
 use Rattle.ssi_text.specs.Marks.{Mark, Byte, Other, part_marks, marks}
 use Rattle.ssi_text.specs.Moves.{Moved}
 use Rattle.ssi_text.specs.Split.{split, with_text, begins, opening, front, begun, limit}
-use Rattle.ssi_text.specs.Commands.{size, made, command, params, is_space, is_word}
+use Rattle.ssi_text.specs.Commands.{Outside, size, made, command, params, is_space, is_word}
 use Rattle.std.specs.List.{prefix_len}
 use Rattle.ssi_text.proofs.Decided.{front-within, split-skip}
 
@@ -99,6 +98,10 @@ front-elsewhere bs k h not =
       | No ↦ λ e. front-no (drop k bs) e
       | Maybe ↦ λ e. absurd (let less : length (drop k bs) < 5 = begins-maybe opening (drop k bs) e in omega (arith, length-drop k bs))
     ] refl
+
+-- where no `#` stands before place n, there is text up to four bytes before it
+pub front-no_hash : (bs : List ℕ) (n : ℕ) → Nowhere (Passes (is_byte 35) bs) 0 n → (k : ℕ) → k + 4 < n → k + 5 ≤ length bs → front (drop k bs) ≡ Plain
+front-no_hash bs n none k h g = front-elsewhere bs k g (λ o. none (k + 4) (omega arith) h (eq-eqb (get_or bs (k + 4) 0) 35 (o.reads 4 (omega arith))))
 
 pub moved-text : (was now : List Mark) (bs : List ℕ) (n : ℕ) → now ≡ was ++ map Byte (take n bs) → split 0 bs ≡ with_text (take n bs) (split 0 (drop n bs)) → Moved was now bs (drop n bs)
 moved-text was now bs n e t = record {

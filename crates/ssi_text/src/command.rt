@@ -1,10 +1,10 @@
 // What the inside of a command says.
 ghost use Rattle.std.specs.Prelude.{◌≡◌, ℕ, ◌+◌, ◌-◌, ◌<◌, ◌≤◌, ◌==◌, ◌&&◌, length, take, drop, IfOk, IfSome, MatchOption};
 ghost use Rattle.std.specs.List.{prefix_len};
-ghost use Rattle.ssi_text.specs.Commands.{is_space as is_space_byte, is_word as is_word_byte, lowercase as lowercase_of, is_quote as is_quote_byte, quoted, is_escape, unescaped as unescaped_of, assigned as assigned_of, param_at, params as params_of, made as made_of};
+ghost use Rattle.ssi_text.specs.Commands.{is_space as is_space_byte, is_word as is_word_byte, lowercase as lowercase_of, is_quote as is_quote_byte, is_escape, unescaped as unescaped_of, assigned as assigned_of, param_at, params as params_of, made as made_of};
 
 use crate::part::{Param, Params, Part};
-use crate::place::{is_quote, rest_of};
+use crate::place::{is_quote, quoted_len, rest_of};
 use byte_text::{ByteText, OutOfMemory};
 use std::alloc::Global;
 
@@ -45,23 +45,6 @@ fn lowercase(alloc: Global, name: &[u8]) -> Result<ByteText, OutOfMemory>
     Ok(ByteText::from_vec(bytes))
 }
 
-/// How many bytes of a value stand up to its closing quote, and with it.
-fn quoted_len(quote: u8, bytes: &[u8]) -> Option<usize>
-    ensures value { result ≡ quoted quote bytes.now }
-    ensures least { IfSome result (λ n. 1 ≤ n) }
-    ensures within { IfSome result (λ n. n ≤ length bytes.now) }
-{
-    let mut at = 0;
-    while at < bytes.len() {
-        let byte = bytes[at];
-        if byte == quote {
-            return Some(at + 1);
-        }
-        at += if byte == b'\\' { 2 } else { 1 };
-    }
-    None
-}
-
 /// Whether a backslash stands first, and a quote or a backslash behind it.
 fn escapes(bytes: &[u8]) -> bool
     ensures { result ≡ is_escape bytes.now }
@@ -76,6 +59,10 @@ fn escapes(bytes: &[u8]) -> bool
 fn unescaped(alloc: Global, raw: &[u8]) -> Result<ByteText, OutOfMemory>
     ensures { IfOk result (λ value. value ≡ unescaped_of raw.now) }
 {
+    if !raw.contains(&b'\\') {
+        let value = ByteText::from_slice(alloc, raw)?;
+        return Ok(value);
+    }
     let mut value = ByteText::new(alloc);
     value.reserve(raw.len())?;
     let mut at = 0;

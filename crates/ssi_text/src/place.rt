@@ -1,6 +1,7 @@
 // Where a byte of a command stands, and where the command ends.
 ghost use Rattle.std.specs.Prelude.{◌≡◌, ℕ, ◌+◌, ◌<◌, ◌≤◌, length, drop, IfSome};
-ghost use Rattle.ssi_text.specs.Commands.{behind as place_behind, ends as ends_at, closes as closes_at, is_quote as is_quote_byte, size};
+ghost use Rattle.std.specs.List.{prefix_len};
+ghost use Rattle.ssi_text.specs.Commands.{Outside, closes as closes_at, is_plain as is_plain_byte, is_quote as is_quote_byte, quoted, size, taken};
 ghost use Rattle.ssi_text.specs.Split.{begins};
 
 /// Whether bytes that may go on begin with a word.
@@ -9,14 +10,6 @@ pub enum Begun {
     Yes,
     No,
     Maybe,
-}
-
-/// Outside quotes, within one, or behind a backslash in one.
-#[derive(Clone, Copy, Drop)]
-pub enum Place {
-    Outside,
-    Within(u8),
-    Escaped(u8),
 }
 
 pub fn begins_with(word: &[u8], bytes: &[u8]) -> Begun
@@ -57,52 +50,75 @@ fn closes(bytes: &[u8]) -> bool
     }
 }
 
-fn ends(place: Place, bytes: &[u8]) -> bool
-    ensures { result ≡ ends_at place bytes.now }
+/// Whether a byte outside quotes neither ends the command nor opens a quote.
+fn is_plain(byte: u8) -> bool
+    ensures { result ≡ is_plain_byte byte }
 {
-    match place {
-        Place::Outside => closes(bytes),
-        Place::Within(_) => false,
-        Place::Escaped(_) => false,
-    }
+    !(byte == b'-' || is_quote(byte))
 }
 
-fn behind(place: Place, byte: u8) -> Place
-    ensures { result ≡ place_behind place byte }
+/// How many bytes of a value stand up to its closing quote, and with it.
+pub fn quoted_len(quote: u8, bytes: &[u8]) -> Option<usize>
+    ensures value { result ≡ quoted quote bytes.now }
+    ensures least { IfSome result (λ n. 1 ≤ n) }
+    ensures within { IfSome result (λ n. n ≤ length bytes.now) }
 {
-    match place {
-        Place::Outside => {
-            if is_quote(byte) {
-                Place::Within(byte)
-            } else {
-                Place::Outside
-            }
+    let mut at = 0;
+    while at < bytes.len() {
+        let byte = bytes[at];
+        at += 1;
+        if byte == quote {
+            return Some(at);
         }
-        Place::Within(quote) => {
-            if byte == quote {
-                Place::Outside
-            } else if byte == b'\\' {
-                Place::Escaped(quote)
-            } else {
-                Place::Within(quote)
-            }
+        if byte == b'\\' {
+            at += 1;
         }
-        Place::Escaped(quote) => Place::Within(quote),
+    }
+    None
+}
+
+/// How many plain bytes stand first.
+fn plain_len(bytes: &[u8]) -> usize
+    ensures value { result ≡ prefix_len is_plain_byte bytes.now }
+    ensures within { result ≤ length bytes.now }
+{
+    bytes.iter().take_while(|b| is_plain(**b)).count()
+}
+
+/// How many bytes a byte outside quotes takes along: all up to its closing quote, or itself.
+fn taken_len(byte: u8, rest: &[u8]) -> Option<usize>
+    ensures value { result ≡ taken byte rest.now }
+    ensures least { IfSome result (λ n. 1 ≤ n) }
+    ensures within { IfSome result (λ n. n ≤ length rest.now + 1) }
+{
+    if !is_quote(byte) {
+        return Some(1);
+    }
+    match quoted_len(byte, rest) {
+        Some(len) => Some(1 + len),
+        None => None,
     }
 }
 
 /// How many bytes stand up to the end of a command and with it.
 pub fn size_of_command(bytes: &[u8]) -> Option<usize>
-    ensures value { result ≡ size Place.Outside bytes.now }
+    ensures value { result ≡ size Outside bytes.now }
     ensures least { IfSome result (λ n. 3 ≤ n) }
     ensures within { IfSome result (λ n. n ≤ length bytes.now) }
 {
-    let mut place = Place::Outside;
-    for (i, byte) in bytes.iter().enumerate() {
-        if ends(place, rest_of(bytes, i)) {
-            return Some(i + 3);
+    let mut at = 0;
+    while at < bytes.len() {
+        at += plain_len(rest_of(bytes, at));
+        if at == bytes.len() {
+            return None;
         }
-        place = behind(place, *byte);
+        if closes(rest_of(bytes, at)) {
+            return Some(at + 3);
+        }
+        match taken_len(bytes[at], rest_of(bytes, at + 1)) {
+            Some(len) => at += len,
+            None => return None,
+        }
     }
     None
 }

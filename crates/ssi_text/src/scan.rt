@@ -1,23 +1,55 @@
 // The scan of bytes that may go on.
-ghost use Rattle.std.specs.Prelude.{◌≡◌, ℕ, ◌+◌, ◌-◌, ◌<◌, ◌≤◌, ◌++◌, [], ◌∷◌, length, take, drop, map, IfOk, IfSome, IfNone, MatchOption};
+ghost use Rattle.std.specs.Prelude.{◌≡◌, ℕ, ◌+◌, ◌-◌, ◌<◌, ◌≤◌, ◌++◌, [], ◌∷◌, length, take, drop, map, IfOk, IfSome, IfNone, MatchOption, IsTrue};
 ghost use Rattle.ssi_text.specs.Marks.{Byte, marks, part_marks};
 ghost use Rattle.ssi_text.specs.Moves.{Moved};
 ghost use Rattle.ssi_text.specs.Split.{split, with_text, limit, begun as begun_front, front, opening};
-ghost use Rattle.ssi_text.specs.Commands.{size};
-ghost use Rattle.ssi_text.specs.declared.place.Place.TheVariants.{Outside};
+ghost use Rattle.ssi_text.specs.Commands.{Outside, size};
 
 use crate::command::made;
 use crate::part::{Front, Part};
 use crate::place::{Begun, begins_with, rest_of, size_of_command};
 use byte_text::{ByteText, OutOfMemory};
-use memchr::memmem;
+use memchr::{memchr, memmem};
 use std::alloc::Global;
 
 /// The most bytes that a command has.
 const LIMIT: usize = 8192;
 
-/// How many bytes of text stand first.
+/// Whether `<!--#` stands around this `#`, of which it is the last byte.
+fn ends_opening(bytes: &[u8], at: usize) -> bool
+    requires { at < length bytes.now }
+    ensures { IsTrue result → 4 ≤ at }
+{
+    if at < 4 {
+        return false;
+    }
+    match begins_with(b"<!--#", rest_of(bytes, at - 4)) {
+        Begun::Yes => true,
+        Begun::No => false,
+        Begun::Maybe => false,
+    }
+}
+
+/// How many bytes of text stand first. A `#` is rare, so the first one mostly ends a `<!--#`; only where it doesn't is
+/// all of that searched for.
 fn text_len(bytes: &[u8]) -> usize
+    ensures within { result ≤ length bytes.now }
+    ensures text { split 0 bytes.now ≡ with_text (take result bytes.now) (split 0 (drop result bytes.now)) }
+{
+    match memchr(b'#', bytes) {
+        Some(at) => {
+            if ends_opening(bytes, at) {
+                at - 4
+            } else {
+                text_len_to_opening(bytes)
+            }
+        }
+        None => text_len_at_end(bytes),
+    }
+}
+
+/// The same by a search for `<!--#`.
+fn text_len_to_opening(bytes: &[u8]) -> usize
     ensures within { result ≤ length bytes.now }
     ensures text { split 0 bytes.now ≡ with_text (take result bytes.now) (split 0 (drop result bytes.now)) }
 {

@@ -17,6 +17,7 @@ use Rattle.request_phases.specs.Rounds.{phases_told}
 use Rattle.request_phases.specs.declared.state.Wait.{Wait}
 use Rattle.file_tree.specs.declared.job.JobAnswer.{JobAnswer}
 use Rattle.request_phases.specs.declared.state.Phases.{Phases}
+use Rattle.std.specs.Global.{Box}
 use Rattle.page_body.specs.declared.page.Page.{Page}
 use Rattle.node_turn.specs.Stages.{asks_from, item_asked, node_act, text_in}
 use Rattle.node_turn.specs.Nodes.{asked_path, lent, page_at, padded, placed_act, served_act, served_as, stage_act, told_item}
@@ -42,8 +43,8 @@ module _ (w : World) (site : Site) (p : Phases) (left : ℕ) (answer : Answer) (
   pub plain_came : served_act w site p left answer None (before ++ padded n (bytes ++ text)) ≡ placed_act w site p left answer None (before ++ bytes) (padded (n - length bytes) text)
   plain_came = ap (λ t. Write t (Done answer)) moved
 
-  pub page_came : (page : Page) → served_act w site p left answer (Some page) (before ++ padded n (bytes ++ text)) ≡ served_act w site p left answer (Some page) ((before ++ bytes) ++ padded (n - length bytes) text)
-  page_came page = ap (λ t. page_at w site p left answer page t) moved
+  pub page_came : (page : Box Page) → served_act w site p left answer (Some page) (before ++ padded n (bytes ++ text)) ≡ served_act w site p left answer (Some page) ((before ++ bytes) ++ padded (n - length bytes) text)
+  page_came page = ap (λ t. page_at w site p left answer page.value t) moved
 
 -- it is a part of its file
 held : (file bytes : List ℕ) (start count : ℕ) → start + count ≤ length file → bytes ≡ take count (drop start file) → bytes ++ drop (start + length bytes) file ≡ drop start file
@@ -103,7 +104,7 @@ module _ (w : World) (patterns : List SetPattern) (site : Site) (main : Main) (n
       (Learned (asked_path n.ask) then (told_item file) (λ text. ap (λ s. stage_act w patterns site p n.left (asked_path n.ask) s text) es) (λ text. refl)
       (λ trees from. told_at trees n.ask file (subst (λ a. is_fitting n.ask a ≡ true) ea fits) from)))
 
-  pub block_came : (new : Node) (body : Body) (bytes : Bor (List ℕ)) → n.stage ≡ stages.Reads body →
+  pub block_came : (new : Node) (body : Box Body) (bytes : Bor (List ℕ)) → n.stage ≡ stages.Reads body →
       ((text : List ℕ) → stage_act w patterns site (lent main n.phases) n.left (asked_path n.ask) (stages.Reads body) (bytes.now ++ text) ≡ node_act w patterns site main new text) →
       answer ≡ answers.Read bytes → ((trees : Trees) → IsFrom trees n.ask (answers.Read bytes) → bytes.now ++ text_in trees new ≡ text_in trees n) →
       Hears n.ask answer (λ trees. text_in trees n) (λ trees. text_in trees new) (node_act w patterns site main n) (node_act w patterns site main new)

@@ -1,9 +1,11 @@
 mod Sets
+mod Marks
 mod Members
 pub mod Numbers
 mod Hearing
 mod Heard
 mod Wholes
+mod Skips
 mod Taking
 mod Opening
 mod Returning

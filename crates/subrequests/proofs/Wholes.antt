@@ -23,7 +23,7 @@ use Rattle.node_turn.specs.declared.node.Place.TheVariants.{Row as InRow, Stub, 
 use Rattle.node_line.specs.Stances.{Opening, stance_at}
 use Rattle.subrequests.specs.Moved.{IsFromAt, OverrunsBy, SameFiles, Steps, files, fits_at, is_at, meant}
 use Rattle.node_turn.specs.Nodes.{answer_seen, asked_path, lent, stage_act}
-use Rattle.subrequests.specs.Wants.{runs_at}
+use Rattle.subrequests.specs.Runs.{runs_at}
 use Rattle.node_turn.specs.declared.answered.Answered.{Answered}
 use Rattle.subrequests.specs.declared.family.Family.{Family}
 use Rattle.node_turn.specs.declared.node.Node.{Node}
@@ -93,7 +93,7 @@ held_is nodes at x b e there = sym (ap captured_at there) ∙ e
 
 -- ---- steps
 
-pub both_ways : (laws : ShowsTheSame) (patterns : List SetPattern) (g : Ground) (old new : Family) (opened : ℕ) → length new.nodes.items ≡ length old.nodes.items + opened →
+pub both_ways : (laws : ShowsTheSame) (patterns : List SetPattern) (g : Ground) (old new : Family) (opened : ℕ) → length new.nodes ≡ length old.nodes + opened →
     ((tree : Tree) (texts : ℕ → List ℕ) → Opening (world_in patterns g shipped) tree opened (meant (world_in patterns g shipped) patterns g.site.now texts old) old.vars
     (meant (world_in patterns g shipped) patterns g.site.now texts new) new.vars) →
     SameFiles old new →
@@ -105,7 +105,7 @@ both_ways laws patterns g old new opened grows any same =
       grows = grows;
       any = any;
       by_files = λ tree trees. steps.same_count (no_more opened)
-          (steps.then (any tree (files trees old)) (steps.alike (members.same_files laws w patterns g.site.now new.main new.order new.nodes.items (files trees old) (files trees new) (same trees)) steps.stays));
+          (steps.then (any tree (files trees old)) (steps.alike (members.same_files laws w patterns g.site.now new.main new.order new.nodes (files trees old) (files trees new) (same trees)) steps.stays));
     }
   where
     no_more : (n : ℕ) → n + 0 ≡ n
@@ -124,7 +124,7 @@ steps_then patterns g a b c p q = record {
 }
 
 pub no_steps : (patterns : List SetPattern) (g : Ground) (a : Family) → Steps patterns g a a
-no_steps patterns g a = record { opened = 0; grows = (let e : length a.nodes.items ≡ length a.nodes.items + 0 = omega arith in e); any = λ tree texts. steps.stays; by_files = λ tree trees. steps.stays }
+no_steps patterns g a = record { opened = 0; grows = (let e : length a.nodes ≡ length a.nodes + 0 = omega arith in e); any = λ tree texts. steps.stays; by_files = λ tree trees. steps.stays }
 
 -- ---- at the end
 

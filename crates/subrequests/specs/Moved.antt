@@ -30,19 +30,19 @@ use Rattle.node_turn.specs.declared.node.Stage.{Stage}
 
 -- The family that the meaning has, where the files that are read still have these texts, by node; and those of these trees.
 abbrev pub meant : World → List SetPattern → Site → (texts : ℕ → List ℕ) → Family → Meant
-meant w patterns site texts f = seen w patterns site f.main f.order f.nodes.items texts
+meant w patterns site texts f = seen w patterns site f.main f.order f.nodes texts
 
 abbrev pub files : Trees → Family → ℕ → List ℕ
-files trees f = texts_of trees f.nodes.items
+files trees f = texts_of trees f.nodes
 
 abbrev pub IsWhole : Family → Type 0
-IsWhole f = IsSound f.order f.nodes.items
+IsWhole f = IsSound f.order f.nodes
 
 -- Its nodes take steps, whatever is still to come of the files that are read; and by the files of any trees. It has a node more for
 -- each subrequest that is opened.
 pub record Steps (patterns : List SetPattern) (g : Ground) (old new : Family) : Type 0 where
   pub opened : ℕ
-  pub grows : length new.nodes.items ≡ length old.nodes.items + opened
+  pub grows : length new.nodes ≡ length old.nodes + opened
   pub any : (tree : Tree) (texts : ℕ → List ℕ) → Opening (world_in patterns g shipped) tree opened (meant (world_in patterns g shipped) patterns g.site.now texts old) old.vars
       (meant (world_in patterns g shipped) patterns g.site.now texts new) new.vars
   pub by_files : (tree : Tree) (trees : Trees) → Opening (world_in patterns g shipped) tree opened (meant (world_in patterns g shipped) patterns g.site.now (files trees old) old) old.vars
@@ -54,14 +54,14 @@ is_at p None = false
 is_at p (Some n) = p n.stage && not n.over
 
 abbrev pub stands : (Stage → Bool) → Family → (at : ℕ) → Type 0
-stands p f at = is_at p (slice_get f.nodes.items at) ≡ true
+stands p f at = is_at p (slice_get f.nodes at) ≡ true
 
 -- The subrequest opens that a node asks for, which goes on as it is in the old family.
 abbrev pub OpensAt : List SetPattern → Ground → (at : ℕ) → Child → (old new : Family) → Type 0
 OpensAt patterns g at child old new =
     let w = world_in patterns g shipped in
     let site = g.site.now in
-    (n : Node) → slice_get old.nodes.items at ≡ Some n → (tree : Tree) (texts : ℕ → List ℕ)
+    (n : Node) → slice_get old.nodes at ≡ Some n → (tree : Tree) (texts : ℕ → List ℕ)
     → Opening w tree 1 (doing at (Going n.left (Inner (child_seen (main_of old.main n) child) (node_act w patterns site old.main n (texts at)))) (meant w patterns site texts old)) old.vars
     (meant w patterns site texts new) new.vars
 
@@ -70,7 +70,7 @@ abbrev pub AsksAt : List SetPattern → Ground → (at : ℕ) → Child → (old
 AsksAt patterns g at child old new =
     let w = world_in patterns g shipped in
     let site = g.site.now in
-    (n : Node) → slice_get old.nodes.items at ≡ Some n → (tree : Tree) (texts : ℕ → List ℕ)
+    (n : Node) → slice_get old.nodes at ≡ Some n → (tree : Tree) (texts : ℕ → List ℕ)
     → Opening w tree 1 (doing at (Going n.left (Call (child_seen (main_of old.main n) child) (λ reply. node_heard w patterns site old.main n (texts at) reply.body))) (meant w patterns site texts old)) old.vars
     (meant w patterns site texts new) new.vars
 
@@ -80,7 +80,7 @@ SameTexts nodes texts texts' = (j : ℕ) (n : Node) → slice_get nodes j ≡ So
 
 -- The nodes that are old read the same by the files of any trees, and the new one none.
 abbrev pub SameFiles : (old new : Family) → Type 0
-SameFiles old new = (trees : Trees) → SameTexts new.nodes.items (files trees old) (files trees new)
+SameFiles old new = (trees : Trees) → SameTexts new.nodes (files trees old) (files trees new)
 
 -- It goes on, and as much is still to come of it as before, of its answer and of subrequests.
 pub record Keeps (w : World) (tree : Tree) (f g : Meant) (vars : Vars) : Type 0 where
@@ -126,4 +126,4 @@ pub record Overruns (w : World) (tree : Tree) (f : Meant) (vars : Vars) (nodes :
 
 abbrev pub OverrunsBy : List SetPattern → Ground → Family → Type 0
 OverrunsBy patterns g f = (tree : Tree) (trees : Trees) →
-    Overruns (world_in patterns g shipped) tree (meant (world_in patterns g shipped) patterns g.site.now (files trees f) f) f.vars (length f.nodes.items)
+    Overruns (world_in patterns g shipped) tree (meant (world_in patterns g shipped) patterns g.site.now (files trees f) f) f.vars (length f.nodes)

@@ -3,7 +3,8 @@ use Rattle.std.specs.Prelude.{◌≡◌, ℕ, false, List, slice_get}
 use Rattle.ngx_pattern.specs.Pattern.{Pattern as SetPattern}
 use Rattle.request_phases.specs.declared.ground.Ground.{Ground}
 use Rattle.subrequests.specs.Moved.{IsWhole, OverrunsBy, Steps}
-use Rattle.subrequests.specs.Wants.{is_among, ready_of, runs_at}
+use Rattle.subrequests.specs.Runs.{runs_at}
+use Rattle.subrequests.specs.Wants.{is_among, ready_of}
 use Rattle.subrequests.specs.declared.family.Family.{Family}
 use Rattle.subrequests.specs.declared.family.Ran.{Ran}
 use Rattle.subrequests.specs.declared.family.Ran.TheVariants as ran
@@ -18,7 +19,7 @@ pub record Moves (patterns : List SetPattern) (g : Ground) (old new : Family) : 
 -- It goes on; or can't run any more; or asked for one subrequest more than are opened.
 abbrev pub StepsTo : List SetPattern → Ground → (old new : Family) → (at : ℕ) → Stepped → Type 0
 StepsTo patterns g old new at On = Moves patterns g old new
-StepsTo patterns g old new at Rests = Moves patterns g old new × (runs_at new.order at (slice_get new.nodes.items at) ≡ false)
+StepsTo patterns g old new at Rests = Moves patterns g old new × (runs_at new.order at (slice_get new.nodes at) ≡ false)
 StepsTo patterns g old new at TooMany = OverrunsBy patterns g old
 
 abbrev pub RunsTo : List SetPattern → Ground → (old new : Family) → (at : ℕ) → Ran → Type 0

@@ -1,50 +1,43 @@
 // A request and its subrequests.
 ghost use Rattle.std.specs.Prelude.{◌≡◌, ◌≢◌, ◌<◌, ◌+◌, ℕ, List, [], length, IfOk, OnOk, Some, None, true, false, slice_get, if◌then◌else◌};
-ghost use Rattle.http_types.specs.declared.words.Method.TheVariants.{Get as GetMethod};
-ghost use Rattle.ngx_variables.specs.declared.request.Role.TheVariants.{Content as ContentRole};
 ghost use Rattle.file_tree.specs.Tree.{Trees, text_of};
 ghost use Rattle.ngx_pattern.specs.Pattern.{Pattern as SetPattern};
-ghost use Rattle.ngx_variables.specs.declared.request.Main.{Main as MainView};
 ghost use Rattle.family_order.specs.Items.{IsWell};
-ghost use Rattle.request_meaning.specs.Replies.{script};
 ghost use Rattle.request_meaning.specs.Serving.{World};
 ghost use Rattle.request_phases.specs.Rounds.{IsGround};
 ghost use Rattle.request_phases.specs.declared.ground.Ground.{Ground as GroundView};
 ghost use Rattle.site_model.specs.declared.site.Site.{Site as SiteRow};
-ghost use Rattle.ssi_exec.specs.Scenes.{child_seen};
-ghost use Rattle.node_turn.specs.Stages.{is_ending, is_in_row as in_row, is_placing, is_serving, is_turning, item_asked, node_act};
-ghost use Rattle.subrequests.specs.Families.{AreDone, HasReply, IsPushed, captured_at, goes_on_at, hears_from as hearing, in_row_at, is_asked as asked_for, is_captured, is_seated as has_seat, over_node, place_for, reads_text};
+ghost use Rattle.node_turn.specs.Stages.{is_ending, is_in_row as in_row, is_placing, is_serving, is_turning, item_asked};
+ghost use Rattle.subrequests.specs.Families.{AreDone, HasReply, captured_at, goes_on_at, hears_from as hearing, in_row_at, is_asked as asked_for, is_captured, is_seated as has_seat, over_node};
 ghost use Rattle.node_turn.specs.declared.node.Place.TheVariants.{Captured as CapturedView};
 ghost use Rattle.std.specs.List.{list_all};
-ghost use Rattle.node_turn.specs.Nodes.{of_method};
-ghost use Rattle.node_turn.specs.declared.node.Node.{Node as NodeView};
 ghost use Rattle.subrequests.specs.Moved.{AsksAt, BeginsWith, Comes, IsDone, IsFromAt, IsWhole, Keeps, OpensAt, OverrunsBy, SameFiles, Steps, files, fits_at, meant, stands};
-ghost use Rattle.subrequests.specs.Wants.{Stands, StandsAt, runs_at};
+ghost use Rattle.subrequests.specs.Runs.{runs_at};
+ghost use Rattle.subrequests.specs.Wants.{Stands};
 ghost use Rattle.subrequests.specs.Ran.{RunsTo, StepsTo};
-ghost use Rattle.subrequests.specs.declared.family.Next.TheVariants.{Ends as EndsNext, Decides as DecidesNext, Returns as ReturnsNext};
 ghost use Rattle.subrequests.specs.declared.family.Stepped.TheVariants.{On as GoesOn, Rests as RestsNow};
 
+use crate::child::{blank_main, push_child, put_asks, put_child};
 use crate::hear::hears;
+use crate::next_step::{Next, is_held, is_in_row, next_of};
+use crate::nodes::Nodes;
 use crate::wants::can_run;
 use byte_text::{ByteText, OutOfMemory};
 use family_order::shows_the_same;
 use family_rest::{quiet_is_exact, row_tells_still};
 use file_tree::{Ask, JobAnswer};
-use http_types::{Addr, Method, Version};
+use http_types::Method;
 use ngx_pattern::PatternSet;
-use ngx_variables::{Groups, LocalDate, Main, Request, Role, VarTable};
+use ngx_variables::{Main, VarTable};
 use node_line::{comes, decides};
 use node_turn::{
     Capture, Node, Place, Stage, Turn, answering, lend, places, put, take, takes, turns,
 };
 use postpone_filter::Order;
-use req_head::HeadFields;
 use request_phases::{Ground, Outcome, Phases};
-use rewrite_code::Progress;
 use ssi_exec::Child;
 use ssi_values::Table;
 use std::alloc::Global;
-use std::net::{IpAddr, Ipv4Addr};
 
 /// A request and its subrequests: the main request, which is lent to the node that runs; the table
 /// of variables, which all share; the order in which their bytes leave; the nodes by their numbers,
@@ -55,7 +48,7 @@ pub struct Family {
     pub main: Main,
     pub vars: VarTable,
     pub order: Order,
-    pub nodes: Vec<Node>,
+    pub nodes: Nodes,
     pub tree: u64,
 }
 
@@ -95,238 +88,6 @@ fn on_or_rests(on: bool) -> Stepped
     if on { Stepped::On } else { Stepped::Rests }
 }
 
-/// What a node does next.
-#[derive(Clone, Copy)]
-pub(crate) enum Next {
-    /// Its phases go on.
-    Turns,
-    /// Bytes of its body are placed.
-    Places,
-    /// Bytes of its body are placed or held: it has a stub.
-    Comes,
-    /// The next part of its page is taken up.
-    Takes,
-    /// It is over.
-    Ends,
-    /// It is over, and its stub stands at its place.
-    Decides,
-    /// It is over, and its parent has its body.
-    Returns,
-    /// Nothing: it waits, or is over.
-    Waits,
-}
-
-/// Whether the bytes of a node go to the order.
-fn is_in_row(place: &Place) -> bool
-    ensures { result ≡ in_row place.now }
-{
-    match place {
-        Place::Row => true,
-        Place::Stub { stub: _, text: _ } => false,
-        Place::Captured(_) => false,
-    }
-}
-
-/// Whether the bytes of a node come to its parent.
-fn is_held(place: &Place) -> bool
-    ensures { result ≡ is_captured place.now }
-{
-    match place {
-        Place::Row => false,
-        Place::Stub { stub: _, text: _ } => false,
-        Place::Captured(_) => true,
-    }
-}
-
-/// How a node is over whose bytes go there.
-fn ends_by(place: &Place) -> Next
-    ensures { result ≡ (if in_row place.now then EndsNext
-        else (if is_captured place.now then ReturnsNext else DecidesNext)) }
-{
-    match place {
-        Place::Row => Next::Ends,
-        Place::Stub { stub: _, text: _ } => Next::Decides,
-        Place::Captured(_) => Next::Returns,
-    }
-}
-
-/// What a node with this number does next.
-fn next_of(nodes: &[Node], at: u32) -> Next
-    ensures { StandsAt (slice_get nodes.now at) at result }
-{
-    let Some(node) = nodes.get(at as usize) else {
-        return Next::Waits;
-    };
-    if node.over || node.asks.is_some() {
-        return Next::Waits;
-    }
-    match &node.stage {
-        Stage::Begins(_) => Next::Turns,
-        Stage::Asks { wait: _, ssi: _ } => Next::Waits,
-        Stage::Told {
-            wait: _,
-            file: _,
-            ssi: _,
-        } => Next::Turns,
-        Stage::Places(_) => {
-            if is_in_row(&node.place) {
-                return Next::Places;
-            }
-            Next::Comes
-        }
-        Stage::Serves(_) => {
-            if node.waits.is_some() {
-                return Next::Waits;
-            }
-            Next::Takes
-        }
-        Stage::Captures(_) => {
-            if node.waits.is_none() {
-                return Next::Takes;
-            }
-            Next::Waits
-        }
-        Stage::Reads(_) => Next::Waits,
-        Stage::Ends(_) => {
-            if node.children == 0 && at != 0 {
-                return ends_by(&node.place);
-            }
-            Next::Waits
-        }
-    }
-}
-
-/// A main request of which nothing is known but its method.
-fn blank_main(alloc: Global, method: Method) -> Main
-    ensures { result.method ≡ method }
-{
-    let nobody = Addr {
-        ip: IpAddr::V4(Ipv4Addr::new(0, 0, 0, 0)),
-        port: 0,
-    };
-    Main {
-        received: ByteText::new(alloc),
-        method,
-        version: Version::V11,
-        target: ByteText::new(alloc),
-        host: ByteText::new(alloc),
-        server_name: ByteText::new(alloc),
-        local: nobody,
-        peer: nobody,
-        moment: 0,
-        tree: 0,
-        date: LocalDate::of(0),
-        fields: HeadFields::new(alloc),
-        folder: ByteText::new(alloc),
-    }
-}
-
-/// The phases of a subrequest before they begin: it comes from inside, is asked with GET, and no
-/// level holds for it yet
-/// (<https://nginx.org/en/docs/dev/development_guide.html#http_subrequests>). Of its main request
-/// it has the method alone.
-fn child_phases(alloc: Global, level: u32, method: Method, path: ByteText, args: ByteText) -> Phases
-    ensures main { result.main.method ≡ method }
-    ensures asked { (result.at.request ≡ record {
-      method = GetMethod;
-      path = path;
-      args = args;
-      groups = [];
-      place = None;
-      role = ContentRole;
-    }) × (result.at.inside ≡ true) × (result.error ≡ None) × (result.closes ≡ false) ×
-        (result.changes ≡ 10) }
-{
-    Phases {
-        main: blank_main(alloc, method),
-        at: Progress {
-            request: Request {
-                method: Method::Get,
-                path,
-                args,
-                groups: Groups::new(alloc),
-                place: None,
-                role: Role::Content,
-            },
-            level,
-            inside: true,
-            seeks: false,
-        },
-        changes: 10,
-        error: None,
-        closes: false,
-        role: Role::Content,
-    }
-}
-
-fn copied(method: &Method) -> Result<Method, OutOfMemory>
-    ensures { IfOk result (λ copy. copy ≡ method.now) }
-{
-    let copy = method.clone()?;
-    Ok(copy)
-}
-
-/// Where the bytes of a subrequest go whose body is captured, or that has this stub, or none.
-fn place_of(alloc: Global, stub: Option<ByteText>, captured: bool) -> Place
-    ensures { result ≡ place_for captured stub }
-{
-    if captured {
-        return Place::Captured(ByteText::new(alloc));
-    }
-    match stub {
-        Some(stub) => Place::Stub {
-            stub,
-            text: ByteText::new(alloc),
-        },
-        None => Place::Row,
-    }
-}
-
-/// The node of a subrequest before its phases begin.
-fn child_node(
-    alloc: Global,
-    level: u32,
-    method: Method,
-    parent: u32,
-    left: u32,
-    child: Child,
-    captured: bool,
-) -> Node
-    ensures left { result.left ≡ left }
-    ensures over { result.over ≡ false }
-    ensures parent { result.parent ≡ parent }
-    ensures asks { result.asks ≡ None }
-    ensures fresh { reads_text result.stage ≡ false }
-    ensures place { result.place ≡ place_for captured child.stub }
-    ensures acts { (w : World) (patterns : List SetPattern) (site : SiteRow) (main : MainView)
-        (text : List ℕ) → node_act w patterns site main result text
-        ≡ script w left (child_seen (of_method method main) child) }
-{
-    let Child {
-        path,
-        args,
-        ssi,
-        stub,
-        waited: _,
-    } = child;
-    Node {
-        parent,
-        left,
-        children: 0,
-        waits: None,
-        asks: None,
-        place: place_of(alloc, stub, captured),
-        phases: child_phases(alloc, level, method, path, args),
-        ask: Ask::Stat {
-            path: ByteText::new(alloc),
-            of: 0,
-        },
-        start: 0,
-        stage: Stage::Begins(ssi),
-        over: false,
-    }
-}
-
 /// Whether a node may open a subrequest, where there are so many nodes. One of which it isn't known
 /// whether its body is shown opens none yet, and one for whose body its parent waits none either.
 fn may_open(node: &Node, count: usize) -> bool
@@ -336,27 +97,6 @@ fn may_open(node: &Node, count: usize) -> bool
     ensures few { result ≡ true → count < 1001 }
 {
     is_in_row(&node.place) && node.asks.is_none() && node.left > 0 && count < MOST_NODES
-}
-
-/// Puts the node of a subrequest, which the node with this number asks for, behind the nodes.
-fn push_child(
-    alloc: Global,
-    level: u32,
-    nodes: &mut Vec<Node>,
-    at: u32,
-    child: Child,
-    captured: bool,
-) -> Result<(), OutOfMemory>
-    ensures { OnOk result ((n : NodeView) → slice_get nodes.old.items at ≡ Some n
-        → IsPushed nodes.old.items nodes.new.items at (place_for captured child.stub) n child) }
-{
-    let Some(node) = nodes.get(at as usize) else {
-        return Err(OutOfMemory);
-    };
-    let left = node.left.saturating_sub(1);
-    let method = copied(&node.phases.main.method)?;
-    nodes.push(child_node(alloc, level, method, at, left, child, captured))?;
-    Ok(())
 }
 
 /// Whether the subrequest with this number is the one for whose body a node waits.
@@ -428,24 +168,6 @@ fn are_done(nodes: &[Node]) -> bool
     }
 }
 
-/// A node has one more subrequest, for whose end it waits or doesn't.
-fn put_child(node: &mut Node, id: u32, waited: bool)
-    ensures { node.new ≡ record node.old { children = node.new.children; waits = node.new.waits } }
-{
-    node.children = node.children.saturating_add(1);
-    if waited {
-        node.waits = Some(id);
-    }
-}
-
-/// A node has one more subrequest, for whose body it waits.
-fn put_asks(node: &mut Node, id: u32)
-    ensures { node.new ≡ record node.old { children = node.new.children; asks = Some id } }
-{
-    node.children = node.children.saturating_add(1);
-    node.asks = Some(id);
-}
-
 /// The bytes of a node for whose body its parent waits: all that came.
 fn taken(alloc: Global, place: &mut Place) -> Result<ByteText, OutOfMemory>
     ensures { IfOk result (λ text. (place.old ≡ CapturedView text)
@@ -514,7 +236,7 @@ impl Family {
             files trees f 0 ≡ text_of (item_asked trees ask)) }
         ensures whole { IfOk result (λ f. IsWhole f) }
         ensures tree { IfOk result (λ f. f.tree ≡ tree) }
-        ensures one { IfOk result (λ f. length f.nodes.items ≡ 1) }
+        ensures one { IfOk result (λ f. length f.nodes ≡ 1) }
     {
         shows_the_same();
         let mut phases = phases;
@@ -528,7 +250,7 @@ impl Family {
         )?;
         let mut main = blank_main(alloc, Method::Get);
         lend(&mut main, &mut phases);
-        let mut nodes = Vec::new(alloc);
+        let mut nodes = Nodes::new(alloc);
         nodes.push(Node {
             parent: 0,
             left: MOST_LEFT,
@@ -571,7 +293,7 @@ impl Family {
         requires ground { IsGround ground.now }
         requires whole { IsWhole self.old }
         requires there { stands is_turning self.old at }
-        requires seated { has_seat self.old.nodes.items at (slice_get self.old.nodes.items at)
+        requires seated { has_seat self.old.nodes at (slice_get self.old.nodes at)
             ≡ true }
         ensures steps { OnOk result (Steps patterns.old ground.now self.old self.new) }
         ensures whole { OnOk result (IsWhole self.new) }
@@ -579,7 +301,7 @@ impl Family {
         ensures kept { patterns.new ≡ patterns.old }
     {
         shows_the_same();
-        let node = &mut self.nodes[at as usize];
+        let node = self.nodes.node_mut(at as usize);
         turns(
             alloc,
             ground,
@@ -596,35 +318,35 @@ impl Family {
     fn place_at(&mut self, alloc: Global, at: u32) -> bool
         requires whole { IsWhole self.old }
         requires there { stands is_placing self.old at }
-        requires seated { has_seat self.old.nodes.items at (slice_get self.old.nodes.items at)
+        requires seated { has_seat self.old.nodes at (slice_get self.old.nodes at)
             ≡ true }
-        requires row { in_row_at (slice_get self.old.nodes.items at) ≡ true }
+        requires row { in_row_at (slice_get self.old.nodes at) ≡ true }
         ensures steps { (patterns : List SetPattern) (g : GroundView) →
             Steps patterns g self.old self.new }
         ensures whole { IsWhole self.new }
         ensures tree { self.new.tree ≡ self.old.tree }
-        ensures rests { result ≡ runs_at self.new.order at (slice_get self.new.nodes.items at) }
+        ensures rests { result ≡ runs_at self.new.order at (slice_get self.new.nodes at) }
     {
         shows_the_same();
-        let node = &mut self.nodes[at as usize];
+        let node = self.nodes.node_mut(at as usize);
         places(alloc, &mut self.order, at, node);
-        can_run(&self.order, at, &self.nodes[at as usize])
+        can_run(&self.order, at, self.nodes.node_at(at as usize))
     }
 
     /// Bytes of a node with a stub come.
     fn come_at(&mut self, alloc: Global, at: u32) -> Result<(), OutOfMemory>
         requires whole { IsWhole self.old }
         requires there { stands is_placing self.old at }
-        requires seated { has_seat self.old.nodes.items at (slice_get self.old.nodes.items at)
+        requires seated { has_seat self.old.nodes at (slice_get self.old.nodes at)
             ≡ true }
-        requires apart { in_row_at (slice_get self.old.nodes.items at) ≡ false }
+        requires apart { in_row_at (slice_get self.old.nodes at) ≡ false }
         ensures steps { OnOk result ((patterns : List SetPattern) (g : GroundView) →
             Steps patterns g self.old self.new) }
         ensures whole { OnOk result (IsWhole self.new) }
         ensures tree { OnOk result (self.new.tree ≡ self.old.tree) }
     {
         shows_the_same();
-        let node = &mut self.nodes[at as usize];
+        let node = self.nodes.node_mut(at as usize);
         comes(alloc, &mut self.order, at, node)?;
         Ok(())
     }
@@ -634,7 +356,7 @@ impl Family {
     fn take_at(&mut self, alloc: Global, ground: &Ground<'_>, at: u32) -> Result<bool, OutOfMemory>
         requires whole { IsWhole self.old }
         requires there { stands is_serving self.old at }
-        requires seated { has_seat self.old.nodes.items at (slice_get self.old.nodes.items at)
+        requires seated { has_seat self.old.nodes at (slice_get self.old.nodes at)
             ≡ true }
         ensures steps { (patterns : List SetPattern) → IfOk result (λ on. on ≡ true →
             Steps patterns ground.now self.old self.new) }
@@ -644,7 +366,7 @@ impl Family {
         ensures tree { OnOk result (self.new.tree ≡ self.old.tree) }
     {
         shows_the_same();
-        let node = &mut self.nodes[at as usize];
+        let node = self.nodes.node_mut(at as usize);
         let turn = takes(alloc, ground, &mut self.main, &self.vars, node)?;
         match turn {
             Turn::On => Ok(true),
@@ -686,22 +408,22 @@ impl Family {
         child: Child,
     ) -> Result<(), OutOfMemory>
         requires whole { IsWhole self.old }
-        requires there { goes_on_at (slice_get self.old.nodes.items at) ≡ true }
+        requires there { goes_on_at (slice_get self.old.nodes at) ≡ true }
         ensures opens { (patterns : List SetPattern) → OnOk result
             (OpensAt patterns ground.now at child self.old self.new) }
         ensures files { OnOk result (SameFiles self.old self.new) }
         ensures grows { OnOk result
-            (length self.new.nodes.items ≡ length self.old.nodes.items + 1) }
+            (length self.new.nodes ≡ length self.old.nodes + 1) }
         ensures whole { OnOk result (IsWhole self.new) }
         ensures tree { OnOk result (self.new.tree ≡ self.old.tree) }
         ensures main { OnOk result (self.new.main ≡ self.old.main) }
     {
         shows_the_same();
-        if !may_open(&self.nodes[at as usize], self.nodes.len()) {
+        if !may_open(self.nodes.node_at(at as usize), self.nodes.len()) {
             return Err(OutOfMemory);
         }
         let id = self.order.add_child(alloc, at)?;
-        put_child(&mut self.nodes[at as usize], id, child.waited);
+        put_child(self.nodes.node_mut(at as usize), id, child.waited);
         push_child(
             alloc,
             ground.server.level,
@@ -723,23 +445,23 @@ impl Family {
         child: Child,
     ) -> Result<(), OutOfMemory>
         requires whole { IsWhole self.old }
-        requires there { goes_on_at (slice_get self.old.nodes.items at) ≡ true }
+        requires there { goes_on_at (slice_get self.old.nodes at) ≡ true }
         requires plain { child.stub ≡ None }
         ensures asks { (patterns : List SetPattern) → OnOk result
             (AsksAt patterns ground.now at child self.old self.new) }
         ensures files { OnOk result (SameFiles self.old self.new) }
         ensures grows { OnOk result
-            (length self.new.nodes.items ≡ length self.old.nodes.items + 1) }
+            (length self.new.nodes ≡ length self.old.nodes + 1) }
         ensures whole { OnOk result (IsWhole self.new) }
         ensures tree { OnOk result (self.new.tree ≡ self.old.tree) }
         ensures main { OnOk result (self.new.main ≡ self.old.main) }
     {
         shows_the_same();
-        if !may_open(&self.nodes[at as usize], self.nodes.len()) {
+        if !may_open(self.nodes.node_at(at as usize), self.nodes.len()) {
             return Err(OutOfMemory);
         }
         let id = self.order.add_child(alloc, at)?;
-        put_asks(&mut self.nodes[at as usize], id);
+        put_asks(self.nodes.node_mut(at as usize), id);
         push_child(alloc, ground.server.level, &mut self.nodes, at, child, true)?;
         Ok(())
     }
@@ -748,19 +470,19 @@ impl Family {
     fn close_at(&mut self, at: u32) -> u32
         requires whole { IsWhole self.old }
         requires there { stands is_ending self.old at }
-        requires seated { has_seat self.old.nodes.items at (slice_get self.old.nodes.items at)
+        requires seated { has_seat self.old.nodes at (slice_get self.old.nodes at)
             ≡ true }
-        requires row { in_row_at (slice_get self.old.nodes.items at) ≡ true }
+        requires row { in_row_at (slice_get self.old.nodes at) ≡ true }
         requires child { at ≢ 0 }
         ensures steps { (patterns : List SetPattern) (g : GroundView) →
             Steps patterns g self.old self.new }
         ensures whole { IsWhole self.new }
-        ensures ended { goes_on_at (slice_get self.new.nodes.items at) ≡ false }
+        ensures ended { goes_on_at (slice_get self.new.nodes at) ≡ false }
         ensures tree { self.new.tree ≡ self.old.tree }
     {
         shows_the_same();
         self.order.end(at);
-        let node = &mut self.nodes[at as usize];
+        let node = self.nodes.node_mut(at as usize);
         node.over = true;
         node.parent
     }
@@ -769,19 +491,19 @@ impl Family {
     fn decide_at(&mut self, at: u32) -> Result<u32, OutOfMemory>
         requires whole { IsWhole self.old }
         requires there { stands is_ending self.old at }
-        requires seated { has_seat self.old.nodes.items at (slice_get self.old.nodes.items at)
+        requires seated { has_seat self.old.nodes at (slice_get self.old.nodes at)
             ≡ true }
-        requires apart { in_row_at (slice_get self.old.nodes.items at) ≡ false }
+        requires apart { in_row_at (slice_get self.old.nodes at) ≡ false }
         requires child { at ≢ 0 }
         ensures steps { OnOk result ((patterns : List SetPattern) (g : GroundView) →
             Steps patterns g self.old self.new) }
         ensures whole { OnOk result (IsWhole self.new) }
         ensures ended { OnOk result
-            (goes_on_at (slice_get self.new.nodes.items at) ≡ false) }
+            (goes_on_at (slice_get self.new.nodes at) ≡ false) }
         ensures tree { OnOk result (self.new.tree ≡ self.old.tree) }
     {
         shows_the_same();
-        let node = &mut self.nodes[at as usize];
+        let node = self.nodes.node_mut(at as usize);
         decides(&mut self.order, at, node)?;
         Ok(node.parent)
     }
@@ -791,27 +513,27 @@ impl Family {
     fn return_at(&mut self, alloc: Global, at: u32) -> Result<u32, OutOfMemory>
         requires whole { IsWhole self.old }
         requires there { stands is_ending self.old at }
-        requires held { captured_at (slice_get self.old.nodes.items at) ≡ true }
-        requires seated { has_seat self.old.nodes.items at (slice_get self.old.nodes.items at)
+        requires held { captured_at (slice_get self.old.nodes at) ≡ true }
+        requires seated { has_seat self.old.nodes at (slice_get self.old.nodes at)
             ≡ true }
         requires child { at ≢ 0 }
         ensures steps { OnOk result ((patterns : List SetPattern) (g : GroundView) →
             Steps patterns g self.old self.new) }
         ensures whole { OnOk result (IsWhole self.new) }
         ensures ended { OnOk result
-            (goes_on_at (slice_get self.new.nodes.items at) ≡ false) }
+            (goes_on_at (slice_get self.new.nodes at) ≡ false) }
         ensures tree { OnOk result (self.new.tree ≡ self.old.tree) }
     {
         shows_the_same();
         self.order.end(at);
-        let node = &mut self.nodes[at as usize];
+        let node = self.nodes.node_mut(at as usize);
         let text = taken(alloc, &mut node.place)?;
         node.over = true;
         let parent = node.parent;
         if parent as usize >= self.nodes.len() {
             return Err(OutOfMemory);
         }
-        put_reply(alloc, &mut self.nodes[parent as usize], text)?;
+        put_reply(alloc, self.nodes.node_mut(parent as usize), text)?;
         Ok(parent)
     }
 
@@ -821,14 +543,14 @@ impl Family {
         ensures steps { (patterns : List SetPattern) (g : GroundView) →
             Steps patterns g self.old self.new }
         ensures whole { IsWhole self.new }
-        ensures over { (j : ℕ) → goes_on_at (slice_get self.old.nodes.items j) ≡ false
-            → goes_on_at (slice_get self.new.nodes.items j) ≡ false }
+        ensures over { (j : ℕ) → goes_on_at (slice_get self.old.nodes j) ≡ false
+            → goes_on_at (slice_get self.new.nodes j) ≡ false }
         ensures tree { self.new.tree ≡ self.old.tree }
     {
         shows_the_same();
         let at = at as usize;
         if at < self.nodes.len() {
-            put_end(&mut self.nodes[at], child);
+            put_end(self.nodes.node_mut(at), child);
         }
     }
 
@@ -838,16 +560,16 @@ impl Family {
     /// `OutOfMemory`; the family is then not to go on.
     pub fn hear(&mut self, alloc: Global, at: u32, answer: JobAnswer<'_>) -> Result<(), OutOfMemory>
         requires whole { IsWhole self.old }
-        requires fits { fits_at self.old.tree (slice_get self.old.nodes.items at) answer ≡ true }
+        requires fits { fits_at self.old.tree (slice_get self.old.nodes at) answer ≡ true }
         ensures keeps { OnOk result ((w : World) (patterns : List SetPattern) (site : SiteRow)
-            (trees : Trees) → IsFromAt trees (slice_get self.old.nodes.items at) answer.entry
+            (trees : Trees) → IsFromAt trees (slice_get self.old.nodes at) answer.entry
             → IsWell (meant w patterns site (files trees self.old) self.old)
             → Keeps w (trees self.old.tree) (meant w patterns site (files trees self.old) self.old)
             (meant w patterns site (files trees self.new) self.new) self.old.vars) }
         ensures comes { OnOk result ((w : World) (patterns : List SetPattern) (site : SiteRow)
             (texts : ℕ → List ℕ) → Comes w patterns site self.old self.new texts) }
         ensures whole { OnOk result (IsWhole self.new) }
-        ensures size { OnOk result (length self.new.nodes.items ≡ length self.old.nodes.items) }
+        ensures size { OnOk result (length self.new.nodes ≡ length self.old.nodes) }
         ensures others { OnOk result ((self.new.tree ≡ self.old.tree)
             × (self.new.vars ≡ self.old.vars) × (self.new.order ≡ self.old.order)) }
     {
@@ -857,7 +579,7 @@ impl Family {
         if !is_seated(self.nodes.as_slice(), at) {
             return Err(OutOfMemory);
         }
-        let node = &mut self.nodes[at as usize];
+        let node = self.nodes.node_mut(at as usize);
         hears(alloc, node, answer)?;
         Ok(())
     }
@@ -881,7 +603,7 @@ impl Family {
         requires ground { IsGround ground.now }
         requires whole { IsWhole self.old }
         requires stands { Stands self.old at next }
-        requires seated { has_seat self.old.nodes.items at (slice_get self.old.nodes.items at)
+        requires seated { has_seat self.old.nodes at (slice_get self.old.nodes at)
             ≡ true }
         ensures stepped { IfOk result (λ stepped.
             StepsTo patterns.old ground.now self.old self.new at stepped) }
@@ -948,6 +670,20 @@ impl Family {
         }
     }
 
+    /// A node rests: what is known of it is kept; and of its parent, if that was told of its end.
+    fn rests(&mut self, at: u32)
+        ensures { self.new ≡ self.old }
+    {
+        if (at as usize) < self.nodes.len() {
+            let node = self.nodes.node_at(at as usize);
+            let (parent, over) = (node.parent, node.over);
+            self.nodes.mark(at);
+            if over {
+                self.nodes.mark(parent);
+            }
+        }
+    }
+
     /// Runs a node on: until it asks a job, waits for a subrequest, has a full buffer, or has come
     /// to its answer; or until more than a thousand subrequests are asked for, after which the
     /// family isn't to go on.
@@ -971,7 +707,10 @@ impl Family {
         for _ in 0..MOST_STEPS {
             match self.step(alloc, ground, patterns, at)? {
                 Stepped::On => {}
-                Stepped::Rests => return Ok(Ran::Rests),
+                Stepped::Rests => {
+                    self.rests(at);
+                    return Ok(Ran::Rests);
+                }
                 Stepped::TooMany => return Ok(Ran::TooMany),
             }
         }

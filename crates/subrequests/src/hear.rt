@@ -56,8 +56,8 @@ fn reads_from(ask: &Ask, start: u64) -> bool
 
 /// Where these bytes of its file came to a body that asked for them: bytes that are placed next, or
 /// that its page takes up.
-fn came(alloc: Global, body: Body, bytes: &[u8]) -> Result<Stage, OutOfMemory>
-    requires { length bytes.now ≤ body.source.left }
+fn came(alloc: Global, body: Box<Body>, bytes: &[u8]) -> Result<Stage, OutOfMemory>
+    requires { length bytes.now ≤ body.value.source.left }
     ensures { IfOk result (λ stage. (w : World) (patterns : List SetPattern) (site : SiteRow)
         (p : PhasesView) (levels : ℕ) (path text : List ℕ) →
         stage_act w patterns site p levels path (ReadsView body) (bytes.now ++ text)
@@ -69,7 +69,7 @@ fn came(alloc: Global, body: Body, bytes: &[u8]) -> Result<Stage, OutOfMemory>
         from: _,
         source,
         page,
-    } = body;
+    } = Box::into_inner(body);
     let Source {
         mut text,
         left,
@@ -79,28 +79,34 @@ fn came(alloc: Global, body: Body, bytes: &[u8]) -> Result<Stage, OutOfMemory>
     let left = left - bytes.len() as u64;
     let none = ByteText::new(alloc);
     match page {
-        None => Ok(Stage::Places(Body {
-            answered,
-            bytes: text,
-            from: 0,
-            source: Source {
-                text: none,
-                left,
-                unread: false,
-            },
-            page: None,
-        })),
-        Some(page) => Ok(Stage::Serves(Body {
-            answered,
-            bytes: none,
-            from: 0,
-            source: Source {
-                text,
-                left,
-                unread: false,
-            },
-            page: Some(page),
-        })),
+        None => {
+            let body = Body {
+                answered,
+                bytes: text,
+                from: 0,
+                source: Source {
+                    text: none,
+                    left,
+                    unread: false,
+                },
+                page: None,
+            };
+            Ok(Stage::Places(Box::new(alloc, body)?))
+        }
+        Some(page) => {
+            let body = Body {
+                answered,
+                bytes: none,
+                from: 0,
+                source: Source {
+                    text,
+                    left,
+                    unread: false,
+                },
+                page: Some(page),
+            };
+            Ok(Stage::Serves(Box::new(alloc, body)?))
+        }
     }
 }
 
@@ -120,7 +126,12 @@ fn put_told(node: &mut Node, wait: Wait, file: FileNode, ssi: Table)
 }
 
 /// A block of its file came to a node.
-fn put_block(alloc: Global, node: &mut Node, body: Body, bytes: &[u8]) -> Result<(), OutOfMemory>
+fn put_block(
+    alloc: Global,
+    node: &mut Node,
+    body: Box<Body>,
+    bytes: &[u8],
+) -> Result<(), OutOfMemory>
     ensures node { OnOk result (IsSameNode node.old node.new) }
     ensures place { OnOk result (node.new.place ≡ node.old.place) }
     ensures acts { OnOk result ((w : World) (patterns : List SetPattern) (site : SiteRow)

@@ -4,8 +4,12 @@
 //! order.
 #![tactic(auto)]
 
+mod child;
 mod family;
 mod hear;
+mod next_step;
+mod nodes;
 mod wants;
 
 pub use family::{Family, Ran};
+pub use nodes::Nodes;

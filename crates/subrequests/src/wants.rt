@@ -3,7 +3,8 @@ ghost use Rattle.std.specs.Prelude.{◌≡◌, ◌==◌, option_copied};
 ghost use Rattle.file_tree.specs.Tree.{tree_of};
 ghost use Rattle.ngx_outside.specs.Views.{ask_in};
 ghost use Rattle.subrequests.specs.Moved.{IsWhole};
-ghost use Rattle.subrequests.specs.Wants.{can_go, first_job as job_first, first_of, is_among, is_waiting as waits_for, jobs_of, ready_of};
+ghost use Rattle.subrequests.specs.Runs.{can_go, is_waiting as waits_for};
+ghost use Rattle.subrequests.specs.Wants.{first_job as job_first, first_of, is_among, jobs_of, ready_of};
 
 use crate::family::Family;
 use crate::hear::waits;
@@ -61,7 +62,7 @@ impl Family {
     pub fn ask(&self, at: u32) -> Option<&Ask>
         ensures { option_copied result ≡ ask_in (jobs_of self.now) at }
     {
-        let node = self.nodes.get(at as usize)?;
+        let node = self.nodes.as_slice().get(at as usize)?;
         if is_waiting(node, self.tree) {
             return Some(&node.ask);
         }
@@ -73,10 +74,12 @@ impl Family {
         requires { IsWhole self.now }
         ensures { result ≡ job_first (jobs_of self.now) }
     {
-        for at in 0..self.nodes.len() {
-            if is_waiting(&self.nodes[at], self.tree) {
+        let mut at = self.nodes.next_asking(0);
+        while at < self.nodes.len() {
+            if is_waiting(self.nodes.node_at(at), self.tree) {
                 return Some(at as u32);
             }
+            at = self.nodes.next_asking(at + 1);
         }
         None
     }
@@ -87,10 +90,12 @@ impl Family {
         requires { IsWhole self.now }
         ensures { result ≡ first_of (ready_of self.now) }
     {
-        for at in 0..self.nodes.len() {
-            if can_run(&self.order, at as u32, &self.nodes[at]) {
+        let mut at = self.nodes.next_awake(0);
+        while at < self.nodes.len() {
+            if can_run(&self.order, at as u32, self.nodes.node_at(at)) {
                 return Some(at as u32);
             }
+            at = self.nodes.next_awake(at + 1);
         }
         None
     }
@@ -99,7 +104,7 @@ impl Family {
     pub fn is_ready(&self, at: u32) -> bool
         ensures { result ≡ is_among at (ready_of self.now) }
     {
-        match self.nodes.get(at as usize) {
+        match self.nodes.as_slice().get(at as usize) {
             Some(node) => can_run(&self.order, at, node),
             None => false,
         }

@@ -22,8 +22,8 @@ returns-in-Nothing c = λ patterns path text vars.
     phased.answers_so w c.args.left c.args.ssi made (answer_seen site p c.in_ok-answered.field-0.answered) bytes c.in_ok-answered.field-0.facts c.in_ok-answered.field-0.body _ vars parts.0 parts.1 c.in-Nothing.is
     ∙ phased.bare_so w c.args.left c.args.ssi (answer_seen site p c.in_ok-answered.field-0.answered) vars
 
-pub returns-in_ok-page_text-in-Page : goal.returns-in_ok-page_text-in-Page
-returns-in_ok-page_text-in-Page c = λ patterns path text vars.
+pub returns-in_ok-plain-in-Page : goal.returns-in_ok-plain-in-Page
+returns-in_ok-plain-in-Page c = λ patterns path text vars.
     let g = c.args.ground.now in
     let site = g.site.now in
     let p = c.args.phases.now in
@@ -36,7 +36,7 @@ returns-in_ok-page_text-in-Page c = λ patterns path text vars.
     phased.answers_so w c.args.left c.args.ssi made answer bytes c.in_ok-answered.field-0.facts c.in_ok-answered.field-0.body _ vars parts.0 parts.1 c.in-Page.is
     ∙ (phased.plain_so w c.args.left c.args.ssi answer (page_of c.in-Page.code) vars
     ∙ ap (λ m. (m, vars)) (ap (λ b. Write b (Done answer)) (sym (phased.none_behind c.page_text.new.out text ∙ (c.in_ok-page_text-in-Page.ensures ∙ ap (λ b. b ++ page_of c.in-Page.code) c.new-bytes.ensures)))
-    ∙ sym (c.plain.ensures g p c.args.left patterns path text)))
+    ∙ sym (c.in_ok-plain-in-Page.ensures g p c.args.left patterns path text)))
 
 pub returns-in_ok-sent-in-Text : goal.returns-in_ok-sent-in-Text
 returns-in_ok-sent-in-Text c = λ patterns path text vars.

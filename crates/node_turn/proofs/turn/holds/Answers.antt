@@ -1,4 +1,5 @@
-use Rattle.std.proofs.Common.{List, ℕ, drop, ap, ◌∙◌, sym, subst, arith}
+use Rattle.node_turn.specs.declared.node.Body.{Body}
+use Rattle.std.proofs.Common.{List, ℕ, drop, length, ap, ◌∙◌, sym, subst, arith}
 use Rattle.node_turn.specs.Stages.{hand_at, node_act}
 use Rattle.node_turn.specs.Nodes.{answer_seen, asked_path, from_source, later, lent, placed_act, stage_act}
 use Rattle.node_turn.specs.Turns.{PlacesAs}
@@ -12,13 +13,13 @@ use Rattle.node_turn.proofs.turn.holds.Goals as goal
 pub returns-clause-acts : goal.returns-clause-acts
 returns-clause-acts c = λ w patterns site main text.
     let n = c.args.node.now in
-    let b = c.in-Places.body in
+    let b = c.in-Places.body.value in
     let p = lent main n.phases in
     let path = asked_path n.ask in
-    let next = c.advanced-body.result in
+    let next = c.advanced-body.result.value in
     let after = c.stage_after.result in
     let act = λ (a : Answered) (page : _) (bytes : List ℕ) (s : Source). placed_act w site p n.left (answer_seen site p a) page bytes (from_source s text) in
-    let mid = placing.whole_so w site p n.left (answer_seen site p b.answered) b.page b.bytes b.from next.from (later b text) (omega (arith, c.advanced-body.ensures.from, c.len.ensures, b.within)) in
+    let mid = placing.whole_so w site p n.left (answer_seen site p b.answered) b.page b.bytes b.from next.from (later b text) (omega (arith, c.advanced-body.ensures.from, c.len.ensures, b.within, ap (λ (x : Body). length x.bytes) c.deref.ensures, ap (λ (x : Body). x.from) c.deref-in-Places.ensures)) in
     let moved = ap (λ (a : Answered). act a b.page (drop next.from b.bytes) b.source) (sym c.advanced-body.ensures.others.0)
     ∙ (ap (λ s. act next.answered b.page (drop next.from b.bytes) s) (sym c.advanced-body.ensures.others.1)
     ∙ (ap (λ x. act next.answered x (drop next.from b.bytes) next.source) (sym c.advanced-body.ensures.others.2)

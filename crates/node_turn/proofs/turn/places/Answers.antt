@@ -12,11 +12,11 @@ use Rattle.node_turn.proofs.turn.places.Goals as goal
 pub returns-clause-acts : goal.returns-clause-acts
 returns-clause-acts c = λ w patterns site main text.
     let n = c.args.node.now in
-    let b = c.in-Places.body in
+    let b = c.in-Places.body.value in
     let p = lent main n.phases in
     let path = asked_path n.ask in
     let count = c.append-count.result in
-    let next = c.advanced-body.result in
+    let next = c.advanced-body.result.value in
     let after = c.stage_after.result in
     let act = λ (a : Answered) (page : _) (bytes : List ℕ) (s : Source). placed_act w site p n.left (answer_seen site p a) page bytes (from_source s text) in
     let mid = placing.placed_so w site p n.left (answer_seen site p b.answered) b.page b.bytes b.from count (later b text) in

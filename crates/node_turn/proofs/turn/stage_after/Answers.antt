@@ -1,13 +1,16 @@
-use Rattle.std.proofs.Common.{arith}
+use Rattle.std.proofs.Common.{length, ap, arith}
 use Rattle.node_turn.specs.Nodes.{answer_seen, later}
 use Rattle.node_turn.specs.Turns.Works.{Rests}
+use Rattle.node_turn.specs.declared.node.Body.{Body}
 use Rattle.node_turn.proofs.Placing as placing
 use Rattle.node_turn.proofs.turn.stage_after.Goals as goal
 
-pub returns-then-body-len-clause-works : goal.returns-then-body-len-clause-works
-returns-then-body-len-clause-works c = λ w patterns site p levels path text vars.
-    let b = c.args.body in
-    placing.all_so w site p levels (answer_seen site p b.answered) b.page b.bytes b.from (later b text) vars (omega (arith, c.if-body-len.true, c.len.ensures))
+pub returns-then-deref-len-clause-works : goal.returns-then-deref-len-clause-works
+returns-then-deref-len-clause-works c = λ w patterns site p levels path text vars.
+    let b = c.args.body.value in
+    let from = ap (λ (b : Body). b.from) c.deref.ensures in
+    let len = ap (λ (b : Body). length b.bytes) c.deref-2.ensures in
+    placing.all_so w site p levels (answer_seen site p b.answered) b.page b.bytes b.from (later b text) vars (omega (arith, from, len, c.if-deref-len.true, c.len.ensures))
 
 pub returns-clause-works : goal.returns-clause-works
 returns-clause-works c = λ w patterns site p levels path text vars. Rests

@@ -13,8 +13,8 @@ pub hear-requires-clause-fits : goal.hear-requires-clause-fits
 hear-requires-clause-fits c =
     let p = c.in-Page.page.pages.value in
     let asked = c.requires.asked in
-    subst (λ (x : Pages). Rattle.subrequests.specs.Moved.fits_at x.family.tree (Rattle.std.specs.List.slice_get x.family.nodes.items c.args.at) c.args.answer ≡ true) (sym c.deref_mut-inside.ensures.value)
-    (wanting.fits p.family.tree p.family.nodes.items c.args.at asked.0 c.args.answer (ap (λ f. ask_in (jobs_by f) c.args.at) (sym c.in-Page.is) ∙ asked.1) asked.2)
+    subst (λ (x : Pages). Rattle.subrequests.specs.Moved.fits_at x.family.tree (Rattle.std.specs.List.slice_get x.family.nodes c.args.at) c.args.answer ≡ true) (sym c.deref_mut-inside.ensures.value)
+    (wanting.fits p.family.tree p.family.nodes c.args.at asked.0 c.args.answer (ap (λ f. ask_in (jobs_by f) c.args.at) (sym c.in-Page.is) ∙ asked.1) asked.2)
 
 pub returns-in_ok-answered-in-Alone-clause-goes : goal.returns-in_ok-answered-in-Alone-clause-goes
 returns-in_ok-answered-in-Alone-clause-goes c = λ w patterns site trees closing job asked from reached.
@@ -36,8 +36,8 @@ returns-in-Ok-clause-goes c = λ w patterns site trees closing job asked from re
     let same = c.deref_mut-inside.ensures.value in
     let out = c.args.out.now in
     let heard = c.in-Ok.ensures.same w patterns site trees
-    (subst (λ (x : Pages). Rattle.subrequests.specs.Moved.IsFromAt trees (Rattle.std.specs.List.slice_get x.family.nodes.items c.args.at) c.args.answer) (sym same)
-    (wanting.from trees p.family.tree p.family.nodes.items c.args.at job c.args.answer (ap (λ f. ask_in (jobs_by f) c.args.at) (sym c.in-Page.is) ∙ asked) from))
+    (subst (λ (x : Pages). Rattle.subrequests.specs.Moved.IsFromAt trees (Rattle.std.specs.List.slice_get x.family.nodes c.args.at) c.args.answer) (sym same)
+    (wanting.from trees p.family.tree p.family.nodes c.args.at job c.args.answer (ap (λ f. ask_in (jobs_by f) c.args.at) (sym c.in-Page.is) ∙ asked) from))
     (subst (λ x. Rattle.page_response.specs.Pages.IsReached w patterns site x) (sym same) (subst (IsReachedBy w patterns site) c.in-Page.is reached)) in
     subst (λ r. Continues site r (page_left w patterns site trees c.hear.new.self) out out closing closing None None)
     (sym (goes.same_left w patterns site trees old c.hear.new.self heard c.in-Ok.ensures.others.0) ∙ (ap (page_left w patterns site trees) same ∙ ap (rest_of w patterns site trees) (sym c.in-Page.is)))

@@ -20,7 +20,7 @@ returns-clause-opens c = λ patterns.
     (subst (λ (r : InPhases). BeginsWith g r.phases r.vars start.page.outcome family) c.into_inner-phases.ensures f.begins) in
     let text : (trees : Trees) → files trees p.family 0 ≡ known_text start.page.known trees = λ trees. ap (λ (x : Family). files trees x 0) is ∙ (f.files trees ∙ c.source_of-ask.ensures.text trees) in
     let tree = ap (λ (x : Family). x.tree) is ∙ (f.tree ∙ c.source_of-ask.ensures.tree) in
-    let one = ap (λ (x : Family). length x.nodes.items) is ∙ f.one in
+    let one = ap (λ (x : Family). length x.nodes) is ∙ f.one in
     let laws = c.reached_stays_well.ensures in
     let keep = c.steps_keep_still.ensures in
     let fit = c.shipped_are_fit.ensures in

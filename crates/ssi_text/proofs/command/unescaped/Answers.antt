@@ -1,7 +1,10 @@
 use Rattle.std.proofs.Common.{◌∙◌, ◌+◌, ◌++◌, ap, sym, drop}
 use Rattle.ssi_text.specs.Commands.{unescaped, is_escape}
-use Rattle.ssi_text.proofs.Insides.{unescaped-out, unescaped-plain, unescaped-past}
+use Rattle.ssi_text.proofs.Insides.{unescaped-none, unescaped-out, unescaped-plain, unescaped-past}
 use Rattle.ssi_text.proofs.command.unescaped.Goals as goal
+
+pub returns-then-not-contains : goal.returns-then-not-contains
+returns-then-not-contains c = c.in_ok-value.ensures ∙ sym (unescaped-none c.args.raw.now (sym c.contains.ensures.value ∙ c.if-not-contains.true))
 
 pub loop-at-preserved-then-escapes : goal.loop-at-preserved-then-escapes
 loop-at-preserved-then-escapes c =

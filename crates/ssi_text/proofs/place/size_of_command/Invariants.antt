@@ -1,8 +1,10 @@
-use Rattle.std.proofs.Common.{◌≡◌, drop}
-use Rattle.ssi_text.specs.declared.place.Place.TheVariants.{Outside}
-use Rattle.ssi_text.specs.Commands.{size}
+use Rattle.std.proofs.Common.{◌≡◌, ◌≤◌, ◌-◌, drop, length}
+use Rattle.ssi_text.specs.Commands.{Outside, size}
 use Rattle.ssi_text.proofs.Scans.{add}
 use Rattle.ssi_text.proofs.place.size_of_command.Given as goal
 
-abbrev pub invariant-loop-i : goal.invariant-loop-i
-invariant-loop-i l = add l.i (size l.place (drop l.i l.bytes)) ≡ size Outside l.bytes
+abbrev pub invariant-loop-at : goal.invariant-loop-at
+invariant-loop-at l = (l.at ≤ length l.bytes) × (add l.at (size Outside (drop l.at l.bytes)) ≡ size Outside l.bytes)
+
+abbrev pub decreases-loop-at : goal.decreases-loop-at
+decreases-loop-at l = length l.bytes - l.at

@@ -1,8 +1,7 @@
 use Rattle.std.proofs.Common.{ap, ◌∙◌, ◌+◌}
 use Rattle.ssi_text.specs.declared.part.Front.TheVariants.{Whole}
-use Rattle.ssi_text.specs.declared.place.Place.TheVariants.{Outside}
 use Rattle.ssi_text.specs.Split.{begun}
-use Rattle.ssi_text.specs.Commands.{size, made}
+use Rattle.ssi_text.specs.Commands.{Outside, size, made}
 use Rattle.ssi_text.proofs.Steps.{begun-bad, begun-open, begun-some}
 use Rattle.ssi_text.proofs.scan.begun.Goals as goal
 

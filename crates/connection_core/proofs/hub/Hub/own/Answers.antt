@@ -9,13 +9,13 @@ pub returns-clause-steps : goal.returns-clause-steps
 returns-clause-steps c = λ fresh.
     let h = c.args.self.now in
     let n = c.own-answer.new in
-    steps_own fresh (now_at h) c.args.event c.own-answer.result c.args.conn (view_at h) (view_in (serves_with n.space.patterns n.self.served) n.self.ids.items n.self.conns.items) c.requires.own c.requires.conn (c.own-answer.ensures.steps h.told h.reached)
+    steps_own fresh (now_at h) c.args.event.now c.own-answer.result c.args.conn (view_at h) (view_in (serves_with n.space.patterns n.self.served) n.self.ids.items n.self.conns.items) c.requires.own c.requires.conn (c.own-answer.ensures.steps h.told h.reached)
 
 pub returns-clause-ended : goal.returns-clause-ended
 returns-clause-ended c =
     let h = c.args.self.now in
     let n = c.own-answer.new in
-    ended_own nobody.course (now_at h) c.args.event c.own-answer.result c.args.conn (view_at h) (view_in (serves_with n.space.patterns n.self.served) n.self.ids.items n.self.conns.items) c.requires.own c.requires.conn (c.own-answer.ensures.steps h.told h.reached) c.own-answer.ensures.ended
+    ended_own nobody.course (now_at h) c.args.event.now c.own-answer.result c.args.conn (view_at h) (view_in (serves_with n.space.patterns n.self.served) n.self.ids.items n.self.conns.items) c.requires.own c.requires.conn (c.own-answer.ensures.steps h.told h.reached) c.own-answer.ensures.ended
 
 pub invariant_of-self : goal.invariant_of-self
 invariant_of-self c =

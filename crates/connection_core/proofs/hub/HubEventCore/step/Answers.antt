@@ -137,8 +137,8 @@ invariant_of-self-in-Tree c =
       reached = h.reached;
     }
 
-pub invariant_of-self-in-Gone : goal.invariant_of-self-in-Gone
-invariant_of-self-in-Gone c =
+pub invariant_of-self-in-Gone-1 : goal.invariant_of-self-in-Gone-1
+invariant_of-self-in-Gone-1 c =
     let h = c.args.self.now in
     let n = c.close.new.self in
     record {
@@ -146,3 +146,6 @@ invariant_of-self-in-Gone c =
       told = told_still h.space.patterns h.space.patterns h.table.served n.served refl c.close.ensures.served h.told;
       reached = reached_still h.space.patterns h.space.patterns h.table.served n.served n.conns.items refl c.close.ensures.served (c.close.ensures.reached (serves_at h) h.reached);
     }
+
+pub returns-in-Arrived-clause-steps : goal.returns-in-Arrived-clause-steps
+returns-in-Arrived-clause-steps c = c.own.ensures.steps (fresh_at c.args.self.now)

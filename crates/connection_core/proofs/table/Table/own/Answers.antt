@@ -24,8 +24,8 @@ returns-in-Ok-clause-steps c = λ told led.
     let now : Start = record { moment = c.args.moment; tree = c.args.tree } in
     let x : Serves = serves_with c.args.space.now.patterns t.served in
     let n = c.happen_at-answer.new in
-    subst (λ p. OneSteps c.args.conn (StepsOwn nobody.course now c.args.event c.happen_at-answer.result) (view_in x t.ids.items t.conns.items) (view_in (serves_with p t.served) t.ids.items n.conns.items)) (sym c.happen_at-answer.ensures.patterns)
-    (one_steps x c.args.conn c.in-Ok.at t.ids.items t.conns.items c.happen_at-answer.new.conns.items now c.args.event c.happen_at-answer.result s (c.happen_at-answer.ensures.replaced c.requires.own s.placed) told (led_at x c.args.conn c.in-Ok.at t.ids.items t.conns.items s led) nobody.course)
+    subst (λ p. OneSteps c.args.conn (StepsOwn nobody.course now c.args.event.now c.happen_at-answer.result) (view_in x t.ids.items t.conns.items) (view_in (serves_with p t.served) t.ids.items n.conns.items)) (sym c.happen_at-answer.ensures.patterns)
+    (one_steps x c.args.conn c.in-Ok.at t.ids.items t.conns.items c.happen_at-answer.new.conns.items now c.args.event.now c.happen_at-answer.result s (c.happen_at-answer.ensures.replaced c.requires.own s.placed) told (led_at x c.args.conn c.in-Ok.at t.ids.items t.conns.items s led) nobody.course)
 
 pub returns-in-Ok-clause-left : goal.returns-in-Ok-clause-left
 returns-in-Ok-clause-left c =
@@ -34,7 +34,7 @@ returns-in-Ok-clause-left c =
     let s = seat_at c.args.conn c.in-Ok.at t.ids.items t.conns.items (stands_in c.args.conn c.in-Ok.at c.as_slice.result.now t.ids.items c.as_slice.ensures.value c.in-Ok.ensures) even in
     let now : Start = record { moment = c.args.moment; tree = c.args.tree } in
     let x : Serves = serves_with c.args.space.now.patterns t.served in
-    left_after x c.args.conn c.in-Ok.at t.ids.items t.conns.items c.happen_at-answer.new.conns.items now c.args.event c.happen_at-answer.result s c.requires.own (c.happen_at-answer.ensures.replaced c.requires.own s.placed)
+    left_after x c.args.conn c.in-Ok.at t.ids.items t.conns.items c.happen_at-answer.new.conns.items now c.args.event.now c.happen_at-answer.result s c.requires.own (c.happen_at-answer.ensures.replaced c.requires.own s.placed)
 
 pub returns-in-Ok-clause-ended : goal.returns-in-Ok-clause-ended
 returns-in-Ok-clause-ended c =
@@ -44,8 +44,8 @@ returns-in-Ok-clause-ended c =
     let now : Start = record { moment = c.args.moment; tree = c.args.tree } in
     let x : Serves = serves_with c.args.space.now.patterns t.served in
     let n = c.happen_at-answer.new in
-    subst (λ p. (view_in (serves_with p t.served) t.ids.items n.conns.items c.args.conn).ended ≡ ended_by c.args.event c.happen_at-answer.result (view_in x t.ids.items t.conns.items c.args.conn).ended) (sym c.happen_at-answer.ensures.patterns)
-    (one_ended x c.args.conn c.in-Ok.at t.ids.items t.conns.items c.happen_at-answer.new.conns.items now c.args.event c.happen_at-answer.result s (c.happen_at-answer.ensures.replaced c.requires.own s.placed))
+    subst (λ p. (view_in (serves_with p t.served) t.ids.items n.conns.items c.args.conn).ended ≡ ended_by c.args.event.now c.happen_at-answer.result (view_in x t.ids.items t.conns.items c.args.conn).ended) (sym c.happen_at-answer.ensures.patterns)
+    (one_ended x c.args.conn c.in-Ok.at t.ids.items t.conns.items c.happen_at-answer.new.conns.items now c.args.event.now c.happen_at-answer.result s (c.happen_at-answer.ensures.replaced c.requires.own s.placed))
 
 pub returns-in-Ok-clause-taken : goal.returns-in-Ok-clause-taken
 returns-in-Ok-clause-taken c =
@@ -59,7 +59,7 @@ returns-in-Err-clause-steps c = λ told led.
     let t = c.args.self.now in
     let now : Start = record { moment = c.args.moment; tree = c.args.tree } in
     let x : Serves = serves_with c.args.space.now.patterns t.served in
-    none_steps x c.args.conn c.in-Err.field-0 t.ids.items t.conns.items now c.args.event nobody.course c.requires.own (belongs_in c.args.conn c.in-Err.field-0 c.as_slice.result.now t.ids.items c.as_slice.ensures.value c.in-Err.ensures)
+    none_steps x c.args.conn c.in-Err.field-0 t.ids.items t.conns.items now c.args.event.now nobody.course c.requires.own (belongs_in c.args.conn c.in-Err.field-0 c.as_slice.result.now t.ids.items c.as_slice.ensures.value c.in-Err.ensures)
 
 pub returns-in-Ok-clause-known : goal.returns-in-Ok-clause-known
 returns-in-Ok-clause-known c = λ known.
@@ -68,7 +68,7 @@ returns-in-Ok-clause-known c = λ known.
     let s = seat_at c.args.conn c.in-Ok.at t.ids.items t.conns.items (stands_in c.args.conn c.in-Ok.at c.as_slice.result.now t.ids.items c.as_slice.ensures.value c.in-Ok.ensures) even in
     let now : Start = record { moment = c.args.moment; tree = c.args.tree } in
     let x : Serves = serves_with c.args.space.now.patterns t.served in
-    own_known x c.args.conn c.in-Ok.at t.conns.items c.happen_at-answer.new.conns.items now c.args.event c.happen_at-answer.result s.placed (c.happen_at-answer.ensures.replaced c.requires.own s.placed) known
+    own_known x c.args.conn c.in-Ok.at t.conns.items c.happen_at-answer.new.conns.items now c.args.event.now c.happen_at-answer.result s.placed (c.happen_at-answer.ensures.replaced c.requires.own s.placed) known
 
 pub returns-in-Ok-clause-reached : goal.returns-in-Ok-clause-reached
 returns-in-Ok-clause-reached c = λ led.
@@ -77,7 +77,7 @@ returns-in-Ok-clause-reached c = λ led.
     let s = seat_at c.args.conn c.in-Ok.at t.ids.items t.conns.items (stands_in c.args.conn c.in-Ok.at c.as_slice.result.now t.ids.items c.as_slice.ensures.value c.in-Ok.ensures) even in
     let now : Start = record { moment = c.args.moment; tree = c.args.tree } in
     let x : Serves = serves_with c.args.space.now.patterns t.served in
-    own_reached x c.in-Ok.at t.conns.items c.happen_at-answer.new.conns.items now c.args.event c.happen_at-answer.result s.placed (c.happen_at-answer.ensures.replaced c.requires.own s.placed) led
+    own_reached x c.in-Ok.at t.conns.items c.happen_at-answer.new.conns.items now c.args.event.now c.happen_at-answer.result s.placed (c.happen_at-answer.ensures.replaced c.requires.own s.placed) led
 
 pub invariant_of-self : goal.invariant_of-self
 invariant_of-self c =

@@ -124,9 +124,9 @@ returns-in-Ok-On-clause-times c = λ now conn m.
     record {
       mark = marks_by s.times.mark c.args.moment now.moment c.marked-self-in-Ok-On.result _ _ _ _ _ _ _ _ c.marked-self-in-Ok-On.ensures m c.sending-before.ensures.pending c.sending-before.ensures.in_flight c.sending-after.ensures.pending c.sending-after.ensures.in_flight;
       head = refl;
-      pace = λ alive. subst (λ f. PaceRan x now f s c.put-in-Ok-On.new.slot c.pace_after-pace.result) (sym is) (record {
+      pace = λ alive. subst (λ f. PaceRan x now f s c.put-in-Ok-On.new.slot c.paced_on.new.pace) (sym is) (record {
         told = values_at c.args.served.now onward.level;
-        pace = c.pace_after-pace.ensures;
+        pace = c.paced_on.ensures.pace;
         level = λ so trees. sym (level_is x onward.level (rest_in x c.put-in-Ok-On.new.slot trees).values)
             ∙ (ran_level x g (Some flight) flight onward c.put-in-Ok-On.new.slot s.out c.run_on.new.out s.closing trees (sym c.put-in-Ok-On.ensures) runs by (λ raceless reached. on_runs _ _ _ _ _ _ _ _ ran onward on (c.in-Ok-On.ensures.runs trees raceless reached)) so.0 so.1).level;
       });
@@ -159,7 +159,7 @@ invariant_of-self-in-Ok-On c =
       drained = s.drained;
       unended = s.unended;
       logged = λ h. subst (λ b. IsLogged b c.finish.new.journal.items) (not_over (is_some onward.log) (is_some onward.flight) (on_by _ ran onward on c.in-Ok-On.ensures.over) ∙ ap is_some (sym c.put-in-Ok-On.ensures)) c.finish.ensures.logged;
-      brief = c.shortest_after-self.ensures;
+      brief = c.paced_on.ensures.least;
     }
 
 pub invariant_of-self : goal.invariant_of-self

@@ -124,7 +124,7 @@ invariant_of-self-in-Ok-On c =
       unended = ran_unended x site start (vec_len s.journal) s.next s.held n.held n.body f' s.out n.out o.closing o.log ran;
       logged = λ h. subst (IsLogged (is_some f')) (sym entry.3) (entered_logged (is_some f') s.journal.items entry.0 o.log (entry.2 ∙ ap log_ran on) (subst (λ f. IsLogged (is_some f) s.journal.items) c.requires.none (s.logged st.0))
           (ran_over x site start (vec_len s.journal) s.next s.held n.held n.body f' s.out n.out o.closing o.log ran));
-      brief = c.shortest_after-self.ensures;
+      brief = c.paced_on.ensures.least;
     }
 
 pub returns-in-Ok-On-clause-times : goal.returns-in-Ok-On-clause-times
@@ -136,9 +136,9 @@ returns-in-Ok-On-clause-times c = λ conn.
     record {
       mark = mark_begins s.times.mark c.args.moment c.marked-self.result _ _ s.flight s.out _ _ c.marked-self.ensures c.requires.none st.4 c.sending-after.ensures.pending c.sending-after.ensures.in_flight;
       head = refl;
-      pace = λ on. subst (λ f. PaceRan x now f s c.put-in-Ok-On.new.slot c.pace_after-pace.result) (sym c.requires.none) (record {
+      pace = λ on. subst (λ f. PaceRan x now f s c.put-in-Ok-On.new.slot c.paced_on.new.pace) (sym c.requires.none) (record {
         told = values_at c.args.served.now c.in-Ok-On.onward.level;
-        pace = c.pace_after-pace.ensures;
+        pace = c.paced_on.ensures.pace;
         level = λ so. subst (λ f. LevelFor (service_in x s.local s.peer) now s.next (λ trees. (rest_in x f trees).values) (values_at c.args.served.now c.in-Ok-On.onward.level)) (sym c.put-in-Ok-On.ensures) (on_by _ c.in-Ok-On.field-0 c.in-Ok-On.onward c.in-Ok-On.field-0-is c.in-Ok-On.ensures.level so);
       });
     }

@@ -21,7 +21,7 @@ returns-clause-same c = λ w patterns site trees from reached.
     keeps.subs ∙ (ap (λ n. subs_still w (trees n) (meant w patterns site (files trees g) g) f.vars) (sym is.others.0)
     ∙ ap (λ (v : Vars). subs_still w (trees g.tree) (meant w patterns site (files trees g) g) v) (sym is.others.1)) in
     moving.same_left w patterns site trees c.args.self.now _ body refl refl
-    (ap (λ k. length f.nodes.items + k) subs ∙ ap (λ k. k + subs_still w (trees g.tree) (meant w patterns site (files trees g) g) g.vars) (sym is.size))
+    (ap (λ k. length f.nodes + k) subs ∙ ap (λ k. k + subs_still w (trees g.tree) (meant w patterns site (files trees g) g) g.vars) (sym is.size))
 
 pub returns-clause-reached : goal.returns-clause-reached
 returns-clause-reached c = λ w patterns site reached texts.

@@ -27,10 +27,10 @@ returns-clause-same c = λ w patterns site trees.
     record {
       bytes =
           moving.moved tells w tree m f.vars n within p.outgoing c.put-put.new.self exact
-          ∙ ap (λ (r : Row). to_come c.put-put.new.self (still w tree (seen w patterns site f.main r f.nodes.items (files trees f)) f.vars).body) row;
-      nodes = ap (λ k. length f.nodes.items + k) (moving.asks tells w tree m f.vars n within
-          ∙ ap (λ (r : Row). subs_still w tree (seen w patterns site f.main r f.nodes.items (files trees f)) f.vars) row);
-      whole = moving.counted tells w tree m f.vars n within p.sent ∙ ap (λ (r : Row). (p.sent + n) + length (still w tree (seen w patterns site f.main r f.nodes.items (files trees f)) f.vars).body) row;
+          ∙ ap (λ (r : Row). to_come c.put-put.new.self (still w tree (seen w patterns site f.main r f.nodes (files trees f)) f.vars).body) row;
+      nodes = ap (λ k. length f.nodes + k) (moving.asks tells w tree m f.vars n within
+          ∙ ap (λ (r : Row). subs_still w tree (seen w patterns site f.main r f.nodes (files trees f)) f.vars) row);
+      whole = moving.counted tells w tree m f.vars n within p.sent ∙ ap (λ (r : Row). (p.sent + n) + length (still w tree (seen w patterns site f.main r f.nodes (files trees f)) f.vars).body) row;
     }
 
 pub returns-clause-whole : goal.returns-clause-whole
@@ -47,4 +47,4 @@ returns-clause-whole c = λ sound.
 pub returns-clause-reached : goal.returns-clause-reached
 returns-clause-reached c = λ w patterns site reached texts.
     let f = c.args.self.now.family in
-    subst (λ (r : Row). Reached w (seen w patterns site f.main r f.nodes.items texts) f.vars) (sym c.used.ensures.row) (Forgot (HasLeft c.put-put.result (reached texts)))
+    subst (λ (r : Row). Reached w (seen w patterns site f.main r f.nodes texts) f.vars) (sym c.used.ensures.row) (Forgot (HasLeft c.put-put.result (reached texts)))

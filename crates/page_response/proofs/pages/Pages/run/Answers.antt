@@ -51,10 +51,10 @@ returns-in-Rests-clause-ran c =
           let counted = c.steps_keep_still.ensures.counts_going w fit raceless tree m f.vars n next.vars (reached (files trees f)) opening.goes
           ∙ ap (λ k. k + subs_still w tree n next.vars) opening.opens in
           let grows = steps.grows in
-          let sum : length f.nodes.items + subs_still w tree m f.vars ≡ length next.nodes.items + subs_still w tree n next.vars = omega (arith, counted, grows) in
+          let sum : length f.nodes + subs_still w tree m f.vars ≡ length next.nodes + subs_still w tree n next.vars = omega (arith, counted, grows) in
           let body = went.body ∙ (ap (λ b. b ++ (still w tree n next.vars).body) (sym went.output) ∙ ap (λ t. (still w (trees t) n next.vars).body) (sym same)) in
           moving.same_then w ps site trees p mid c.pump.new.self
-          (moving.same_left w ps site trees p mid body refl refl (sum ∙ ap (λ t. length next.nodes.items + subs_still w (trees t) n next.vars) (sym same)))
+          (moving.same_left w ps site trees p mid body refl refl (sum ∙ ap (λ t. length next.nodes + subs_still w (trees t) n next.vars) (sym same)))
           (c.pump.ensures.same w ps site trees);
       reached = λ reached.
           c.pump.ensures.reached w ps site

@@ -4,5 +4,5 @@ use Rattle.race_check.proofs.conflict.Marks.push_named.Given as goal
 
 abbrev pub invariant-loop-name : goal.invariant-loop-name
 invariant-loop-name l =
-    l.named.items ++ map (marked l.number l.self) (filter (is_marked l.self) (drop l.name-index l.name-items))
-    ≡ l.fn.named.items ++ map (marked l.number l.self) (filter (is_marked l.self) l.name-items)
+    l.named.items ++ map (marked l.number l.self) (filter (is_marked l.first l.self) (drop l.name-index l.name-items))
+    ≡ l.fn.named.items ++ map (marked l.number l.self) (filter (is_marked l.first l.self) l.name-items)

@@ -24,13 +24,13 @@ returns-clause-asks c = λ ps n is tree texts.
     let g = c.args.ground.now in
     let site = g.site.now in
     let w = world_in ps g shipped in
-    let nodes = f.nodes.items in
+    let nodes = f.nodes in
     let at = c.args.at in
-    let here = c.index_mut.result.now in
+    let here = c.node_mut.result.now in
     let new = c.put_asks.new.node in
-    let there = wholes.not_over nodes at here c.requires.there c.index_mut.ensures.value in
+    let there = wholes.not_over nodes at here c.requires.there c.node_mut.ensures.value in
     let same : here ≡ n = wholes.some_same here n (sym there ∙ is) in
-    let looked : c.index.result.now ≡ here = wholes.some_same c.index.result.now here (sym (wholes.not_over nodes at c.index.result.now c.requires.there c.index.ensures) ∙ there) in
+    let looked : c.node_at.result.now ≡ here = wholes.some_same c.node_at.result.now here (sym (wholes.not_over nodes at c.node_at.result.now c.requires.there c.node_at.ensures) ∙ there) in
     let pushed = c.in_ok-push_child.ensures new (get_set_same nodes at new here there) in
     let child = child_seen (main_of f.main here) c.args.child in
     let l = pushed.member.left in
@@ -42,8 +42,8 @@ returns-clause-asks c = λ ps n is tree texts.
     let deep : here.left ≡ suc l = omega (arith, below, kept, some) in
     let heard : Node → Reply → Serving Answer = λ m reply. node_heard w ps site f.main m (texts at) reply.body in
     subst (λ (m : Node). Opening w tree 1 (doing at (Going m.left (Call (child_seen (main_of f.main m) c.args.child) (heard m))) (seen w ps site f.main f.order nodes texts)) f.vars
-    (seen w ps site f.main c.add_child.new.self c.push_child.new.nodes.items texts) f.vars) same
-    (subst (λ (r : Row). Opening w tree 1 (doing at (Going here.left (Call child (heard here))) (seen w ps site f.main f.order nodes texts)) f.vars (seen w ps site f.main r c.push_child.new.nodes.items texts) f.vars) (sym c.in_ok-id.ensures.row)
+    (seen w ps site f.main c.add_child.new.self c.push_child.new.nodes texts) f.vars) same
+    (subst (λ (r : Row). Opening w tree 1 (doing at (Going here.left (Call child (heard here))) (seen w ps site f.main f.order nodes texts)) f.vars (seen w ps site f.main r c.push_child.new.nodes texts) f.vars) (sym c.in_ok-id.ensures.row)
     (subst (λ ns. Opening w tree 1 (doing at (Going here.left (Call child (heard here))) (seen w ps site f.main f.order nodes texts)) f.vars (seen w ps site f.main (with_child at f.order) ns texts) f.vars) (sym pushed.items)
     (members.asked c.shows_the_same.ensures w ps site f.main f.order nodes texts at here there free tree f.vars (c.requires.whole.going at ∙ c.requires.there) child l new pushed.member (heard here) deep row
     (ap (λ (x : Node). x.place) c.put_asks.ensures ∙ row) (ap (λ (x : Node). x.asks) c.put_asks.ensures ∙ ap Some c.in_ok-id.ensures.child) kept c.requires.plain
@@ -54,11 +54,11 @@ returns-clause-asks c = λ ps n is tree texts.
 pub returns-clause-files : goal.returns-clause-files
 returns-clause-files c = λ trees j n is reads.
     let f = c.args.self.now in
-    let nodes = f.nodes.items in
+    let nodes = f.nodes in
     let at = c.args.at in
-    let here = c.index_mut.result.now in
+    let here = c.node_mut.result.now in
     let new = c.put_asks.new.node in
-    let there = wholes.not_over nodes at here c.requires.there c.index_mut.ensures.value in
+    let there = wholes.not_over nodes at here c.requires.there c.node_mut.ensures.value in
     let pushed = c.in_ok-push_child.ensures new (get_set_same nodes at new here there) in
     members.set_texts trees nodes at here new there (members.same_text trees here new (ap (λ (x : Node). x.ask) c.put_asks.ensures, ap (λ (x : Node). x.start) c.put_asks.ensures)) j
     ∙ (members.more_files trees (set nodes at new) pushed.member pushed.fresh j n (subst (λ ns. slice_get ns j ≡ Some n) pushed.items is) reads
@@ -67,11 +67,11 @@ returns-clause-files c = λ trees j n is reads.
 pub returns-clause-whole : goal.returns-clause-whole
 returns-clause-whole c =
     let f = c.args.self.now in
-    let nodes = f.nodes.items in
+    let nodes = f.nodes in
     let at = c.args.at in
-    let here = c.index_mut.result.now in
+    let here = c.node_mut.result.now in
     let new = c.put_asks.new.node in
-    let there = wholes.not_over nodes at here c.requires.there c.index_mut.ensures.value in
+    let there = wholes.not_over nodes at here c.requires.there c.node_mut.ensures.value in
     let pushed = c.in_ok-push_child.ensures new (get_set_same nodes at new here there) in
     let held = members.set_sound f.order f.order nodes at here new there c.requires.whole c.requires.whole.well refl (λ j. refl) (ap (λ (x : Node). x.over) c.put_asks.ensures) (ap (λ (x : Node). is_captured x.place) c.put_asks.ensures) in
     let size : length (set nodes at new) ≡ length nodes = length_set nodes at new in
@@ -80,16 +80,16 @@ returns-clause-whole c =
     (members.open_sound f.order c.add_child.new.self (set nodes at new) pushed.member held
     (members.child_well f.order c.add_child.new.self at c.requires.whole.well c.in_ok-id.ensures.row)
     (ap (λ (r : Row). r.nodes) c.in_ok-id.ensures.row ∙ (let e : f.order.nodes + 1 ≡ suc f.order.nodes = omega arith in e)) c.in_ok-id.ensures.opened pushed.over
-    (omega (arith, size, few, c.len.ensures, f.nodes.ok.0)))
+    (omega (arith, size, few, c.len.ensures)))
 
 pub returns-clause-grows : goal.returns-clause-grows
 returns-clause-grows c =
     let f = c.args.self.now in
-    let nodes = f.nodes.items in
+    let nodes = f.nodes in
     let at = c.args.at in
     let new = c.put_asks.new.node in
-    let here = c.index_mut.result.now in
-    let there = wholes.not_over nodes at here c.requires.there c.index_mut.ensures.value in
+    let here = c.node_mut.result.now in
+    let there = wholes.not_over nodes at here c.requires.there c.node_mut.ensures.value in
     let pushed = c.in_ok-push_child.ensures new (get_set_same nodes at new here there) in
     let size : length (set nodes at new) ≡ length nodes = length_set nodes at new in
     let more = ap length pushed.items ∙ length_snoc (set nodes at new) pushed.member in

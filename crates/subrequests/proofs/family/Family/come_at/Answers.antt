@@ -10,12 +10,12 @@ returns-clause-steps c = λ ps g.
     let f = c.args.self.now in
     let site = g.site.now in
     let w = world_in ps g shipped in
-    let nodes = f.nodes.items in
+    let nodes = f.nodes in
     let at = c.args.at in
-    let old = c.index_mut-node.result.now in
+    let old = c.node_mut-node.result.now in
     let new = c.comes.new.node in
     let is = c.in_ok-comes.ensures in
-    let there = wholes.here_is is_placing nodes at old c.requires.there c.index_mut-node.ensures.value in
+    let there = wholes.here_is is_placing nodes at old c.requires.there c.node_mut-node.ensures.value in
     let goes_on = wholes.open_is is_placing f.order nodes at c.requires.whole c.requires.there in
     wholes.both_ways c.shows_the_same.ensures ps g f _ 0 (wholes.as_many nodes at new)
     (λ tree texts. members.came c.shows_the_same.ensures w ps site f.main f.order nodes texts at old (members.its_seat w ps site f.main f.order nodes texts at old there c.requires.whole goes_on c.requires.seated)
@@ -26,9 +26,9 @@ returns-clause-steps c = λ ps g.
 pub returns-clause-whole : goal.returns-clause-whole
 returns-clause-whole c =
     let f = c.args.self.now in
-    let nodes = f.nodes.items in
-    let old = c.index_mut-node.result.now in
+    let nodes = f.nodes in
+    let old = c.node_mut-node.result.now in
     let is = c.in_ok-comes.ensures in
-    let there = wholes.here_is is_placing nodes c.args.at old c.requires.there c.index_mut-node.ensures.value in
+    let there = wholes.here_is is_placing nodes c.args.at old c.requires.there c.node_mut-node.ensures.value in
     members.set_sound f.order c.comes.new.order nodes c.args.at old c.comes.new.node there c.requires.whole
     (members.came_well f.order c.comes.new.order c.args.at old c.comes.new.node c.requires.whole.well is.came) (members.came_nodes f.order c.comes.new.order c.args.at old c.comes.new.node is.came) is.opened is.node.over (members.came_kept f.order c.comes.new.order c.args.at old c.comes.new.node is.came)

@@ -15,12 +15,12 @@ returns-clause-steps c = λ ps g.
     let f = c.args.self.now in
     let site = g.site.now in
     let w = world_in ps g shipped in
-    let nodes = f.nodes.items in
+    let nodes = f.nodes in
     let at = c.args.at in
-    let old = c.index_mut-node.result.now in
+    let old = c.node_mut-node.result.now in
     let new = c.decides.new.node in
     let is = c.in_ok-decides.ensures in
-    let there = wholes.here_is is_ending nodes at old c.requires.there c.index_mut-node.ensures.value in
+    let there = wholes.here_is is_ending nodes at old c.requires.there c.node_mut-node.ensures.value in
     let goes_on = wholes.open_is is_ending f.order nodes at c.requires.whole c.requires.there in
     let done = wholes.stage_is is_ending nodes at old c.requires.there there in
     wholes.both_ways c.shows_the_same.ensures ps g f _ 0 (wholes.as_many nodes at new)
@@ -35,16 +35,16 @@ returns-clause-steps c = λ ps g.
 pub returns-clause-whole : goal.returns-clause-whole
 returns-clause-whole c =
     let f = c.args.self.now in
-    let old = c.index_mut-node.result.now in
+    let old = c.node_mut-node.result.now in
     let is = c.in_ok-decides.ensures in
-    members.over_sound f.order c.decides.new.order f.nodes.items c.args.at old c.decides.new.node (wholes.here_is is_ending f.nodes.items c.args.at old c.requires.there c.index_mut-node.ensures.value)
+    members.over_sound f.order c.decides.new.order f.nodes c.args.at old c.decides.new.node (wholes.here_is is_ending f.nodes c.args.at old c.requires.there c.node_mut-node.ensures.value)
     c.requires.whole (members.decided_well f.order c.decides.new.order c.args.at old c.decides.new.node c.requires.whole.well c.requires.child is.decided)
     (ap (λ (r : Row). r.nodes) is.decided.row) is.opened (ap (λ (n : Node). n.over) is.decided.node) (ap (λ (n : Node). is_captured n.place) is.decided.node)
 
 pub returns-clause-ended : goal.returns-clause-ended
 returns-clause-ended c =
     let f = c.args.self.now in
-    let old = c.index_mut-node.result.now in
+    let old = c.node_mut-node.result.now in
     let is = c.in_ok-decides.ensures in
-    ap goes_on_at (get_set_same f.nodes.items c.args.at c.decides.new.node old (wholes.here_is is_ending f.nodes.items c.args.at old c.requires.there c.index_mut-node.ensures.value))
+    ap goes_on_at (get_set_same f.nodes c.args.at c.decides.new.node old (wholes.here_is is_ending f.nodes c.args.at old c.requires.there c.node_mut-node.ensures.value))
     ∙ ap (λ (n : Node). goes_on_at (Some n)) is.decided.node

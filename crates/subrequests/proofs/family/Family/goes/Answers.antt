@@ -13,7 +13,7 @@ returns-in_ok-parent-in-Decides-clause-stepped c =
     let decided = c.in_ok-parent-in-Decides.ensures in
     let end = c.tell-in-Decides.new.self in (
       record { steps = wholes.steps_then ps g c.args.self.now c.decide_at.new.self end (decided.steps ps g) (c.tell-in-Decides.ensures.steps ps g); whole = c.tell-in-Decides.ensures.whole },
-      wholes.over_rests end.order c.args.at (slice_get end.nodes.items c.args.at) (c.tell-in-Decides.ensures.over c.args.at decided.ended),
+      wholes.over_rests end.order c.args.at (slice_get end.nodes c.args.at) (c.tell-in-Decides.ensures.over c.args.at decided.ended),
     )
 
 pub returns-in_ok-parent-in-Returns-clause-stepped : goal.returns-in_ok-parent-in-Returns-clause-stepped
@@ -23,7 +23,7 @@ returns-in_ok-parent-in-Returns-clause-stepped c =
     let returned = c.in_ok-parent-in-Returns.ensures in
     let end = c.tell-in-Returns.new.self in (
       record { steps = wholes.steps_then ps g c.args.self.now c.return_at.new.self end (returned.steps ps g) (c.tell-in-Returns.ensures.steps ps g); whole = c.tell-in-Returns.ensures.whole },
-      wholes.over_rests end.order c.args.at (slice_get end.nodes.items c.args.at) (c.tell-in-Returns.ensures.over c.args.at returned.ended),
+      wholes.over_rests end.order c.args.at (slice_get end.nodes c.args.at) (c.tell-in-Returns.ensures.over c.args.at returned.ended),
     )
 
 pub returns-in-Ends-clause-stepped : goal.returns-in-Ends-clause-stepped
@@ -33,5 +33,5 @@ returns-in-Ends-clause-stepped c =
     let closed = c.close_at-parent.ensures in
     let end = c.tell.new.self in (
       record { steps = wholes.steps_then ps g c.args.self.now c.close_at-parent.new.self end (closed.steps ps g) (c.tell.ensures.steps ps g); whole = c.tell.ensures.whole },
-      wholes.over_rests end.order c.args.at (slice_get end.nodes.items c.args.at) (c.tell.ensures.over c.args.at closed.ended),
+      wholes.over_rests end.order c.args.at (slice_get end.nodes c.args.at) (c.tell.ensures.over c.args.at closed.ended),
     )

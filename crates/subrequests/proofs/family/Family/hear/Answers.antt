@@ -10,35 +10,35 @@ use Rattle.subrequests.proofs.family.Family.hear.Goals as goal
 pub returns-clause-keeps : goal.returns-clause-keeps
 returns-clause-keeps c = λ w patterns site trees from well.
     let f = c.args.self.now in
-    let n = c.index_mut-node.result.now in
+    let n = c.node_mut-node.result.now in
     let is = c.in_ok-hears.ensures in
-    let there = wholes.fits_here f.tree f.nodes.items c.args.at n c.args.answer c.requires.fits c.index_mut-node.ensures.value in
+    let there = wholes.fits_here f.tree f.nodes c.args.at n c.args.answer c.requires.fits c.node_mut-node.ensures.value in
     let seated = subst (λ ns. is_seated ns c.args.at (slice_get ns c.args.at) ≡ true) c.as_slice.ensures.value (sym c.is_seated.ensures ∙ c.if-not-is_seated.false) in
-    let fits = wholes.fits_are f.tree f.nodes.items c.args.at n c.args.answer c.requires.fits there in
-    subst (λ t. Keeps w (trees t) (seen w patterns site f.main f.order f.nodes.items (texts_of trees f.nodes.items))
-    (seen w patterns site f.main f.order (set f.nodes.items c.args.at c.hears.new.node) (texts_of trees (set f.nodes.items c.args.at c.hears.new.node))) f.vars) fits.1
-    (heard.keeps c.shows_the_same.ensures w patterns site f.main f.order f.nodes.items c.args.at n c.hears.new.node there (members.as_old n c.hears.new.node is.node (ap is_captured is.place)) is.place n.ask c.args.answer (is.acts w patterns site f.main)
+    let fits = wholes.fits_are f.tree f.nodes c.args.at n c.args.answer c.requires.fits there in
+    subst (λ t. Keeps w (trees t) (seen w patterns site f.main f.order f.nodes (texts_of trees f.nodes))
+    (seen w patterns site f.main f.order (set f.nodes c.args.at c.hears.new.node) (texts_of trees (set f.nodes c.args.at c.hears.new.node))) f.vars) fits.1
+    (heard.keeps c.shows_the_same.ensures w patterns site f.main f.order f.nodes c.args.at n c.hears.new.node there (members.as_old n c.hears.new.node is.node (ap is_captured is.place)) is.place n.ask c.args.answer (is.acts w patterns site f.main)
     c.quiet_is_exact.ensures c.row_tells_still.ensures trees f.vars
-    (members.its_seat w patterns site f.main f.order f.nodes.items (texts_of trees f.nodes.items) c.args.at n there c.requires.whole (c.requires.whole.going c.args.at ∙ fits.0) seated) well (wholes.from_here trees f.nodes.items c.args.at n c.args.answer there from))
+    (members.its_seat w patterns site f.main f.order f.nodes (texts_of trees f.nodes) c.args.at n there c.requires.whole (c.requires.whole.going c.args.at ∙ fits.0) seated) well (wholes.from_here trees f.nodes c.args.at n c.args.answer there from))
 
 pub returns-clause-comes : goal.returns-clause-comes
 returns-clause-comes c = λ w patterns site texts.
     let f = c.args.self.now in
-    let n = c.index_mut-node.result.now in
+    let n = c.node_mut-node.result.now in
     let is = c.in_ok-hears.ensures in
-    let there = wholes.fits_here f.tree f.nodes.items c.args.at n c.args.answer c.requires.fits c.index_mut-node.ensures.value in
+    let there = wholes.fits_here f.tree f.nodes c.args.at n c.args.answer c.requires.fits c.node_mut-node.ensures.value in
     let seated = subst (λ ns. is_seated ns c.args.at (slice_get ns c.args.at) ≡ true) c.as_slice.ensures.value (sym c.is_seated.ensures ∙ c.if-not-is_seated.false) in
-    let fits = wholes.fits_are f.tree f.nodes.items c.args.at n c.args.answer c.requires.fits there in
-    let come = heard.comes c.shows_the_same.ensures w patterns site f.main f.order f.nodes.items c.args.at n c.hears.new.node there (members.as_old n c.hears.new.node is.node (ap is_captured is.place)) is.place n.ask c.args.answer (is.acts w patterns site f.main)
-    f.vars texts (λ before. members.its_seat w patterns site f.main f.order f.nodes.items before c.args.at n there c.requires.whole (c.requires.whole.going c.args.at ∙ fits.0) seated) in
+    let fits = wholes.fits_are f.tree f.nodes c.args.at n c.args.answer c.requires.fits there in
+    let come = heard.comes c.shows_the_same.ensures w patterns site f.main f.order f.nodes c.args.at n c.hears.new.node there (members.as_old n c.hears.new.node is.node (ap is_captured is.place)) is.place n.ask c.args.answer (is.acts w patterns site f.main)
+    f.vars texts (λ before. members.its_seat w patterns site f.main f.order f.nodes before c.args.at n there c.requires.whole (c.requires.whole.going c.args.at ∙ fits.0) seated) in
     record { tree = come.0; before = come.1; goes = come.2 }
 
 pub returns-clause-whole : goal.returns-clause-whole
 returns-clause-whole c =
     let f = c.args.self.now in
-    let n = c.index_mut-node.result.now in
-    members.set_sound f.order f.order f.nodes.items c.args.at n c.hears.new.node
-    (wholes.fits_here f.tree f.nodes.items c.args.at n c.args.answer c.requires.fits c.index_mut-node.ensures.value) c.requires.whole c.requires.whole.well refl (λ j. refl) c.in_ok-hears.ensures.node.over (ap is_captured c.in_ok-hears.ensures.place)
+    let n = c.node_mut-node.result.now in
+    members.set_sound f.order f.order f.nodes c.args.at n c.hears.new.node
+    (wholes.fits_here f.tree f.nodes c.args.at n c.args.answer c.requires.fits c.node_mut-node.ensures.value) c.requires.whole c.requires.whole.well refl (λ j. refl) c.in_ok-hears.ensures.node.over (ap is_captured c.in_ok-hears.ensures.place)
 
 pub returns-clause-size : goal.returns-clause-size
-returns-clause-size c = length_set c.args.self.now.nodes.items c.args.at c.hears.new.node
+returns-clause-size c = length_set c.args.self.now.nodes c.args.at c.hears.new.node

@@ -8,4 +8,4 @@ use Rattle.subrequests.proofs.family.Family.is_done.Goals as goal
 pub returns : goal.returns
 returns c = λ done whole patterns g texts.
     let f = c.args.self.now in
-    wholes.done_is (world_in patterns g shipped) patterns g.site.now f.main f.order f.nodes.items texts (subst AreDone c.as_slice.ensures.value (c.are_done.ensures done)) whole
+    wholes.done_is (world_in patterns g shipped) patterns g.site.now f.main f.order f.nodes texts (subst AreDone c.as_slice.ensures.value (c.are_done.ensures done)) whole

@@ -4,7 +4,7 @@ use Rattle.request_phases.specs.Rounds.{world_in}
 use Rattle.postpone_filter.specs.Row.{Row, is_open}
 use Rattle.node_turn.specs.Stages.{hand_at, is_placing}
 use Rattle.subrequests.specs.Families.{is_captured, seen}
-use Rattle.subrequests.specs.Wants.{runs_at}
+use Rattle.subrequests.specs.Runs.{runs_at}
 use Rattle.subrequests.proofs.Sets.{get_set_same}
 use Rattle.node_line.specs.Stances.{Opening}
 use Rattle.subrequests.proofs.Members as members
@@ -16,13 +16,13 @@ returns-clause-steps c = λ ps g.
     let f = c.args.self.now in
     let site = g.site.now in
     let w = world_in ps g shipped in
-    let nodes = f.nodes.items in
+    let nodes = f.nodes in
     let at = c.args.at in
-    let old = c.index_mut-node.result.now in
+    let old = c.node_mut-node.result.now in
     let new = c.places.new.node in
     let some = take c.places.result.count (hand_at old.stage) in
     let is = c.places.ensures in
-    let there = wholes.here_is is_placing nodes at old c.requires.there c.index_mut-node.ensures.value in
+    let there = wholes.here_is is_placing nodes at old c.requires.there c.node_mut-node.ensures.value in
     let goes_on = wholes.open_is is_placing f.order nodes at c.requires.whole c.requires.there in
     wholes.both_ways c.shows_the_same.ensures ps g f _ 0 (wholes.as_many nodes at new)
     (λ tree texts. subst (λ (r : Row). Opening w tree 0 (seen w ps site f.main f.order nodes texts) f.vars (seen w ps site f.main r (set nodes at new) texts) f.vars) (sym is.row)
@@ -33,18 +33,18 @@ returns-clause-steps c = λ ps g.
 pub returns-clause-whole : goal.returns-clause-whole
 returns-clause-whole c =
     let f = c.args.self.now in
-    members.set_sound f.order c.places.new.order f.nodes.items c.args.at c.index_mut-node.result.now c.places.new.node
-    (wholes.here_is is_placing f.nodes.items c.args.at c.index_mut-node.result.now c.requires.there c.index_mut-node.ensures.value) c.requires.whole
-    (members.appended_well f.order c.places.new.order c.args.at (take c.places.result.count (hand_at c.index_mut-node.result.now.stage)) c.requires.whole.well c.places.ensures.row)
+    members.set_sound f.order c.places.new.order f.nodes c.args.at c.node_mut-node.result.now c.places.new.node
+    (wholes.here_is is_placing f.nodes c.args.at c.node_mut-node.result.now c.requires.there c.node_mut-node.ensures.value) c.requires.whole
+    (members.appended_well f.order c.places.new.order c.args.at (take c.places.result.count (hand_at c.node_mut-node.result.now.stage)) c.requires.whole.well c.places.ensures.row)
     (ap (λ (r : Row). r.nodes) c.places.ensures.row)
     c.places.ensures.opened c.places.ensures.node.over (ap is_captured c.places.ensures.place)
 
 pub returns-clause-rests : goal.returns-clause-rests
 returns-clause-rests c =
     let f = c.args.self.now in
-    let nodes = f.nodes.items in
+    let nodes = f.nodes in
     let at = c.args.at in
-    let old = c.index_mut-node.result.now in
+    let old = c.node_mut-node.result.now in
     let new = c.places.new.node in
-    let there = wholes.here_is is_placing nodes at old c.requires.there c.index_mut-node.ensures.value in
-    c.can_run.ensures ∙ ap (runs_at c.places.new.order at) (sym (wholes.found_there (set nodes at new) at c.index.result.now new (get_set_same nodes at new old there) c.index.ensures))
+    let there = wholes.here_is is_placing nodes at old c.requires.there c.node_mut-node.ensures.value in
+    c.can_run.ensures ∙ ap (runs_at c.places.new.order at) (sym (wholes.found_there (set nodes at new) at c.node_at.result.now new (get_set_same nodes at new old there) c.node_at.ensures))

@@ -26,12 +26,12 @@ returns-in-On-clause-steps c = λ ps on.
     let g = c.args.ground.now in
     let site = g.site.now in
     let w = world_in ps g shipped in
-    let nodes = f.nodes.items in
+    let nodes = f.nodes in
     let at = c.args.at in
-    let old = c.index_mut-node.result.now in
+    let old = c.node_mut-node.result.now in
     let new = c.takes.new.node in
     let is = c.in_ok-turn.ensures in
-    let there = wholes.here_is is_serving nodes at old c.requires.there c.index_mut-node.ensures.value in
+    let there = wholes.here_is is_serving nodes at old c.requires.there c.node_mut-node.ensures.value in
     let goes_on = wholes.open_is is_serving f.order nodes at c.requires.whole c.requires.there in
     wholes.both_ways c.shows_the_same.ensures ps g f _ 0 (wholes.as_many nodes at new)
     (λ tree texts. subst (λ (m : Main). Opening w tree 0 (seen w ps site f.main f.order nodes texts) f.vars (seen w ps site m f.order (set nodes at new) texts) f.vars) (sym is.main)
@@ -43,8 +43,8 @@ returns-in-On-clause-steps c = λ ps on.
 pub returns-in-On-clause-whole : goal.returns-in-On-clause-whole
 returns-in-On-clause-whole c = λ on.
     let f = c.args.self.now in
-    members.set_sound f.order f.order f.nodes.items c.args.at c.index_mut-node.result.now c.takes.new.node
-    (wholes.here_is is_serving f.nodes.items c.args.at c.index_mut-node.result.now c.requires.there c.index_mut-node.ensures.value) c.requires.whole c.requires.whole.well refl (λ j. refl) c.in_ok-turn.ensures.node.over
+    members.set_sound f.order f.order f.nodes c.args.at c.node_mut-node.result.now c.takes.new.node
+    (wholes.here_is is_serving f.nodes c.args.at c.node_mut-node.result.now c.requires.there c.node_mut-node.ensures.value) c.requires.whole c.requires.whole.well refl (λ j. refl) c.in_ok-turn.ensures.node.over
     (ap is_captured c.in_ok-turn.ensures.place)
 
 pub returns-in_ok-open_at-in-Opens-clause-steps : goal.returns-in_ok-open_at-in-Opens-clause-steps
@@ -54,14 +54,14 @@ returns-in_ok-open_at-in-Opens-clause-steps c = λ ps on.
     let g = c.args.ground.now in
     let site = g.site.now in
     let w = world_in ps g shipped in
-    let nodes = f.nodes.items in
+    let nodes = f.nodes in
     let at = c.args.at in
-    let old = c.index_mut-node.result.now in
+    let old = c.node_mut-node.result.now in
     let new = c.takes.new.node in
     let main = c.takes.new.main in
     let is = c.in_ok-turn.ensures in
     let end = c.open_at.new.self in
-    let there = wholes.here_is is_serving nodes at old c.requires.there c.index_mut-node.ensures.value in
+    let there = wholes.here_is is_serving nodes at old c.requires.there c.node_mut-node.ensures.value in
     let goes_on = wholes.open_is is_serving f.order nodes at c.requires.whole c.requires.there in
     let here : new.place ≡ InRow = wholes.row_is new.place (sym c.is_in_row.ensures ∙ c.if-not-is_in_row.false) in
     let child = c.in-Opens.child in
@@ -82,16 +82,16 @@ returns-in_ok-open_at-in-Opens-clause-steps c = λ ps on.
 pub open_at-requires-clause-whole : goal.open_at-requires-clause-whole
 open_at-requires-clause-whole c =
     let f = c.args.self.now in
-    members.set_sound f.order f.order f.nodes.items c.args.at c.index_mut-node.result.now c.takes.new.node
-    (wholes.here_is is_serving f.nodes.items c.args.at c.index_mut-node.result.now c.requires.there c.index_mut-node.ensures.value) c.requires.whole c.requires.whole.well refl (λ j. refl) c.in_ok-turn.ensures.node.over
+    members.set_sound f.order f.order f.nodes c.args.at c.node_mut-node.result.now c.takes.new.node
+    (wholes.here_is is_serving f.nodes c.args.at c.node_mut-node.result.now c.requires.there c.node_mut-node.ensures.value) c.requires.whole c.requires.whole.well refl (λ j. refl) c.in_ok-turn.ensures.node.over
     (ap is_captured c.in_ok-turn.ensures.place)
 
 pub open_at-requires-clause-there : goal.open_at-requires-clause-there
 open_at-requires-clause-there c =
     let f = c.args.self.now in
-    let there = wholes.here_is is_serving f.nodes.items c.args.at c.index_mut-node.result.now c.requires.there c.index_mut-node.ensures.value in
-    ap goes_on_at (get_set_same f.nodes.items c.args.at c.takes.new.node c.index_mut-node.result.now there) ∙ (ap not c.in_ok-turn.ensures.node.over
-    ∙ (ap goes_on_at (sym there) ∙ wholes.going_is is_serving (slice_get f.nodes.items c.args.at) c.requires.there))
+    let there = wholes.here_is is_serving f.nodes c.args.at c.node_mut-node.result.now c.requires.there c.node_mut-node.ensures.value in
+    ap goes_on_at (get_set_same f.nodes c.args.at c.takes.new.node c.node_mut-node.result.now there) ∙ (ap not c.in_ok-turn.ensures.node.over
+    ∙ (ap goes_on_at (sym there) ∙ wholes.going_is is_serving (slice_get f.nodes c.args.at) c.requires.there))
 
 pub returns-in_ok-ask_at-in-Asks-clause-steps : goal.returns-in_ok-ask_at-in-Asks-clause-steps
 returns-in_ok-ask_at-in-Asks-clause-steps c = λ ps on.
@@ -100,14 +100,14 @@ returns-in_ok-ask_at-in-Asks-clause-steps c = λ ps on.
     let g = c.args.ground.now in
     let site = g.site.now in
     let w = world_in ps g shipped in
-    let nodes = f.nodes.items in
+    let nodes = f.nodes in
     let at = c.args.at in
-    let old = c.index_mut-node.result.now in
+    let old = c.node_mut-node.result.now in
     let new = c.takes.new.node in
     let main = c.takes.new.main in
     let is = c.in_ok-turn.ensures in
     let end = c.ask_at.new.self in
-    let there = wholes.here_is is_serving nodes at old c.requires.there c.index_mut-node.ensures.value in
+    let there = wholes.here_is is_serving nodes at old c.requires.there c.node_mut-node.ensures.value in
     let goes_on = wholes.open_is is_serving f.order nodes at c.requires.whole c.requires.there in
     let here : new.place ≡ InRow = wholes.row_is new.place (sym c.is_in_row-in-Asks.ensures ∙ c.if-not-is_in_row-2.false) in
     let child = c.in-Asks.child in
@@ -128,16 +128,16 @@ returns-in_ok-ask_at-in-Asks-clause-steps c = λ ps on.
 pub ask_at-requires-clause-whole : goal.ask_at-requires-clause-whole
 ask_at-requires-clause-whole c =
     let f = c.args.self.now in
-    members.set_sound f.order f.order f.nodes.items c.args.at c.index_mut-node.result.now c.takes.new.node
-    (wholes.here_is is_serving f.nodes.items c.args.at c.index_mut-node.result.now c.requires.there c.index_mut-node.ensures.value) c.requires.whole c.requires.whole.well refl (λ j. refl) c.in_ok-turn.ensures.node.over
+    members.set_sound f.order f.order f.nodes c.args.at c.node_mut-node.result.now c.takes.new.node
+    (wholes.here_is is_serving f.nodes c.args.at c.node_mut-node.result.now c.requires.there c.node_mut-node.ensures.value) c.requires.whole c.requires.whole.well refl (λ j. refl) c.in_ok-turn.ensures.node.over
     (ap is_captured c.in_ok-turn.ensures.place)
 
 pub ask_at-requires-clause-there : goal.ask_at-requires-clause-there
 ask_at-requires-clause-there c =
     let f = c.args.self.now in
-    let there = wholes.here_is is_serving f.nodes.items c.args.at c.index_mut-node.result.now c.requires.there c.index_mut-node.ensures.value in
-    ap goes_on_at (get_set_same f.nodes.items c.args.at c.takes.new.node c.index_mut-node.result.now there) ∙ (ap not c.in_ok-turn.ensures.node.over
-    ∙ (ap goes_on_at (sym there) ∙ wholes.going_is is_serving (slice_get f.nodes.items c.args.at) c.requires.there))
+    let there = wholes.here_is is_serving f.nodes c.args.at c.node_mut-node.result.now c.requires.there c.node_mut-node.ensures.value in
+    ap goes_on_at (get_set_same f.nodes c.args.at c.takes.new.node c.node_mut-node.result.now there) ∙ (ap not c.in_ok-turn.ensures.node.over
+    ∙ (ap goes_on_at (sym there) ∙ wholes.going_is is_serving (slice_get f.nodes c.args.at) c.requires.there))
 
 pub returns-then-len-ge-MOST_NODES-clause-overruns : goal.returns-then-len-ge-MOST_NODES-clause-overruns
 returns-then-len-ge-MOST_NODES-clause-overruns c = λ ps off tree trees.
@@ -146,13 +146,13 @@ returns-then-len-ge-MOST_NODES-clause-overruns c = λ ps off tree trees.
     let g = c.args.ground.now in
     let site = g.site.now in
     let w = world_in ps g shipped in
-    let nodes = f.nodes.items in
+    let nodes = f.nodes in
     let at = c.args.at in
-    let old = c.index_mut-node.result.now in
+    let old = c.node_mut-node.result.now in
     let new = c.takes.new.node in
     let is = c.in_ok-turn.ensures in
     let texts = texts_of trees nodes in
-    let there = wholes.here_is is_serving nodes at old c.requires.there c.index_mut-node.ensures.value in
+    let there = wholes.here_is is_serving nodes at old c.requires.there c.node_mut-node.ensures.value in
     let goes_on = wholes.open_is is_serving f.order nodes at c.requires.whole c.requires.there in
     let here : new.place ≡ InRow = wholes.row_is new.place (sym c.is_in_row.ensures ∙ c.if-not-is_in_row.false) in
     let child = child_seen (main_of f.main old) c.in-Opens.child in
@@ -164,7 +164,7 @@ returns-then-len-ge-MOST_NODES-clause-overruns c = λ ps off tree trees.
       after = _;
       later = f.vars;
       opening = taking.comes_to_open laws w ps site f.main f.order nodes texts at old new there (members.asks_none nodes at old there c.requires.seated) (sym is.place ∙ here) here tree f.vars goes_on child l (node_act w ps site f.main new (texts at)) deep works;
-      many = omega (arith, c.if-len-ge-MOST_NODES.true, c.len.ensures, f.nodes.ok.0, c.requires.whole.few);
+      many = omega (arith, c.if-len-ge-MOST_NODES.true, c.len.ensures, length_set nodes at new, c.requires.whole.few);
     }
 
 pub returns-then-len-ge-MOST_NODES-2-clause-overruns : goal.returns-then-len-ge-MOST_NODES-2-clause-overruns
@@ -174,13 +174,13 @@ returns-then-len-ge-MOST_NODES-2-clause-overruns c = λ ps off tree trees.
     let g = c.args.ground.now in
     let site = g.site.now in
     let w = world_in ps g shipped in
-    let nodes = f.nodes.items in
+    let nodes = f.nodes in
     let at = c.args.at in
-    let old = c.index_mut-node.result.now in
+    let old = c.node_mut-node.result.now in
     let new = c.takes.new.node in
     let is = c.in_ok-turn.ensures in
     let texts = texts_of trees nodes in
-    let there = wholes.here_is is_serving nodes at old c.requires.there c.index_mut-node.ensures.value in
+    let there = wholes.here_is is_serving nodes at old c.requires.there c.node_mut-node.ensures.value in
     let goes_on = wholes.open_is is_serving f.order nodes at c.requires.whole c.requires.there in
     let here : new.place ≡ InRow = wholes.row_is new.place (sym c.is_in_row-in-Asks.ensures ∙ c.if-not-is_in_row-2.false) in
     let child = child_seen (main_of f.main old) c.in-Asks.child in
@@ -192,5 +192,5 @@ returns-then-len-ge-MOST_NODES-2-clause-overruns c = λ ps off tree trees.
       after = _;
       later = f.vars;
       opening = taking.comes_to_ask laws w ps site f.main f.order nodes texts at old new there (members.asks_none nodes at old there c.requires.seated) (sym is.place ∙ here) here tree f.vars goes_on child l (λ reply. node_heard w ps site f.main new (texts at) reply.body) deep works;
-      many = omega (arith, c.if-len-ge-MOST_NODES-2.true, c.len-in-Asks.ensures, f.nodes.ok.0, c.requires.whole.few);
+      many = omega (arith, c.if-len-ge-MOST_NODES-2.true, c.len-in-Asks.ensures, length_set nodes at new, c.requires.whole.few);
     }

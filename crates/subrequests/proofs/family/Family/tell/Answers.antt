@@ -13,11 +13,11 @@ returns-then-at-len-clause-steps c = λ ps g.
     let f = c.args.self.now in
     let site = g.site.now in
     let w = world_in ps g shipped in
-    let nodes = f.nodes.items in
+    let nodes = f.nodes in
     let at = c.args.at in
-    let old = c.index_mut.result.now in
+    let old = c.node_mut.result.now in
     let new = c.put_end.new.node in
-    let there = wholes.there_some nodes at old (omega (arith, c.if-at-len.true, c.len.ensures, f.nodes.ok.0)) c.index_mut.ensures.value in
+    let there = wholes.there_some nodes at old (omega (arith, c.if-at-len.true, c.len.ensures)) c.node_mut.ensures.value in
     wholes.both_ways c.shows_the_same.ensures ps g f _ 0 (wholes.as_many nodes at new)
     (λ tree texts. steps.alike (c.shows_the_same.ensures.others (seen w ps site f.main f.order nodes texts) (stance_in w ps site f.main (set nodes at new) texts)
     (λ j e. members.told_same w ps site f.main nodes texts at old new.children new.waits j there ∙ ap (λ n. stance_in w ps site f.main (set nodes at n) texts j) (sym c.put_end.ensures))) steps.stays)
@@ -26,8 +26,8 @@ returns-then-at-len-clause-steps c = λ ps g.
 pub returns-then-at-len-clause-whole : goal.returns-then-at-len-clause-whole
 returns-then-at-len-clause-whole c =
     let f = c.args.self.now in
-    members.set_sound f.order f.order f.nodes.items c.args.at c.index_mut.result.now c.put_end.new.node
-    (wholes.there_some f.nodes.items c.args.at c.index_mut.result.now (omega (arith, c.if-at-len.true, c.len.ensures, f.nodes.ok.0)) c.index_mut.ensures.value) c.requires.whole c.requires.whole.well refl (λ j. refl)
+    members.set_sound f.order f.order f.nodes c.args.at c.node_mut.result.now c.put_end.new.node
+    (wholes.there_some f.nodes c.args.at c.node_mut.result.now (omega (arith, c.if-at-len.true, c.len.ensures)) c.node_mut.ensures.value) c.requires.whole c.requires.whole.well refl (λ j. refl)
     (ap (λ (n : Node). n.over) c.put_end.ensures) (ap (λ (n : Node). is_captured n.place) c.put_end.ensures)
 
 pub returns-else-at-len-clause-steps : goal.returns-else-at-len-clause-steps

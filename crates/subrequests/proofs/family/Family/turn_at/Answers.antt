@@ -16,11 +16,11 @@ returns-clause-steps c =
     let g = c.args.ground.now in
     let site = g.site.now in
     let w = world_in ps g shipped in
-    let nodes = f.nodes.items in
+    let nodes = f.nodes in
     let at = c.args.at in
-    let old = c.index_mut-node.result.now in
+    let old = c.node_mut-node.result.now in
     let new = c.turns.new.node in
-    let there = wholes.here_is is_turning nodes at old c.requires.there c.index_mut-node.ensures.value in
+    let there = wholes.here_is is_turning nodes at old c.requires.there c.node_mut-node.ensures.value in
     let goes_on = wholes.open_is is_turning f.order nodes at c.requires.whole c.requires.there in
     let is = c.in_ok-turns.ensures in
     wholes.both_ways c.shows_the_same.ensures ps g f _ 0 (wholes.as_many nodes at new)
@@ -32,5 +32,5 @@ returns-clause-steps c =
 pub returns-clause-whole : goal.returns-clause-whole
 returns-clause-whole c =
     let f = c.args.self.now in
-    members.set_sound f.order f.order f.nodes.items c.args.at c.index_mut-node.result.now c.turns.new.node
-    (wholes.here_is is_turning f.nodes.items c.args.at c.index_mut-node.result.now c.requires.there c.index_mut-node.ensures.value) c.requires.whole c.requires.whole.well refl (λ j. refl) c.in_ok-turns.ensures.node.over (ap is_captured c.in_ok-turns.ensures.place)
+    members.set_sound f.order f.order f.nodes c.args.at c.node_mut-node.result.now c.turns.new.node
+    (wholes.here_is is_turning f.nodes c.args.at c.node_mut-node.result.now c.requires.there c.node_mut-node.ensures.value) c.requires.whole c.requires.whole.well refl (λ j. refl) c.in_ok-turns.ensures.node.over (ap is_captured c.in_ok-turns.ensures.place)

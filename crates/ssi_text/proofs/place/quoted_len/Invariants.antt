@@ -1,7 +1,7 @@
 use Rattle.std.proofs.Common.{◌≡◌, ◌-◌, drop, length}
 use Rattle.ssi_text.specs.Commands.{quoted}
 use Rattle.ssi_text.proofs.Scans.{add}
-use Rattle.ssi_text.proofs.command.quoted_len.Given as goal
+use Rattle.ssi_text.proofs.place.quoted_len.Given as goal
 
 abbrev pub invariant-loop-at : goal.invariant-loop-at
 invariant-loop-at l = add l.at (quoted l.quote (drop l.at l.bytes)) ≡ quoted l.quote l.bytes

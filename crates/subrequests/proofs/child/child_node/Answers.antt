@@ -1,5 +1,5 @@
 use Rattle.subrequests.proofs.Opening as opening
-use Rattle.subrequests.proofs.family.child_node.Goals as goal
+use Rattle.subrequests.proofs.child.child_node.Goals as goal
 
 pub returns-clause-acts : goal.returns-clause-acts
 returns-clause-acts c = λ w patterns site main text.

@@ -1,0 +1,197 @@
+// The node of a subrequest.
+ghost use Rattle.std.specs.Prelude.{◌≡◌, ℕ, List, [], IfOk, OnOk, Some, None, true, false, slice_get};
+ghost use Rattle.http_types.specs.declared.words.Method.TheVariants.{Get as GetMethod};
+ghost use Rattle.ngx_variables.specs.declared.request.Role.TheVariants.{Content as ContentRole};
+ghost use Rattle.ngx_pattern.specs.Pattern.{Pattern as SetPattern};
+ghost use Rattle.ngx_variables.specs.declared.request.Main.{Main as MainView};
+ghost use Rattle.request_meaning.specs.Replies.{script};
+ghost use Rattle.request_meaning.specs.Serving.{World};
+ghost use Rattle.site_model.specs.declared.site.Site.{Site as SiteRow};
+ghost use Rattle.ssi_exec.specs.Scenes.{child_seen};
+ghost use Rattle.node_turn.specs.Stages.{node_act};
+ghost use Rattle.subrequests.specs.Families.{IsPushed, place_for, reads_text};
+ghost use Rattle.node_turn.specs.Nodes.{of_method};
+ghost use Rattle.node_turn.specs.declared.node.Node.{Node as NodeView};
+
+use crate::nodes::Nodes;
+use byte_text::{ByteText, OutOfMemory};
+use file_tree::Ask;
+use http_types::{Addr, Method, Version};
+use ngx_variables::{Groups, LocalDate, Main, Request, Role};
+use node_turn::{Node, Place, Stage};
+use req_head::HeadFields;
+use request_phases::Phases;
+use rewrite_code::Progress;
+use ssi_exec::Child;
+use std::alloc::Global;
+use std::net::{IpAddr, Ipv4Addr};
+
+/// A main request of which nothing is known but its method.
+pub(crate) fn blank_main(alloc: Global, method: Method) -> Main
+    ensures { result.method ≡ method }
+{
+    let nobody = Addr {
+        ip: IpAddr::V4(Ipv4Addr::new(0, 0, 0, 0)),
+        port: 0,
+    };
+    Main {
+        received: ByteText::new(alloc),
+        method,
+        version: Version::V11,
+        target: ByteText::new(alloc),
+        host: ByteText::new(alloc),
+        server_name: ByteText::new(alloc),
+        local: nobody,
+        peer: nobody,
+        moment: 0,
+        tree: 0,
+        date: LocalDate::of(0),
+        fields: HeadFields::new(alloc),
+        folder: ByteText::new(alloc),
+    }
+}
+
+/// The phases of a subrequest before they begin: it comes from inside, is asked with GET, and no
+/// level holds for it yet
+/// (<https://nginx.org/en/docs/dev/development_guide.html#http_subrequests>). Of its main request
+/// it has the method alone.
+fn child_phases(alloc: Global, level: u32, method: Method, path: ByteText, args: ByteText) -> Phases
+    ensures main { result.main.method ≡ method }
+    ensures asked { (result.at.request ≡ record {
+      method = GetMethod;
+      path = path;
+      args = args;
+      groups = [];
+      place = None;
+      role = ContentRole;
+    }) × (result.at.inside ≡ true) × (result.error ≡ None) × (result.closes ≡ false) ×
+        (result.changes ≡ 10) }
+{
+    Phases {
+        main: blank_main(alloc, method),
+        at: Progress {
+            request: Request {
+                method: Method::Get,
+                path,
+                args,
+                groups: Groups::new(alloc),
+                place: None,
+                role: Role::Content,
+            },
+            level,
+            inside: true,
+            seeks: false,
+        },
+        changes: 10,
+        error: None,
+        closes: false,
+        role: Role::Content,
+    }
+}
+
+fn copied(method: &Method) -> Result<Method, OutOfMemory>
+    ensures { IfOk result (λ copy. copy ≡ method.now) }
+{
+    let copy = method.clone()?;
+    Ok(copy)
+}
+
+/// Where the bytes of a subrequest go whose body is captured, or that has this stub, or none.
+fn place_of(alloc: Global, stub: Option<ByteText>, captured: bool) -> Place
+    ensures { result ≡ place_for captured stub }
+{
+    if captured {
+        return Place::Captured(ByteText::new(alloc));
+    }
+    match stub {
+        Some(stub) => Place::Stub {
+            stub,
+            text: ByteText::new(alloc),
+        },
+        None => Place::Row,
+    }
+}
+
+/// The node of a subrequest before its phases begin.
+fn child_node(
+    alloc: Global,
+    level: u32,
+    method: Method,
+    parent: u32,
+    left: u32,
+    child: Child,
+    captured: bool,
+) -> Node
+    ensures left { result.left ≡ left }
+    ensures over { result.over ≡ false }
+    ensures parent { result.parent ≡ parent }
+    ensures asks { result.asks ≡ None }
+    ensures fresh { reads_text result.stage ≡ false }
+    ensures place { result.place ≡ place_for captured child.stub }
+    ensures acts { (w : World) (patterns : List SetPattern) (site : SiteRow) (main : MainView)
+        (text : List ℕ) → node_act w patterns site main result text
+        ≡ script w left (child_seen (of_method method main) child) }
+{
+    let Child {
+        path,
+        args,
+        ssi,
+        stub,
+        waited: _,
+    } = child;
+    Node {
+        parent,
+        left,
+        children: 0,
+        waits: None,
+        asks: None,
+        place: place_of(alloc, stub, captured),
+        phases: child_phases(alloc, level, method, path, args),
+        ask: Ask::Stat {
+            path: ByteText::new(alloc),
+            of: 0,
+        },
+        start: 0,
+        stage: Stage::Begins(ssi),
+        over: false,
+    }
+}
+
+/// Puts the node of a subrequest, which the node with this number asks for, behind the nodes.
+pub(crate) fn push_child(
+    alloc: Global,
+    level: u32,
+    nodes: &mut Nodes,
+    at: u32,
+    child: Child,
+    captured: bool,
+) -> Result<(), OutOfMemory>
+    ensures { OnOk result ((n : NodeView) → slice_get nodes.old at ≡ Some n
+        → IsPushed nodes.old nodes.new at (place_for captured child.stub) n child) }
+{
+    let Some(node) = nodes.as_slice().get(at as usize) else {
+        return Err(OutOfMemory);
+    };
+    let left = node.left.saturating_sub(1);
+    let method = copied(&node.phases.main.method)?;
+    nodes.push(child_node(alloc, level, method, at, left, child, captured))?;
+    Ok(())
+}
+
+/// A node has one more subrequest, for whose end it waits or doesn't.
+pub(crate) fn put_child(node: &mut Node, id: u32, waited: bool)
+    ensures { node.new ≡ record node.old { children = node.new.children; waits = node.new.waits } }
+{
+    node.children = node.children.saturating_add(1);
+    if waited {
+        node.waits = Some(id);
+    }
+}
+
+/// A node has one more subrequest, for whose body it waits.
+pub(crate) fn put_asks(node: &mut Node, id: u32)
+    ensures { node.new ≡ record node.old { children = node.new.children; asks = Some id } }
+{
+    node.children = node.children.saturating_add(1);
+    node.asks = Some(id);
+}
