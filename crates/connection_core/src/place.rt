@@ -112,7 +112,7 @@ pub(crate) fn happen(
             local: _,
             peer: _,
         } => StepAnswer::Skipped,
-        Event::Arrived { conn: _, bytes } => conn.arrived(space.alloc, moment, bytes),
+        Event::Arrived { conn: _, bytes } => conn.arrived(&mut space.head_room, moment, bytes),
         Event::Ended { conn: _ } => conn.input_ended(),
         Event::Wrote { conn: _, count } => conn.wrote(moment, count),
         Event::LinkFailed { conn: _ } => conn.link_failed(),

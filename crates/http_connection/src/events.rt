@@ -15,7 +15,7 @@ use crate::times::{AT_REST, Sending, marked, paced_on};
 use byte_text::OutOfMemory;
 use file_tree::{JobAnswer, is_fitting};
 use ngx_outside::{StepAnswer, StopCause};
-use req_head::{head_stays, refusal_stays, size_fits};
+use req_head::{HeadRoom, head_stays, refusal_stays, size_fits};
 use request_flow::Workspace;
 use response_flow::{Ran, answered, length_of, run_on, server_of, written};
 use served_site::ServedSite;
@@ -34,8 +34,8 @@ impl Conn {
     ghost use Rattle.http_connection.specs.Times.{mark_by};
     ghost use Rattle.http_connection.specs.Conn.{TimesConn};
 
-    /// Bytes arrived: it takes as many as there is room for.
-    pub fn arrived(&mut self, alloc: Global, moment: u64, bytes: &[u8]) -> StepAnswer
+    /// Bytes arrived: it takes as many as there is room for. A head that is whole then is read into the room of one that is over.
+    pub fn arrived(&mut self, heads: &mut HeadRoom, moment: u64, bytes: &[u8]) -> StepAnswer
         ensures steps { (x : Serves) (now : Start) (conn : ℕ) →
             StepsConn x now (Arrived conn bytes.entry) result self.old self.new }
         ensures times { (x : Serves) (now : Start) (conn : ℕ) → now.moment ≡ moment →
@@ -52,7 +52,7 @@ impl Conn {
         let dropped = drop_rest(self.body, bytes);
         let is_between = self.is_between();
         match take_in(
-            alloc,
+            heads,
             &mut self.held,
             &mut self.next,
             last_bytes(bytes, dropped.used),

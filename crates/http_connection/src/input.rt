@@ -5,8 +5,7 @@ ghost use Rattle.http_connection.specs.Steps.{begins as head_begins};
 
 use crate::slot::{put, take};
 use byte_text::{ByteQueue, OutOfMemory};
-use req_head::{Head, HeadStep, head_stays, may_decide, read_head, refusal_stays};
-use std::alloc::Global;
+use req_head::{Head, HeadRoom, HeadStep, head_stays, may_decide, read_head_in, refusal_stays};
 
 pub(crate) fn begins(next: &HeadStep) -> bool
     ensures { result ≡ head_begins next.now }
@@ -18,9 +17,10 @@ pub(crate) fn begins(next: &HeadStep) -> bool
     }
 }
 
-// Bytes arrive after those that are held; what they begin is looked at anew where that may have changed.
+// Bytes arrive after those that are held; what they begin is looked at anew where that may have changed, in the room of a head
+// that is over.
 pub(crate) fn take_in(
-    alloc: Global,
+    room: &mut HeadRoom,
     held: &mut ByteQueue,
     next: &mut HeadStep,
     bytes: &[u8],
@@ -37,7 +37,7 @@ pub(crate) fn take_in(
         return Ok(());
     }
     if may_decide(held.front(), known) {
-        put(next, read_head(alloc, held.front())?);
+        put(next, read_head_in(room, held.front())?);
     }
     Ok(())
 }

@@ -1,5 +1,5 @@
 // A request starts.
-ghost use Rattle.std.specs.Prelude.{◌≡◌, ◌≤◌, ◌<◌, ◌+◌, ◌-◌, ◌++◌, ◌∷◌, ◌||◌, true, not, [], ℕ, length, take, is_some, OnErr, IfOk, vec_len, None};
+ghost use Rattle.std.specs.Prelude.{◌≡◌, ◌≤◌, ◌<◌, ◌+◌, ◌-◌, ◌++◌, ◌∷◌, ◌||◌, true, not, [], ℕ, length, take, is_some, OnErr, OnOk, IfOk, vec_len, None};
 ghost use Rattle.ngx_outside.specs.Views.{start_of, log_of};
 ghost use Rattle.req_head.specs.Step.{head_step};
 ghost use Rattle.ngx_outside.specs.declared.event.Entry.{Entry as Logged};
@@ -8,7 +8,7 @@ ghost use Rattle.response_flow.specs.Continues.{IfOn};
 ghost use Rattle.response_flow.specs.Flights.{FlightFits, flight_left, flight_tree, page_most};
 ghost use Rattle.http_connection.specs.Rests.{AreRaceless, ReachedIn, Serves, service_in, rest_in, values_at};
 ghost use Rattle.req_head.specs.declared.head.Head.{Head as RequestHead};
-ghost use Rattle.req_head.specs.declared.head.HeadStep.TheVariants.{Head as AtHead};
+ghost use Rattle.req_head.specs.declared.head.HeadStep.TheVariants.{Head as AtHead, More as AwaitsMore};
 ghost use Rattle.http_connection.specs.Steps.{is_head as is_head_step, begins as head_begins, log_ran, start_in, RanTo};
 ghost use Rattle.http_connection.specs.Times.{LevelFor};
 
@@ -21,7 +21,7 @@ use crate::times::own_level;
 use body_frame::BodyState;
 use byte_text::{ByteQueue, OutOfMemory};
 use ngx_outside::Entry;
-use req_head::{Head, HeadStep, read_head, size_fits};
+use req_head::{Head, HeadRoom, HeadStep, awaits_first, read_head_in, size_fits};
 use request_flow::Workspace;
 use response_flow::{Onward, Ran};
 use served_site::ServedSite;
@@ -41,13 +41,27 @@ fn with_broken(onward: Onward, broken: bool) -> Onward
 // Takes out the head with which a request begins.
 fn take_head(next: &mut HeadStep) -> Head
     requires { is_head_step next.old ≡ true }
-    ensures { (head : RequestHead) (size : ℕ) → next.old ≡ AtHead head size → result ≡ head }
+    ensures head { (head : RequestHead) (size : ℕ) → next.old ≡ AtHead head size → result ≡ head }
+    ensures left { next.new ≡ AwaitsMore }
 {
     match take(next, HeadStep::More) {
         HeadStep::Head { head, size: _ } => head,
         HeadStep::Bad { .. } => unreachable!(),
         HeadStep::More => unreachable!(),
     }
+}
+
+// Looks at what is held after a request, where its head was taken out.
+fn look_on(room: &mut HeadRoom, rest: &[u8], next: &mut HeadStep) -> Result<(), OutOfMemory>
+    requires { next.old ≡ AwaitsMore }
+    ensures { OnOk result (next.new ≡ head_step rest.now) }
+{
+    awaits_first();
+    if rest.is_empty() {
+        return Ok(());
+    }
+    put(next, read_head_in(room, rest)?);
+    Ok(())
 }
 
 // Starts a request: what is answered at once is put after what is kept for the peer, the request is written into the journal,
@@ -102,7 +116,7 @@ pub(crate) fn run_one(
             let dropped = drop_body(BodyState::new(head.body), behind(held, *size));
             let size = *size + dropped.used;
             let head = take_head(next);
-            put(next, read_head(space.alloc, behind(held, size))?);
+            look_on(&mut space.head_room, behind(held, size), next)?;
             match open(space, served, out, head, journal.len() as u64, meeting) {
                 Ok(Ran::TooMany) => {
                     enter(journal, meeting.moment, meeting.tree, None);

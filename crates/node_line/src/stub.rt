@@ -75,10 +75,10 @@ fn stub_of(node: &Node) -> Option<&[u8]>
     let Place::Stub { stub, text } = &node.place else {
         return None;
     };
-    let Stage::Ends(answered) = &node.stage else {
+    let Stage::Ends(body) = &node.stage else {
         return None;
     };
-    if answered.status < 400 && !text.is_empty() {
+    if body.answered.status < 400 && !text.is_empty() {
         return None;
     }
     Some(stub.as_slice())

@@ -5,7 +5,7 @@ use Rattle.acts.specs.Act.{Done, Write, Stat, ◌>>=◌, settled, settled_then}
 use Rattle.acts.proofs.ActLaws.{settles_in_turn, settled_stays}
 use Rattle.file_tree.specs.declared.job.Ask.{Ask}
 use Rattle.node_turn.specs.Stages.{ask_or}
-use Rattle.node_turn.specs.Nodes.{asked_path, path_or, IsFor, lent, of_method, padded, told_item, len_of, told_length, bytes_for, body_then, after_phases, served_as}
+use Rattle.node_turn.specs.Nodes.{asked_path, path_or, IsFor, lent, of_method, padded, told_item, len_of, told_length, bytes_for, body_then, after_phases, served_as, with_main}
 use Rattle.file_tree.specs.Tree.{Item, text_of, node_of}
 use Rattle.file_tree.specs.declared.job.Node.{Node as FileNode}
 use Rattle.file_tree.specs.declared.job.Node.TheVariants as files
@@ -149,6 +149,17 @@ pub same_main : (main : Main) (p after : Phases) (given back : Main) (lended : P
 same_main main p after given back lended l g o b =
     b ∙ (ap (λ m. of_method (given.method) m) (o ∙ ap (λ (q : Phases). record (q.main) { method = after.main.method }) l)
     ∙ ap (λ (m : Main). of_method m.method main) g)
+
+-- phases that see a main request by their own method, with no copy of it
+pub seen_main : (main one : Main) (p given : Phases) → one ≡ of_method p.main.method main → given ≡ record p { main = of_method main.method p.main } →
+    with_main one given ≡ lent main p
+seen_main main one p given o g = ap (λ (m : Main). with_main m given) o ∙ ap (with_main (of_method p.main.method main)) g
+
+-- and what they are once the methods have changed places again
+pub method_back : (main one : Main) (p given back : Phases) → one ≡ of_method p.main.method main → given ≡ record p { main = of_method main.method p.main } →
+    back ≡ record given { main = of_method one.method given.main } → lent main back ≡ lent main p
+method_back main one p given back o g b =
+    ap (lent main) (b ∙ (ap (λ (m : Main). record given { main = of_method m.method given.main }) o ∙ ap (λ (q : Phases). record q { main = of_method p.main.method q.main }) g))
 
 -- the path that a node asks for now
 pub asked_or : (asked : Option (List ℕ)) (of : ℕ) (ask : Ask) → path_or asked (asked_path ask) ≡ asked_path (ask_or asked of ask)

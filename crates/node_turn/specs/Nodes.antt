@@ -48,6 +48,10 @@ of_method method main = record main { method = method }
 abbrev pub lent : Main → Phases → Phases
 lent main p = record p { main = of_method p.main.method main }
 
+-- phases that have this main request
+abbrev pub with_main : Main → Phases → Phases
+with_main main p = record p { main = main }
+
 -- ---- what is answered
 
 -- an answer to the request of these phases
@@ -199,7 +203,7 @@ stage_act w patterns site p left path (Reads b) text =
     served_act w site p left (answer_seen site p b.value.answered) b.value.page (later b.value text)
 stage_act w patterns site p left path (Captures c) text =
     captured_act w site p left (answer_seen site p c.body.value.answered) c.body.value.page (later c.body.value text) c.name c.text
-stage_act w patterns site p left path (Ends answered) text = Done (answer_seen site p answered)
+stage_act w patterns site p left path (Ends b) text = Done (answer_seen site p b.value.answered)
 
 -- the same behind a subrequest for whose body the node waits
 abbrev pub stage_heard : World → List SetPattern → Site → Phases → (left : ℕ) → (path : List ℕ) → Stage → (text body : List ℕ) → Serving Answer
@@ -211,4 +215,4 @@ stage_heard w patterns site p left path (Serves b) text body = stage_act w patte
 stage_heard w patterns site p left path (Reads b) text body = stage_act w patterns site p left path (Reads b) text
 stage_heard w patterns site p left path (Captures c) text body =
     captured_act w site p left (answer_seen site p c.body.value.answered) c.body.value.page (later c.body.value text) c.name body
-stage_heard w patterns site p left path (Ends answered) text body = stage_act w patterns site p left path (Ends answered) text
+stage_heard w patterns site p left path (Ends b) text body = stage_act w patterns site p left path (Ends b) text

@@ -12,6 +12,7 @@ use Rattle.ssi_exec.specs.Scenes.{child_seen}
 use Rattle.node_turn.specs.Nodes.{answer_seen, later, served_act, stage_act, stage_heard}
 use Rattle.node_turn.specs.Turns.{Works}
 use Rattle.node_turn.specs.declared.node.Source.{Source}
+use Rattle.node_turn.specs.declared.node.Stage.TheVariants.{Captures, Serves}
 use Rattle.node_turn.specs.declared.page.Served.{Served}
 use Rattle.node_turn.specs.declared.page.Served.TheVariants.{On, Opens, Asks, Wants}
 
@@ -24,9 +25,9 @@ is_spent s = (length s.text == 0) && ((s.left == 0) && not s.unread)
 abbrev pub ServesTo : Ground → Phases → (levels : ℕ) → List SetPattern → (path file : List ℕ) → Vars → Serving Answer → Served → Type 0
 ServesTo g p levels patterns path file vars old (On stage) =
     Works vars old (stage_act (world_in patterns g shipped) patterns g.site.now p levels path stage file)
-ServesTo g p levels patterns path file vars old (Opens child stage) =
-    Works vars old (Inner (child_seen p.main child) (stage_act (world_in patterns g shipped) patterns g.site.now p levels path stage file))
-ServesTo g p levels patterns path file vars old (Asks child stage) =
-    Works vars old (Call (child_seen p.main child) (λ reply. stage_heard (world_in patterns g shipped) patterns g.site.now p levels path stage file reply.body))
+ServesTo g p levels patterns path file vars old (Opens child b) =
+    Works vars old (Inner (child_seen p.main child) (stage_act (world_in patterns g shipped) patterns g.site.now p levels path (Serves b) file))
+ServesTo g p levels patterns path file vars old (Asks child c) =
+    Works vars old (Call (child_seen p.main child) (λ reply. stage_heard (world_in patterns g shipped) patterns g.site.now p levels path (Captures c) file reply.body))
 ServesTo g p levels patterns path file vars old (Wants b) =
     old ≡ served_act (world_in patterns g shipped) g.site.now p levels (answer_seen g.site.now p b.value.answered) b.value.page (later b.value file)

@@ -26,7 +26,7 @@ is_asking (Places b) = false
 is_asking (Serves b) = false
 is_asking (Reads b) = false
 is_asking (Captures c) = false
-is_asking (Ends answered) = false
+is_asking (Ends b) = false
 
 -- a block of its file is asked
 abbrev pub is_reading : Stage → Bool
@@ -37,7 +37,7 @@ is_reading (Places b) = false
 is_reading (Serves b) = false
 is_reading (Reads b) = true
 is_reading (Captures c) = false
-is_reading (Ends answered) = false
+is_reading (Ends b) = false
 
 -- its phases go on next
 abbrev pub is_turning : Stage → Bool
@@ -48,7 +48,7 @@ is_turning (Places b) = false
 is_turning (Serves b) = false
 is_turning (Reads b) = false
 is_turning (Captures c) = false
-is_turning (Ends answered) = false
+is_turning (Ends b) = false
 
 -- bytes are placed next
 abbrev pub is_placing : Stage → Bool
@@ -59,7 +59,7 @@ is_placing (Places b) = true
 is_placing (Serves b) = false
 is_placing (Reads b) = false
 is_placing (Captures c) = false
-is_placing (Ends answered) = false
+is_placing (Ends b) = false
 
 -- the bytes that are placed next
 abbrev pub hand_at : Stage → List ℕ
@@ -70,7 +70,7 @@ hand_at (Places b) = hand b.value
 hand_at (Serves b) = []
 hand_at (Reads b) = []
 hand_at (Captures c) = []
-hand_at (Ends answered) = []
+hand_at (Ends b) = []
 
 -- the next part of its page is taken up next
 abbrev pub is_serving : Stage → Bool
@@ -81,7 +81,7 @@ is_serving (Places b) = false
 is_serving (Serves b) = true
 is_serving (Reads b) = false
 is_serving (Captures c) = true
-is_serving (Ends answered) = false
+is_serving (Ends b) = false
 
 -- it has come to its answer
 abbrev pub is_ending : Stage → Bool
@@ -92,7 +92,7 @@ is_ending (Places b) = false
 is_ending (Serves b) = false
 is_ending (Reads b) = false
 is_ending (Captures c) = false
-is_ending (Ends answered) = true
+is_ending (Ends b) = true
 
 -- ---- where its bytes go
 

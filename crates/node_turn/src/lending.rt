@@ -15,3 +15,14 @@ pub fn lend(main: &mut Main, phases: &mut Phases)
     swap(main, &mut phases.main);
     swap(&mut main.method, &mut phases.main.method);
 }
+
+/// Lets the methods alone of the two change places: so what a node's phases see of the main request
+/// is the family's, with no copy of it. What is lent so is given back by the same.
+pub(crate) fn lend_method(main: &mut Main, phases: &mut Phases)
+    ensures main { main.new ≡ of_method phases.old.main.method main.old }
+    ensures phases { phases.new ≡ record phases.old {
+      main = of_method main.old.method phases.old.main;
+    } }
+{
+    swap(&mut main.method, &mut phases.main.method);
+}

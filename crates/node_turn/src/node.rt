@@ -62,8 +62,8 @@ pub enum Stage {
     Reads(Box<Body>),
     /// The body of a subrequest goes into a variable of its page.
     Captures(Capture),
-    /// It has come to its answer.
-    Ends(Answered),
+    /// It has come to its answer, with nothing left of its body.
+    Ends(Box<Body>),
 }
 
 /// Where the bytes of a node go.

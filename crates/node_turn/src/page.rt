@@ -27,10 +27,10 @@ use std::alloc::Global;
 pub(crate) enum Served {
     /// The node goes on.
     On(Stage),
-    /// The body of a subrequest stands here, and the node goes on.
-    Opens(Child, Stage),
+    /// The body of a subrequest stands here, and the node goes on with its page.
+    Opens(Child, Box<Body>),
     /// A subrequest is asked for, whose body goes into a variable.
-    Asks(Child, Stage),
+    Asks(Child, Capture),
     /// A block of its file is to be asked.
     Wants(Box<Body>),
 }
@@ -161,7 +161,7 @@ fn done(
         }
         Doing::Includes(child) => {
             let body = with_bytes(body, ByteText::new(alloc), Some(page));
-            Ok(Served::Opens(child, Stage::Serves(body)))
+            Ok(Served::Opens(child, body))
         }
         Doing::Captures { name, child } => {
             let none = ByteText::new(alloc);
@@ -171,14 +171,14 @@ fn done(
                 name,
                 text: none,
             };
-            Ok(Served::Asks(child, Stage::Captures(capture)))
+            Ok(Served::Asks(child, capture))
         }
         Doing::NeedsMore => Ok(more(alloc, scene, body, page)?),
         Doing::Over => {
             if !is_spent(&body.source) {
                 return Err(OutOfMemory);
             }
-            Ok(Served::On(Stage::Ends(Box::into_inner(body).answered)))
+            Ok(Served::On(Stage::Ends(body)))
         }
     }
 }
@@ -222,7 +222,7 @@ pub(crate) fn serves(
         Some(page) => Ok(page_serves(alloc, scene, vars, body, page)?),
         None => {
             if is_spent(&body.source) {
-                return Ok(Served::On(Stage::Ends(Box::into_inner(body).answered)));
+                return Ok(Served::On(Stage::Ends(body)));
             }
             Ok(Served::Wants(body))
         }

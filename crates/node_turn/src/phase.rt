@@ -11,7 +11,7 @@ ghost use Rattle.request_phases.specs.declared.ground.Ground.{Ground as GroundVi
 ghost use Rattle.request_phases.specs.declared.state.Phases.{Phases as PhasesView};
 ghost use Rattle.request_reply.specs.Replies.{sent_as};
 ghost use Rattle.page_body.specs.Pages.{filtered_rest};
-ghost use Rattle.node_turn.specs.Nodes.{answer_seen, body_then, bytes_for, len_of as told_len, lent, padded, path_or, served_as, stage_act, told_length};
+ghost use Rattle.node_turn.specs.Nodes.{answer_seen, body_then, bytes_for, len_of as told_len, lent, padded, path_or, served_as, stage_act, told_length, with_main};
 ghost use Rattle.node_turn.specs.Turns.{IsSceneOf, AnswersAs};
 ghost use Rattle.node_turn.specs.Stages.{is_asking};
 ghost use Rattle.node_turn.specs.declared.node.Stage.TheVariants.{Begins as BeginsView, Told as ToldView};
@@ -68,18 +68,44 @@ fn file_len(outcome: &Outcome) -> u64
     }
 }
 
-/// What a document of a request in its phases shares with it.
-pub(crate) fn scene_of<'a>(ground: &Ground<'a>, phases: &'a Phases, left: u32) -> Scene<'a>
-    ensures { IsSceneOf ground.now phases.now left result }
+/// What a document of a request in its phases shares with it, whose main request is this one.
+pub(crate) fn scene_of<'a>(
+    ground: &Ground<'a>,
+    main: &'a Main,
+    phases: &'a Phases,
+    left: u32,
+) -> Scene<'a>
+    ensures { IsSceneOf ground.now (with_main main.now phases.now) left result }
 {
     Scene {
-        main: &phases.main,
+        main,
         request: &phases.at.request,
         site: ground.site,
         level: ground.site.level(phases.at.level),
         server: ground.server,
         left,
     }
+}
+
+/// No body.
+fn bare(alloc: Global, answered: Answered) -> Result<Stage, OutOfMemory>
+    ensures { IfOk result (λ stage. (g : GroundView) (p : PhasesView) (levels : ℕ)
+        (patterns : List SetPattern) (path text : List ℕ) →
+        stage_act (world_in patterns g shipped) patterns g.site.now p levels path stage text
+        ≡ Done (answer_seen g.site.now p answered)) }
+{
+    let body = Body {
+        answered,
+        bytes: ByteText::new(alloc),
+        from: 0,
+        source: Source {
+            text: ByteText::new(alloc),
+            left: 0,
+            unread: false,
+        },
+        page: None,
+    };
+    Ok(Stage::Ends(Box::new(alloc, body)?))
 }
 
 /// A body that is sent as it is: these bytes, and then this many of a file.
@@ -182,9 +208,9 @@ pub fn answering(
         facts,
         body,
     } = apart(alloc, reply)?;
-    let scene = scene_of(ground, phases, left);
+    let scene = scene_of(ground, &phases.main, phases, left);
     match body {
-        ReplyBody::Nothing => Ok(Stage::Ends(answered)),
+        ReplyBody::Nothing => Ok(bare(alloc, answered)?),
         ReplyBody::Page(code) => {
             let mut bytes = ByteText::new(alloc);
             page_text(code, &mut bytes)?;

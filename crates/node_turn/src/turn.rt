@@ -13,13 +13,13 @@ ghost use Rattle.request_phases.specs.declared.ground.Ground.{Ground as GroundVi
 ghost use Rattle.request_phases.specs.declared.state.Phases.{Phases as PhasesView};
 ghost use Rattle.site_model.specs.declared.site.Site.{Site as SiteRow};
 ghost use Rattle.node_turn.specs.Stages.{IsSameNode, ask_or, block_of, hand_at, held_more, is_asking, is_placing, is_serving, is_turning, item_asked, main_of, node_act, node_heard, start_or, can_run};
-ghost use Rattle.node_turn.specs.Nodes.{answer_seen, asked_path, captured_act, hand, later, lent, placed_act, served_act, stage_act};
+ghost use Rattle.node_turn.specs.Nodes.{answer_seen, asked_path, captured_act, hand, later, lent, placed_act, served_act, stage_act, with_main};
 ghost use Rattle.node_turn.specs.Served.{ServesTo};
 ghost use Rattle.node_turn.specs.Taken.{TakesTo};
 ghost use Rattle.node_turn.specs.Turns.{PlacesAs, Works};
 ghost use Rattle.node_turn.specs.declared.node.Stage.TheVariants.{Places as PlacesView, Reads as ReadsView};
 
-use crate::lending::lend;
+use crate::lending::lend_method;
 use crate::node::{Body, Capture, Node, Place, Stage};
 use crate::page::{Served, hears, serves};
 use crate::phase::{Turned, begins, resumes, scene_of};
@@ -290,41 +290,46 @@ fn put_block(alloc: Global, node: &mut Node, body: Box<Body>)
     put(&mut node.stage, Stage::Reads(body));
 }
 
-/// The next part of the page of a request in its phases.
+/// The next part of the page of a request in its phases, whose main request is this one.
 fn served(
     alloc: Global,
     ground: &Ground<'_>,
+    main: &Main,
     phases: &Phases,
     left: u32,
     vars: &VarTable,
     body: Box<Body>,
 ) -> Result<Served, OutOfMemory>
     ensures { IfOk result (λ served. (patterns : List SetPattern) (path file : List ℕ) →
-        ServesTo ground.now phases.now left patterns path file vars.now
-        (served_act (world_in patterns ground.now shipped) ground.now.site.now phases.now left
-        (answer_seen ground.now.site.now phases.now body.value.answered) body.value.page
+        let p = with_main main.now phases.now in
+        ServesTo ground.now p left patterns path file vars.now
+        (served_act (world_in patterns ground.now shipped) ground.now.site.now p left
+        (answer_seen ground.now.site.now p body.value.answered) body.value.page
         (later body.value file)) served) }
 {
-    let scene = scene_of(ground, phases, left);
+    let scene = scene_of(ground, main, phases, left);
     Ok(serves(alloc, &scene, vars, body)?)
 }
 
-/// The page of a request in its phases, which has the body of a subrequest now.
+/// The page of a request in its phases, whose main request is this one and which has the body of a
+/// subrequest now.
 fn heard(
     alloc: Global,
     ground: &Ground<'_>,
+    main: &Main,
     phases: &Phases,
     left: u32,
     capture: Capture,
 ) -> Result<Served, OutOfMemory>
     ensures { IfOk result (λ served. (patterns : List SetPattern) (path file : List ℕ)
-        (vars : Vars) → ServesTo ground.now phases.now left patterns path file vars
-        (captured_act (world_in patterns ground.now shipped) ground.now.site.now phases.now left
-        (answer_seen ground.now.site.now phases.now capture.body.value.answered)
+        (vars : Vars) → let p = with_main main.now phases.now in
+        ServesTo ground.now p left patterns path file vars
+        (captured_act (world_in patterns ground.now shipped) ground.now.site.now p left
+        (answer_seen ground.now.site.now p capture.body.value.answered)
         capture.body.value.page (later capture.body.value file) capture.name capture.text)
         served) }
 {
-    let scene = scene_of(ground, phases, left);
+    let scene = scene_of(ground, main, phases, left);
     Ok(hears(alloc, &scene, capture)?)
 }
 
@@ -348,12 +353,12 @@ fn put_served(alloc: Global, node: &mut Node, served: Served) -> Turn
             put(&mut node.stage, stage);
             Turn::On
         }
-        Served::Opens(child, stage) => {
-            put(&mut node.stage, stage);
+        Served::Opens(child, body) => {
+            put(&mut node.stage, Stage::Serves(body));
             Turn::Opens(child)
         }
-        Served::Asks(child, stage) => {
-            put(&mut node.stage, stage);
+        Served::Asks(child, capture) => {
+            put(&mut node.stage, Stage::Captures(capture));
             Turn::Asks(child)
         }
         Served::Wants(body) => {
@@ -391,15 +396,15 @@ pub fn takes(
 {
     match stage_of(alloc, node) {
         Stage::Serves(body) => {
-            lend(main, &mut node.phases);
-            let served = served(alloc, ground, &node.phases, node.left, vars, body)?;
-            lend(main, &mut node.phases);
+            lend_method(main, &mut node.phases);
+            let served = served(alloc, ground, main, &node.phases, node.left, vars, body)?;
+            lend_method(main, &mut node.phases);
             Ok(put_served(alloc, node, served))
         }
         Stage::Captures(capture) => {
-            lend(main, &mut node.phases);
-            let served = heard(alloc, ground, &node.phases, node.left, capture)?;
-            lend(main, &mut node.phases);
+            lend_method(main, &mut node.phases);
+            let served = heard(alloc, ground, main, &node.phases, node.left, capture)?;
+            lend_method(main, &mut node.phases);
             Ok(put_served(alloc, node, served))
         }
         _ => unreachable!(),

@@ -1,7 +1,7 @@
 -- Beginnings of heads that have more fields than a head may have.
 use Rattle.std.proofs.Common.{◌≡◌, ℕ, suc, ◌+◌, ◌<◌, ◌≤◌, Bool, true, false, not, ◌||◌, cond, eqb, List, [], ◌∷◌, ◌++◌, length, Option, Some, None, refl, sym, ap, ◌∙◌, subst, arith, length-append}
 use Rattle.std.specs.List.{list_any}
-use Rattle.httparse.specs.Grammar.{LineEnd, lf, print_end, Field, RequestHead, ReadsRequest}
+use Rattle.httparse.specs.Grammar.{LineEnd, lf, Field, RequestHead}
 use Rattle.httparse.specs.Spans.{RequestExceeds, RequestOverflows}
 use Rattle.req_head.specs.Lines.{Line, is_empty, with_first_byte, lines, whole_lines, after_empty}
 use Rattle.req_head.specs.Reading.{Reading, Whole, Wrong, Short, RequestLine, request_line, field_line, Section, if_field, read_section, if_line, with_blank, read_request}

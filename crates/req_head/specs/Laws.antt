@@ -1,5 +1,5 @@
 -- Laws of what the bytes at the front of a connection's input decide.
-use Rattle.std.specs.Prelude.{◌≡◌, ◌≢◌, ℕ, Bool, ◌<◌, ◌≤◌, ◌⊎◌, List, ◌++◌, length, Some, None}
+use Rattle.std.specs.Prelude.{◌≡◌, ◌≢◌, ℕ, Bool, ◌<◌, ◌≤◌, ◌⊎◌, List, [], ◌++◌, length, Some, None}
 use Rattle.httparse.specs.Grammar.{RequestHead, print_request, ReadsRequest, HasNoRequest, NeverHasRequest}
 use Rattle.httparse.specs.Spans.{RequestOverflows}
 use Rattle.req_head.specs.Lines.{whole_lines}
@@ -9,6 +9,10 @@ use Rattle.req_head.specs.Step.{looked, head_step}
 use Rattle.req_head.specs.declared.head.HeadStep.{HeadStep}
 use Rattle.req_head.specs.declared.head.Head.{Head as HeadParts}
 use Rattle.req_head.specs.declared.head.HeadStep.TheVariants.{More, Head, Bad}
+
+-- before the first byte, more are waited for
+abbrev pub AwaitsFirst : Type 0
+AwaitsFirst = head_step [] ≡ More
 
 -- a head stays, whatever follows
 abbrev pub HeadStays : Type 0

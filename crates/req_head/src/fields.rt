@@ -37,6 +37,26 @@ impl Model for HeadFields {
     ghost invariant = { λ f. AreShown f.text.items f.spans.items };
 }
 
+/// These bytes, in the room of others.
+fn text_in(room: Vec<u8>, bytes: &[u8]) -> Result<Vec<u8>, AllocError>
+    ensures { IfOk result (λ text. text.items ≡ bytes.now) }
+{
+    let mut text = room;
+    text.clear();
+    text.extend_from_slice(bytes)?;
+    Ok(text)
+}
+
+/// These spans, in the room of others.
+fn spans_in(room: Vec<HeaderSpan>, spans: &[HeaderSpan]) -> Result<Vec<HeaderSpan>, AllocError>
+    ensures { IfOk result (λ copy. copy.items ≡ spans.now) }
+{
+    let mut copy = room;
+    copy.clear();
+    copy.extend_from_slice(spans)?;
+    Ok(copy)
+}
+
 fn copy_spans(alloc: Global, spans: &[HeaderSpan]) -> Result<Vec<HeaderSpan>, AllocError>
     ensures { IfOk result (λ copy. copy.items ≡ spans.now) }
 {
@@ -61,9 +81,9 @@ impl HeadFields {
         }
     }
 
-    /// The fields that the spans show.
+    /// The fields that the spans show, in the room of others.
     pub(crate) fn of_spans(
-        alloc: Global,
+        room: HeadFields,
         text: &[u8],
         spans: &[HeaderSpan],
     ) -> Result<Self, OutOfMemory>
@@ -72,8 +92,8 @@ impl HeadFields {
         requires taken { All (λ s. IsTaken (header_bytes text.now s)) spans.now }
         ensures { IfOk result (λ m. m ≡ with_fields [] (map (header_bytes text.now) spans.now)) }
     {
-        let text = Vec::from_slice(alloc, text)?;
-        let spans = copy_spans(alloc, spans)?;
+        let text = text_in(room.text, text)?;
+        let spans = spans_in(room.spans, spans)?;
         Ok(HeadFields { text, spans })
     }
 

@@ -34,3 +34,12 @@ pub(crate) fn find_head(text: &[u8], slots: &mut [HeaderSpan]) -> Scan
         },
     }
 }
+
+/// The same with room for 64 fields.
+pub(crate) fn find_head_of_64(text: &[u8], slots: &mut [HeaderSpan; 64]) -> Scan
+    requires short { length text.now ≤ 8192 }
+    requires lines { whole_lines text.now ≡ text.now }
+    ensures { IsScan text.now 64 slots.new result }
+{
+    find_head(text, slots)
+}

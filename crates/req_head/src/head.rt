@@ -6,14 +6,15 @@ ghost use Rattle.req_head.specs.Lines.{lines, whole_lines};
 ghost use Rattle.req_head.specs.Reading.{Whole, Wrong, Short, read_request};
 
 use crate::fields::HeadFields;
-use crate::find::{Scan, find_head};
+use crate::find::{Scan, find_head_of_64};
 use crate::host::host_of;
 use crate::known::{Known, known_of};
 use crate::lines::{LIMIT, asks_head, have_too_many, seen_of, whole_lines_of};
+use crate::room::{HeadRoom, SpareTexts};
 use crate::rules::{body_of, find_fault, keeps, method_of, version_of};
 use byte_text::{ByteText, OutOfMemory};
 use http_types::{BodyKind, Method, Version};
-use httparse::spans::{EMPTY_HEADER_SPAN, HeaderSpan, RequestSpans};
+use httparse::spans::{HeaderSpan, RequestSpans};
 use std::alloc::Global;
 
 /// The head of a request, which passed all tests.
@@ -57,7 +58,7 @@ ghost use Rattle.req_head.specs.Step.{head_step, looked, step_of};
 
 /// The head with these parts.
 fn make_head(
-    alloc: Global,
+    texts: &mut SpareTexts,
     method: &[u8],
     target: &[u8],
     minor: u8,
@@ -68,11 +69,11 @@ fn make_head(
     requires passes { fault_with minor target.now fields ≡ None }
     ensures { IfOk result (λ head. head ≡ head_with method.now target.now minor fields) }
 {
-    let host = host_of(alloc, target, known.host)?;
+    let host = host_of(texts, target, known.host)?;
     Ok(Head {
-        method: method_of(alloc, method)?,
+        method: method_of(texts.alloc, method)?,
         version: version_of(minor),
-        target: ByteText::from_slice(alloc, target)?,
+        target: texts.target(target)?,
         host,
         fields,
         body: body_of(known),
@@ -103,7 +104,7 @@ fn wait(seen: &[u8]) -> HeadStep
 
 /// What the head decides that the spans show in the lines.
 fn test_head(
-    alloc: Global,
+    texts: &mut SpareTexts,
     seen: &[u8],
     text: &[u8],
     slots: &[HeaderSpan],
@@ -125,8 +126,8 @@ fn test_head(
         }),
         None => {
             let method = spans.method.of(text);
-            let fields = HeadFields::of_spans(alloc, &text[..spans.len], shown)?;
-            let head = make_head(alloc, method, target, spans.version, known, fields)?;
+            let fields = HeadFields::of_spans(texts.fields(), &text[..spans.len], shown)?;
+            let head = make_head(texts, method, target, spans.version, known, fields)?;
             Ok(HeadStep::Head {
                 head,
                 size: spans.len,
@@ -136,24 +137,38 @@ fn test_head(
 }
 
 // Reads a head where some bytes are held.
-fn read_lines(alloc: Global, bytes: &[u8]) -> Result<HeadStep, OutOfMemory>
+fn read_lines(room: &mut HeadRoom, bytes: &[u8]) -> Result<HeadStep, OutOfMemory>
     ensures { IfOk result (λ step. step ≡ head_step bytes.now) }
 {
     let seen = seen_of(bytes);
     let text = whole_lines_of(seen);
-    let mut slots = [EMPTY_HEADER_SPAN; 64];
-    match find_head(text, &mut slots) {
+    match find_head_of_64(text, &mut room.slots) {
         Scan::Short => Ok(wait(seen)),
         Scan::Wrong => Ok(refuse(seen)),
-        Scan::Whole(spans) => test_head(alloc, seen, text, &slots, &spans),
+        Scan::Whole(spans) => test_head(&mut room.texts, seen, text, &room.slots, &spans),
         // One field more than a head may have is whole, whether the head is or not.
         Scan::NoRoom => Ok(refuse(seen)),
     }
 }
 
-/// Reads the head of a request at the front of the bytes that a connection holds.
+/// Reads the head of a request at the front of the bytes that a connection holds, in the room of one that is over.
 ///
 /// Looks at no more than 8192 bytes, and parses only those up to the last line feed.
+///
+/// # Errors
+///
+/// Want of memory alone.
+pub fn read_head_in(room: &mut HeadRoom, bytes: &[u8]) -> Result<HeadStep, OutOfMemory>
+    ensures { IfOk result (λ step. step ≡ head_step bytes.now) }
+{
+    if bytes.is_empty() {
+        return Ok(HeadStep::More);
+    }
+    let step = read_lines(room, bytes)?;
+    Ok(step)
+}
+
+/// The same in new room.
 ///
 /// # Errors
 ///
@@ -161,9 +176,6 @@ fn read_lines(alloc: Global, bytes: &[u8]) -> Result<HeadStep, OutOfMemory>
 pub fn read_head(alloc: Global, bytes: &[u8]) -> Result<HeadStep, OutOfMemory>
     ensures { IfOk result (λ step. step ≡ head_step bytes.now) }
 {
-    if bytes.is_empty() {
-        return Ok(HeadStep::More);
-    }
-    let step = read_lines(alloc, bytes)?;
+    let step = read_head_in(&mut HeadRoom::new(alloc), bytes)?;
     Ok(step)
 }

@@ -7,8 +7,8 @@ ghost use Rattle.req_head.specs.Known.{AreValues};
 ghost use Rattle.uri_text.specs.Target.{absolute_of};
 
 use crate::known::Values;
+use crate::room::SpareTexts;
 use byte_text::{ByteText, OutOfMemory};
-use std::alloc::Global;
 use uri_text::absolute_form;
 
 /// Where the host ends: at its last `:` if no `]` stands behind it.
@@ -51,22 +51,22 @@ fn named_host<'a>(target: &'a [u8], host: Values<'a>) -> &'a [u8]
 }
 
 /// The bytes in lower case.
-fn lower(alloc: Global, bytes: &[u8]) -> Result<ByteText, OutOfMemory>
+fn lower(texts: &mut SpareTexts, bytes: &[u8]) -> Result<ByteText, OutOfMemory>
     ensures { IfOk result (λ t. t ≡ lowercase bytes.now) }
 {
-    let mut copy = bytes.to_vec(alloc)?;
+    let mut copy = texts.host(bytes)?.into_vec();
     copy.as_mut_slice().make_ascii_lowercase();
     Ok(ByteText::from_vec(copy))
 }
 
 /// The host in lower case, without the port.
 pub(crate) fn host_of(
-    alloc: Global,
+    texts: &mut SpareTexts,
     target: &[u8],
     host: Values<'_>,
 ) -> Result<ByteText, OutOfMemory>
     ensures { IfOk result (λ t. (values : List FieldValue) → AreValues values host.entry → t ≡ host_of target.now values) }
 {
     let name = named_host(target, host);
-    lower(alloc, &name[..name_end(name)])
+    lower(texts, &name[..name_end(name)])
 }

@@ -1,5 +1,10 @@
 // Laws of what the bytes at the front of a connection's input decide, for the layers above.
-ghost use Rattle.req_head.specs.Laws.{HeadStays, RefusalStays, SizeFits, FullDecides, GrammarDecides};
+ghost use Rattle.req_head.specs.Laws.{AwaitsFirst, HeadStays, RefusalStays, SizeFits, FullDecides, GrammarDecides};
+
+/// Before the first byte, more are waited for.
+pub fn awaits_first()
+    ensures { AwaitsFirst }
+{}
 
 /// A head stays as it is, whatever bytes follow.
 pub fn head_stays()

@@ -12,17 +12,20 @@ use byte_text::{ByteQueue, ByteText, OutOfMemory};
 use error_page::page_text;
 use http_types::Version;
 use ngx_pattern::PatternSet;
+use req_head::HeadRoom;
 use request_reply::{Body, Reply};
 use resp_head::{HeadWriter, ReplyHead};
 use site_model::Level;
 use std::alloc::Global;
 
 /// What requests work with, one after another: memory, the writer of their responses' heads, and
-/// what searches for patterns.
+/// what searches for patterns; and the room of what is over.
 #[derive(Drop)]
 pub struct Workspace {
     pub alloc: Global,
     pub heads: HeadWriter,
+    /// The room of the heads of requests that are over.
+    pub head_room: HeadRoom,
     /// The patterns of the site that is served.
     pub patterns: PatternSet,
     /// The room of a request that is over, for the next one.
@@ -37,6 +40,7 @@ impl Workspace {
         Workspace {
             alloc,
             heads: HeadWriter::new(alloc),
+            head_room: HeadRoom::new(alloc),
             patterns,
             spare: None,
         }

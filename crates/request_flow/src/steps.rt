@@ -429,7 +429,7 @@ fn begun(
     request.length = ground.length;
     request.questions = u32::MAX;
     put(&mut request.vars, VarTable::new(alloc));
-    put_phases(ground, opening, &mut request.phases)?;
+    put_phases(ground, opening, &mut request.phases, &mut space.head_room)?;
     let step = begin(
         alloc,
         ground,

@@ -11,11 +11,12 @@ use crate::slot::put;
 use byte_text::{ByteText, OutOfMemory};
 use http_types::{Addr, Method, Version};
 use ngx_variables::{Groups, LocalDate, Main, Request, Role, method_name};
-use req_head::{Head, HeadFields};
+use req_head::{Head, HeadFields, HeadRoom};
 use request_phases::{Ground, Phases};
 use rewrite_code::Progress;
 use site_model::Server;
 use std::alloc::Global;
+use std::mem::replace;
 use std::net::{IpAddr, Ipv4Addr};
 use uri_text::{UriFault, normal};
 
@@ -113,15 +114,16 @@ fn put_texts(ground: &Ground<'_>, head: &Head, main: &mut Main) -> Result<(), Ou
     Ok(())
 }
 
-/// The rest of it, which is taken over.
-fn put_opening(opening: Opening, main: &mut Main)
+/// The rest of it, which is taken over. The texts of the other become room for a next head.
+fn put_opening(opening: Opening, main: &mut Main, room: &mut HeadRoom)
     ensures { main.new ≡ main_with opening main.old }
 {
     let head = opening.head;
     put(&mut main.method, head.method);
-    put(&mut main.target, head.target);
-    put(&mut main.host, head.host);
-    put(&mut main.fields, head.fields);
+    let target = replace(&mut main.target, head.target);
+    let host = replace(&mut main.host, head.host);
+    let fields = replace(&mut main.fields, head.fields);
+    room.keep(target, host, fields);
     main.version = head.version;
     main.local = opening.local;
     main.peer = opening.peer;
@@ -144,11 +146,12 @@ fn put_start(level: u32, phases: &mut Phases)
 }
 
 /// The phases of a main request, before they begin, in place of another's: what its variables mean, and the request, for
-/// which no level holds yet.
+/// which no level holds yet. The texts of the other's head become room for a next one.
 pub fn put_phases(
     ground: &Ground<'_>,
     opening: Opening,
     phases: &mut Phases,
+    room: &mut HeadRoom,
 ) -> Result<(), OutOfMemory>
     ensures { (patterns : List SetPattern) (site : _) → OnOk result (phases.new
         ≡ phases_at ground.now.server.now.level (main_at ground.now opening)
@@ -157,7 +160,7 @@ pub fn put_phases(
 {
     let made = put_request(ground.server, &opening.head, &mut phases.at.request);
     let told = put_texts(ground, &opening.head, &mut phases.main);
-    put_opening(opening, &mut phases.main);
+    put_opening(opening, &mut phases.main, room);
     put_start(ground.server.level, phases);
     made?;
     told?;

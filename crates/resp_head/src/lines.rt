@@ -9,7 +9,17 @@ use crate::values::{put_location, put_value};
 use byte_text::{ByteText, OutOfMemory};
 use itoa::Buffer;
 
-#[tactic(auto, unfolding(crate::specs::Head::status_line, crate::specs::Head::crlf))]
+/// The end of a line: two bytes that are pushed cost less than a text of two.
+#[tactic(auto, unfolding(crate::specs::Head::crlf))]
+fn put_crlf(out: &mut ByteText) -> Result<(), OutOfMemory>
+    ensures { OnOk result (out.new ≡ out.old ++ crlf) }
+{
+    out.push(b'\r')?;
+    out.push(b'\n')?;
+    Ok(())
+}
+
+#[tactic(auto, unfolding(crate::specs::Head::status_line))]
 pub fn put_status_line(status: u16, out: &mut ByteText) -> Result<(), OutOfMemory>
     ensures { OnOk result (out.new ≡ out.old ++ status_line status) }
 {
@@ -17,7 +27,7 @@ pub fn put_status_line(status: u16, out: &mut ByteText) -> Result<(), OutOfMemor
     out.extend(Buffer::new().format(status).as_bytes())?;
     out.push(b' ')?;
     out.extend(phrase(status))?;
-    out.extend(b"\r\n")?;
+    put_crlf(out)?;
     Ok(())
 }
 
@@ -28,7 +38,7 @@ pub fn put_date(date: &[u8; 29], out: &mut ByteText) -> Result<(), OutOfMemory>
 {
     out.extend(b"Server: nginx\r\nDate: ")?;
     out.extend(date)?;
-    out.extend(b"\r\n")?;
+    put_crlf(out)?;
     Ok(())
 }
 
@@ -38,7 +48,7 @@ pub fn put_type(kind: &[u8], out: &mut ByteText) -> Result<(), OutOfMemory>
 {
     out.extend(b"Content-Type: ")?;
     put_value(kind, out)?;
-    out.extend(b"\r\n")?;
+    put_crlf(out)?;
     Ok(())
 }
 
@@ -48,7 +58,7 @@ pub fn put_length(length: u64, out: &mut ByteText) -> Result<(), OutOfMemory>
 {
     out.extend(b"Content-Length: ")?;
     out.extend(Buffer::new().format(length).as_bytes())?;
-    out.extend(b"\r\n")?;
+    put_crlf(out)?;
     Ok(())
 }
 
@@ -59,7 +69,7 @@ pub fn put_modified(date: &[u8; 29], out: &mut ByteText) -> Result<(), OutOfMemo
 {
     out.extend(b"Last-Modified: ")?;
     out.extend(date)?;
-    out.extend(b"\r\n")?;
+    put_crlf(out)?;
     Ok(())
 }
 
@@ -69,7 +79,7 @@ pub fn put_target(to: &[u8], out: &mut ByteText) -> Result<(), OutOfMemory>
 {
     out.extend(b"Location: ")?;
     put_location(to, out)?;
-    out.extend(b"\r\n")?;
+    put_crlf(out)?;
     Ok(())
 }
 

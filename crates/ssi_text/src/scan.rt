@@ -1,8 +1,8 @@
 // The scan of bytes that may go on.
-ghost use Rattle.std.specs.Prelude.{◌≡◌, ℕ, ◌+◌, ◌-◌, ◌<◌, ◌≤◌, ◌++◌, [], ◌∷◌, length, take, drop, map, IfOk, IfSome, IfNone, MatchOption, IsTrue};
+ghost use Rattle.std.specs.Prelude.{◌≡◌, ℕ, ◌+◌, ◌-◌, ◌<◌, ◌≤◌, ◌++◌, [], ◌∷◌, length, take, drop, map, IfOk, IfSome, IfNone, MatchOption, IsTrue, false};
 ghost use Rattle.ssi_text.specs.Marks.{Byte, marks, part_marks};
 ghost use Rattle.ssi_text.specs.Moves.{Moved};
-ghost use Rattle.ssi_text.specs.Split.{split, with_text, limit, begun as begun_front, front, opening};
+ghost use Rattle.ssi_text.specs.Split.{split, with_text, limit, begins, begun as begun_front, front, opening};
 ghost use Rattle.ssi_text.specs.Commands.{Outside, size};
 
 use crate::command::made;
@@ -15,10 +15,13 @@ use std::alloc::Global;
 /// The most bytes that a command has.
 const LIMIT: usize = 8192;
 
-/// Whether `<!--#` stands around this `#`, of which it is the last byte.
+/// Whether the byte at this place is the last of a `<!--#`.
 fn ends_opening(bytes: &[u8], at: usize) -> bool
     requires { at < length bytes.now }
-    ensures { IsTrue result → 4 ≤ at }
+    ensures yes { IsTrue result → (4 ≤ at)
+        × (Begun.Yes ≡ begins opening (drop (at - 4) bytes.now)) }
+    ensures no { result ≡ false → 4 ≤ at
+        → Begun.Yes ≡ begins opening (drop (at - 4) bytes.now) → ⊥ }
 {
     if at < 4 {
         return false;

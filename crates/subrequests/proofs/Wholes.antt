@@ -24,7 +24,8 @@ use Rattle.node_line.specs.Stances.{Opening, stance_at}
 use Rattle.subrequests.specs.Moved.{IsFromAt, OverrunsBy, SameFiles, Steps, files, fits_at, is_at, meant}
 use Rattle.node_turn.specs.Nodes.{answer_seen, asked_path, lent, stage_act}
 use Rattle.subrequests.specs.Runs.{runs_at}
-use Rattle.node_turn.specs.declared.answered.Answered.{Answered}
+use Rattle.std.specs.Global.{Box}
+use Rattle.node_turn.specs.declared.node.Body.{Body}
 use Rattle.subrequests.specs.declared.family.Family.{Family}
 use Rattle.node_turn.specs.declared.node.Node.{Node}
 use Rattle.node_turn.specs.declared.node.Stage.{Stage}
@@ -128,7 +129,7 @@ no_steps patterns g a = record { opened = 0; grows = (let e : length a.nodes ≡
 
 -- ---- at the end
 
-ended : (s : Stage) → is_ending s ≡ true → (a : Answered) × (s ≡ stages.Ends a)
+ended : (s : Stage) → is_ending s ≡ true → (b : Box Body) × (s ≡ stages.Ends b)
 ended (stages.Begins ssi) e = cc
 ended (stages.Asks wait ssi) e = cc
 ended (stages.Told wait file ssi) e = cc
@@ -142,7 +143,7 @@ pub ended_act : (w : World) (patterns : List SetPattern) (site : Site) (main : M
     (answer : Answer) × (node_act w patterns site main n text ≡ Done answer)
 ended_act w patterns site main n text e =
     let s = ended n.stage e in
-    (answer_seen site (lent main n.phases) s.0, ap (λ x. stage_act w patterns site (lent main n.phases) n.left (asked_path n.ask) x text) s.1)
+    (answer_seen site (lent main n.phases) s.0.value.answered, ap (λ x. stage_act w patterns site (lent main n.phases) n.left (asked_path n.ask) x text) s.1)
 
 none_goes : (nodes : List Node) (j : ℕ) → list_all over_node nodes ≡ true → goes_on_at (slice_get nodes j) ≡ false
 none_goes [] j e = refl

@@ -22,7 +22,7 @@ returns-in-Ok-On-clause-ran c =
     subst (λ (o : Onward). RanOne x service (start_in m) (vec_len c.args.journal.now) c.args.next.now c.args.held.now c.used.new.self d.body o.flight c.args.out.now c.open.new.out o.closing o.log) (sym c.with_broken-onward.ensures)
     (subst (λ k. RanOne x service (start_in m) k c.args.next.now c.args.held.now c.used.new.self d.body o.flight c.args.out.now c.open.new.out (o.closing || d.broken) o.log) (c.len.ensures ∙ c.make_room.ensures.count)
     (ran_head x m c.len.result c.in-Head.head c.in-Head.size c.args.next.now c.args.held.now c.used.new.self d.body o.flight c.args.out.now c.open.new.out o.closing d.broken o.log o.level c.in-Head.is
-    (λ raceless trees. subst (λ h. Opened x trees m c.len.result h o.flight c.args.out.now c.open.new.out o.closing o.log o.level) (c.take_head-head.ensures c.in-Head.head c.in-Head.size refl) (opened_on x m c.len.result c.take_head-head.result c.args.out.now c.open.new.out c.in-Ok-On.field-0 o c.in-Ok-On.field-0-is c.in-Ok-On.ensures.opens raceless trees)) (on_by _ c.in-Ok-On.field-0 o c.in-Ok-On.field-0-is c.in-Ok-On.ensures.over)
+    (λ raceless trees. subst (λ h. Opened x trees m c.len.result h o.flight c.args.out.now c.open.new.out o.closing o.log o.level) (c.take_head-head.ensures.head c.in-Head.head c.in-Head.size refl) (opened_on x m c.len.result c.take_head-head.result c.args.out.now c.open.new.out c.in-Ok-On.field-0 o c.in-Ok-On.field-0-is c.in-Ok-On.ensures.opens raceless trees)) (on_by _ c.in-Ok-On.field-0 o c.in-Ok-On.field-0-is c.in-Ok-On.ensures.over)
     (head_drops c.in-Head.head.body c.new.result c.behind.result.now c.args.held.now c.used.new.self c.in-Head.size d.used d.body d.broken c.new.ensures c.behind.ensures c.used.ensures c.drop_body-dropped.ensures.drops)))
 
 pub returns-in-Ok-TooMany-clause-ran : goal.returns-in-Ok-TooMany-clause-ran
@@ -32,7 +32,7 @@ returns-in-Ok-TooMany-clause-ran c =
     let service = service_in x m.local m.peer in
     subst (λ k. RanOver x service (start_in m) k c.args.next.now) (c.len.ensures ∙ c.make_room.ensures.count)
     (ran_over_head x m c.len.result c.in-Head.head c.in-Head.size c.args.next.now c.in-Head.is
-    (λ raceless trees. ap (λ h. is_heavy (response_at service trees c.len.result (start_in m) h)) (sym (c.take_head-head.ensures c.in-Head.head c.in-Head.size refl)) ∙ opened_over x m c.len.result c.take_head-head.result c.args.out.now c.open.new.out c.in-Ok-TooMany.field-0 c.in-Ok-TooMany.field-0-is c.in-Ok-TooMany.ensures.opens raceless trees))
+    (λ raceless trees. ap (λ h. is_heavy (response_at service trees c.len.result (start_in m) h)) (sym (c.take_head-head.ensures.head c.in-Head.head c.in-Head.size refl)) ∙ opened_over x m c.len.result c.take_head-head.result c.args.out.now c.open.new.out c.in-Ok-TooMany.field-0 c.in-Ok-TooMany.field-0-is c.in-Ok-TooMany.ensures.opens raceless trees))
 
 pub returns-in-Ok-On-clause-level : goal.returns-in-Ok-On-clause-level
 returns-in-Ok-On-clause-level c = λ raceless.
@@ -41,7 +41,7 @@ returns-in-Ok-On-clause-level c = λ raceless.
     let o = c.in-Ok-On.opened in
     subst (λ n. LevelFor (service_in x m.local m.peer) (start_in m) n (λ trees. (rest_in x c.with_broken-onward.result.flight trees).values) (values_at c.args.served.now c.with_broken-onward.result.level)) (sym c.in-Head.is)
     (subst (λ (o : Onward). LevelFor (service_in x m.local m.peer) (start_in m) (Head c.in-Head.head c.in-Head.size) (λ trees. (rest_in x o.flight trees).values) (values_at c.args.served.now o.level)) (sym c.with_broken-onward.ensures)
-    (λ trees. (subst (λ h. Opened x trees m c.len.result h o.flight c.args.out.now c.open.new.out o.closing o.log o.level) (c.take_head-head.ensures c.in-Head.head c.in-Head.size refl) (opened_on x m c.len.result c.take_head-head.result c.args.out.now c.open.new.out c.in-Ok-On.field-0 o c.in-Ok-On.field-0-is c.in-Ok-On.ensures.opens raceless trees)).level))
+    (λ trees. (subst (λ h. Opened x trees m c.len.result h o.flight c.args.out.now c.open.new.out o.closing o.log o.level) (c.take_head-head.ensures.head c.in-Head.head c.in-Head.size refl) (opened_on x m c.len.result c.take_head-head.result c.args.out.now c.open.new.out c.in-Ok-On.field-0 o c.in-Ok-On.field-0-is c.in-Ok-On.ensures.opens raceless trees)).level))
 
 pub returns-in_ok-onward-in-Bad-clause-ran : goal.returns-in_ok-onward-in-Bad-clause-ran
 returns-in_ok-onward-in-Bad-clause-ran c =

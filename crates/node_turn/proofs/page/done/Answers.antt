@@ -1,5 +1,5 @@
 use Rattle.std.proofs.Common.{◌≡◌, ℕ, List, sym, ap, ◌∙◌, subst}
-use Rattle.acts.specs.Act.{Call, Done, Inner}
+use Rattle.acts.specs.Act.{Call, Inner}
 use Rattle.request_meaning.specs.Serving.{Serving, Answer}
 use Rattle.request_meaning.specs.Laws.{shipped}
 use Rattle.request_phases.specs.Rounds.{world_in}
@@ -45,8 +45,7 @@ returns-in_ok-more-in-NeedsMore c = λ g p levels patterns path file vars old is
 
 pub returns-else-not-is_spent : goal.returns-else-not-is_spent
 returns-else-not-is_spent c = λ g p levels patterns path file vars old is h over.
-    serving.same_work (over (ap stop_of c.in-Over.is) (ap (λ (b : Body). is_spent b.source) (sym c.deref.ensures) ∙ sym c.is_spent.ensures ∙ c.if-not-is_spent.false)
-    ∙ ap (λ (b : Body). Done (answer_seen g.site.now p b.answered)) (sym c.into_inner.ensures))
+    serving.same_work (over (ap stop_of c.in-Over.is) (ap (λ (b : Body). is_spent b.source) (sym c.deref.ensures) ∙ sym c.is_spent.ensures ∙ c.if-not-is_spent.false))
 
 pub returns-in-Captures : goal.returns-in-Captures
 returns-in-Captures c = λ g p levels patterns path file vars old is h over.

@@ -1,4 +1,4 @@
-use Rattle.std.proofs.Common.{◌≡◌, ◌∷◌, sym, ap, ◌∙◌, subst}
+use Rattle.std.proofs.Common.{sym, ap, ◌∙◌, subst}
 use Rattle.acts.specs.Act.{Done, Write}
 use Rattle.request_meaning.specs.Laws.{shipped}
 use Rattle.request_phases.specs.Rounds.{world_in}
@@ -19,7 +19,7 @@ returns-then-is_spent c = λ g p levels patterns path file is.
     let answer = answer_seen site p b.answered in
     let none = sym c.apart-body.ensures.page ∙ c.in-None.is in
     let spent = ap is_spent (sym c.apart-body.ensures.source) ∙ ap (λ (x : Body). is_spent x.source) (sym c.deref.ensures) ∙ sym c.is_spent.ensures ∙ c.if-is_spent.true in
-    let same = sym (ap (λ (x : Body). x.answered) c.into_inner.ensures ∙ c.apart-body.ensures.answered) in
+    let same = sym c.apart-body.ensures.answered in
     serving.both (serving.same_work (ap (λ x. served_act w site p levels answer x (later b file)) none ∙ ap (λ t. Write t (Done answer)) (serving.spent b.source file spent)))
     (Placed (serving.same_work (ap (λ (a : Answered). Done (answer_seen site p a)) same)))
 

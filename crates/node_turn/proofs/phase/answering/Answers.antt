@@ -9,8 +9,8 @@ use Rattle.node_turn.specs.Nodes.{answer_seen, body_then, bytes_for, padded}
 use Rattle.node_turn.proofs.Phased as phased
 use Rattle.node_turn.proofs.phase.answering.Goals as goal
 
-pub returns-in-Nothing : goal.returns-in-Nothing
-returns-in-Nothing c = λ patterns path text vars.
+pub returns-in_ok-bare-in-Nothing : goal.returns-in_ok-bare-in-Nothing
+returns-in_ok-bare-in-Nothing c = λ patterns path text vars.
     let g = c.args.ground.now in
     let site = g.site.now in
     let p = c.args.phases.now in
@@ -20,7 +20,8 @@ returns-in-Nothing c = λ patterns path text vars.
     let made = prepared_as w (asked_in p) (standing_seen site p.at) bytes o in
     let parts = c.in_ok-answered.ensures site p bytes made (phased.is_for w site p bytes o) (phased.reply_so w site p text c.in_ok-reply.reply o c.args.outcome refl refl c.in_ok-reply.ensures) in
     phased.answers_so w c.args.left c.args.ssi made (answer_seen site p c.in_ok-answered.field-0.answered) bytes c.in_ok-answered.field-0.facts c.in_ok-answered.field-0.body _ vars parts.0 parts.1 c.in-Nothing.is
-    ∙ phased.bare_so w c.args.left c.args.ssi (answer_seen site p c.in_ok-answered.field-0.answered) vars
+    ∙ (phased.bare_so w c.args.left c.args.ssi (answer_seen site p c.in_ok-answered.field-0.answered) vars
+    ∙ ap (λ m. (m, vars)) (sym (c.in_ok-bare-in-Nothing.ensures g p c.args.left patterns path text)))
 
 pub returns-in_ok-plain-in-Page : goal.returns-in_ok-plain-in-Page
 returns-in_ok-plain-in-Page c = λ patterns path text vars.

@@ -1,9 +1,9 @@
-use Rattle.std.proofs.Common.{◌≡◌, refl, sym, ◌∙◌, subst}
+use Rattle.std.proofs.Common.{◌≡◌, sym, ◌∙◌, subst}
 use Rattle.request_meaning.specs.Laws.{shipped}
 use Rattle.request_phases.specs.Rounds.{world_in}
 use Rattle.request_phases.specs.declared.state.Phases.{Phases}
 use Rattle.node_turn.specs.Stages.{node_act, node_heard}
-use Rattle.node_turn.specs.Nodes.{answer_seen, asked_path, captured_act, later, lent, served_act, stage_act}
+use Rattle.node_turn.specs.Nodes.{answer_seen, asked_path, captured_act, later, lent, served_act, stage_act, with_main}
 use Rattle.node_turn.specs.Served.{ServesTo}
 use Rattle.node_turn.specs.Taken.{TakesTo}
 use Rattle.node_turn.specs.declared.node.Node.{Node}
@@ -21,21 +21,23 @@ returns-in_ok-served-in-Serves-clause-acts c = λ patterns text.
     let vars = c.args.vars.now in
     let path = asked_path n.ask in
     let mid = c.stage_of.new.node in
-    let given = c.lend.new.phases in
-    let back = c.lend-in-Serves.new.phases in
+    let one = c.lend_method.new.main in
+    let own = c.lend_method.new.phases in
+    let given = with_main one own in
+    let back = c.lend_method-in-Serves.new.phases in
+    let same : given ≡ lent main mid.phases = phased.seen_main main one mid.phases own c.lend_method.ensures.main c.lend_method.ensures.phases in
     let result = c.put_served.result in
     let new = node_act w patterns site main c.put_served.new.node text in
     let heard = node_heard w patterns site main c.put_served.new.node text in
-    let returned = phased.given_back main c.lend.new.main mid.phases given given back c.lend.ensures.phases refl c.lend-in-Serves.ensures.phases in
+    let returned = phased.method_back main one mid.phases own back c.lend_method.ensures.main c.lend_method.ensures.phases c.lend_method-in-Serves.ensures.phases ∙ sym same in
     let acts = λ (p : Phases). served_act w site p mid.left (answer_seen site p b.answered) b.page (later b text) in
     let serves = subst (λ (p : Phases). ServesTo g p mid.left patterns (asked_path mid.ask) text vars (acts given) c.in_ok-served-in-Serves.served) (sym returned)
     (c.in_ok-served-in-Serves.ensures patterns (asked_path mid.ask) text) in
     let taken = c.put_served.ensures.acts g patterns main text vars (acts given) serves in
-    let same : lent main back ≡ lent main mid.phases = returned ∙ c.lend.ensures.phases in
     let is = sym c.stage_of.ensures.stage ∙ c.in-Serves.is in
     subst (λ s. TakesTo (lent main n.phases).main vars (stage_act w patterns site (lent main n.phases) n.left path s text) new heard result) (sym is)
     (subst (λ (m : Node). TakesTo (lent main m.phases).main vars (served_act w site (lent main m.phases) m.left (answer_seen site (lent main m.phases) b.answered) b.page (later b text)) new heard result) c.stage_of.ensures.node
-    (subst (λ (p : Phases). TakesTo p.main vars (acts p) new heard result) c.lend.ensures.phases
+    (subst (λ (p : Phases). TakesTo p.main vars (acts p) new heard result) same
     (subst (λ (p : Phases). TakesTo p.main vars (acts given) new heard result) returned taken)))
 
 pub returns-in_ok-served-in-Captures-clause-acts : goal.returns-in_ok-served-in-Captures-clause-acts
@@ -49,19 +51,21 @@ returns-in_ok-served-in-Captures-clause-acts c = λ patterns text.
     let vars = c.args.vars.now in
     let path = asked_path n.ask in
     let mid = c.stage_of.new.node in
-    let given = c.lend-in-Captures.new.phases in
-    let back = c.lend-in-Captures-2.new.phases in
+    let one = c.lend_method-in-Captures.new.main in
+    let own = c.lend_method-in-Captures.new.phases in
+    let given = with_main one own in
+    let back = c.lend_method-in-Captures-2.new.phases in
+    let same : given ≡ lent main mid.phases = phased.seen_main main one mid.phases own c.lend_method-in-Captures.ensures.main c.lend_method-in-Captures.ensures.phases in
     let result = c.put_served-in-Captures.result in
     let new = node_act w patterns site main c.put_served-in-Captures.new.node text in
     let heard = node_heard w patterns site main c.put_served-in-Captures.new.node text in
-    let returned = phased.given_back main c.lend-in-Captures.new.main mid.phases given given back c.lend-in-Captures.ensures.phases refl c.lend-in-Captures-2.ensures.phases in
+    let returned = phased.method_back main one mid.phases own back c.lend_method-in-Captures.ensures.main c.lend_method-in-Captures.ensures.phases c.lend_method-in-Captures-2.ensures.phases ∙ sym same in
     let acts = λ (p : Phases). captured_act w site p mid.left (answer_seen site p b.answered) b.page (later b text) c.in-Captures.capture.name c.in-Captures.capture.text in
     let serves = subst (λ (p : Phases). ServesTo g p mid.left patterns (asked_path mid.ask) text vars (acts given) c.in_ok-served-in-Captures.served) (sym returned)
     (c.in_ok-served-in-Captures.ensures patterns (asked_path mid.ask) text vars) in
     let taken = c.put_served-in-Captures.ensures.acts g patterns main text vars (acts given) serves in
-    let same : lent main back ≡ lent main mid.phases = returned ∙ c.lend-in-Captures.ensures.phases in
     let is = sym c.stage_of.ensures.stage ∙ c.in-Captures.is in
     subst (λ s. TakesTo (lent main n.phases).main vars (stage_act w patterns site (lent main n.phases) n.left path s text) new heard result) (sym is)
     (subst (λ (m : Node). TakesTo (lent main m.phases).main vars (captured_act w site (lent main m.phases) m.left (answer_seen site (lent main m.phases) b.answered) b.page (later b text) c.in-Captures.capture.name c.in-Captures.capture.text) new heard result) c.stage_of.ensures.node
-    (subst (λ (p : Phases). TakesTo p.main vars (acts p) new heard result) c.lend-in-Captures.ensures.phases
+    (subst (λ (p : Phases). TakesTo p.main vars (acts p) new heard result) same
     (subst (λ (p : Phases). TakesTo p.main vars (acts given) new heard result) returned taken)))

@@ -6,11 +6,11 @@ use Rattle.req_head.proofs.CodeLemmas.{overflow_refused}
 use Rattle.req_head.proofs.MadeLemmas.{lines_short, lines_whole, decided_by, ok_map}
 use Rattle.req_head.proofs.head.read_lines.Goals as goal
 
-pub find_head-requires-clause-short : goal.find_head-requires-clause-short
-find_head-requires-clause-short c = lines_short c.seen_of-seen.result.now c.whole_lines_of-text.result.now c.seen_of-seen.ensures.short c.whole_lines_of-text.ensures
+pub find_head_of_64-requires-clause-short : goal.find_head_of_64-requires-clause-short
+find_head_of_64-requires-clause-short c = lines_short c.seen_of-seen.result.now c.whole_lines_of-text.result.now c.seen_of-seen.ensures.short c.whole_lines_of-text.ensures
 
-pub find_head-requires-clause-lines : goal.find_head-requires-clause-lines
-find_head-requires-clause-lines c = lines_whole c.seen_of-seen.result.now c.whole_lines_of-text.result.now c.whole_lines_of-text.ensures
+pub find_head_of_64-requires-clause-lines : goal.find_head_of_64-requires-clause-lines
+find_head_of_64-requires-clause-lines c = lines_whole c.seen_of-seen.result.now c.whole_lines_of-text.result.now c.whole_lines_of-text.ensures
 
 pub test_head-requires-clause-short : goal.test_head-requires-clause-short
 test_head-requires-clause-short c = lines_short c.seen_of-seen.result.now c.whole_lines_of-text.result.now c.seen_of-seen.ensures.short c.whole_lines_of-text.ensures

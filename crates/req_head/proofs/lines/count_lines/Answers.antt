@@ -1,4 +1,4 @@
-use Rattle.std.proofs.Common.{◌+◌, ◌≤◌, length, ap, arith}
+use Rattle.std.proofs.Common.{◌+◌, length, ap, arith}
 use Rattle.req_head.specs.Lines.{lines}
 use Rattle.req_head.proofs.CodeLemmas.{one_counted, all_counted}
 use Rattle.req_head.proofs.lines.count_lines.Goals as goal
