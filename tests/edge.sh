@@ -366,9 +366,9 @@ def words():
     for asked in ('--version', '-V'):
         got = run(asked)
         told(f'8. {asked} prints the version', got[0] == 0 and got[1].startswith('ngx ') and got[1].count('\n') == 1 and not got[2], got)
-    for asked, why in ((), 'no command'), (('frob',), 'frob: no such command'), (('frob', 'a'), 'frob: no such command'), (('serve',), 'serve: other words'), (('serve', 'a', '--turns', '0'), 'serve: other words'):
+    for asked, why in ((), 'requires a subcommand'), (('frob',), "unrecognized subcommand 'frob'"), (('frob', 'a'), "unrecognized subcommand 'frob'"), (('serve',), 'required arguments were not provided:\n  <CONF>'), (('serve', 'a', '--turns', '0'), "invalid value '0' for '--turns <N>'"), (('check', 'a', 'b'), "unexpected argument 'b'"):
         got = run(*asked)
-        told(f"8. {' '.join(asked) or 'no word'}: what it lacks and the usage, with status 2", got[0] == 2 and why in got[2] and 'usage: ngx check CONF' in got[2] and not got[1], got)
+        told(f"8. {' '.join(asked) or 'no word'}: clap's message, with status 2", got[0] == 2 and why in got[2] and "try '--help'" in got[2] and not got[1], got)
 
 # 9. The connection after the last.
 def last():

@@ -1,17 +1,9 @@
 -- What the program's words ask for.
-use Rattle.std.specs.Prelude.{ℕ, ◌+◌, ◌*◌, ◌-◌, ◌^◌, nat_le, Bool, true, false, ◌&&◌, ◌||◌, List, [], ◌∷◌, Option, None, Some, codes, bytes_eq, if◌then◌else◌}
+use Rattle.std.specs.Prelude.{ℕ, ◌-◌, ◌^◌, nat_le, Bool, true, false, ◌&&◌, ◌||◌, List, [], ◌∷◌, Option, None, Some, codes, bytes_eq, if◌then◌else◌}
 use Rattle.std.specs.List.{list_all}
+use Rattle.text_words.specs.Digits.{is_decimal, value_behind}
 use Rattle.command_line.specs.declared.words.Command.{Command}
 use Rattle.command_line.specs.declared.words.Command.TheVariants as command
-
--- the number that these digits write behind those of n
-abbrev pub value_behind : ℕ → List ℕ → ℕ
-value_behind n [] = n
-value_behind n (b ∷ bs) = value_behind (n * 10 + (b - 48)) bs
-
--- `0` to `9`
-abbrev pub is_digit : ℕ → Bool
-is_digit b = nat_le 48 b && nat_le b 57
 
 -- the most turns that can be asked for, and as many as are taken where none are said
 unfoldable pub most_turns : ℕ
@@ -23,7 +15,7 @@ all_turns = 2 ^ 64 - 1
 -- how many turns a word of decimal digits asks for: from 1 to the most
 unfoldable pub turns_of : List ℕ → Option ℕ
 turns_of word =
-    if list_all is_digit word && (nat_le 1 (value_behind 0 word) && nat_le (value_behind 0 word) most_turns) then Some (value_behind 0 word) else None
+    if list_all is_decimal word && (nat_le 1 (value_behind 0 word) && nat_le (value_behind 0 word) most_turns) then Some (value_behind 0 word) else None
 
 -- what the words ask for: what the program says of itself, its version, a configuration that is to be read, a script that is to be
 -- run, or a configuration that is to be served, each of the last two if need be though the site shows in which order

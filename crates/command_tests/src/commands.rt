@@ -1,9 +1,7 @@
 use byte_text::ByteText;
 use http_types::Addr;
-use memory_outside::{
-    FileCall, FixedClock, LinkCall, MemoryFiles, MemoryLinks, MemorySink, ScriptedNotice,
-    StoredItem,
-};
+use memory_links::{LinkCall, MemoryLinks, ScriptedNotice};
+use memory_outside::{FileCall, FixedClock, MemoryFiles, MemorySink, StoredItem};
 use ngx_cli::ngx;
 use ngx_pattern::{CrateMaker, ListMaker};
 use std::alloc::Global;

@@ -10,7 +10,7 @@ use Rattle.site_views.specs.Values.PageTarget.{AtPath, AtLocation, AtUrl}
 use Rattle.site_whole.specs.Whole.{no_media}
 use Rattle.conf_table.specs.declared.role.Listing.TheVariants as listings
 use Rattle.conf_values.specs.Numbers.{count_to}
-use Rattle.conf_values.specs.Listening.{ipv4_of, ipv6_of}
+use Rattle.text_words.specs.Addresses.{ipv4_of, ipv6_of}
 use Rattle.conf_values.specs.Texts.{pieces_of}
 use Rattle.conf_values.specs.Returning.{code_of}
 use Rattle.conf_values.specs.Sources.{source_of}

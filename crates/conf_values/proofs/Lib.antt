@@ -1,3 +1,1 @@
-pub mod AddressLaws
-pub mod NumberLaws
 pub mod TextLaws

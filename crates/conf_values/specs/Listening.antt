@@ -1,39 +1,16 @@
 -- The values of `listen` (nginx's core module): a port, or an address and a port.
-use Rattle.std.specs.Prelude.{ℕ, ◌+◌, List, [], ◌∷◌, length, take, drop, ◌==◌, Bool, false, Option, None, Some, option_map, codes, bytes_eq, if◌then◌else◌}
-use Rattle.std.specs.List.{list_all, list_any, position_or_len}
-use Rattle.std.specs.Net.Reader.{read_ipv4, read_ipv6, whole_value}
+use Rattle.std.specs.Prelude.{ℕ, List, [], ◌∷◌, ◌==◌, Bool, false, Option, None, Some, codes, bytes_eq, if◌then◌else◌}
+use Rattle.std.specs.List.{list_all, list_any}
 use Rattle.std.specs.declared.net.ip_addr.IpAddr.{IpAddr}
-use Rattle.std.specs.declared.net.ip_addr.IpAddr.TheVariants.{V4, V6}
+use Rattle.std.specs.declared.net.ip_addr.IpAddr.TheVariants.{V4}
 use Rattle.http_types.specs.declared.words.Addr.{Addr}
+use Rattle.text_words.specs.Addresses.{ipv4_of, ipv6_of}
+use Rattle.text_words.specs.Cuts.{before_byte, behind_byte, behind_colon}
 use Rattle.conf_values.specs.Numbers.{port_of}
-
--- the text before the first byte of this value, or all of it
-abbrev pub before_byte : ℕ → List ℕ → List ℕ
-before_byte c text = take (position_or_len (λ b. b == c) text) text
-
--- the text behind the first byte of this value, if there is one
-abbrev pub behind_byte : ℕ → List ℕ → Option (List ℕ)
-behind_byte c text =
-    let at = position_or_len (λ b. b == c) text in
-    if at == length text then None else Some (drop (at + 1) text)
-
--- an IPv4 address in dotted decimals (std's grammar)
-unfoldable pub ipv4_of : List ℕ → Option IpAddr
-ipv4_of text = option_map (λ octets. V4 (record { octets = octets })) (whole_value (read_ipv4 text))
-
--- an IPv6 address (RFC 4291, 2.2), with no scope (std's grammar)
-unfoldable pub ipv6_of : List ℕ → Option IpAddr
-ipv6_of text = option_map (λ segments. V6 (record { segments = segments })) (whole_value (read_ipv6 text))
 
 -- every IPv4 address
 unfoldable pub wildcard : IpAddr
 wildcard = V4 (record { octets = 0 ∷ 0 ∷ 0 ∷ 0 ∷ [] })
-
--- what stands behind a colon that stands first
-abbrev pub behind_colon : Option (List ℕ) → Option (List ℕ)
-behind_colon None = None
-behind_colon (Some []) = None
-behind_colon (Some (b ∷ bs)) = if b == 58 then Some bs else None
 
 abbrev pub port_in : Option (List ℕ) → Option ℕ
 port_in None = None

@@ -1,15 +1,7 @@
 -- Numbers and times as the values of directives.
-use Rattle.std.specs.Prelude.{ℕ, ◌+◌, ◌*◌, ◌-◌, List, [], ◌∷◌, take, drop, ◌==◌, Bool, false, not, ◌&&◌, ◌||◌, nat_le, Option, None, Some, codes, bytes_eq, if◌then◌else◌}
+use Rattle.std.specs.Prelude.{ℕ, ◌*◌, List, [], ◌∷◌, take, drop, ◌==◌, Bool, false, not, ◌&&◌, ◌||◌, nat_le, Option, None, Some, codes, bytes_eq, if◌then◌else◌}
 use Rattle.std.specs.List.{list_all, prefix_len}
-
--- `0` to `9`
-abbrev pub is_decimal : ℕ → Bool
-is_decimal b = nat_le 48 b && nat_le b 57
-
--- the number that these digits write behind those of n
-abbrev pub value_behind : ℕ → List ℕ → ℕ
-value_behind n [] = n
-value_behind n (b ∷ bs) = value_behind (n * 10 + (b - 48)) bs
+use Rattle.text_words.specs.Digits.{is_decimal, value_behind}
 
 -- decimal digits, the first not `0`
 abbrev pub is_numeral : List ℕ → Bool

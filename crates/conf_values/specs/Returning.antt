@@ -4,7 +4,7 @@ use Rattle.std.specs.List.{starts_with}
 use Rattle.site_model.specs.declared.site.Return.{Return}
 use Rattle.conf_values.specs.declared.returned.Form.{Form}
 use Rattle.conf_values.specs.declared.returned.Form.TheVariants.{Wrong, Later, Answer}
-use Rattle.conf_values.specs.Numbers.{is_decimal}
+use Rattle.text_words.specs.Digits.{is_decimal}
 use Rattle.conf_values.specs.Texts.{pieces_of, is_text}
 
 -- a status from 200 to 599, of three digits

@@ -6,7 +6,8 @@ use Rattle.access_rules.specs.Rule.{width_of}
 use Rattle.access_rules.specs.declared.rule.Source.{Source}
 use Rattle.access_rules.specs.declared.rule.Source.TheVariants.{All, Network}
 use Rattle.conf_values.specs.Numbers.{count_to}
-use Rattle.conf_values.specs.Listening.{before_byte, behind_byte, ipv4_of, ipv6_of}
+use Rattle.text_words.specs.Addresses.{ipv4_of, ipv6_of}
+use Rattle.text_words.specs.Cuts.{before_byte, behind_byte}
 
 abbrev pub or_else : Option IpAddr → Option IpAddr → Option IpAddr
 or_else None other = other

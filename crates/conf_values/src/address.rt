@@ -1,70 +1,14 @@
 // The addresses of `listen`.
-ghost use Rattle.std.specs.Prelude.{◌≡◌, ℕ, ◌+◌, ◌≤◌, ◌==◌, List, length, take, drop, option_map};
-ghost use Rattle.std.specs.List.{list_all, list_any, position_or_len};
-ghost use Rattle.conf_values.specs.Listening.{before_byte, behind_byte, ipv4_of, ipv6_of, wildcard, behind_colon, port_in, end_of, plain_end, listened, listened_by, is_default, has_known_parameters, is_marked};
+ghost use Rattle.std.specs.Prelude.{◌≡◌, option_map};
+ghost use Rattle.std.specs.List.{list_all, list_any};
+ghost use Rattle.text_words.specs.Cuts.{behind_byte as behind};
+ghost use Rattle.conf_values.specs.Listening.{wildcard, port_in, end_of, plain_end, listened, listened_by, is_default, has_known_parameters, is_marked};
 
 use crate::number::port_of;
 use byte_text::ByteText;
 use http_types::Addr;
-use std::net::{IpAddr, Ipv4Addr, Ipv6Addr};
-
-/// How many bytes stand before the first of this value.
-fn length_before(bytes: &[u8], byte: u8) -> usize
-    ensures place { result ≡ position_or_len (λ b. b == byte) bytes.now }
-    ensures within { result ≤ length bytes.now }
-{
-    for (i, b) in bytes.iter().enumerate() {
-        if *b == byte {
-            return i;
-        }
-    }
-    bytes.len()
-}
-
-/// The text before the first byte of this value, or all of it.
-pub fn before_byte(text: &[u8], byte: u8) -> &[u8]
-    ensures { result.now ≡ before_byte byte text.now }
-{
-    let at = length_before(text, byte);
-    &text[..at]
-}
-
-/// The bytes from this place on.
-fn bytes_from(bytes: &[u8], at: usize) -> &[u8]
-    requires { at ≤ length bytes.now }
-    ensures { result.now ≡ drop at bytes.now }
-{
-    &bytes[at..]
-}
-
-/// The text behind the first byte of this value, if there is one.
-pub fn behind_byte(text: &[u8], byte: u8) -> Option<&[u8]>
-    ensures { option_map (λ t. t.now) result ≡ behind_byte byte text.now }
-{
-    let at = length_before(text, byte);
-    if at == text.len() {
-        return None;
-    }
-    Some(bytes_from(text, at + 1))
-}
-
-pub fn ipv4_of(text: &[u8]) -> Option<IpAddr>
-    ensures { result ≡ ipv4_of text.now }
-{
-    match Ipv4Addr::parse_ascii(text) {
-        Ok(ip) => Some(IpAddr::V4(ip)),
-        Err(_error) => None,
-    }
-}
-
-pub fn ipv6_of(text: &[u8]) -> Option<IpAddr>
-    ensures { result ≡ ipv6_of text.now }
-{
-    match Ipv6Addr::parse_ascii(text) {
-        Ok(ip) => Some(IpAddr::V6(ip)),
-        Err(_error) => None,
-    }
-}
+use std::net::{IpAddr, Ipv4Addr};
+use text_words::{before_byte, behind_byte, behind_colon, ipv4_of, ipv6_of};
 
 /// Every IPv4 address.
 #[tactic(auto, unfolding(crate::specs::Listening::wildcard))]
@@ -72,19 +16,6 @@ pub fn wildcard() -> IpAddr
     ensures { result ≡ wildcard }
 {
     IpAddr::V4(Ipv4Addr::new(0, 0, 0, 0))
-}
-
-/// What stands behind a colon that stands first.
-fn behind_colon(text: Option<&[u8]>) -> Option<&[u8]>
-    ensures { option_map (λ t. t.now) result ≡ behind_colon (option_map (λ t. t.now) text.entry) }
-{
-    match text {
-        None => None,
-        Some(text) => match text {
-            [] => None,
-            [first, rest @ ..] => { if *first == b':' { Some(rest) } else { None } }
-        },
-    }
 }
 
 fn port_in(text: Option<&[u8]>) -> Option<u16>
@@ -108,7 +39,7 @@ fn end_of(ip: Option<IpAddr>, port: Option<u16>) -> Option<Addr>
 
 /// `ADDRESS:PORT`, or a port of every IPv4 address.
 fn plain_end(text: &[u8]) -> Option<Addr>
-    ensures { result ≡ plain_end (behind_byte 58 text.now) text.now }
+    ensures { result ≡ plain_end (behind 58 text.now) text.now }
 {
     match behind_byte(text, b':') {
         None => end_of(Some(wildcard()), port_of(text)),

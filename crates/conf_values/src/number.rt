@@ -1,21 +1,10 @@
 // Numbers and times.
-ghost use Rattle.std.specs.Prelude.{◌≡◌, ℕ, ◌^◌, ◌<◌, ◌≤◌, length, IfSome, MatchOption};
+ghost use Rattle.std.specs.Prelude.{◌≡◌, ◌<◌, ◌≤◌, length, IfSome};
 ghost use Rattle.std.specs.Option.{ForSome};
-ghost use Rattle.std.specs.List.{list_all};
-ghost use Rattle.conf_values.specs.Numbers.{is_decimal as decimal, is_numeral, value_behind, port_of, count_to, count_of, unit_of, digits_before, in_units, time_of, bytes_of, size_to, size_of};
+ghost use Rattle.text_words.specs.Digits.{value_behind};
+ghost use Rattle.conf_values.specs.Numbers.{is_numeral, port_of, count_to, count_of, unit_of, digits_before, in_units, time_of, bytes_of, size_to, size_of};
 
-/// `0` to `9`.
-pub fn is_decimal(byte: u8) -> bool
-    ensures { result ≡ decimal byte }
-{
-    48 <= byte && byte <= 57
-}
-
-fn are_decimal(text: &[u8]) -> bool
-    ensures { result ≡ list_all decimal text.now }
-{
-    text.iter().all(|b| 48 <= *b && *b <= 57)
-}
+use text_words::{are_decimal, is_decimal, value_of};
 
 fn is_numeral(text: &[u8]) -> bool
     ensures { result ≡ is_numeral text.now }
@@ -24,23 +13,6 @@ fn is_numeral(text: &[u8]) -> bool
         [] => false,
         [first, ..] => are_decimal(text) && *first != b'0',
     }
-}
-
-/// The number that digits write, or nothing where it is past the type's end.
-fn value_of(digits: &[u8]) -> Option<u64>
-    ensures { MatchOption result (2 ^ 64 ≤ value_behind 0 digits.now) (λ n. n ≡ value_behind 0 digits.now) }
-{
-    let mut value: u64 = 0;
-    for b in digits {
-        let Some(tens) = value.checked_mul(10) else {
-            return None;
-        };
-        let Some(more) = tens.checked_add(u64::from(b.saturating_sub(48))) else {
-            return None;
-        };
-        value = more;
-    }
-    Some(value)
 }
 
 /// A port from 1 to 65535, with no leading zero.

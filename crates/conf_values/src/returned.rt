@@ -4,13 +4,13 @@ ghost use Rattle.conf_values.specs.Returning.{code_of, is_url, is_special, form_
 ghost use Rattle.conf_values.specs.TextSet.{holds};
 ghost use Rattle.conf_values.specs.Texts.{pieces_of};
 
-use crate::number::is_decimal;
 use crate::text::{is_text, value_of};
 use crate::text_set::TextSet;
 use byte_text::{ByteText, OutOfMemory};
 use ngx_variables::Value;
 use site_model::Return;
 use std::alloc::Global;
+use text_words::is_decimal;
 
 /// What the words of a `return` are: no value of it, one that is not served yet, or a code that is answered.
 #[derive(Clone, Copy)]

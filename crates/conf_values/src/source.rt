@@ -1,13 +1,13 @@
 // The words of `allow` and `deny`.
 ghost use Rattle.std.specs.Prelude.{◌≡◌};
 ghost use Rattle.access_rules.specs.Rule.{width_of};
-ghost use Rattle.conf_values.specs.Listening.{behind_byte as behind};
+ghost use Rattle.text_words.specs.Cuts.{behind_byte as behind};
 ghost use Rattle.conf_values.specs.Sources.{ip_of, bits_of, host_of, network_with, network_of, by_slash, source_of};
 
-use crate::address::{before_byte, behind_byte, ipv4_of, ipv6_of};
 use crate::number::count_to;
 use access_rules::Source;
 use std::net::IpAddr;
+use text_words::{before_byte, behind_byte, ipv4_of, ipv6_of};
 
 fn width_of(ip: IpAddr) -> u8
     ensures { result ≡ width_of ip }

@@ -1,9 +1,11 @@
 -- A response in flight goes on.
-use Rattle.std.proofs.Common.{◌≡◌, ℕ, Bool, true, List, Option, None, Some, refl, subst}
+use Rattle.std.proofs.Common.{◌≡◌, ℕ, Bool, true, List, Option, None, Some, refl, sym, subst}
 use Rattle.std.proofs.Math.Logic.{∥∥₁_elim, ∥∥₁_map}
 use Rattle.std.proofs.Props.{props}
 use Rattle.file_tree.specs.Tree.{Trees}
-use Rattle.ngx_outside.specs.Views.{Log}
+use Rattle.std.specs.Prelude.{is_some}
+use Rattle.file_tree.specs.declared.job.Ask.{Ask}
+use Rattle.ngx_outside.specs.Views.{Log, ask_in}
 use Rattle.site_model.specs.declared.site.Site.{Site}
 use Rattle.request_meaning.specs.Laws.{shipped}
 use Rattle.request_phases.specs.declared.ground.Ground.{Ground}
@@ -17,7 +19,7 @@ use Rattle.response_flow.specs.declared.flight.Ran.TheVariants.{On, TooMany}
 use Rattle.response_flow.specs.Continues.{Continues, IfOn, RunsOn, is_over}
 use Rattle.ngx_pattern.specs.Pattern.{Pattern as SetPattern}
 use Rattle.request_meaning.specs.Serving.{World}
-use Rattle.response_flow.specs.Flights.{FlightReached, FlightServedBy, flight_length, flight_rest, flight_server}
+use Rattle.response_flow.specs.Flights.{FlightReached, FlightServedBy, flight_length, flight_rest, flight_server, jobs_of}
 use Rattle.served_site.specs.Served.{raw_server}
 use Rattle.http_connection.specs.Rests.{AreRaceless, IsReachedIn, ReachedIn, Serves, TellsRaceless, rest_in, world_of}
 use Rattle.http_connection.proofs.Moves.{Keeps, keeps_prop}
@@ -40,6 +42,25 @@ pub told_reached : (x : Serves) (was : Option Flight) (flight flight' : Flight) 
 told_reached x was flight flight' is' is p by goes led =
     ∥∥₁_map led (λ (r : ReachedIn x was). let a = subst (ReachedIn x) is r in subst (ReachedIn x) p (reached_by x (flight_server flight) (flight_length flight) (Some flight') by a.1 (goes a.0)))
 
+-- what has a job that waits is in flight; and what is in flight is there
+pub flies_by : (was : Option Flight) (node : ℕ) (job : Ask) → ask_in (jobs_of was) node ≡ Some job → (flight : Flight) × (was ≡ Some flight)
+flies_by None node job e = cc
+flies_by (Some flight) node job e = (flight, refl)
+
+pub flight_of : (is : Option Flight) → is_some is ≡ true → (flight : Flight) × (Some flight ≡ is)
+flight_of None e = cc
+flight_of (Some flight) e = (flight, refl)
+
+-- its job was answered in its place
+pub told_in_place : (x : Serves) (was : Option Flight) (flight told : Flight) (is' : Option Flight) (out out' : List ℕ) (closing : Bool) (trees : Trees) → was ≡ Some flight → Some told ≡ is' →
+    (FlightReached (world_of x flight) x.patterns x.served.site was → Continues x.served.site (flight_rest (world_of x flight) x.patterns x.served.site was trees) (flight_rest (world_of x flight) x.patterns x.served.site is' trees) out out' closing closing None None) →
+    FlightReached (world_of x flight) x.patterns x.served.site (Some flight) → Continues x.served.site (rest_in x (Some flight) trees) (rest_at x (flight_server flight) (flight_length flight) (Some told) trees) out out' closing closing None None
+told_in_place x was flight told is' out out' closing trees is p h reached =
+    let w = world_of x flight in
+    let site = x.served.site in
+    subst (λ f. Continues site (flight_rest w x.patterns site (Some flight) trees) (flight_rest w x.patterns site f trees) out out' closing closing None None) (sym p)
+    (subst (λ f. FlightReached w x.patterns site f → Continues site (flight_rest w x.patterns site f trees) (flight_rest w x.patterns site is' trees) out out' closing closing None None) is h reached)
+
 -- what became of a response that ran
 pub on_by : (P : Onward → Type 0) (ran : Ran) (o : Onward) → ran ≡ On o → IfOn ran P → P o
 on_by P ran o is h = subst (λ r. IfOn r P) is h
@@ -50,6 +71,13 @@ on_runs w patterns site trees before out out' closing ran o is h = subst (RunsOn
 
 pub over_runs : (w : World) (patterns : List SetPattern) (site : Site) (trees : Trees) (before : Rest) (out out' : List ℕ) (closing : Bool) (ran : Ran) → ran ≡ TooMany → RunsOn w patterns site trees before out out' closing ran → is_over before ≡ true
 over_runs w patterns site trees before out out' closing ran is h = subst (RunsOn w patterns site trees before out out' closing) is h
+
+-- what ran in its place, said of the flight that was there
+pub runs_of : (w : World) (patterns : List SetPattern) (site : Site) (trees : Trees) (was : Option Flight) (flight : Flight) (out out' : List ℕ) (closing : Bool) (ran : Ran) → was ≡ Some flight →
+    (FlightReached w patterns site was → RunsOn w patterns site trees (flight_rest w patterns site was trees) out out' closing ran) →
+    FlightReached w patterns site (Some flight) → RunsOn w patterns site trees (flight_rest w patterns site (Some flight) trees) out out' closing ran
+runs_of w patterns site trees was flight out out' closing ran is h =
+    subst (λ f. FlightReached w patterns site f → RunsOn w patterns site trees (flight_rest w patterns site f trees) out out' closing ran) is h
 
 -- A node runs over a ground, which is that of the response's server.
 pub record Runs (x : Serves) (g : Ground) (was : Option Flight) (flight : Flight) : Type 0 where

@@ -17,7 +17,7 @@ use file_tree::{JobAnswer, is_fitting};
 use ngx_outside::{StepAnswer, StopCause};
 use req_head::{HeadRoom, head_stays, refusal_stays, size_fits};
 use request_flow::Workspace;
-use response_flow::{Ran, answered, length_of, run_on, server_of, written};
+use response_flow::{Passed, Ran, answered, length_of, run_in_place, server_of, written};
 use served_site::ServedSite;
 use std::alloc::Global;
 
@@ -128,12 +128,8 @@ impl Conn {
             None => return StepAnswer::Skipped,
         }
         let before = sending(&self.flight, &self.out);
-        let Some(flight) = self.flight.take() else {
-            return StepAnswer::Skipped;
-        };
-        match answered(alloc, flight, node, &mut self.out, answer) {
-            Ok(flight) => {
-                put(&mut self.flight, Some(flight));
+        match answered(alloc, &mut self.flight, node, &mut self.out, answer) {
+            Ok(()) => {
                 let after = sending(&self.flight, &self.out);
                 self.times.mark = marked(self.times.mark, moment, before, after);
                 StepAnswer::Done { taken: 0 }
@@ -195,12 +191,19 @@ impl Conn {
         ensures patterns { space.new.patterns ≡ space.old.patterns }
     {
         let before = sending(&self.flight, &self.out);
-        let Some(flight) = self.flight.take() else {
-            unreachable!()
+        let ground = match &self.flight {
+            Some(flight) => served.ground(server_of(flight), length_of(flight)),
+            None => unreachable!(),
         };
-        let ground = served.ground(server_of(&flight), length_of(&flight));
-        match run_on(space, &ground, flight, node, &mut self.out, self.closing) {
-            Ok(Ran::TooMany) => {
+        match run_in_place(
+            space,
+            &ground,
+            &mut self.flight,
+            node,
+            &mut self.out,
+            self.closing,
+        ) {
+            Ok(Passed::TooMany) => {
                 put(&mut self.flight, None);
                 self.out.clear();
                 self.cause = Some(StopCause::SubLimit {
@@ -209,10 +212,15 @@ impl Conn {
                 self.times.mark = marked(self.times.mark, moment, before, AT_REST);
                 StepAnswer::Done { taken: 0 }
             }
-            Ok(Ran::On(onward)) => {
-                finish(&mut self.journal, onward.log);
-                put(&mut self.flight, onward.flight);
-                self.closing = onward.closing;
+            Ok(
+                Passed::On {
+                    closing,
+                    log,
+                    level,
+                },
+            ) => {
+                finish(&mut self.journal, log);
+                self.closing = closing;
                 let after = sending(&self.flight, &self.out);
                 self.times.mark = marked(self.times.mark, moment, before, after);
                 paced_on(
@@ -220,7 +228,7 @@ impl Conn {
                     &mut self.least,
                     self.times.head,
                     served,
-                    onward.level,
+                    level,
                 );
                 StepAnswer::Done { taken: 0 }
             }

@@ -1,16 +1,9 @@
--- What links and files in memory tell of their answers.
+-- What files in memory tell of their answers.
 use Rattle.std.specs.Prelude.{ℕ, Bool, true, false, List, map, Option, None, Some}
-use Rattle.ngx_outside.specs.Records.{LinkAnswer, Noticed, Read, Written, FileAnswer, Stood, Held, Failed}
+use Rattle.ngx_outside.specs.Records.{FileAnswer, Stood, Held, Failed}
 use Rattle.memory_outside.specs.declared.answers.Answers.{Answers}
-use Rattle.memory_outside.specs.declared.answers.LinkTold.{LinkTold}
-use Rattle.memory_outside.specs.declared.answers.LinkTold.TheVariants as link
 use Rattle.memory_outside.specs.declared.answers.FileTold.{FileTold}
 use Rattle.memory_outside.specs.declared.answers.FileTold.TheVariants as file
-
-abbrev pub link_answer : LinkTold → LinkAnswer
-link_answer (link.Noticed notice) = Noticed notice
-link_answer (link.Read id input bytes) = Read id input bytes
-link_answer (link.Written id output) = Written id output
 
 abbrev pub file_answer : FileTold → FileAnswer
 file_answer (file.Stood node) = Stood node
@@ -21,9 +14,6 @@ file_answer file.Failed = Failed
 abbrev pub told_by : {A B : Type 0} → (A → B) → Bool → List A → Option (List B)
 told_by f true kept = Some (map f kept)
 told_by f false kept = None
-
-abbrev pub links_told : Answers LinkTold → Option (List LinkAnswer)
-links_told a = told_by link_answer a.whole a.kept.items
 
 abbrev pub files_told : Answers FileTold → Option (List FileAnswer)
 files_told a = told_by file_answer a.whole a.kept.items

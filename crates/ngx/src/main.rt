@@ -1,9 +1,13 @@
 //! `ngx`: the request engine of nginx, verified.
 #![tactic(auto)]
 
+mod usage;
+
+use crate::usage::tell_usage;
 use ngx_cli::ngx;
 use ngx_pattern::CrateMaker;
 use socket_links::{ListenFault, SocketLinks, SystemClock};
+use std::alloc::Global;
 use std::fs::Files;
 use std::io::{Eprint, ErrorKind};
 use std::net::SocketAddr;
@@ -23,14 +27,6 @@ const FILES_FAULT: u8 = 4;
 const LISTEN_FAULT: u8 = 6;
 
 const OUT_OF_MEMORY: u8 = 7;
-
-/// How the program is called.
-const USAGE: &str =
-    "usage: ngx check CONF\n       ngx serve CONF [--turns N] [--racy]\n       ngx replay SCRIPT [--racy]\n       ngx --help | --version";
-
-fn is_command(word: &str) -> bool {
-    word == "check" || word == "serve" || word == "replay"
-}
 
 // Says why a file can't be read, if it can't.
 fn tell_unread<R: Files + Eprint>(rt: &R, path: &str) -> io::Result<()> {
@@ -54,27 +50,16 @@ fn tell_unheard<R: Eprint>(rt: &R, fault: ListenFault) -> io::Result<()> {
     eprintln!(rt; "ngx: listening on {addr}: {error}")
 }
 
-// Says what the words lack, and how the program is called.
-fn tell_usage<R: Eprint>(rt: &R, words: &[String]) -> io::Result<()> {
-    match words {
-        [] | [_] => eprintln!(rt; "ngx: no command is given")?,
-        [_, word, ..] if is_command(word.as_str()) => {
-            eprintln!(rt; "ngx: {word}: other words than it takes")?;
-        }
-        [_, word, ..] => eprintln!(rt; "ngx: {word}: no such command")?,
-    }
-    eprintln!(rt; "{USAGE}")
-}
-
 // Says on standard error what the system said, where the program ended for that, or how it is called.
 fn tell_why<R: Files + Eprint>(
     rt: &R,
+    alloc: Global,
     code: u8,
     words: &[String],
     unheard: Option<ListenFault>,
 ) -> io::Result<()> {
     match (code, words.get(2), unheard) {
-        (USAGE_FAULT, _, _) => tell_usage(rt, words),
+        (USAGE_FAULT, _, _) => tell_usage(rt, alloc, words),
         (CONF_FAULT | FILES_FAULT, Some(path), _) => tell_unread(rt, path.as_str()),
         (LISTEN_FAULT, _, Some(fault)) => tell_unheard(rt, fault),
         _ => Ok(()),
@@ -121,7 +106,9 @@ fn main(rt: HostRuntime) -> io::Result<ExitCode> {
             return Ok(ExitCode::from(OUT_OF_MEMORY));
         }
         Err(_) => {
-            let _told = eprintln!(rt; "ngx: a word isn't UTF-8\n{USAGE}");
+            let _told = eprintln!(rt;
+                "error: a word isn't UTF-8\n\nFor more information, try '--help'."
+            );
             return Ok(ExitCode::from(USAGE_FAULT));
         }
     };
@@ -147,6 +134,6 @@ fn main(rt: HostRuntime) -> io::Result<ExitCode> {
     let code = ngx(
         alloc, &words, &mut files, &mut links, &mut clock, &mut maker, &mut out,
     );
-    let _told = tell_why(&rt, code, &words, links.listen_fault());
+    let _told = tell_why(&rt, alloc, code, &words, links.listen_fault());
     Ok(ExitCode::from(code))
 }

@@ -1,5 +1,5 @@
 -- A body that is kept: its request comes to an answer below 400 however it goes on.
-use Rattle.std.proofs.Common.{ℕ, List, refl}
+use Rattle.std.proofs.Common.{ℕ, List, [], ◌∷◌, refl}
 use Rattle.acts.specs.Vars.{Vars, look, set}
 use Rattle.acts.specs.Act.{Done, Get, Put, Stat, Call, Write, Inner, ◌>>=◌}
 use Rattle.file_tree.specs.Tree.{Tree}
@@ -8,6 +8,7 @@ use Rattle.request_meaning.specs.Replies.{Came, run, reply}
 use Rattle.family_meaning.specs.Line.{rest, reply_of, has_node}
 use Rattle.family_meaning.specs.Line.Line.{Nil, Held, Gives}
 use Rattle.family_meaning.specs.Moves.{AllEnd, IsGood, KeepsBody}
+use Rattle.node_line.specs.Stances.{under}
 
 run_ends : (P : Answer → Type 0) (tree : Tree) (inner : Child → Vars → Came Answer) (m : Serving Answer) (vars : Vars) → AllEnd P m → P (run tree inner m vars).result
 unfolding run
@@ -28,6 +29,17 @@ keeps_body w tree bytes node left m h = record {
   node = refl;
   good = λ vars. record { answer = (run tree (reply w tree left) m vars).result; there = refl; good = run_ends IsGood tree (reply w tree left) m vars h };
 }
+
+-- and before which they wait one by one
+pub keeps_under : (w : World) (tree : Tree) (bytes : List ℕ) (node left : ℕ) (m : Serving Answer) → AllEnd IsGood m → KeepsBody w tree (under bytes (Gives node left m Nil))
+unfolding rest has_node under
+keeps_under w tree [] node left m h = record {
+  node = refl;
+  good = λ vars. record { answer = (run tree (reply w tree left) m vars).result; there = refl; good = run_ends IsGood tree (reply w tree left) m vars h };
+}
+keeps_under w tree (b ∷ bytes) node left m h =
+    let k = keeps_under w tree bytes node left m h in
+    record { node = k.node; good = λ vars. record { answer = (k.good vars).answer; there = (k.good vars).there; good = (k.good vars).good } }
 
 -- one act and then another that ends so
 pub all_then : {X : Type 0} (P : Answer → Type 0) (m : Serving X) (k : X → Serving Answer) → ((x : X) → AllEnd P (k x)) → AllEnd P (m >>= k)

@@ -1,5 +1,5 @@
 -- A body that is shown in any case.
-use Rattle.std.proofs.Common.{◌≡◌, ◌≢◌, ℕ, zero, suc, ◌<◌, ◌&&◌, Bool, true, false, nat_le, nat_lt, List, [], ◌∷◌, length, take, drop, Option, None, Some, refl, ap, length-drop, arith}
+use Rattle.std.proofs.Common.{◌≡◌, ◌≢◌, ℕ, zero, suc, ◌<◌, ◌&&◌, Bool, true, false, nat_le, nat_lt, List, [], ◌∷◌, length, take, drop, Option, None, Some, refl, sym, ap, subst, length-drop, arith}
 use Rattle.std.proofs.lemmas.Bool.{eqb-true}
 use Rattle.std.proofs.lemmas.Bool.Decides.{nat_tests}
 use Rattle.std.proofs.lemmas.List.{nil_from_length}
@@ -13,14 +13,15 @@ use Rattle.family_meaning.specs.Moves.{AllEnd, IsGood}
 use Rattle.family_meaning.specs.Suspended.{document_rest}
 use Rattle.std.specs.Global.{Box}
 use Rattle.page_body.specs.declared.page.Page.{Page}
-use Rattle.node_turn.specs.Nodes.{answer_seen, asked_path, later, hand, lent, page_at, placed_act, stage_act}
-use Rattle.node_turn.specs.Stages.{hand_at, node_act}
+use Rattle.node_turn.specs.Nodes.{answer_seen, asked_path, later, hand, lent, page_at, placed_act, served_act, stage_act}
+use Rattle.node_turn.specs.Stages.{hand_at, is_capturing, node_act}
+use Rattle.node_turn.specs.declared.node.Body.{Body}
 use Rattle.node_turn.specs.declared.node.Node.{Node}
 use Rattle.node_turn.specs.declared.node.Place.{Place}
 use Rattle.node_turn.specs.declared.node.Place.TheVariants.{Row, Stub, Captured}
 use Rattle.node_turn.specs.declared.node.Stage.{Stage}
 use Rattle.node_turn.specs.declared.node.Stage.TheVariants as stages
-use Rattle.node_line.specs.Stubs.{joins_at, shows}
+use Rattle.node_line.specs.Stubs.{IsKept, joins_at, shows}
 use Rattle.node_line.proofs.Keeping.{all_then}
 
 left_of : (a b : Bool) → (a && b) ≡ true → a ≡ true
@@ -35,7 +36,7 @@ right_of false b e = cc
 pub fresh : (place : Place) → joins_at place ≡ true → (stub : List ℕ) × (place ≡ Stub stub [])
 fresh Row e = cc
 fresh (Stub stub text) e = (stub, ap (Stub stub) (nil_from_length text (eqb-true (length text) 0 e)))
-fresh (Captured text) e = cc
+fresh (Captured stub text) e = cc
 
 -- some bytes are at hand
 some_in : (xs : List ℕ) (count : ℕ) → count ≢ 0 → 0 < length xs → take count xs ≢ []
@@ -83,6 +84,23 @@ stage_good w patterns site p left path (stages.Serves b) text e = cc
 stage_good w patterns site p left path (stages.Reads b) text e = cc
 stage_good w patterns site p left path (stages.Captures c) text e = cc
 stage_good w patterns site p left path (stages.Ends a) text e = cc
+
+-- at its page too
+served_good : (w : World) (site : Site) (p : Phases) (left : ℕ) (answer : Answer) (page : Option (Box Page)) (text : List ℕ) → IsGood answer → AllEnd IsGood (served_act w site p left answer page text)
+served_good w site p left answer None text h = h
+served_good w site p left answer (Some page) text h = page_good w site p left answer page.value text h
+
+pub kept : (n : Node) (b : Box Body) → n.stage ≡ stages.Serves b → joins_at n.place ≡ true → nat_lt b.value.answered.status 400 ≡ true → IsKept n
+kept n b stage none e =
+    let is = fresh n.place none in
+    record {
+      stub = is.0;
+      place = is.1;
+      free = ap is_capturing stage;
+      good = λ w patterns site main text.
+          subst (λ s. AllEnd IsGood (stage_act w patterns site (lent main n.phases) n.left (asked_path n.ask) s text)) (sym stage)
+          (served_good w site (lent main n.phases) n.left (answer_seen site (lent main n.phases) b.value.answered) b.value.page (later b.value text) (low b.value.answered.status e));
+    }
 
 pub ends_good : (w : World) (patterns : List SetPattern) (site : Site) (main : Main) (n : Node) (text : List ℕ) → shows n.stage ≡ true → AllEnd IsGood (node_act w patterns site main n text)
 ends_good w patterns site main n text e = stage_good w patterns site (lent main n.phases) n.left (asked_path n.ask) n.stage text e

@@ -7,11 +7,11 @@ use Rattle.file_tree.specs.Tree.{Tree, Item}
 use Rattle.postpone_filter.specs.Row.{is_open, appended}
 use Rattle.request_meaning.specs.Serving.{World, Serving, Answer, Child, Reply}
 use Rattle.request_meaning.specs.Replies.{or_stub, script}
-use Rattle.family_meaning.specs.Line.{joined, opened, reply_of, with_bytes, with_stub, ended as line_reply}
-use Rattle.family_meaning.specs.Line.Line.{Nil, Held, Gives}
-use Rattle.family_meaning.specs.Moves.{Quiet, AllEnd, IsGood, KeepsBody, Thinks as LineThinks}
-use Rattle.family_meaning.specs.Moves.Thinks.{Here, Reads as LineReads, ThereHeld}
-use Rattle.family_meaning.specs.Moves.Quiet.{Learns as LineLearns, Places as LinePlaces, Placed as LinePlaced, Merges as LineMerges, PastHeld}
+use Rattle.family_meaning.specs.Line.{Line, has_node, joined, opened, reply_of, with_bytes, with_stub, ended as line_reply}
+use Rattle.family_meaning.specs.Line.Line.{Nil, Held, Gives, Waits, Stubs}
+use Rattle.family_meaning.specs.Moves.{Quiet, Moves, AllEnd, IsGood, KeepsBody, Thinks as LineThinks}
+use Rattle.family_meaning.specs.Moves.Thinks.{Here, Reads as LineReads, ThereHeld, InWait, InStub}
+use Rattle.family_meaning.specs.Moves.Quiet.{Learns as LineLearns, Places as LinePlaces, Placed as LinePlaced, Merges as LineMerges, Opens as LineOpens, Asks as LineAsks, Hears as LineHears, Leaves as LineLeaves, Keeps as LineKeeps, PastHeld, Within as WithinWait, WithinStub as WithinLineStub}
 use Rattle.family_meaning.specs.Moves.Moves.{Quietly, ByTable}
 use Rattle.family_order.specs.Acts.{Does, Acts, Goes}
 use Rattle.family_order.specs.Acts.Acts.{Thinks, Reads, Learns, Places, Placed, Merges, Opens, Asks, Within, Hears, Ends, WithinStub, Decides}
@@ -19,15 +19,17 @@ use Rattle.family_order.specs.Acts.Goes.{Stays, Acting, Alike, Leaving}
 use Rattle.family_order.specs.Items.{Stance, stance_by, Family, IsWell, IsAlike, with_stance, doing, placing, opening, ending}
 use Rattle.family_order.specs.Items.Stance.{Going, Waiting, Apart}
 use Rattle.family_order.specs.Laws.{ShowsTheSame}
-use Rattle.node_line.proofs.Joins.{joins}
+use Rattle.node_line.proofs.Joins.{joins, joins_under, under_front}
 use Rattle.family_order.proofs.Wells.{well-doing}
 use Rattle.family_rest.specs.Laws.{IsQuiet}
-use Rattle.family_rest.specs.Opened.{opened_by, opened_going, opened_quietly}
+use Rattle.family_rest.specs.Opened.{opened_by, opened_going, opened_move, opened_quietly}
 use Rattle.node_turn.specs.Turns.{Works, PlacesAs}
 use Rattle.node_turn.specs.Turns.Works.{Rests as WorksRest, Reads as WorksRead, Placed as WorksPlaced, Merges as WorksMerge}
-use Rattle.node_line.specs.Stances.{Opening, Seat, alone_line, stance_at, stance_so, place_by}
-use Rattle.node_line.specs.Stances.Seat.{InRow, Beside, Below}
-use Rattle.node_line.proofs.Keeping.{keeps_body}
+use Rattle.node_line.specs.Stances.{Opening, Own, Seat, Spot, filling, owned, place_by, stance_at, stance_so, under}
+use Rattle.node_line.specs.Stances.Own.{Beside, Below}
+use Rattle.node_line.specs.Stances.Seat.{InRow, Inside}
+use Rattle.node_line.specs.Stances.Spot.{Whole, Behind, For, Stubbed}
+use Rattle.node_line.proofs.Keeping.{keeps_body, keeps_under}
 
 then_goes : {w : World} {tree : Tree} {a b c : Family} {v v' v'' : Vars} → Goes w tree a v b v' → Goes w tree b v' c v'' → Goes w tree a v c v''
 then_goes Stays h = h
@@ -68,52 +70,60 @@ same_count e o = record { goes = o.goes; opens = o.opens ∙ e }
 pub eq_self : (n : ℕ) → (n == n) ≡ true
 eq_self n = grind (arith, nat_tests)
 
--- ---- a line of one node
+-- ---- a line within others
 
-module _ (node left : ℕ) where
-  line_thinks : (text : List ℕ) (m : Serving Answer) (vars : Vars) → LineThinks (alone_line text node left m) vars (alone_line text node left (settled m vars).0) (settled m vars).1
-  unfolding alone_line
-  line_thinks [] m vars = Here
-  line_thinks (b ∷ text) m vars = ThereHeld (line_thinks text m vars)
+under_thinks : (bytes : List ℕ) (a b : Line) (vars vars' : Vars) → LineThinks a vars b vars' → LineThinks (under bytes a) vars (under bytes b) vars'
+unfolding under
+under_thinks [] a b vars vars' t = t
+under_thinks (c ∷ bytes) a b vars vars' t = ThereHeld (under_thinks bytes a b vars vars' t)
 
-  line_reads : (text : List ℕ) (name : List ℕ) (k : Option (List ℕ) → Serving Answer) (vars : Vars) → LineThinks (alone_line text node left (Get name k)) vars (alone_line text node left (k (look vars name))) vars
-  unfolding alone_line
-  line_reads [] name k vars = LineReads
-  line_reads (b ∷ text) name k vars = ThereHeld (line_reads text name k vars)
+pub spot_thinks : (s : Spot) (a b : Line) (vars vars' : Vars) → LineThinks a vars b vars' → LineThinks (filling s a) vars (filling s b) vars'
+spot_thinks Whole a b vars vars' t = t
+spot_thinks (Behind bytes s) a b vars vars' t = spot_thinks s (under bytes a) (under bytes b) vars vars' (under_thinks bytes a b vars vars' t)
+spot_thinks (For node left k rest s) a b vars vars' t = spot_thinks s (Waits node a left k rest) (Waits node b left k rest) vars vars' (InWait t)
+spot_thinks (Stubbed stub rest s) a b vars vars' t = spot_thinks s (Stubs a stub rest) (Stubs b stub rest) vars vars' (InStub t)
 
-  -- a step that neither reads nor writes a variable, by which none is opened
-  pub record Small (w : World) (tree : Tree) (m n : Serving Answer) : Type 0 where
-    pub quiet : Quiet w tree (Gives node left m Nil) (Gives node left n Nil)
-    pub none : opened_quietly quiet ≡ 0
+module _ (w : World) (tree : Tree) where
+  -- a step that neither reads nor writes a variable, by which this many are opened
+  pub record Step (count : ℕ) (a b : Line) : Type 0 where
+    pub quiet : Quiet w tree a b
+    pub counts : opened_quietly quiet ≡ count
 
-  line_quiet : (w : World) (tree : Tree) (text : List ℕ) (m n : Serving Answer) → Quiet w tree (Gives node left m Nil) (Gives node left n Nil) → Quiet w tree (alone_line text node left m) (alone_line text node left n)
-  unfolding alone_line
-  line_quiet w tree [] m n q = q
-  line_quiet w tree (b ∷ text) m n q = PastHeld (line_quiet w tree text m n q)
+  under_quiet : (count : ℕ) (bytes : List ℕ) (a b : Line) → Step count a b → Step count (under bytes a) (under bytes b)
+  unfolding under
+  under_quiet count [] a b q = q
+  under_quiet count (c ∷ bytes) a b q = let r = under_quiet count bytes a b q in record { quiet = PastHeld r.quiet; counts = r.counts }
 
-  line_none : (w : World) (tree : Tree) (text : List ℕ) (m n : Serving Answer) (q : Quiet w tree (Gives node left m Nil) (Gives node left n Nil)) → opened_quietly q ≡ 0 →
-      opened_quietly (line_quiet w tree text m n q) ≡ 0
-  unfolding alone_line line_quiet
-  line_none w tree [] m n q e = e
-  line_none w tree (b ∷ text) m n q e = line_none w tree text m n q e
+  pub spot_quiet : (count : ℕ) (s : Spot) (a b : Line) → Step count a b → Step count (filling s a) (filling s b)
+  spot_quiet count Whole a b q = q
+  spot_quiet count (Behind bytes s) a b q = spot_quiet count s (under bytes a) (under bytes b) (under_quiet count bytes a b q)
+  spot_quiet count (For node left k rest s) a b q = spot_quiet count s (Waits node a left k rest) (Waits node b left k rest) (record { quiet = WithinWait q.quiet; counts = q.counts })
+  spot_quiet count (Stubbed stub rest s) a b q = spot_quiet count s (Stubs a stub rest) (Stubs b stub rest) (record { quiet = WithinLineStub q.quiet; counts = q.counts })
 
   -- a byte is placed
-  line_places : (w : World) (tree : Tree) (text : List ℕ) (b : ℕ) (more : List ℕ) (m : Serving Answer) →
-      Quiet w tree (alone_line text node left (Write (b ∷ more) m)) (alone_line (text ++ b ∷ []) node left (Write more m))
-  unfolding alone_line
-  line_places w tree [] b more m = LinePlaces {some = b ∷ []} {more = more}
-  line_places w tree (c ∷ text) b more m = PastHeld (line_places w tree text b more m)
+  line_places : (text : List ℕ) (b : ℕ) (more : List ℕ) (node left : ℕ) (m : Serving Answer) (rest : Line) →
+      Step 0 (under text (Gives node left (Write (b ∷ more) m) rest)) (under (text ++ b ∷ []) (Gives node left (Write more m) rest))
+  unfolding under
+  line_places [] b more node left m rest = record { quiet = LinePlaces {some = b ∷ []} {more = more}; counts = refl }
+  line_places (c ∷ text) b more node left m rest = let q = line_places text b more node left m rest in record { quiet = PastHeld q.quiet; counts = q.counts }
 
-  line_places_none : (w : World) (tree : Tree) (text : List ℕ) (b : ℕ) (more : List ℕ) (m : Serving Answer) → opened_quietly (line_places w tree text b more m) ≡ 0
-  unfolding alone_line line_places
-  line_places_none w tree [] b more m = refl
-  line_places_none w tree (c ∷ text) b more m = line_places_none w tree text b more m
+-- bytes and then others
+pub under_both : (first second : List ℕ) (line : Line) → under first (under second line) ≡ under (first ++ second) line
+unfolding under
+under_both [] second line = refl
+under_both (b ∷ first) second line = ap (Held (b ∷ [])) (under_both first second line)
 
-  -- the reply of one that has come to its answer
-  line_ended : (text : List ℕ) (answer : Answer) → line_reply (alone_line text node left (Done answer)) None ≡ Some (reply_of answer text)
-  unfolding alone_line line_reply
-  line_ended [] answer = refl
-  line_ended (b ∷ text) answer = ap (with_bytes (b ∷ [])) (line_ended text answer)
+-- before more
+under_joined : (text : List ℕ) (node left : ℕ) (m : Serving Answer) (rest : Line) → joined (under text (Gives node left m Nil)) rest ≡ under text (Gives node left m rest)
+unfolding under joined
+under_joined [] node left m rest = refl
+under_joined (b ∷ text) node left m rest = ap (Held (b ∷ [])) (under_joined text node left m rest)
+
+-- the reply of one node that has come to its answer
+line_ended : (node left : ℕ) (text : List ℕ) (answer : Answer) → line_reply (under text (Gives node left (Done answer) Nil)) None ≡ Some (reply_of answer text)
+unfolding under line_reply
+line_ended node left [] answer = refl
+line_ended node left (b ∷ text) answer = ap (with_bytes (b ∷ [])) (line_ended node left text answer)
 
 -- ---- a node that goes on, of any family
 
@@ -130,10 +140,27 @@ module _ (w : World) (tree : Tree) (laws : ShowsTheSame) (at : ℕ) (f : Family)
   stands s = record { goes_on = goes_on; stands = ap (λ b. cond b s (f.stance at)) (eq_self at) }
 
   -- a step after which it stands so
-  pub stance_step : (s t : Stance) (vars vars' : Vars) (a : Acts w tree (doing at s f) vars (doing at t (doing at s f)) vars') → opened_by a ≡ 0 → Opening w tree 0 (doing at s f) vars (doing at t f) vars'
-  stance_step s t vars vars' a e = same_count (ap (λ k. k + 0) e) (acting a (alike (again t s) stays))
+  pub stance_step : (count : ℕ) (s t : Stance) (vars vars' : Vars) (a : Acts w tree (doing at s f) vars (doing at t (doing at s f)) vars') → opened_by a ≡ count → Opening w tree count (doing at s f) vars (doing at t f) vars'
+  stance_step count s t vars vars' a e = same_count (ap (λ k. k + 0) e ∙ no_more count) (acting a (alike (again t s) stays))
+    where
+      no_more : (n : ℕ) → n + 0 ≡ n
+      no_more n = omega arith
 
--- a node in its seat, where the node with the number `h` is it, or the one that waits for it
+  -- a step of a line of its own
+  pub own_step : (count : ℕ) (own : Own) (a b : Line) (vars vars' : Vars) (m : Moves w tree a vars b vars') → opened_move m ≡ count → Opening w tree count (doing at (owned own a) f) vars (doing at (owned own b) f) vars'
+  own_step count (Beside stub) a b vars vars' m e = stance_step count (Apart a stub) (Apart b stub) vars vars' (WithinStub at (stands (Apart a stub)) m) e
+  own_step count (Below left k) a b vars vars' m e = stance_step count (Waiting a left k) (Waiting b left k) vars vars' (Within at (stands (Waiting a left k)) m) e
+
+  -- of a part of it
+  pub own_quiet : (count : ℕ) (own : Own) (s : Spot) (a b : Line) (vars : Vars) → Step w tree count a b → Opening w tree count (doing at (owned own (filling s a)) f) vars (doing at (owned own (filling s b)) f) vars
+  own_quiet count own s a b vars q =
+      let r = spot_quiet w tree count s a b q in
+      own_step count own (filling s a) (filling s b) vars vars (Quietly r.quiet) r.counts
+
+  pub own_thinks : (own : Own) (s : Spot) (a b : Line) (vars vars' : Vars) → LineThinks a vars b vars' → Opening w tree 0 (doing at (owned own (filling s a)) f) vars (doing at (owned own (filling s b)) f) vars'
+  own_thinks own s a b vars vars' t = own_step 0 own (filling s a) (filling s b) vars vars' (ByTable (spot_thinks s a b vars vars' t)) refl
+
+-- a node in its seat, where the node with the number `h` is it, or the one that has the line
 module _ (w : World) (tree : Tree) (laws : ShowsTheSame) (h at : ℕ) (seat : Seat) (left : ℕ) (f : Family) (goes_on : is_open h f.row.pieces ≡ true) where
   abbrev pub now : Serving Answer → Family
   now m = doing h (stance_so seat at left m) f
@@ -142,13 +169,8 @@ module _ (w : World) (tree : Tree) (laws : ShowsTheSame) (h at : ℕ) (seat : Se
   thinks_once m vars = by seat
     where
       by : (s : Seat) → Opening w tree 0 (doing h (stance_so s at left m) f) vars (doing h (stance_so s at left (settled m vars).0) f) (settled m vars).1
-      by InRow = stance_step w tree laws h f goes_on (Going left m) (Going left (settled m vars).0) vars (settled m vars).1 (Thinks h (stands w tree laws h f goes_on (Going left m))) refl
-      by (Beside stub text) =
-          stance_step w tree laws h f goes_on (Apart (alone_line text at left m) stub) (Apart (alone_line text at left (settled m vars).0) stub) vars (settled m vars).1
-          (WithinStub h (stands w tree laws h f goes_on (Apart (alone_line text at left m) stub)) (ByTable (line_thinks at left text m vars))) refl
-      by (Below text l k) =
-          stance_step w tree laws h f goes_on (Waiting (alone_line text at left m) l k) (Waiting (alone_line text at left (settled m vars).0) l k) vars (settled m vars).1
-          (Within h (stands w tree laws h f goes_on (Waiting (alone_line text at left m) l k)) (ByTable (line_thinks at left text m vars))) refl
+      by InRow = stance_step w tree laws h f goes_on 0 (Going left m) (Going left (settled m vars).0) vars (settled m vars).1 (Thinks h (stands w tree laws h f goes_on (Going left m))) refl
+      by (Inside own s rest) = own_thinks w tree laws h f goes_on own s (Gives at left m rest) (Gives at left (settled m vars).0 rest) vars (settled m vars).1 Here
 
   pub thinks : (m n : Serving Answer) (vars vars' : Vars) → settled m vars ≡ (n, vars') → Opening w tree 0 (now m) vars (now n) vars'
   thinks m n vars vars' e = subst (λ (s : Serving Answer × Vars). Opening w tree 0 (now m) vars (now s.0) s.1) e (thinks_once m vars)
@@ -157,43 +179,23 @@ module _ (w : World) (tree : Tree) (laws : ShowsTheSame) (h at : ℕ) (seat : Se
   reads name k vars = by seat
     where
       by : (s : Seat) → Opening w tree 0 (doing h (stance_so s at left (Get name k)) f) vars (doing h (stance_so s at left (k (look vars name))) f) vars
-      by InRow = stance_step w tree laws h f goes_on (Going left (Get name k)) (Going left (k (look vars name))) vars vars (Reads h (stands w tree laws h f goes_on (Going left (Get name k)))) refl
-      by (Beside stub text) =
-          stance_step w tree laws h f goes_on (Apart (alone_line text at left (Get name k)) stub) (Apart (alone_line text at left (k (look vars name))) stub) vars vars
-          (WithinStub h (stands w tree laws h f goes_on (Apart (alone_line text at left (Get name k)) stub)) (ByTable (line_reads at left text name k vars))) refl
-      by (Below text l q) =
-          stance_step w tree laws h f goes_on (Waiting (alone_line text at left (Get name k)) l q) (Waiting (alone_line text at left (k (look vars name))) l q) vars vars
-          (Within h (stands w tree laws h f goes_on (Waiting (alone_line text at left (Get name k)) l q)) (ByTable (line_reads at left text name k vars))) refl
-
-  -- a quiet step of the line, where it isn't in the row
-  quiet_apart : (stub text : List ℕ) (m n : Serving Answer) (vars : Vars) → Small at left w tree m n →
-      Opening w tree 0 (doing h (Apart (alone_line text at left m) stub) f) vars (doing h (Apart (alone_line text at left n) stub) f) vars
-  quiet_apart stub text m n vars q =
-      stance_step w tree laws h f goes_on (Apart (alone_line text at left m) stub) (Apart (alone_line text at left n) stub) vars vars
-      (WithinStub h (stands w tree laws h f goes_on (Apart (alone_line text at left m) stub)) (Quietly (line_quiet at left w tree text m n q.quiet))) (line_none at left w tree text m n q.quiet q.none)
-
-  quiet_below : (text : List ℕ) (l : ℕ) (k : Reply → Serving Answer) (m n : Serving Answer) (vars : Vars) → Small at left w tree m n →
-      Opening w tree 0 (doing h (Waiting (alone_line text at left m) l k) f) vars (doing h (Waiting (alone_line text at left n) l k) f) vars
-  quiet_below text l k m n vars q =
-      stance_step w tree laws h f goes_on (Waiting (alone_line text at left m) l k) (Waiting (alone_line text at left n) l k) vars vars
-      (Within h (stands w tree laws h f goes_on (Waiting (alone_line text at left m) l k)) (Quietly (line_quiet at left w tree text m n q.quiet))) (line_none at left w tree text m n q.quiet q.none)
+      by InRow = stance_step w tree laws h f goes_on 0 (Going left (Get name k)) (Going left (k (look vars name))) vars vars (Reads h (stands w tree laws h f goes_on (Going left (Get name k)))) refl
+      by (Inside own s rest) = own_thinks w tree laws h f goes_on own s (Gives at left (Get name k) rest) (Gives at left (k (look vars name)) rest) vars vars LineReads
 
   places_none : (k : Serving Answer) (vars : Vars) → Opening w tree 0 (now (Write [] k)) vars (now k) vars
   places_none k vars = by seat
     where
       by : (s : Seat) → Opening w tree 0 (doing h (stance_so s at left (Write [] k)) f) vars (doing h (stance_so s at left k) f) vars
-      by InRow = stance_step w tree laws h f goes_on (Going left (Write [] k)) (Going left k) vars vars (Placed h (stands w tree laws h f goes_on (Going left (Write [] k)))) refl
-      by (Beside stub text) = quiet_apart stub text (Write [] k) k vars (record { quiet = LinePlaced; none = refl })
-      by (Below text l q) = quiet_below text l q (Write [] k) k vars (record { quiet = LinePlaced; none = refl })
+      by InRow = stance_step w tree laws h f goes_on 0 (Going left (Write [] k)) (Going left k) vars vars (Placed h (stands w tree laws h f goes_on (Going left (Write [] k)))) refl
+      by (Inside own s rest) = own_quiet w tree laws h f goes_on 0 own s (Gives at left (Write [] k) rest) (Gives at left k rest) vars (record { quiet = LinePlaced; counts = refl })
 
   merges : (first second : List ℕ) (k : Serving Answer) (vars : Vars) → Opening w tree 0 (now (Write first (Write second k))) vars (now (Write (first ++ second) k)) vars
   merges first second k vars = by seat
     where
       by : (s : Seat) → Opening w tree 0 (doing h (stance_so s at left (Write first (Write second k))) f) vars (doing h (stance_so s at left (Write (first ++ second) k)) f) vars
       by InRow =
-          stance_step w tree laws h f goes_on (Going left (Write first (Write second k))) (Going left (Write (first ++ second) k)) vars vars (Merges h (stands w tree laws h f goes_on (Going left (Write first (Write second k))))) refl
-      by (Beside stub text) = quiet_apart stub text (Write first (Write second k)) (Write (first ++ second) k) vars (record { quiet = LineMerges; none = refl })
-      by (Below text l q) = quiet_below text l q (Write first (Write second k)) (Write (first ++ second) k) vars (record { quiet = LineMerges; none = refl })
+          stance_step w tree laws h f goes_on 0 (Going left (Write first (Write second k))) (Going left (Write (first ++ second) k)) vars vars (Merges h (stands w tree laws h f goes_on (Going left (Write first (Write second k))))) refl
+      by (Inside own s rest) = own_quiet w tree laws h f goes_on 0 own s (Gives at left (Write first (Write second k)) rest) (Gives at left (Write (first ++ second) k) rest) vars (record { quiet = LineMerges; counts = refl })
 
   pub works : (vars : Vars) (m n : Serving Answer) → Works vars m n → Opening w tree 0 (now m) vars (now n) vars
   works vars m _ WorksRest = stays
@@ -212,16 +214,12 @@ module _ (w : World) (tree : Tree) (laws : ShowsTheSame) (h at : ℕ) (seat : Se
 module _ (w : World) (tree : Tree) (laws : ShowsTheSame) (h at left : ℕ) (f : Family) (goes_on : is_open h f.row.pieces ≡ true) where
   pub learning : (seat : Seat) (path : List ℕ) (k : Item → Serving Answer) (vars : Vars) → Learning w tree laws h at seat left f goes_on path k vars
   learning InRow path k vars = record { act = Learns h (stands w tree laws h f goes_on (Going left (Stat path k))); quiet = tt; none = refl }
-  learning (Beside stub text) path k vars = record {
-    act = WithinStub h (stands w tree laws h f goes_on (Apart (alone_line text at left (Stat path k)) stub)) (Quietly (line_quiet at left w tree text (Stat path k) (k (tree path)) LineLearns));
-    quiet = tt;
-    none = line_none at left w tree text (Stat path k) (k (tree path)) LineLearns refl;
-  }
-  learning (Below text l q) path k vars = record {
-    act = Within h (stands w tree laws h f goes_on (Waiting (alone_line text at left (Stat path k)) l q)) (Quietly (line_quiet at left w tree text (Stat path k) (k (tree path)) LineLearns));
-    quiet = tt;
-    none = line_none at left w tree text (Stat path k) (k (tree path)) LineLearns refl;
-  }
+  learning (Inside (Beside stub) s rest) path k vars =
+      let q = spot_quiet w tree 0 s (Gives at left (Stat path k) rest) (Gives at left (k (tree path)) rest) (record { quiet = LineLearns; counts = refl }) in
+      record { act = WithinStub h (stands w tree laws h f goes_on (Apart (filling s (Gives at left (Stat path k) rest)) stub)) (Quietly q.quiet); quiet = tt; none = q.counts }
+  learning (Inside (Below l p) s rest) path k vars =
+      let q = spot_quiet w tree 0 s (Gives at left (Stat path k) rest) (Gives at left (k (tree path)) rest) (record { quiet = LineLearns; counts = refl }) in
+      record { act = Within h (stands w tree laws h f goes_on (Waiting (filling s (Gives at left (Stat path k) rest)) l p)) (Quietly q.quiet); quiet = tt; none = q.counts }
 
 -- ---- bytes of it are placed
 
@@ -243,94 +241,156 @@ module _ (w : World) (tree : Tree) (laws : ShowsTheSame) (at left : ℕ) (f : Fa
       (alike (again w tree laws at g goes_on' (Going left more) (Going left whole))
       (works w tree laws at at InRow left g goes_on' vars more n (p.works vars))))
 
-  -- they come to its own line, one after another
-  module _ (stub : List ℕ) where
-    held : List ℕ → Serving Answer → Family
-    held text m = doing at (Apart (alone_line text at left m) stub) f
+  -- it is known that they are shown
+  pub joins_row : (stub some : List ℕ) (m n : Serving Answer) (vars : Vars) → PlacesAs some m n → some ≢ [] → AllEnd IsGood m → IsWell f →
+      is_open at (appended at some f.row).pieces ≡ true →
+      Opening w tree 0 (doing at (Apart (under [] (Gives at left m Nil)) stub) f) vars (doing at (Going left n) (placing at some f)) vars
+  unfolding under
+  joins_row stub some m n vars p any good well goes_on' =
+      let more : Serving Answer = Write p.more p.rest in
+      let whole : Serving Answer = Write (some ++ p.more) p.rest in
+      let before : Stance = Apart (Gives at left whole Nil) stub in
+      let own = Held some (Gives at left more Nil) in
+      let after : Stance = Apart own stub in
+      let g = placing at some f in
+      subst (λ x. Opening w tree 0 (doing at (Apart (Gives at left x Nil) stub) f) vars (doing at (Going left n) g) vars) (sym p.writes)
+      (then (stance_step w tree laws at f goes_on 0 before after vars vars (WithinStub at (stands w tree laws at f goes_on before) (Quietly LinePlaces)) refl)
+      (joining w tree (doing at after f) vars at left some stub more (well-doing at after f well refl) (stands w tree laws at f goes_on after)
+      (keeps_body w tree some at left more (subst (λ x. AllEnd IsGood x) p.writes good)) any
+      (alike (again w tree laws at g goes_on' (Going left more) after)
+      (works w tree laws at at InRow left g goes_on' vars more n (p.works vars)))))
 
-    holds_all : (text some more : List ℕ) (rest : Serving Answer) (vars : Vars) → Opening w tree 0 (held text (Write (some ++ more) rest)) vars (held (text ++ some) (Write more rest)) vars
-    unfolding held
-    holds_all text [] more rest vars = subst (λ t. Opening w tree 0 (held text (Write more rest)) vars (held t (Write more rest)) vars) (sym (append-nil text)) stays
-    holds_all text (b ∷ some) more rest vars =
-        then (stance_step w tree laws at f goes_on (Apart (alone_line text at left (Write (b ∷ (some ++ more)) rest)) stub) (Apart (alone_line (text ++ b ∷ []) at left (Write (some ++ more) rest)) stub) vars vars
-        (WithinStub at (stands w tree laws at f goes_on (Apart (alone_line text at left (Write (b ∷ (some ++ more)) rest)) stub)) (Quietly (line_places at left w tree text b (some ++ more) rest)))
-        (line_places_none at left w tree text b (some ++ more) rest))
-        (subst (λ t. Opening w tree 0 (held (text ++ b ∷ []) (Write (some ++ more) rest)) vars (held t (Write more rest)) vars) (append_assoc text (b ∷ []) some)
-        (holds_all (text ++ b ∷ []) some more rest vars))
-
-    pub holds : (text some : List ℕ) (m n : Serving Answer) (vars : Vars) → PlacesAs some m n →
-        Opening w tree 0 (doing at (Apart (alone_line text at left m) stub) f) vars (doing at (Apart (alone_line (text ++ some) at left n) stub) f) vars
-    unfolding held
-    holds text some m n vars p =
-        subst (λ x. Opening w tree 0 (held text x) vars (held (text ++ some) n) vars) (sym p.writes)
-        (then (holds_all text some p.more p.rest vars) (works w tree laws at at (Beside stub (text ++ some)) left f goes_on vars (Write p.more p.rest) n (p.works vars)))
-
-    -- it is known that they are shown
-    pub joins_row : (some : List ℕ) (m n : Serving Answer) (vars : Vars) → PlacesAs some m n → some ≢ [] → AllEnd IsGood m → IsWell f →
-        is_open at (appended at some f.row).pieces ≡ true →
-        Opening w tree 0 (doing at (Apart (alone_line [] at left m) stub) f) vars (doing at (Going left n) (placing at some f)) vars
-    unfolding alone_line
-    joins_row some m n vars p any good well goes_on' =
-        let more : Serving Answer = Write p.more p.rest in
-        let whole : Serving Answer = Write (some ++ p.more) p.rest in
-        let before : Stance = Apart (Gives at left whole Nil) stub in
-        let own = Held some (Gives at left more Nil) in
-        let after : Stance = Apart own stub in
-        let g = placing at some f in
-        subst (λ x. Opening w tree 0 (doing at (Apart (Gives at left x Nil) stub) f) vars (doing at (Going left n) g) vars) (sym p.writes)
-        (then (stance_step w tree laws at f goes_on before after vars vars (WithinStub at (stands w tree laws at f goes_on before) (Quietly LinePlaces)) refl)
-        (joining w tree (doing at after f) vars at left some stub more (well-doing at after f well refl) (stands w tree laws at f goes_on after)
-        (keeps_body w tree some at left more (subst (λ x. AllEnd IsGood x) p.writes good)) any
-        (alike (again w tree laws at g goes_on' (Going left more) after)
-        (works w tree laws at at InRow left g goes_on' vars more n (p.works vars)))))
+  -- so it is where its bytes wait one by one
+  pub joins_held : (stub text : List ℕ) (m : Serving Answer) (vars : Vars) → text ≢ [] → AllEnd IsGood m → IsWell f → is_open at (appended at text f.row).pieces ≡ true →
+      Opening w tree 0 (doing at (Apart (under text (Gives at left m Nil)) stub) f) vars (doing at (Going left m) (placing at text f)) vars
+  joins_held stub text m vars any good well goes_on' =
+      let after : Stance = Apart (under text (Gives at left m Nil)) stub in
+      let j = joins_under w tree (doing at after f) vars at left stub m text (well-doing at after f well refl) (stands w tree laws at f goes_on after) (keeps_under w tree text at left m good) any in
+      same_count (ap (λ k. k + 0) j.1) (acting j.0 (alike (again w tree laws at (placing at text f) goes_on' (Going left m) after) stays))
 
   -- its stub stands in the place of its body
   pub decided : (stub text : List ℕ) (answer : Answer) (vars : Vars) (g : Family) → or_stub (Some stub) answer.status text ≡ stub → at ≢ f.root →
-      IsAlike (ending at (placing at stub (doing at (Apart (alone_line text at left (Done answer)) stub) f))) g →
-      Opening w tree 0 (doing at (Apart (alone_line text at left (Done answer)) stub) f) vars g vars
+      IsAlike (ending at (placing at stub (doing at (Apart (under text (Gives at left (Done answer) Nil)) stub) f))) g →
+      Opening w tree 0 (doing at (Apart (under text (Gives at left (Done answer) Nil)) stub) f) vars g vars
   decided stub text answer vars g chosen child same =
-      let here = doing at (Apart (alone_line text at left (Done answer)) stub) f in
-      acting (Decides at (reply_of answer text) (stands w tree laws at f goes_on (Apart (alone_line text at left (Done answer)) stub)) (line_ended at left text answer) child)
+      let own = under text (Gives at left (Done answer) Nil) in
+      let here = doing at (Apart own stub) f in
+      acting (Decides at (reply_of answer text) (stands w tree laws at f goes_on (Apart own stub)) (line_ended at left text answer) child)
       (subst (λ bytes. Opening w tree 0 (ending at (placing at bytes here)) vars g vars) (sym chosen) (alike same stays))
 
--- ---- another node waits for it
+-- ---- it is in a line of its own, or of another
+
+module _ (w : World) (tree : Tree) (laws : ShowsTheSame) (h at left : ℕ) (f : Family) (goes_on : is_open h f.row.pieces ≡ true) (own : Own) (spot : Spot) (rest : Line) where
+  -- behind bytes that wait
+  held : List ℕ → Serving Answer → Family
+  held text m = doing h (owned own (filling (Behind text spot) (Gives at left m rest))) f
+
+  holds_all : (text some more : List ℕ) (m : Serving Answer) (vars : Vars) → Opening w tree 0 (held text (Write (some ++ more) m)) vars (held (text ++ some) (Write more m)) vars
+  unfolding held
+  holds_all text [] more m vars = subst (λ t. Opening w tree 0 (held text (Write more m)) vars (held t (Write more m)) vars) (sym (append-nil text)) stays
+  holds_all text (b ∷ some) more m vars =
+      then (own_quiet w tree laws h f goes_on 0 own spot (under text (Gives at left (Write (b ∷ (some ++ more)) m) rest)) (under (text ++ b ∷ []) (Gives at left (Write (some ++ more) m) rest)) vars
+      (line_places w tree text b (some ++ more) at left m rest))
+      (subst (λ t. Opening w tree 0 (held (text ++ b ∷ []) (Write (some ++ more) m)) vars (held t (Write more m)) vars) (append_assoc text (b ∷ []) some)
+      (holds_all (text ++ b ∷ []) some more m vars))
+
+  -- its bytes come behind them, one after another
+  pub holds : (text some : List ℕ) (m n : Serving Answer) (vars : Vars) → PlacesAs some m n →
+      Opening w tree 0 (doing h (stance_so (Inside own (Behind text spot) rest) at left m) f) vars (doing h (stance_so (Inside own (Behind (text ++ some) spot) rest) at left n) f) vars
+  unfolding held
+  holds text some m n vars p =
+      subst (λ x. Opening w tree 0 (held text x) vars (held (text ++ some) n) vars) (sym p.writes)
+      (then (holds_all text some p.more p.rest vars) (works w tree laws h at (Inside own (Behind (text ++ some) spot) rest) left f goes_on vars (Write p.more p.rest) n (p.works vars)))
+
+  -- a subrequest opens right before it
+  pub opens_inside : (number l : ℕ) (child : Child) (m : Serving Answer) (vars : Vars) → left ≡ suc l → child.stub ≡ None →
+      Opening w tree 1 (doing h (owned own (filling spot (Gives at left (Inner child m) rest))) f) vars
+      (doing h (owned own (filling spot (Gives number l (script w l child) (Gives at left m rest)))) f) vars
+  unfolding joined
+  opens_inside number l child m vars deep plain =
+      subst (λ n. Opening w tree 1 (doing h (owned own (filling spot (Gives at n (Inner child m) rest))) f) vars (doing h (owned own (filling spot (Gives number l (script w l child) (Gives at n m rest)))) f) vars) (sym deep)
+      (subst (λ line. Opening w tree 1 (doing h (owned own (filling spot (Gives at (suc l) (Inner child m) rest))) f) vars (doing h (owned own (filling spot line)) f) vars)
+      (ap (λ s. with_stub s (Gives number l (script w l child) Nil) (Gives at (suc l) m rest)) plain)
+      (own_quiet w tree laws h f goes_on 1 own spot (Gives at (suc l) (Inner child m) rest) (opened w number l child (Gives at (suc l) m rest)) vars (record { quiet = LineOpens number; counts = refl })))
+
+  -- so too where it has a stub
+  pub opens_any : (number l : ℕ) (child : Child) (m : Serving Answer) (vars : Vars) → left ≡ suc l →
+      Opening w tree 1 (doing h (owned own (filling spot (Gives at left (Inner child m) rest))) f) vars
+      (doing h (owned own (filling spot (opened w number l child (Gives at left m rest)))) f) vars
+  opens_any number l child m vars deep =
+      subst (λ n. Opening w tree 1 (doing h (owned own (filling spot (Gives at n (Inner child m) rest))) f) vars (doing h (owned own (filling spot (opened w number l child (Gives at n m rest)))) f) vars) (sym deep)
+      (own_quiet w tree laws h f goes_on 1 own spot (Gives at (suc l) (Inner child m) rest) (opened w number l child (Gives at (suc l) m rest)) vars (record { quiet = LineOpens number; counts = refl }))
+
+  pub asks_any : (number l : ℕ) (child : Child) (k : Reply → Serving Answer) (vars : Vars) → left ≡ suc l →
+      Opening w tree 1 (doing h (owned own (filling spot (Gives at left (Call child k) rest))) f) vars
+      (doing h (owned own (filling spot (Waits at (opened w number l child Nil) left k rest))) f) vars
+  asks_any number l child k vars deep =
+      subst (λ n. Opening w tree 1 (doing h (owned own (filling spot (Gives at n (Call child k) rest))) f) vars (doing h (owned own (filling spot (Waits at (opened w number l child Nil) n k rest))) f) vars) (sym deep)
+      (own_quiet w tree laws h f goes_on 1 own spot (Gives at (suc l) (Call child k) rest) (Waits at (opened w number l child Nil) (suc l) k rest) vars (record { quiet = LineAsks number; counts = refl }))
+
+  -- its body is kept, and stands in the place of its stub
+  pub keeps_inside : (stub text : List ℕ) (answer : Answer) (vars : Vars) → text ≢ [] → IsGood answer →
+      Opening w tree 0 (doing h (owned own (filling spot (Stubs (under text (Gives at left (Done answer) Nil)) stub rest))) f) vars
+      (doing h (owned own (filling spot (under text (Gives at left (Done answer) rest)))) f) vars
+  keeps_inside stub text answer vars some good =
+      let line = under text (Gives at left (Done answer) Nil) in
+      subst (λ x. Opening w tree 0 (doing h (owned own (filling spot (Stubs line stub rest))) f) vars (doing h (owned own (filling spot x)) f) vars) (under_joined text at left (Done answer) rest)
+      (own_quiet w tree laws h f goes_on 0 own spot (Stubs line stub rest) (joined line rest) vars
+      (record { quiet = LineKeeps (keeps_under w tree text at left (Done answer) good) (under_front w tree f vars at left stub (Done answer) text some); counts = refl }))
+
+  -- it asks for the reply of one
+  pub asks_inside : (number l : ℕ) (child : Child) (k : Reply → Serving Answer) (vars : Vars) → left ≡ suc l → child.stub ≡ None →
+      Opening w tree 1 (doing h (owned own (filling spot (Gives at left (Call child k) rest))) f) vars
+      (doing h (owned own (filling spot (Waits at (Gives number l (script w l child) Nil) left k rest))) f) vars
+  unfolding joined
+  asks_inside number l child k vars deep plain =
+      subst (λ n. Opening w tree 1 (doing h (owned own (filling spot (Gives at n (Call child k) rest))) f) vars (doing h (owned own (filling spot (Waits at (Gives number l (script w l child) Nil) n k rest))) f) vars) (sym deep)
+      (subst (λ line. Opening w tree 1 (doing h (owned own (filling spot (Gives at (suc l) (Call child k) rest))) f) vars (doing h (owned own (filling spot (Waits at line (suc l) k rest))) f) vars)
+      (ap (λ s. with_stub s (Gives number l (script w l child) Nil) Nil) plain)
+      (own_quiet w tree laws h f goes_on 1 own spot (Gives at (suc l) (Call child k) rest) (Waits at (opened w number l child Nil) (suc l) k rest) vars (record { quiet = LineAsks number; counts = refl })))
+
+  -- it has come to its answer, and its bytes come to those before a line that has a node
+  pub leaves_inside : (text more : List ℕ) (answer : Answer) (vars : Vars) → has_node rest ≡ true →
+      Opening w tree 0 (doing h (owned own (filling (Behind text spot) (under more (Gives at left (Done answer) rest)))) f) vars
+      (doing h (owned own (filling (Behind (text ++ more) spot) rest)) f) vars
+  leaves_inside text more answer vars some =
+      subst (λ line. Opening w tree 0 (doing h (owned own (filling spot (under text (under more (Gives at left (Done answer) rest))))) f) vars (doing h (owned own (filling spot line)) f) vars) (under_both text more rest)
+      (own_quiet w tree laws h f goes_on 0 own (Behind more (Behind text spot)) (Gives at left (Done answer) rest) rest vars (record { quiet = LineLeaves some; counts = refl }))
+
+  -- it hears the reply of a node that has come to its answer
+  pub hears_inside : (node l : ℕ) (text : List ℕ) (answer : Answer) (k : Reply → Serving Answer) (vars : Vars) →
+      Opening w tree 0 (doing h (owned own (filling spot (Waits at (under text (Gives node l (Done answer) Nil)) left k rest))) f) vars
+      (doing h (owned own (filling spot (Gives at left (k (reply_of answer text)) rest))) f) vars
+  hears_inside node l text answer k vars =
+      own_quiet w tree laws h f goes_on 0 own spot (Waits at (under text (Gives node l (Done answer) Nil)) left k rest) (Gives at left (k (reply_of answer text)) rest) vars
+      (record { quiet = LineHears (reply_of answer text) (line_ended node l text answer); counts = refl })
+
+-- ---- another node in the row waits for it
 
 module _ (w : World) (tree : Tree) (laws : ShowsTheSame) (h at left : ℕ) (f : Family) (goes_on : is_open h f.row.pieces ≡ true) (l : ℕ) (k : Reply → Serving Answer) where
-  below : List ℕ → Serving Answer → Family
-  below text m = doing h (Waiting (alone_line text at left m) l k) f
-
-  below_all : (text some more : List ℕ) (rest : Serving Answer) (vars : Vars) → Opening w tree 0 (below text (Write (some ++ more) rest)) vars (below (text ++ some) (Write more rest)) vars
-  unfolding below
-  below_all text [] more rest vars = subst (λ t. Opening w tree 0 (below text (Write more rest)) vars (below t (Write more rest)) vars) (sym (append-nil text)) stays
-  below_all text (b ∷ some) more rest vars =
-      then (stance_step w tree laws h f goes_on (Waiting (alone_line text at left (Write (b ∷ (some ++ more)) rest)) l k) (Waiting (alone_line (text ++ b ∷ []) at left (Write (some ++ more) rest)) l k) vars vars
-      (Within h (stands w tree laws h f goes_on (Waiting (alone_line text at left (Write (b ∷ (some ++ more)) rest)) l k)) (Quietly (line_places at left w tree text b (some ++ more) rest)))
-      (line_places_none at left w tree text b (some ++ more) rest))
-      (subst (λ t. Opening w tree 0 (below (text ++ b ∷ []) (Write (some ++ more) rest)) vars (below t (Write more rest)) vars) (append_assoc text (b ∷ []) some)
-      (below_all (text ++ b ∷ []) some more rest vars))
-
-  pub below_holds : (text some : List ℕ) (m n : Serving Answer) (vars : Vars) → PlacesAs some m n →
-      Opening w tree 0 (doing h (Waiting (alone_line text at left m) l k) f) vars (doing h (Waiting (alone_line (text ++ some) at left n) l k) f) vars
-  unfolding below
-  below_holds text some m n vars p =
-      subst (λ x. Opening w tree 0 (below text x) vars (below (text ++ some) n) vars) (sym p.writes)
-      (then (below_all text some p.more p.rest vars) (works w tree laws h at (Below (text ++ some) l k) left f goes_on vars (Write p.more p.rest) n (p.works vars)))
-
   -- it is over, and the other hears its reply
   pub heard : (text : List ℕ) (answer : Answer) (vars : Vars) (g : Family) → IsAlike (doing h (Going l (k (reply_of answer text))) f) g →
-      Opening w tree 0 (doing h (Waiting (alone_line text at left (Done answer)) l k) f) vars g vars
+      Opening w tree 0 (doing h (Waiting (under text (Gives at left (Done answer) Nil)) l k) f) vars g vars
   heard text answer vars g same =
-      acting (Hears h (reply_of answer text) (stands w tree laws h f goes_on (Waiting (alone_line text at left (Done answer)) l k)) (line_ended at left text answer))
-      (alike (again w tree laws h f goes_on (Going l (k (reply_of answer text))) (Waiting (alone_line text at left (Done answer)) l k)) (alike same stays))
+      let own = under text (Gives at left (Done answer) Nil) in
+      acting (Hears h (reply_of answer text) (stands w tree laws h f goes_on (Waiting own l k)) (line_ended at left text answer))
+      (alike (again w tree laws h f goes_on (Going l (k (reply_of answer text))) (Waiting own l k)) (alike same stays))
 
 -- a node asks for the reply of a subrequest
 module _ (w : World) (tree : Tree) (laws : ShowsTheSame) (at left : ℕ) (f : Family) (goes_on : is_open at f.row.pieces ≡ true) where
-  pub own_begins : (number : ℕ) (child : Child) → child.stub ≡ None → opened w number left child Nil ≡ alone_line [] number left (script w left child)
-  unfolding alone_line joined
+  pub own_begins : (number : ℕ) (child : Child) → child.stub ≡ None → opened w number left child Nil ≡ under [] (Gives number left (script w left child) Nil)
+  unfolding under joined
   own_begins number child plain = ap (λ s. with_stub s (Gives number left (script w left child) Nil) Nil) plain
 
+  -- it has a stub, or none
+  pub asks_so : (number : ℕ) (child : Child) (k : Reply → Serving Answer) (vars : Vars) →
+      Opening w tree 1 (doing at (Going (suc left) (Call child k)) f) vars (doing at (Waiting (opened w number left child Nil) (suc left) k) f) vars
+  asks_so number child k vars =
+      acting (Asks at number (stands w tree laws at f goes_on (Going (suc left) (Call child k))))
+      (alike (again w tree laws at f goes_on (Waiting (opened w number left child Nil) (suc left) k) (Going (suc left) (Call child k))) stays)
+
   pub asks : (number : ℕ) (child : Child) (k : Reply → Serving Answer) (vars : Vars) (g : Family) → child.stub ≡ None →
-      IsAlike (doing at (Waiting (alone_line [] number left (script w left child)) (suc left) k) f) g →
+      IsAlike (doing at (Waiting (under [] (Gives number left (script w left child) Nil)) (suc left) k) f) g →
       Opening w tree 1 (doing at (Going (suc left) (Call child k)) f) vars g vars
   asks number child k vars g plain same =
       acting (Asks at number (stands w tree laws at f goes_on (Going (suc left) (Call child k))))
@@ -342,7 +402,7 @@ module _ (w : World) (tree : Tree) (laws : ShowsTheSame) (at left : ℕ) (f : Fa
 module _ (w : World) (tree : Tree) (laws : ShowsTheSame) (at left : ℕ) (f : Family) (goes_on : is_open at f.row.pieces ≡ true) where
   -- how the subrequest begins
   pub begun_so : (number : ℕ) (child : Child) → stance_by child.stub w number left child ≡ stance_at number (place_by child.stub) left (script w left child)
-  unfolding alone_line
+  unfolding under
   begun_so number child = by child.stub
     where
       by : (s : Option (List ℕ)) → stance_by s w number left child ≡ stance_at number (place_by s) left (script w left child)

@@ -4,7 +4,7 @@ use Rattle.file_tree.specs.Tree.{Tree}
 use Rattle.acts.specs.Vars.{Vars}
 use Rattle.request_meaning.specs.Serving.{World, Serving, Answer, Reply}
 use Rattle.family_meaning.specs.Line.{Line}
-use Rattle.family_meaning.specs.Line.Line.{Nil, Held, Gives}
+use Rattle.family_meaning.specs.Line.Line.{Nil, Held, Gives, Waits, Stubs}
 use Rattle.family_order.specs.Acts.{Goes}
 use Rattle.family_order.specs.Items.{Stance, Family}
 use Rattle.family_order.specs.Items.Stance.{Going, Waiting, Apart, Hidden}
@@ -12,29 +12,51 @@ use Rattle.family_rest.specs.Opened.{opened_going}
 use Rattle.node_turn.specs.declared.node.Place.{Place}
 use Rattle.node_turn.specs.declared.node.Place.TheVariants.{Row, Stub, Captured}
 
--- the line of one node alone, before which these bytes wait
-unfoldable pub alone_line : (bytes : List ℕ) → (node left : ℕ) → Serving Answer → Line
-alone_line [] node left m = Gives node left m Nil
-alone_line (b ∷ bytes) node left m = Held (b ∷ []) (alone_line bytes node left m)
+-- a line before which these bytes wait
+unfoldable pub under : (bytes : List ℕ) → Line → Line
+under [] line = line
+under (b ∷ bytes) line = Held (b ∷ []) (under bytes line)
 
--- Where a node stands that goes on: in the row; in a line of its own, of which it isn't known yet whether it is shown; or in the line
--- for which another node waits, which has so many levels left and does this then.
+-- Where a line stands within others: it is a whole; or is behind bytes that wait; or is the one for whose reply a node waits, before
+-- more; or that of a subrequest with a stub, before more.
+pub data Spot : Type 0 where
+  Whole : Spot
+  Behind : (bytes : List ℕ) → Spot → Spot
+  For : (node left : ℕ) → (Reply → Serving Answer) → (rest : Line) → Spot → Spot
+  Stubbed : (stub : List ℕ) → (rest : Line) → Spot → Spot
+
+abbrev pub filling : Spot → Line → Line
+filling Whole line = line
+filling (Behind bytes spot) line = filling spot (under bytes line)
+filling (For node left k rest spot) line = filling spot (Waits node line left k rest)
+filling (Stubbed stub rest spot) line = filling spot (Stubs line stub rest)
+
+-- What a line of its own is for that the row doesn't show: a subrequest with a stub of which it isn't known yet whether its body is
+-- shown; or a node that waits for a reply, has so many levels left, and does this then.
+pub data Own : Type 0 where
+  Beside : (stub : List ℕ) → Own
+  Below : (left : ℕ) → (Reply → Serving Answer) → Own
+
+-- what is said there of the node that has such a line
+abbrev pub owned : Own → Line → Stance
+owned (Beside stub) line = Apart line stub
+owned (Below left k) line = Waiting line left k
+
+-- Where a node stands that goes on: in the row; or in a line of its own or of another, with more of that line behind it.
 pub data Seat : Type 0 where
   InRow : Seat
-  Beside : (stub text : List ℕ) → Seat
-  Below : (text : List ℕ) → (left : ℕ) → (Reply → Serving Answer) → Seat
+  Inside : Own → Spot → (rest : Line) → Seat
 
--- what is said there of the node, or of the one that waits for it
+-- what is said there of the node, or of the one that has the line
 abbrev pub stance_so : Seat → (node left : ℕ) → Serving Answer → Stance
 stance_so InRow node left m = Going left m
-stance_so (Beside stub text) node left m = Apart (alone_line text node left m) stub
-stance_so (Below text left' k) node left m = Waiting (alone_line text node left m) left' k
+stance_so (Inside own spot rest) node left m = owned own (filling spot (Gives node left m rest))
 
 -- What a node still does whose bytes go there: in the row; or apart; of one for which another waits that other says it.
 abbrev pub stance_at : (node : ℕ) → Place → (left : ℕ) → Serving Answer → Stance
 stance_at node Row left m = Going left m
-stance_at node (Stub stub text) left m = Apart (alone_line text node left m) stub
-stance_at node (Captured text) left m = Hidden
+stance_at node (Stub stub text) left m = Apart (under text (Gives node left m Nil)) stub
+stance_at node (Captured stub text) left m = Hidden
 
 -- where the bytes of a subrequest go that has this stub, or none
 abbrev pub place_by : Option (List ℕ) → Place

@@ -8,7 +8,7 @@ use Rattle.request_meaning.specs.Serving.{World, Answer}
 use Rattle.request_meaning.specs.Replies.{or_stub}
 use Rattle.acts.specs.Act.{Done}
 use Rattle.family_meaning.specs.Moves.{AllEnd, IsGood}
-use Rattle.node_turn.specs.Stages.{hand_at, held_more, node_act}
+use Rattle.node_turn.specs.Stages.{hand_at, held_more, is_capturing, node_act}
 use Rattle.node_turn.specs.Turns.{PlacesAs}
 use Rattle.node_turn.specs.declared.node.Node.{Node}
 use Rattle.node_turn.specs.declared.node.Place.{Place}
@@ -31,7 +31,14 @@ shows (Ends answered) = false
 abbrev pub joins_at : Place → Bool
 joins_at Row = false
 joins_at (Stub stub text) = length text == 0
-joins_at (Captured text) = false
+joins_at (Captured stub text) = false
+
+-- Its body is shown as soon as some bytes of it come: none is held, it is at its page, and its status is below 400.
+pub record IsKept (n : Node) : Type 0 where
+  pub stub : List ℕ
+  pub place : n.place ≡ Stub stub []
+  pub free : is_capturing n.stage ≡ false
+  pub good : (w : World) (patterns : List SetPattern) (site : Site) (main : Main) (text : List ℕ) → AllEnd IsGood (node_act w patterns site main n text)
 
 -- Bytes of it came: they are held, and it isn't known yet whether they are shown; or its body is shown, some of them are placed, and
 -- it goes on in the row.

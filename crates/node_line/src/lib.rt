@@ -5,4 +5,4 @@
 
 mod stub;
 
-pub use stub::{comes, decides};
+pub use stub::{comes, decides, is_kept};

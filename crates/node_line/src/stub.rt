@@ -2,7 +2,7 @@
 ghost use Rattle.std.specs.Prelude.{◌≡◌, ◌==◌, ℕ, OnOk, IfSome, true, false, if◌then◌else◌};
 ghost use Rattle.node_turn.specs.Stages.{IsSameNode, is_ending, is_in_row, is_placing};
 ghost use Rattle.postpone_filter.specs.Row.{is_open};
-ghost use Rattle.node_line.specs.Stubs.{CameAs, DecidedAs, IsStubOf, joins_at, shows};
+ghost use Rattle.node_line.specs.Stubs.{CameAs, DecidedAs, IsKept, IsStubOf, joins_at, shows};
 
 use byte_text::OutOfMemory;
 use node_turn::{Node, Place, Stage, holds, places, put};
@@ -37,7 +37,18 @@ fn holds_none(place: &Place) -> bool
     match place {
         Place::Row => false,
         Place::Stub { stub: _, text } => text.is_empty(),
-        Place::Captured(_) => false,
+        Place::Captured { stub: _, text: _ } => false,
+    }
+}
+
+/// Whether the body of a node with a stub is shown as soon as some bytes of a subrequest come to it:
+/// no byte of it is held, it is at its page, and its status is below 400.
+pub fn is_kept(node: &Node) -> bool
+    ensures { result ≡ true → IsKept node.now }
+{
+    match &node.stage {
+        Stage::Serves(body) => holds_none(&node.place) && body.answered.status < 400,
+        _ => false,
     }
 }
 

@@ -1,12 +1,12 @@
 -- What follows the phases of a node.
-use Rattle.std.proofs.Common.{◌≡◌, ℕ, zero, suc, List, [], ◌∷◌, ◌++◌, length, Option, None, Some, refl, sym, ap, ◌∙◌, subst, append-nil}
+use Rattle.std.proofs.Common.{◌≡◌, ℕ, zero, suc, true, is_some, List, [], ◌∷◌, ◌++◌, length, Option, None, Some, refl, sym, ap, ◌∙◌, subst, append-nil}
 use Rattle.acts.specs.Vars.{Vars}
 use Rattle.acts.specs.Act.{Done, Write, Stat, ◌>>=◌, settled, settled_then}
 use Rattle.acts.proofs.ActLaws.{settles_in_turn, settled_stays}
 use Rattle.file_tree.specs.declared.job.Ask.{Ask}
 use Rattle.node_turn.specs.Stages.{ask_or}
 use Rattle.node_turn.specs.Nodes.{asked_path, path_or, IsFor, lent, of_method, padded, told_item, len_of, told_length, bytes_for, body_then, after_phases, served_as, with_main}
-use Rattle.file_tree.specs.Tree.{Item, text_of, node_of}
+use Rattle.file_tree.specs.Tree.{Item, text_of, tree_of, node_of}
 use Rattle.file_tree.specs.declared.job.Node.{Node as FileNode}
 use Rattle.file_tree.specs.declared.job.Node.TheVariants as files
 use Rattle.site_model.specs.declared.site.Site.{Site}
@@ -165,3 +165,8 @@ method_back main one p given back o g b =
 pub asked_or : (asked : Option (List ℕ)) (of : ℕ) (ask : Ask) → path_or asked (asked_path ask) ≡ asked_path (ask_or asked of ask)
 asked_or None of ask = refl
 asked_or (Some path) of ask = refl
+
+-- and of which tree
+pub asked_tree : (asked : Option (List ℕ)) (of : ℕ) (ask : Ask) → is_some asked ≡ true → tree_of (ask_or asked of ask) ≡ of
+asked_tree None of ask e = cc
+asked_tree (Some path) of ask e = refl

@@ -83,6 +83,17 @@ is_serving (Reads b) = false
 is_serving (Captures c) = true
 is_serving (Ends b) = false
 
+-- the body of a subrequest goes into a variable of its page
+abbrev pub is_capturing : Stage → Bool
+is_capturing (Begins ssi) = false
+is_capturing (Asks wait ssi) = false
+is_capturing (Told wait file ssi) = false
+is_capturing (Places b) = false
+is_capturing (Serves b) = false
+is_capturing (Reads b) = false
+is_capturing (Captures c) = true
+is_capturing (Ends b) = false
+
 -- it has come to its answer
 abbrev pub is_ending : Stage → Bool
 is_ending (Begins ssi) = false
@@ -100,13 +111,13 @@ is_ending (Ends b) = true
 abbrev pub is_in_row : Place → Bool
 is_in_row Row = true
 is_in_row (Stub stub text) = false
-is_in_row (Captured text) = false
+is_in_row (Captured stub text) = false
 
 -- with more bytes of a body of which it isn't known whether it is shown
 abbrev pub held_more : List ℕ → Place → Place
 held_more bytes Row = Row
 held_more bytes (Stub stub text) = Stub stub (text ++ bytes)
-held_more bytes (Captured text) = Captured (text ++ bytes)
+held_more bytes (Captured stub text) = Captured stub (text ++ bytes)
 
 -- ---- what it still does
 

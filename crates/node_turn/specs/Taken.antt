@@ -1,11 +1,13 @@
 -- What a node comes to where the next part of its page is taken up.
 use Rattle.acts.specs.Vars.{Vars}
-use Rattle.std.specs.Prelude.{ℕ, List}
+use Rattle.std.specs.Prelude.{◌≡◌, ℕ, List, true, false}
 use Rattle.acts.specs.Act.{Call, Inner}
 use Rattle.ngx_variables.specs.declared.request.Main.{Main}
 use Rattle.request_meaning.specs.Serving.{Serving, Answer}
 use Rattle.ssi_exec.specs.Scenes.{child_seen}
+use Rattle.node_turn.specs.Stages.{is_capturing}
 use Rattle.node_turn.specs.Turns.{Works}
+use Rattle.node_turn.specs.declared.node.Stage.{Stage}
 use Rattle.node_turn.specs.declared.turn.Turn.{Turn}
 use Rattle.node_turn.specs.declared.turn.Turn.TheVariants.{On, Opens, Asks}
 
@@ -14,3 +16,9 @@ abbrev pub TakesTo : Main → Vars → (old new : Serving Answer) → (heard : L
 TakesTo main vars old new heard On = Works vars old new
 TakesTo main vars old new heard (Opens child) = Works vars old (Inner (child_seen main child) new)
 TakesTo main vars old new heard (Asks child) = Works vars old (Call (child_seen main child) (λ reply. heard reply.body))
+
+-- Where it waits for the body of a subrequest, that goes into a variable; and not where it goes on behind one.
+abbrev pub WaitsBy : Turn → Stage → Type 0
+WaitsBy On stage = Unit {0}
+WaitsBy (Opens child) stage = is_capturing stage ≡ false
+WaitsBy (Asks child) stage = is_capturing stage ≡ true

@@ -73,9 +73,16 @@ pub enum Place {
     Row,
     /// It isn't known yet whether its stub stands at its place or its body: these bytes of its body
     /// came so far.
-    Stub { stub: ByteText, text: ByteText },
-    /// To its parent, which waits for its body: these bytes of it came so far.
-    Captured(ByteText),
+    Stub {
+        stub: ByteText,
+        text: ByteText,
+    },
+    /// To its parent, which waits for its body: these bytes of it came so far. It may have a stub
+    /// that takes the place of an empty body, or of one with a status of 400 or above.
+    Captured {
+        stub: Option<ByteText>,
+        text: ByteText,
+    },
 }
 
 /// A node of a family.

@@ -1,5 +1,5 @@
 // The phases of a node.
-ghost use Rattle.std.specs.Prelude.{◌≡◌, ◌++◌, ℕ, List, true, is_some, IfOk, None, Some};
+ghost use Rattle.std.specs.Prelude.{◌≡◌, ◌++◌, ℕ, List, true, false, is_some, IfOk, None, Some};
 ghost use Rattle.acts.specs.Act.{settled};
 ghost use Rattle.acts.specs.Vars.{Vars};
 ghost use Rattle.ngx_pattern.specs.Pattern.{Pattern as SetPattern};
@@ -89,7 +89,8 @@ pub(crate) fn scene_of<'a>(
 
 /// No body.
 fn bare(alloc: Global, answered: Answered) -> Result<Stage, OutOfMemory>
-    ensures { IfOk result (λ stage. (g : GroundView) (p : PhasesView) (levels : ℕ)
+    ensures asks { IfOk result (λ stage. is_asking stage ≡ false) }
+    ensures acts { IfOk result (λ stage. (g : GroundView) (p : PhasesView) (levels : ℕ)
         (patterns : List SetPattern) (path text : List ℕ) →
         stage_act (world_in patterns g shipped) patterns g.site.now p levels path stage text
         ≡ Done (answer_seen g.site.now p answered)) }
@@ -116,7 +117,8 @@ fn plain(
     left: u64,
     unread: bool,
 ) -> Result<Stage, OutOfMemory>
-    ensures { IfOk result (λ stage. (g : GroundView) (p : PhasesView) (levels : ℕ)
+    ensures asks { IfOk result (λ stage. is_asking stage ≡ false) }
+    ensures acts { IfOk result (λ stage. (g : GroundView) (p : PhasesView) (levels : ℕ)
         (patterns : List SetPattern) (path text : List ℕ) →
         stage_act (world_in patterns g shipped) patterns g.site.now p levels path stage text
         ≡ Write (bytes ++ padded left text) (Done (answer_seen g.site.now p answered))) }
@@ -146,7 +148,8 @@ fn paged(
     left: u64,
     unread: bool,
 ) -> Result<Stage, OutOfMemory>
-    ensures { IfOk result (λ stage. (g : GroundView) (p : PhasesView) (levels : ℕ)
+    ensures asks { IfOk result (λ stage. is_asking stage ≡ false) }
+    ensures acts { IfOk result (λ stage. (g : GroundView) (p : PhasesView) (levels : ℕ)
         (patterns : List SetPattern) (path file : List ℕ) → IsSceneOf g p levels scene.now
         → let w = world_in patterns g shipped in let answer = answer_seen g.site.now p answered in
         filtered_rest w levels ssi answer facts (text ++ padded left file)
@@ -174,7 +177,8 @@ fn sent(
     left: u64,
     unread: bool,
 ) -> Result<Stage, OutOfMemory>
-    ensures { IfOk result (λ stage. (g : GroundView) (p : PhasesView) (levels : ℕ)
+    ensures asks { IfOk result (λ stage. is_asking stage ≡ false) }
+    ensures acts { IfOk result (λ stage. (g : GroundView) (p : PhasesView) (levels : ℕ)
         (patterns : List SetPattern) (path file : List ℕ) (vars : Vars)
         → IsSceneOf g p levels scene.now
         → let w = world_in patterns g shipped in let answer = answer_seen g.site.now p answered in
@@ -199,7 +203,9 @@ pub fn answering(
     ssi: Table,
     outcome: Outcome,
 ) -> Result<Stage, OutOfMemory>
-    ensures { IfOk result (λ stage. AnswersAs ground.now phases.now left ssi outcome stage) }
+    ensures asks { IfOk result (λ stage. is_asking stage ≡ false) }
+    ensures acts { IfOk result (λ stage.
+        AnswersAs ground.now phases.now left ssi outcome stage) }
 {
     let len = file_len(&outcome);
     let reply = reply_of(alloc, ground.site, phases, outcome)?;
@@ -253,6 +259,8 @@ fn after_step(
         )) }
     ensures asks { IfOk result (λ turned. is_some turned.path ≡ true
         → is_asking turned.stage ≡ true) }
+    ensures path { IfOk result (λ turned. is_asking turned.stage ≡ true
+        → is_some turned.path ≡ true) }
 {
     match step {
         Step::Asks { wait, path } => Ok(Turned {
@@ -293,6 +301,8 @@ pub(crate) fn begins(
         )) }
     ensures asks { IfOk result (λ turned. is_some turned.path ≡ true
         → is_asking turned.stage ≡ true) }
+    ensures path { IfOk result (λ turned. is_asking turned.stage ≡ true
+        → is_some turned.path ≡ true) }
     ensures main { IfOk result (λ turned. main.new ≡ main.old) }
     ensures kept { patterns.new ≡ patterns.old }
 {
@@ -328,6 +338,8 @@ pub(crate) fn resumes(
         )) }
     ensures asks { IfOk result (λ turned. is_some turned.path ≡ true
         → is_asking turned.stage ≡ true) }
+    ensures path { IfOk result (λ turned. is_asking turned.stage ≡ true
+        → is_some turned.path ≡ true) }
     ensures main { IfOk result (λ turned. main.new ≡ main.old) }
     ensures kept { patterns.new ≡ patterns.old }
 {

@@ -2,7 +2,7 @@
 ghost use Rattle.std.specs.Prelude.{◌≡◌, ◌≤◌, ◌+◌, ◌==◌, ℕ, List, IfOk, OnOk, true, false, take, length};
 ghost use Rattle.acts.specs.Act.{settled};
 ghost use Rattle.acts.specs.Vars.{Vars};
-ghost use Rattle.file_tree.specs.Tree.{Trees};
+ghost use Rattle.file_tree.specs.Tree.{Trees, tree_of};
 ghost use Rattle.ngx_pattern.specs.Pattern.{Pattern as SetPattern};
 ghost use Rattle.ngx_variables.specs.declared.request.Main.{Main as MainView};
 ghost use Rattle.postpone_filter.specs.Row.{Row, appended, is_open, room};
@@ -15,7 +15,7 @@ ghost use Rattle.site_model.specs.declared.site.Site.{Site as SiteRow};
 ghost use Rattle.node_turn.specs.Stages.{IsSameNode, ask_or, block_of, hand_at, held_more, is_asking, is_placing, is_serving, is_turning, item_asked, main_of, node_act, node_heard, start_or, can_run};
 ghost use Rattle.node_turn.specs.Nodes.{answer_seen, asked_path, captured_act, hand, later, lent, placed_act, served_act, stage_act, with_main};
 ghost use Rattle.node_turn.specs.Served.{ServesTo};
-ghost use Rattle.node_turn.specs.Taken.{TakesTo};
+ghost use Rattle.node_turn.specs.Taken.{TakesTo, WaitsBy};
 ghost use Rattle.node_turn.specs.Turns.{PlacesAs, Works};
 ghost use Rattle.node_turn.specs.declared.node.Stage.TheVariants.{Places as PlacesView, Reads as ReadsView};
 
@@ -82,6 +82,7 @@ pub fn turns(
     ensures place { OnOk result (node.new.place ≡ node.old.place) }
     ensures file { OnOk result (is_asking node.new.stage ≡ false →
         (node.new.ask ≡ node.old.ask) × (node.new.start ≡ node.old.start)) }
+    ensures tree { OnOk result (is_asking node.new.stage ≡ true → tree_of node.new.ask ≡ of) }
     ensures main { OnOk result (main.new ≡ main.old) }
     ensures kept { patterns.new ≡ patterns.old }
 {
@@ -181,8 +182,11 @@ pub fn places(alloc: Global, order: &mut Order, id: u32, node: &mut Node) -> Pla
 /// No more bytes than these are held of a body of which it isn't known whether it is shown.
 const MOST_HELD: usize = 65536;
 
-/// More bytes of a node with a stub came.
-fn hold(place: &mut Place, bytes: &[u8]) -> Result<(), OutOfMemory>
+/// More bytes of a node came that are held.
+///
+/// # Errors
+/// `OutOfMemory`, where there is no room for them too.
+pub fn hold(place: &mut Place, bytes: &[u8]) -> Result<(), OutOfMemory>
     ensures { OnOk result (place.new ≡ held_more bytes.now place.old) }
 {
     match place {
@@ -194,7 +198,7 @@ fn hold(place: &mut Place, bytes: &[u8]) -> Result<(), OutOfMemory>
             text.extend(bytes)?;
             Ok(())
         }
-        Place::Captured(text) => {
+        Place::Captured { stub: _, text } => {
             if text.len().saturating_add(bytes.len()) > MOST_HELD {
                 return Err(OutOfMemory);
             }
@@ -345,6 +349,7 @@ fn put_served(alloc: Global, node: &mut Node, served: Served) -> Turn
     ensures node { IsSameNode node.old node.new }
     ensures place { node.new.place ≡ node.old.place }
     ensures phases { node.new.phases ≡ node.old.phases }
+    ensures waits { WaitsBy result node.new.stage }
     ensures start { node.new.start ≡ node.old.start }
     ensures file { (trees : Trees) → item_asked trees node.new.ask ≡ item_asked trees node.old.ask }
 {
@@ -389,6 +394,7 @@ pub fn takes(
     ensures node { IfOk result (λ turn. IsSameNode node.old node.new) }
     ensures place { OnOk result (node.new.place ≡ node.old.place) }
     ensures method { IfOk result (λ turn. main_of main.old node.new ≡ main_of main.old node.old) }
+    ensures waits { IfOk result (λ turn. WaitsBy turn node.new.stage) }
     ensures start { IfOk result (λ turn. node.new.start ≡ node.old.start) }
     ensures file { IfOk result (λ turn. (trees : Trees) →
         item_asked trees node.new.ask ≡ item_asked trees node.old.ask) }

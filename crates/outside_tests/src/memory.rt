@@ -4,9 +4,8 @@ ghost use Rattle.memory_outside.specs.Stored.{newest_of};
 use byte_text::{ByteText, ByteTexts, OutOfMemory};
 use file_tree::Node;
 use http_types::Addr;
-use memory_outside::{
-    FileCall, LinkCall, MemoryFiles, MemoryLinks, MemorySink, ScriptedNotice, StoredItem,
-};
+use memory_links::{LinkCall, MemoryLinks, ScriptedNotice};
+use memory_outside::{FileCall, MemoryFiles, MemorySink, StoredItem};
 use ngx_outside::{Files, Input, Links, Listing, Output, Sink};
 use std::alloc::Global;
 use std::net::{IpAddr, Ipv4Addr};

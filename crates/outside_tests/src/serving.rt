@@ -1,6 +1,6 @@
 ghost use Rattle.std.specs.Prelude.{◌≡◌, ◌<◌, ◌≤◌, IfOk, OnOk, true, false, ℕ, List, [], Some, flat_map};
 ghost use Rattle.telling_core.specs.Core.{core_of, events_of};
-ghost use Rattle.memory_outside.specs.Told.{open_of, answers_of};
+ghost use Rattle.memory_links.specs.Told.{open_of, answers_of};
 ghost use Rattle.memory_outside.specs.Stored.{newest_of};
 ghost use Rattle.ngx_outside.specs.Records.{Given, LinkAnswer, beside_link, of_clock};
 ghost use Rattle.plain_core.specs.Core.{view_at, now_at};
@@ -8,7 +8,8 @@ ghost use Rattle.ready_loop.specs.Tellings.{Beside, alone, moments_told, of_link
 
 use byte_text::{ByteText, OutOfMemory};
 use http_types::Addr;
-use memory_outside::{FixedClock, LinkCall, ListClock, MemoryFiles, MemoryLinks, ScriptedNotice};
+use memory_links::{LinkCall, MemoryLinks, ScriptedNotice};
+use memory_outside::{FixedClock, ListClock, MemoryFiles};
 use ngx_outside::Clock;
 use plain_core::PlainCore;
 use ready_loop::{Ending, TimedCore, serve};

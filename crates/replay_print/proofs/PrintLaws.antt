@@ -11,7 +11,8 @@ use Rattle.std.proofs.lemmas.Bool.Decides.{nat_tests}
 use Rattle.replay_words.specs.declared.faults.FaultKind.TheVariants.{Escape}
 use Rattle.replay_words.specs.Lines.{begun, lines_of, pieces_of}
 use Rattle.replay_words.specs.Words.{is_graphic, is_word, words_of, is_dash}
-use Rattle.replay_words.specs.Numbers.{is_decimal, is_numeral, value_behind, number}
+use Rattle.text_words.specs.Digits.{is_decimal, value_behind}
+use Rattle.replay_words.specs.Numbers.{is_numeral, number}
 use Rattle.replay_words.specs.Escapes.{is_hex, with_byte, unescaped, behind_percent, AreBytes}
 use Rattle.replay_print.specs.Printed.{is_plain, printed_byte, printed, spaced, ended}
 

@@ -15,10 +15,12 @@ use Rattle.std.proofs.NetLemmas.Texts.{IsDotted-ipv4_text, IsColonHex-hex_groups
 use Rattle.std.proofs.NetLemmas.Alphabet.{IsDigitOrDot, IsHexOrColon, All-ipv4_text, All-hex_groups_text}
 use Rattle.http_types.specs.declared.words.Addr.{Addr}
 use Rattle.replay_words.specs.Words.{is_graphic, is_word}
-use Rattle.replay_words.specs.Numbers.{is_decimal}
-use Rattle.replay_words.specs.Addrs.{before_byte, behind_byte, ipv4_of, ipv6_of, port_of, port_behind, behind_bracket, end_of, addr_v4, addr_v6, addr_of}
+use Rattle.text_words.specs.Digits.{is_decimal}
+use Rattle.text_words.specs.Addresses.{ipv4_of, ipv6_of}
+use Rattle.text_words.specs.Cuts.{before_byte, behind_byte, behind_colon}
+use Rattle.replay_words.specs.Addrs.{port_of, port_behind, end_of, addr_v4, addr_v6, addr_of}
 use Rattle.replay_print.specs.Printed.{end_text, addr_text, IsEnd}
-use Rattle.replay_words.proofs.AddrLaws.{ipv4_found, ipv6_found}
+use Rattle.text_words.proofs.AddressLaws.{ipv4_found, ipv6_found}
 use Rattle.replay_print.proofs.PrintLaws.{no_byte, both_true, and_true, all_weaker, all_append, number-decimal, decimal_word, graphic_word, word_graphic, not_true, writes_decimal}
 
 -- from a fact of each byte to a test
@@ -102,8 +104,8 @@ v6_read a port h small =
     let rest = 58 ∷ decimal port in
     let no_bracket = tests IsHexOrColon (no_byte 93) hex_no_bracket text (All-hex_groups_text (ipv6_segments a) h.1) in
     bracket_v6 (text ++ 93 ∷ rest)
-    ∙ ap (λ t. end_of (ipv6_of t) (port_behind (behind_bracket (behind_byte 93 (text ++ 93 ∷ rest))))) (before_cut 93 text rest no_bracket)
-    ∙ ap (λ t. end_of (ipv6_of text) (port_behind (behind_bracket t))) (behind_cut 93 text rest no_bracket)
+    ∙ ap (λ t. end_of (ipv6_of t) (port_behind (behind_colon (behind_byte 93 (text ++ 93 ∷ rest))))) (before_cut 93 text rest no_bracket)
+    ∙ ap (λ t. end_of (ipv6_of text) (port_behind (behind_colon t))) (behind_cut 93 text rest no_bracket)
     ∙ ap (λ o. end_of o (port_of (decimal port))) (ipv6_found text a (IsColonHex-hex_groups_text (ipv6_segments a) h.0 h.1))
     ∙ ap (end_of (Some (Ip.V6 a))) (port_read port small)
 

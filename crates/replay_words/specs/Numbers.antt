@@ -1,22 +1,14 @@
 -- Numbers in a script.
-use Rattle.std.specs.Prelude.{ℕ, ◌+◌, ◌*◌, ◌-◌, List, [], ◌∷◌, length, ◌==◌, Bool, false, ◌&&◌, ◌||◌, not, nat_le, Result, Ok, Err, if◌then◌else◌}
+use Rattle.std.specs.Prelude.{ℕ, List, [], ◌∷◌, length, ◌==◌, Bool, false, ◌&&◌, ◌||◌, not, nat_le, Result, Ok, Err, if◌then◌else◌}
 use Rattle.std.specs.List.{list_all}
+use Rattle.text_words.specs.Digits.{is_decimal, value_behind}
 use Rattle.replay_words.specs.declared.faults.FaultKind.{FaultKind}
 use Rattle.replay_words.specs.declared.faults.FaultKind.TheVariants.{Number}
-
--- `0` to `9`
-abbrev pub is_decimal : ℕ → Bool
-is_decimal b = nat_le 48 b && nat_le b 57
 
 -- one decimal digit or more, the first of several not `0`
 abbrev pub is_numeral : List ℕ → Bool
 is_numeral [] = false
 is_numeral (b ∷ bs) = list_all is_decimal (b ∷ bs) && (not (b == 48) || length bs == 0)
-
--- the number that these digits write behind those of n
-abbrev pub value_behind : ℕ → List ℕ → ℕ
-value_behind n [] = n
-value_behind n (b ∷ bs) = value_behind (n * 10 + (b - 48)) bs
 
 -- the number that a word writes, of at most this value
 unfoldable pub number : ℕ → List ℕ → Result ℕ FaultKind

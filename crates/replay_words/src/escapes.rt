@@ -6,10 +6,10 @@ ghost use Rattle.replay_words.specs.Faults.{LineGives};
 ghost use Rattle.replay_words.specs.Escapes.{is_hex, with_byte, unescaped, behind_percent, onto, measured, begins_with_slash, path_word};
 
 use crate::FaultKind;
-use crate::cuts::{bytes_from, bytes_to, length_before};
 use crate::faults::LineError;
 use byte_text::ByteText;
 use std::alloc::Global;
+use text_words::{bytes_from, bytes_to, length_before};
 
 /// The value of a hexadecimal digit.
 fn hex_digit(byte: u8) -> Option<u8>

@@ -5,7 +5,6 @@ mod addrs;
 mod cuts;
 mod escapes;
 mod faults;
-mod laws;
 mod numbers;
 mod sums;
 mod words;
@@ -14,7 +13,6 @@ pub use addrs::addr_of;
 pub use cuts::next_line;
 pub use escapes::{path_word, unescaped};
 pub use faults::{FaultKind, LineError};
-pub use laws::addresses_are_texts;
 pub use numbers::{id_of, moment_of, room_of};
 pub use sums::{CountedWord, TermWords, bytes_within, counts_of, sum_of};
 pub use words::{

@@ -1,12 +1,12 @@
 // Numbers in a script.
-ghost use Rattle.std.specs.Prelude.{◌≡◌, ℕ, ◌^◌, ◌≤◌, MatchOption, IfOk, IfSome};
-ghost use Rattle.std.specs.List.{list_all};
+ghost use Rattle.std.specs.Prelude.{◌≡◌, ◌≤◌, MatchOption, IfOk, IfSome};
 ghost use Rattle.replay_words.specs.Faults.{LineGives};
 ghost use Rattle.replay_words.specs.Addrs.{port_of};
-ghost use Rattle.replay_words.specs.Numbers.{is_decimal, is_numeral, value_behind, number, most_id, most_room, last_second, most_times};
+ghost use Rattle.replay_words.specs.Numbers.{is_numeral, number, most_id, most_room, last_second, most_times};
 
 use crate::FaultKind;
 use crate::faults::LineError;
+use text_words::{are_decimal, value_of};
 
 const MOST_ID: u64 = 4294967295;
 
@@ -16,36 +16,13 @@ const MOST_TIMES: u64 = 16777216;
 
 const LAST_SECOND: u64 = 253402300799;
 
-fn is_decimal(text: &[u8]) -> bool
-    ensures { result ≡ list_all is_decimal text.now }
-{
-    text.iter().all(|b| 48 <= *b && *b <= 57)
-}
-
 fn is_numeral(word: &[u8]) -> bool
     ensures { result ≡ is_numeral word.now }
 {
     match word {
         [] => false,
-        [first, rest @ ..] => is_decimal(word) && (*first != b'0' || rest.is_empty()),
+        [first, rest @ ..] => are_decimal(word) && (*first != b'0' || rest.is_empty()),
     }
-}
-
-/// The number that digits write, or nothing where it is past the type's end.
-fn value_of(digits: &[u8]) -> Option<u64>
-    ensures { MatchOption result (2 ^ 64 ≤ value_behind 0 digits.now) (λ n. n ≡ value_behind 0 digits.now) }
-{
-    let mut value: u64 = 0;
-    for b in digits {
-        let Some(tens) = value.checked_mul(10) else {
-            return None;
-        };
-        let Some(more) = tens.checked_add(u64::from(b.saturating_sub(48))) else {
-            return None;
-        };
-        value = more;
-    }
-    Some(value)
 }
 
 /// The number that a word writes, if it is one of at most this value.

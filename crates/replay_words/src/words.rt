@@ -6,9 +6,9 @@ ghost use Rattle.replay_words.specs.Faults.{LineGives};
 ghost use Rattle.replay_words.specs.Words.{is_graphic, is_word, words_of, first_word, no_word, one_word, keyword_of, is_conf, is_tree, is_events, is_dot, is_plus, is_times, is_dash, is_dash_alone, is_fail};
 
 use crate::FaultKind;
-use crate::cuts::{bytes_from, bytes_to, length_before};
 use crate::faults::LineError;
 use std::marker::Model;
+use text_words::{bytes_from, bytes_to, length_before};
 
 /// What a line of the tree or of the events is, by its first word.
 #[derive(Clone, Copy, PartialEq, Eq)]

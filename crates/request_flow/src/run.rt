@@ -1,5 +1,5 @@
 // A request runs on, and its jobs are answered.
-ghost use Rattle.std.specs.Prelude.{◌≡◌, ◌≤◌, ◌<◌, ◌+◌, ◌*◌, not, [], List, ℕ, Bool, true, length, is_some, IfOk, Some, None};
+ghost use Rattle.std.specs.Prelude.{◌≡◌, ◌≤◌, ◌<◌, ◌+◌, ◌*◌, not, [], List, ℕ, Bool, true, length, is_some, IfOk, OnOk, Some, None};
 ghost use Rattle.file_tree.specs.Tree.{Trees, IsFrom, tree_of, is_fitting as fits_job};
 ghost use Rattle.ngx_pattern.specs.Pattern.{Pattern as SetPattern};
 ghost use Rattle.site_model.specs.declared.site.Site.{Site as SiteRow};
@@ -16,10 +16,12 @@ use crate::blocks::{Sending, next_block};
 use crate::flow::{Flow, InPhases, Onward, Stage};
 use crate::page::Went;
 use crate::reply::Workspace;
+use crate::slot::put;
 use crate::steps::{FileAt, Known, go_on};
 use byte_text::{ByteQueue, OutOfMemory};
 use file_tree::{Ask, JobAnswer, Node};
 use request_phases::{Ground, Wait, resume};
+use std::mem::replace;
 
 /// No more bytes than these are placed for a peer.
 const PLACED: usize = 98304;
@@ -231,51 +233,71 @@ pub fn run_on(
     }
 }
 
-/// Its job is answered: what is at its path is told, or a block of its file is put after the bytes
-/// for the peer, not yet placed.
+/// Takes a stage out, and leaves one in which nothing is left.
+fn take_stage(stage: &mut Stage) -> Stage
+    ensures { result ≡ stage.old }
+{
+    replace(
+        stage,
+        Stage::Reading {
+            sending: Sending { status: 0, len: 0 },
+            left: 0,
+        },
+    )
+}
+
+/// Its job is answered, in its place: what is at its path is told, or a block of its file is put
+/// after the bytes for the peer, not yet placed.
 ///
 /// # Errors
-/// `OutOfMemory` where a block doesn't fit.
+/// `OutOfMemory` where a block doesn't fit; the request is then not to be answered.
 #[tactic(auto, unfolding(crate::specs::Flows::placed_most, crate::specs::Flows::block_most, crate::specs::Flows::kept_most))]
-pub fn answered(flow: Flow, out: &mut ByteQueue, answer: JobAnswer<'_>) -> Result<Flow, OutOfMemory>
-    requires fits { flow_fits (Some flow) (length out.old) ≡ true }
-    requires waits { waits_for flow.stage ≡ true }
-    requires fitting { fits_job flow.ask answer ≡ true }
+pub fn answered(
+    flow: &mut Flow,
+    out: &mut ByteQueue,
+    answer: JobAnswer<'_>,
+) -> Result<(), OutOfMemory>
+    requires fits { flow_fits (Some flow.old) (length out.old) ≡ true }
+    requires waits { waits_for flow.old.stage ≡ true }
+    requires fitting { fits_job flow.old.ask answer ≡ true }
     ensures goes { (w : World) (patterns : List SetPattern) (site : SiteRow) (trees : Trees)
-        (closing : Bool) → IsFrom trees flow.ask answer.entry →
-        IfOk result (λ f. Follows site (flow_rest w patterns site (Some flow) trees)
-        (flow_rest w patterns site (Some f) trees) out.old out.new closing closing None None) }
-    ensures fits { IfOk result (λ f. flow_fits (Some f) (length out.new) ≡ true) }
-    ensures lowers { IfOk result (λ f. length out.new + flow_left (Some f)
-        (length out.new) < length out.old + flow_left (Some flow) (length out.old)) }
-    ensures by { IfOk result (λ f. IsServedBy (stage_server flow.stage)
-        (stage_length flow.stage) (Some f)) }
-    ensures asked { IfOk result (λ f. tree_of f.ask ≡ tree_of flow.ask) }
+        (closing : Bool) → IsFrom trees flow.old.ask answer.entry →
+        OnOk result (Follows site (flow_rest w patterns site (Some flow.old) trees)
+        (flow_rest w patterns site (Some flow.new) trees) out.old out.new closing closing None None) }
+    ensures fits { OnOk result (flow_fits (Some flow.new) (length out.new) ≡ true) }
+    ensures lowers { OnOk result (length out.new + flow_left (Some flow.new) (length out.new)
+        < length out.old + flow_left (Some flow.old) (length out.old)) }
+    ensures by { OnOk result (IsServedBy (stage_server flow.old.stage)
+        (stage_length flow.old.stage) (Some flow.new)) }
+    ensures asked { OnOk result (tree_of flow.new.ask ≡ tree_of flow.old.ask) }
     ensures reached { (w : World) (patterns : List SetPattern) (site : SiteRow) →
-        FlowReached w patterns site (Some flow)
-        → IfOk result (λ f. FlowReached w patterns site (Some f)) }
+        FlowReached w patterns site (Some flow.old)
+        → OnOk result (FlowReached w patterns site (Some flow.new)) }
 {
-    let Flow { ask, stage } = flow;
-    match (stage, answer) {
-        (Stage::Asked { request, wait }, JobAnswer::Stat(node)) => Ok(Flow {
-            ask,
-            stage: Stage::Told {
-                request,
-                wait,
-                node,
-            },
-        }),
+    match (take_stage(&mut flow.stage), answer) {
+        (Stage::Asked { request, wait }, JobAnswer::Stat(node)) => {
+            put(
+                &mut flow.stage,
+                Stage::Told {
+                    request,
+                    wait,
+                    node,
+                },
+            );
+            Ok(())
+        }
         (Stage::Reading { sending, left }, JobAnswer::Read(bytes)) => {
             let placed = out.len();
             out.append(bytes)?;
-            Ok(Flow {
-                ask,
-                stage: Stage::Came {
+            put(
+                &mut flow.stage,
+                Stage::Came {
                     sending,
                     left: left - bytes.len() as u64,
                     placed,
                 },
-            })
+            );
+            Ok(())
         }
         _ => unreachable!(),
     }

@@ -21,7 +21,9 @@ use Rattle.request_flow.specs.Flows.{flow_fits, placed_most}
 use Rattle.request_flow.specs.declared.flow.Flow.{Flow}
 use Rattle.response_flow.specs.Continues.{Continues, IfOn, is_over}
 use Rattle.response_flow.specs.Flights.{FlightFits, most_kept, page_left}
-use Rattle.response_flow.specs.declared.flight.Flight.TheVariants.{Alone}
+use Rattle.response_flow.specs.declared.flight.Flight.{Flight}
+use Rattle.response_flow.specs.declared.flight.PageFlow.{PageFlow}
+use Rattle.response_flow.specs.declared.flight.Flight.TheVariants.{Alone, Page}
 use Rattle.response_flow.specs.declared.flight.Onward.{Onward}
 use Rattle.response_flow.specs.declared.flight.Ran.{Ran}
 use Rattle.response_flow.specs.declared.flight.Ran.TheVariants as runs
@@ -101,3 +103,17 @@ fits_alone (Some flow) size h = h
 pub lower : (ran : Ran) (size : Onward → ℕ) (a b : ℕ) → a ≤ b → IfOn ran (λ o. size o < a) → IfOn ran (λ o. size o < b)
 lower (runs.On o) size a b h l = omega (arith, h, l)
 lower runs.TooMany size a b h l = tt
+
+-- the flight that stands in a place, and the page in it
+abbrev pub flight_in : Option Flight → Flight → Flight
+flight_in None f = f
+flight_in (Some g) f = g
+
+abbrev pub page_in : Option Flight → PageFlow → PageFlow
+page_in (Some (Page p)) q = p
+page_in (Some (Alone f)) q = q
+page_in None q = q
+
+pub no_bytes : (out : List ℕ) → length out ≡ 0 → out ≡ []
+no_bytes [] e = refl
+no_bytes (b ∷ out) e = absurd (omega arith)

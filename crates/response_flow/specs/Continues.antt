@@ -1,5 +1,5 @@
 -- What becomes of a response in flight.
-use Rattle.std.specs.Prelude.{◌≡◌, ℕ, nat_lt, true, Bool, List, ◌++◌, Option}
+use Rattle.std.specs.Prelude.{◌≡◌, ℕ, nat_lt, true, Bool, List, ◌++◌, Option, None, Some}
 use Rattle.file_tree.specs.Tree.{Trees}
 use Rattle.ngx_outside.specs.Views.{Log}
 use Rattle.ngx_pattern.specs.Pattern.{Pattern as SetPattern}
@@ -7,8 +7,13 @@ use Rattle.request_meaning.specs.Counts.{most_subs}
 use Rattle.request_meaning.specs.Serving.{World}
 use Rattle.site_model.specs.declared.site.Site.{Site}
 use Rattle.request_flow.specs.Rests.{Rest, closes_after, logged_by, values_by}
+use Rattle.subrequests.specs.declared.family.Ran.{Ran as FamilyRan}
+use Rattle.subrequests.specs.declared.family.Ran.TheVariants as family
 use Rattle.response_flow.specs.Flights.{flight_rest}
 use Rattle.response_flow.specs.declared.flight.Onward.{Onward}
+use Rattle.response_flow.specs.declared.flight.Flight.{Flight}
+use Rattle.response_flow.specs.declared.flight.Passed.{Passed}
+use Rattle.response_flow.specs.declared.flight.Passed.TheVariants as passes
 use Rattle.response_flow.specs.declared.flight.Ran.{Ran}
 use Rattle.response_flow.specs.declared.flight.Ran.TheVariants.{On, TooMany}
 
@@ -34,3 +39,13 @@ RunsOn w patterns site trees before out out' closing TooMany = is_over before �
 abbrev pub IfOn : Ran → (Onward → Type 0) → Type 0
 IfOn (On o) P = P o
 IfOn TooMany P = Unit {0}
+
+-- what ran in its place, with the flight that stands there then
+abbrev pub ran_in : Option Flight → Passed → Ran
+ran_in flight (passes.On closing log level) = On (record { flight = flight; closing = closing; log = log; level = level })
+ran_in flight passes.TooMany = TooMany
+
+-- a node of a page that ran in its place: whether that ends the page; none where it asks for too many subrequests
+abbrev pub ran_as : Option Bool → FamilyRan
+ran_as (Some over) = family.Rests
+ran_as None = family.TooMany

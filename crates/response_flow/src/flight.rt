@@ -42,6 +42,19 @@ pub enum Ran {
     TooMany,
 }
 
+/// What became of a request that ran in its place, where how it goes on stands: whether the
+/// connection closes after it, what is logged, and the number of the level that answers.
+#[derive(Drop)]
+pub enum Passed {
+    On {
+        closing: bool,
+        log: Option<(u16, u64)>,
+        level: Option<u32>,
+    },
+    /// It asks for one subrequest more than the thousand that are opened for one response.
+    TooMany,
+}
+
 /// The number of the server that answers a request within its phases, or a page; 0 else, where it
 /// doesn't matter.
 pub fn server_of(flight: &Flight) -> u32

@@ -6,9 +6,10 @@ mod answer;
 mod flight;
 mod open;
 mod run;
+mod slot;
 mod wants;
 
 pub use answer::answered;
-pub use flight::{Flight, Onward, PageFlow, Ran, length_of, server_of};
-pub use run::{run_on, start};
+pub use flight::{Flight, Onward, PageFlow, Passed, Ran, length_of, server_of};
+pub use run::{run_in_place, run_on, start};
 pub use wants::{ask, first_job, first_ready, is_ready, pending, written};

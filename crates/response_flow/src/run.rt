@@ -1,5 +1,5 @@
 // A response goes on.
-ghost use Rattle.std.specs.Prelude.{◌≡◌, ◌≤◌, ◌<◌, ◌+◌, not, [], Bool, List, ℕ, true, false, length, is_some, option_map, IfOk, None, Some};
+ghost use Rattle.std.specs.Prelude.{◌≡◌, ◌≤◌, ◌<◌, ◌+◌, not, [], Bool, List, ℕ, true, false, length, is_some, option_map, IfOk, OnOk, None, Some};
 ghost use Rattle.file_tree.specs.Tree.{Trees};
 ghost use Rattle.ngx_pattern.specs.Pattern.{Pattern as SetPattern};
 ghost use Rattle.pattern_search.specs.Found.{patterns_seen};
@@ -10,7 +10,7 @@ ghost use Rattle.answers_meaning.specs.Asking.{request_of};
 ghost use Rattle.request_meaning.specs.Laws.{shipped};
 ghost use Rattle.request_meaning.specs.Serving.{World};
 ghost use Rattle.request_phases.specs.Rounds.{IsGround, world_in};
-ghost use Rattle.subrequests.specs.Moved.{IsWhole};
+ghost use Rattle.subrequests.specs.Moved.{IsDone, IsWhole};
 ghost use Rattle.subrequests.specs.Wants.{is_among};
 ghost use Rattle.outgoing.specs.Leaving.{most};
 ghost use Rattle.page_response.specs.Pages.{IsAllOver, IsReached, pages_left};
@@ -22,12 +22,18 @@ ghost use Rattle.request_flow.specs.Pages.{IsTold, start_rest};
 ghost use Rattle.request_flow.specs.Reached.{FlowReached, PageReached};
 ghost use Rattle.request_flow.specs.Rests.{Follows, Rest, opened_rest};
 ghost use Rattle.request_flow.specs.Sents.{known_tree};
-ghost use Rattle.response_flow.specs.Continues.{Continues, IfOn, RunsOn};
-ghost use Rattle.response_flow.specs.declared.flight.Flight.TheVariants.{Alone as AloneFlight};
+ghost use Rattle.response_flow.specs.Continues.{Continues, IfOn, RunsOn, ran_as, ran_in};
+ghost use Rattle.response_flow.specs.declared.flight.Ran.TheVariants.{On as OnView};
+ghost use Rattle.response_flow.specs.declared.flight.Flight.{Flight as FlightView};
+ghost use Rattle.response_flow.specs.declared.flight.PageFlow.{PageFlow as PageFlowView};
+ghost use Rattle.request_phases.specs.declared.ground.Ground.{Ground as GroundView};
+ghost use Rattle.page_response.specs.Ran.{RunsTo};
+ghost use Rattle.response_flow.specs.declared.flight.Flight.TheVariants.{Alone as AloneFlight, Page as PageFlight};
 ghost use Rattle.response_flow.specs.Flights.{FlightFits, FlightReached, FlightServedBy, flight_left, flight_length, flight_rest, flight_server, flight_tree, most_kept, page_left, page_most, ready_of};
 
-use crate::flight::{Flight, Onward, PageFlow, Ran};
+use crate::flight::{Flight, Onward, PageFlow, Passed, Ran};
 use crate::open::opened;
+use crate::slot::{put, take};
 use byte_text::{ByteQueue, OutOfMemory};
 use family_rest::row_tells_still;
 use page_response::Pages;
@@ -310,5 +316,155 @@ pub fn run_on(
             Went::Page(page) => Ok(opens(space, ground, page, out)?),
         },
         Flight::Page(page) => Ok(run_page(space, ground, page, at, out, closing, None)?),
+    }
+}
+
+/// Puts the flight with which a response goes on in its place, and answers the rest.
+fn goes_on(flight: &mut Option<Flight>, onward: Onward) -> Passed
+    ensures { ran_in flight.new result ≡ OnView onward }
+{
+    let Onward {
+        flight: next,
+        closing,
+        log,
+        level,
+    } = onward;
+    put(flight, next);
+    Passed::On {
+        closing,
+        log,
+        level,
+    }
+}
+
+/// The same of what ran.
+fn passed(flight: &mut Option<Flight>, ran: Ran) -> Passed
+    ensures { ran_in flight.new result ≡ ran }
+{
+    match ran {
+        Ran::On(onward) => goes_on(flight, onward),
+        Ran::TooMany => Passed::TooMany,
+    }
+}
+
+/// Runs a node of a page on, with the page in its place: whether that ends the page; none where it
+/// asks for more subrequests than are opened.
+fn page_passes(
+    space: &mut Workspace,
+    ground: &Ground<'_>,
+    pages: &mut Pages,
+    at: u32,
+) -> Result<Option<bool>, OutOfMemory>
+    requires ground { IsGround ground.now }
+    requires whole { IsWhole pages.old.family }
+    requires bounded { length pages.old.outgoing.pending ≤ most }
+    ensures runs { IfOk result (λ over. RunsTo space.old.patterns ground.now pages.old pages.new
+        (ran_as over)) }
+    ensures done { IfOk result (λ over. over ≡ Some true → IsWhole pages.new.family →
+        (ps : List SetPattern) (h : GroundView) → IsDone ps h pages.new.family) }
+    ensures tree { OnOk result (pages.new.family.tree ≡ pages.old.family.tree) }
+    ensures kept { space.new.patterns ≡ space.old.patterns }
+{
+    match pages.run(space.alloc, ground, &mut space.patterns, at)? {
+        FamilyRan::Rests => Ok(Some(at == 0 && pages.family.is_done())),
+        FamilyRan::TooMany => Ok(None),
+    }
+}
+
+/// Ends a page that is over, in its place.
+fn page_ends(
+    flight: &mut Option<Flight>,
+    out: &mut ByteQueue,
+    closing: bool,
+) -> Result<Passed, OutOfMemory>
+    requires page { (p : PageFlowView) × (flight.old ≡ Some (PageFlight p))
+        × IsWhole p.pages.value.family }
+    requires unsent { out.old ≡ [] }
+    ensures ends { (p : PageFlowView) (w : World) (patterns : List SetPattern) (site : SiteRow)
+        (trees : Trees) (before : Rest) (from : List ℕ) (first : Bool) →
+        flight.old ≡ Some (PageFlight p) → IsAllOver w patterns site trees p.pages.value
+        → Continues site before (page_left w patterns site trees p.pages.value) from [] first
+        closing None None → IfOk result (λ passed. RunsOn w patterns site trees before from
+        out.new first (ran_in flight.new passed)) }
+    ensures over { IfOk result (λ passed. IfOn (ran_in flight.new passed) (λ o.
+        (o.flight ≡ None) × (is_some o.log ≡ true))) }
+    ensures closes { IfOk result (λ passed. IfOn (ran_in flight.new passed) (λ o.
+        o.closing ≡ closing)) }
+    ensures kept { IfOk result (λ passed. length out.new ≤ most_kept) }
+{
+    match take(flight, None) {
+        Some(Flight::Page(page)) => {
+            let onward = ends(Box::into_inner(page.pages), out, closing, None)?;
+            Ok(goes_on(flight, onward))
+        }
+        Some(Flight::Alone(_)) => unreachable!(),
+        None => unreachable!(),
+    }
+}
+
+/// Runs a node of the request in flight on, as `run_on` does, with the flight in its place: a page
+/// isn't moved.
+///
+/// # Errors
+/// `OutOfMemory`; the request is then not to be answered.
+pub fn run_in_place(
+    space: &mut Workspace,
+    ground: &Ground<'_>,
+    flight: &mut Option<Flight>,
+    at: u32,
+    out: &mut ByteQueue,
+    closing: bool,
+) -> Result<Passed, OutOfMemory>
+    requires ground { IsGround ground.now }
+    requires some { is_some flight.old ≡ true }
+    requires fits { FlightFits flight.old (length out.old) }
+    requires runs { is_among at (ready_of flight.old) ≡ true }
+    ensures runs { (trees : Trees) →
+        let w = world_in space.old.patterns ground.now shipped in
+        let site = ground.now.site.now in
+        IfOk result (λ passed. IsRaceless w.server
+        → FlightReached w space.old.patterns site flight.old
+        → RunsOn w space.old.patterns site trees
+        (flight_rest w space.old.patterns site flight.old trees) out.old out.new closing
+        (ran_in flight.new passed)) }
+    ensures reached { let w = world_in space.old.patterns ground.now shipped in
+        FlightReached w space.old.patterns ground.now.site.now flight.old
+        → IfOk result (λ passed. IfOn (ran_in flight.new passed) (λ o.
+        FlightReached w space.old.patterns ground.now.site.now o.flight)) }
+    ensures over { IfOk result (λ passed. IfOn (ran_in flight.new passed) (λ o.
+        is_some o.log ≡ not (is_some o.flight))) }
+    ensures fits { IfOk result (λ passed. IfOn (ran_in flight.new passed) (λ o.
+        FlightFits o.flight (length out.new))) }
+    ensures lowers { IfOk result (λ passed. IfOn (ran_in flight.new passed) (λ o.
+        length out.new + flight_left o.flight (length out.new)
+        < length out.old + flight_left flight.old (length out.old))) }
+    ensures by { (f : FlightView) → flight.old ≡ Some f
+        → IfOk result (λ passed. IfOn (ran_in flight.new passed) (λ o.
+        FlightServedBy (flight_server f) (flight_length f) o.flight)) }
+    ensures asked { IfOk result (λ passed. IfOn (ran_in flight.new passed) (λ o.
+        flight_tree o.flight ≤ flight_tree flight.old)) }
+    ensures closes { IfOk result (λ passed. IfOn (ran_in flight.new passed) (λ o.
+        closing ≡ true → o.closing ≡ true)) }
+    ensures kept { space.new.patterns ≡ space.old.patterns }
+{
+    let over = match flight {
+        Some(Flight::Page(page)) => page_passes(space, ground, &mut *page.pages, at)?,
+        Some(Flight::Alone(_)) => {
+            let Some(alone) = take(flight, None) else {
+                unreachable!()
+            };
+            let ran = run_on(space, ground, alone, at, out, closing)?;
+            return Ok(passed(flight, ran));
+        }
+        None => unreachable!(),
+    };
+    match over {
+        Some(true) => Ok(page_ends(flight, out, closing)?),
+        Some(false) => Ok(Passed::On {
+            closing,
+            log: None,
+            level: None,
+        }),
+        None => Ok(Passed::TooMany),
     }
 }

@@ -3,8 +3,7 @@ ghost use Rattle.std.specs.Prelude.{◌≡◌, IfOk};
 ghost use Rattle.std.specs.List.{list_all};
 ghost use Rattle.ngx_variables.specs.Grammar.{is_name_byte as name_byte, lowercase as lowercase_of};
 ghost use Rattle.conf_values.specs.TextSet.{holds};
-ghost use Rattle.conf_values.specs.Numbers.{is_decimal};
-ghost use Rattle.conf_values.specs.Returning.{code_of as code_in, is_url as url};
+ghost use Rattle.conf_values.specs.Returning.{is_url as url};
 ghost use Rattle.rewrite_compile.specs.Conditions.{text_in};
 ghost use Rattle.rewrite_compile.specs.Readings.{is_name as named, name_in, is_numbered as numbered, sets, set_named, set_reading, if_by, if_reading, flag_of, rewrites, rewrite_reading, moves, answers, answers_with, return_reading, break_reading, reading_by};
 
@@ -12,7 +11,7 @@ use crate::condition::{condition_of, text_in};
 use crate::raw::{RawCondition, RawPattern, RawStep, Reading};
 use byte_text::{ByteText, OutOfMemory};
 use conf_text::FaultKind;
-use conf_values::TextSet;
+use conf_values::{TextSet, code_of};
 use ngx_variables::{Value, is_builtin};
 use site_model::Flag;
 use std::alloc::Global;
@@ -220,32 +219,6 @@ pub fn rewrite_reading(
             Ok(reading)
         }
         _ => Ok(Reading::Wrong(FaultKind::BadValue)),
-    }
-}
-
-fn is_digit(byte: u8) -> bool
-    ensures { result ≡ is_decimal byte }
-{
-    b'0' <= byte && byte <= b'9'
-}
-
-/// A status from 200 to 599.
-#[tactic(auto, unfolding(conf_values::specs::Returning::code_of))]
-fn code_of(word: &[u8]) -> Option<u16>
-    ensures { result ≡ code_in word.now }
-{
-    match word {
-        [a, b, c] => {
-            if b'2' <= *a && *a <= b'5' && is_digit(*b) && is_digit(*c) {
-                let hundreds = u16::from(*a - b'0');
-                let tens = u16::from(*b - b'0');
-                let ones = u16::from(*c - b'0');
-                Some(100 * hundreds + 10 * tens + ones)
-            } else {
-                None
-            }
-        }
-        _ => None,
     }
 }
 

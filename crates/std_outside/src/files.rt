@@ -3,6 +3,7 @@ ghost use Rattle.std.specs.Prelude.{◌≡◌, ◌+◌, ◌≤◌, ◌++◌, ℕ
 ghost use Rattle.ngx_outside.specs.Causes.{Rose};
 ghost use Rattle.ngx_outside.specs.declared.files.Listing.TheVariants.{Missing};
 
+use crate::at_once::AtOnce;
 use crate::kept::{Identity, KeptFile, KeptFiles, MOST, Place, Sought};
 use byte_text::{ByteText, ByteTexts, OutOfMemory};
 use file_tree::Node;
@@ -242,11 +243,32 @@ fn add_bytes<F: FileExt + OpenFile + Drop>(
     }
 }
 
+// Adds so many bytes of a kept file from a place on: those of a small file from the bytes that were read at once, unless they are
+// all of it.
+fn add_part<F: FileExt + OpenFile + Drop>(
+    kept: &KeptFile<F>,
+    at_once: &mut AtOnce,
+    start: u64,
+    count: u64,
+    of: u64,
+    out: &mut ByteText,
+) -> Result<(), FileFault>
+    ensures ok { OnOk result ((added : List ℕ) × (out.new ≡ out.old ++ added) × (length added ≡ count)) }
+    ensures err { OnErr result (out.new ≡ out.old) }
+{
+    if !kept.is_whole(start, count) && at_once.has(kept, start, of) {
+        at_once.add(kept, start, count, of, out)?;
+        return Ok(());
+    }
+    add_bytes(at_once.alloc, kept, start, count, out)?;
+    Ok(())
+}
+
 // Adds bytes of the file that the tree of a number showed at a path. One that isn't kept any more can't be read: another
 // may stand there.
 fn read_file<F: FileExt + OpenFile + Drop>(
-    alloc: Global,
     kept: &mut KeptFiles<F>,
+    at_once: &mut AtOnce,
     path: &[u8],
     start: u64,
     count: u64,
@@ -262,7 +284,7 @@ fn read_file<F: FileExt + OpenFile + Drop>(
     let Some(file) = kept.shown(place, path, of) else {
         return Err(FileFault::Failed);
     };
-    match add_bytes(alloc, file, start, count, out) {
+    match add_part(file, at_once, start, count, of, out) {
         Ok(()) => {
             kept.show(place, of);
             kept.read(place, start, count, of);
@@ -297,6 +319,7 @@ fn most_kept() -> usize {
 pub struct HostFiles<R: Host + AllocGlobal + Clone + Drop> {
     host: R,
     kept: KeptFiles<R::File>,
+    at_once: AtOnce,
     newest: u64,
     faults: u64,
 }
@@ -305,9 +328,11 @@ impl<R: Host + AllocGlobal + Clone + Drop> HostFiles<R> {
     /// The files of a host, none of which is open.
     pub fn new(host: R) -> Result<Self, OutOfMemory> {
         let kept = KeptFiles::new(host.alloc(), most_kept())?;
+        let at_once = AtOnce::new(host.alloc());
         Ok(HostFiles {
             host,
             kept,
+            at_once,
             newest: 0,
             faults: 0,
         })
@@ -404,8 +429,8 @@ where
         out: &mut ByteText,
     ) -> Result<(), FileFault> {
         match read_file(
-            self.host.alloc(),
             &mut self.kept,
+            &mut self.at_once,
             path,
             start,
             count,

@@ -70,6 +70,8 @@ pub struct KeptFile<F: Drop> {
     readers: u32,
     /// No later tree shows it.
     past: bool,
+    /// No other file that was kept has this number.
+    number: u64,
 }
 
 impl<F: Drop> KeptFile<F> {
@@ -84,7 +86,17 @@ impl<F: Drop> KeptFile<F> {
             used: 0,
             readers: 0,
             past: false,
+            number: 0,
         }
+    }
+
+    pub fn number(&self) -> u64 {
+        self.number
+    }
+
+    /// How many bytes it had when it was opened.
+    pub fn len(&self) -> u64 {
+        self.identity.len
     }
 
     pub fn node(&self) -> Node {
@@ -377,6 +389,7 @@ impl<F: Drop> KeptFiles<F> {
         let kept = KeptFile {
             past,
             used: self.uses,
+            number: self.uses,
             ..kept
         };
         if let Some(files) = self.buckets.get_mut(bucket) {

@@ -2,6 +2,7 @@
 //! nothing of what the host holds or takes.
 #![tactic(auto)]
 
+mod at_once;
 mod files;
 mod kept;
 mod sink;

@@ -14,8 +14,10 @@ use Rattle.family_order.specs.Items.{Family, alone, doing, with_stance}
 use Rattle.family_order.specs.Items.Stance.{Going}
 use Rattle.family_order.specs.Laws.{ShowsTheSame}
 use Rattle.node_turn.specs.Stages.{node_act}
-use Rattle.subrequests.specs.Families.{IsSound, captured_at, goes_on_at, is_captured, seen, stance_by_asks, stance_in}
-use Rattle.node_line.specs.Stances.{Opening, stance_at}
+use Rattle.subrequests.specs.Families.{IsSound, captured_at, goes_on_at}
+use Rattle.node_seats.specs.Seats.{doing_by, is_captured, most_levels, seen, stance_in}
+use Rattle.node_seats.proofs.Seated.{in_row_is}
+use Rattle.node_line.specs.Stances.{Opening}
 use Rattle.family_order.proofs.Wells.{begun-well}
 use Rattle.family_order.specs.Items.{IsWellRow}
 use Rattle.node_turn.specs.declared.node.Place.TheVariants.{Row as InRow}
@@ -73,14 +75,13 @@ module _ (laws : ShowsTheSame) (w : World) (tree : Tree) (ps : List SetPattern) 
       subst (λ (r : Row). Opening w tree 0 (record { row = r; output = []; stance = λ j. Going 50 m; root = 0 }) table (seen w ps site main row nodes texts) vars) first
       (steps.alike (laws.others f (with_stance 0 (Going 50 m) f.stance) (λ j h. same (j == 0)))
       (steps.then (steps.thinks w tree laws 0 0 InItsRow 50 f (open_first row nodes n first one) m (node_act w ps site main n (texts 0)) table vars e)
-      (steps.alike (laws.others (doing 0 (Going 50 (node_act w ps site main n (texts 0))) f) (stance_in w ps site main nodes texts) (λ j h. is j (only row nodes n first one j h))) steps.stays)))
+      (steps.alike (laws.others (doing 0 (Going 50 (node_act w ps site main n (texts 0))) f) (stance_in (doing_by w ps site main texts) nodes most_levels) (λ j h. is j (only row nodes n first one j h))) steps.stays)))
     where
       same : (b : Bool) → Going 50 m ≡ cond b (Going 50 m) (Going 50 m)
       same true = refl
       same false = refl
 
-      is : (j : ℕ) → j ≡ 0 → cond (j == 0) (Going 50 (node_act w ps site main n (texts 0))) (Going 50 m) ≡ stance_in w ps site main nodes texts j
+      is : (j : ℕ) → j ≡ 0 → cond (j == 0) (Going 50 (node_act w ps site main n (texts 0))) (Going 50 m) ≡ stance_in (doing_by w ps site main texts) nodes most_levels j
       is j h =
-          ap (λ i. cond (i == 0) (Going 50 (node_act w ps site main n (texts 0))) (Going 50 m)) h ∙ ap (λ l. Going l (node_act w ps site main n (texts 0))) (sym left) ∙ ap (λ p. stance_at 0 p n.left (node_act w ps site main n (texts 0))) (sym place)
-          ∙ ap (stance_by_asks w ps site main (n ∷ []) texts 0 n) (sym none)
-          ∙ ap (λ ns. stance_in w ps site main ns texts 0) (sym one) ∙ ap (λ i. stance_in w ps site main nodes texts i) (sym h)
+          ap (λ i. cond (i == 0) (Going 50 (node_act w ps site main n (texts 0))) (Going 50 m)) h ∙ ap (λ l. Going l (node_act w ps site main n (texts 0))) (sym left)
+          ∙ sym (in_row_is (doing_by w ps site main texts) nodes most_levels 0 n (ap (λ ns. slice_get ns 0) one) place none) ∙ ap (stance_in (doing_by w ps site main texts) nodes most_levels) (sym h)

@@ -7,6 +7,7 @@ mod Heard
 mod Wholes
 mod Skips
 mod Taking
+mod Asking
 mod Opening
 mod Returning
 mod Beginning

@@ -1,27 +1,33 @@
 -- A node of a family of nodes, and another in its place.
-use Rattle.std.proofs.Common.{◌≡◌, ◌≢◌, ◌≤◌, ◌<◌, ℕ, zero, suc, ◌==◌, ◌&&◌, ◌||◌, is_none, Bool, true, false, cond, not, List, [], ◌∷◌, ◌++◌, length, drop, set, slice_get, Option, None, Some, refl, sym, ap, ◌∙◌, subst, unwrap_or}
+use Rattle.std.proofs.Common.{◌≡◌, ◌≢◌, ◌≤◌, ◌<◌, ℕ, zero, suc, ◌==◌, ◌&&◌, is_none, Bool, true, false, cond, not, List, [], ◌∷◌, ◌++◌, length, drop, set, slice_get, Option, None, Some, refl, sym, ap, ◌∙◌, subst, unwrap_or}
 use Rattle.std.proofs.lemmas.Bool.{eqb-true}
 use Rattle.acts.specs.Vars.{Vars}
-use Rattle.acts.specs.Act.{Done, Call, Inner, settled}
+use Rattle.acts.specs.Act.{Done, Inner, settled}
 use Rattle.file_tree.specs.Tree.{Tree, Trees, text_of}
 use Rattle.ngx_pattern.specs.Pattern.{Pattern as SetPattern}
 use Rattle.ngx_variables.specs.declared.request.Main.{Main}
 use Rattle.site_model.specs.declared.site.Site.{Site}
 use Rattle.postpone_filter.specs.Row.{Row, is_open, appended, with_child, ended}
 use Rattle.request_meaning.specs.Serving.{World, Serving, Answer, Child, Reply}
-use Rattle.family_meaning.specs.Line.Line.{Nil}
+use Rattle.family_meaning.specs.Line.Line.{Nil, Gives}
 use Rattle.request_meaning.specs.Replies.{script}
 use Rattle.request_phases.specs.declared.state.Phases.{Phases}
-use Rattle.family_order.specs.Items.{Stance, stance_by, Family, IsWell, IsWellRow, IsAlike, is_shown, with_stance, doing, placing, opening, ending}
-use Rattle.family_order.specs.Items.Stance.{Going, Waiting, Apart, Hidden}
+use Rattle.family_order.specs.Items.{Stance, stance_by, Family, IsWell, IsWellRow, IsAlike, is_shown, doing, placing, opening, ending}
+use Rattle.family_order.specs.Items.Stance.{Going, Apart}
 use Rattle.family_order.specs.Laws.{ShowsTheSame}
-use Rattle.family_order.proofs.Wells.{step-well, well-doing}
+use Rattle.family_order.proofs.Wells.{step-well}
 use Rattle.postpone_filter.specs.Runs.Call.{Append, AddChild, End}
 use Rattle.node_turn.specs.Stages.{IsSameNode, hand_at, held_more, node_act, node_heard, text_in, item_asked, is_asking}
-use Rattle.subrequests.specs.Families.{IsSound, captured_at, goes_on_at, held_text, hears_from, is_asked, is_captured, is_seated, own_of, reads_text, seen, stance_by_asks, stance_in, stance_of, text_at, texts_of}
+use Rattle.subrequests.specs.Families.{IsSound, captured_at, goes_on_at, reads_text, text_at, texts_of}
+use Rattle.node_seats.specs.Seats.{Doing, doing_by, held_text, is_captured, is_heard, is_seated, most_levels, place_stance, row_stance, seen, stance_in, stance_of, stub_in}
+use Rattle.node_seats.proofs.Besides.{Beside, IsAsMuch, as_much, is_free, same_stance, still_stance}
+use Rattle.node_seats.proofs.Besides.Beside.{Neither, Both, Free}
+use Rattle.node_seats.proofs.Framing as framing
+use Rattle.node_seats.proofs.Located.{StandsAs}
+use Rattle.node_seats.proofs.Seated.{Replaced, Seated, in_row_is, line_alone, seated}
+use Rattle.node_seats.proofs.Stepping as stepping
 use Rattle.subrequests.specs.Moved.{SameTexts}
-use Rattle.node_line.specs.Stances.{Opening, Seat, alone_line, place_by, stance_at, stance_so}
-use Rattle.node_line.specs.Stances.Seat.{InRow as InItsRow, Beside, Below}
+use Rattle.node_line.specs.Stances.{Opening, place_by, stance_at, under}
 use Rattle.node_turn.specs.Nodes.{asked_path, lent, stage_act, stage_heard}
 use Rattle.node_turn.specs.Turns.{Works, PlacesAs}
 use Rattle.node_turn.specs.declared.node.Node.{Node}
@@ -98,391 +104,247 @@ not_asking (at_stage.Ends a) e = refl
 pub kept_text : (trees : Trees) (old new : Node) → (is_asking new.stage ≡ false → (new.ask ≡ old.ask) × (new.start ≡ old.start)) → reads_text new.stage ≡ true → text_in trees old ≡ text_in trees new
 kept_text trees old new keeps e = same_text trees old new (keeps (not_asking new.stage e))
 
--- ---- what is said of a node
+-- ---- another node in the place of one
 
-module _ (w : World) (patterns : List SetPattern) (site : Site) (main : Main) (texts : ℕ → List ℕ) where
-  -- another node in the place of one makes no difference to the line for which a third waits, if neither is its subrequest
-  own_same : (nodes : List Node) (at : ℕ) (old new : Node) (j c : ℕ) → slice_get nodes at ≡ Some old → (is_captured old.place && (old.parent == j)) ≡ false → (is_captured new.place && (new.parent == j)) ≡ false →
-      own_of w patterns site main j c (texts c) (slice_get nodes c) ≡ own_of w patterns site main j c (texts c) (slice_get (set nodes at new) c)
-  own_same nodes at old new j c there was is = by (c == at) refl
-    where
-      by : (b : Bool) → (c == at) ≡ b → own_of w patterns site main j c (texts c) (slice_get nodes c) ≡ own_of w patterns site main j c (texts c) (slice_get (set nodes at new) c)
-      by true e =
-          ap (λ i. own_of w patterns site main j c (texts c) (slice_get nodes i)) (same_number c at e) ∙ ap (own_of w patterns site main j c (texts c)) there
-          ∙ ap (λ b. cond b (alone_line (held_text old.place) c old.left (node_act w patterns site main old (texts c))) Nil) was
-          ∙ sym (ap (λ i. own_of w patterns site main j c (texts c) (slice_get (set nodes at new) i)) (same_number c at e) ∙ ap (own_of w patterns site main j c (texts c)) (get_set_same nodes at new old there)
-          ∙ ap (λ b. cond b (alone_line (held_text new.place) c new.left (node_act w patterns site main new (texts c))) Nil) is)
-      by false e = ap (own_of w patterns site main j c (texts c)) (sym (get_set_other nodes at c new (other_number c at e)))
+pub replaced : (w : World) (patterns : List SetPattern) (site : Site) (main : Main) (texts texts' : ℕ → List ℕ) (nodes : List Node) (at : ℕ) (old new : Node) → slice_get nodes at ≡ Some old → old.asks ≡ None → new.asks ≡ None →
+    ((j : ℕ) → (j == at) ≡ false → texts j ≡ texts' j) → Replaced (doing_by w patterns site main texts) nodes (doing_by w patterns site main texts') (set nodes at new) at old new
+replaced w patterns site main texts texts' nodes at old new there none free agree = record {
+  there = there;
+  then = get_set_same nodes at new old there;
+  free = none;
+  free_then = free;
+  others = λ j e. sym (get_set_other nodes at j new (other_number j at e));
+  acts = λ j n e. ap (node_act w patterns site main n) (agree j e);
+  heard = λ j n e. ap (λ t reply. node_heard w patterns site main n t reply.body) (agree j e);
+}
 
-  pub other_same : (nodes : List Node) (at : ℕ) (old new : Node) (j : ℕ) → slice_get nodes at ≡ Some old → (j == at) ≡ false → (is_captured old.place && (old.parent == j)) ≡ false → (is_captured new.place && (new.parent == j)) ≡ false →
-      stance_in w patterns site main nodes texts j ≡ stance_in w patterns site main (set nodes at new) texts j
-  other_same nodes at old new j there apart was is =
-      by (slice_get nodes j) ∙ ap (stance_of w patterns site main (set nodes at new) texts j) (sym (get_set_other nodes at j new (other_number j at apart)))
-    where
-      by_asks : (n : Node) (asks : Option ℕ) → stance_by_asks w patterns site main nodes texts j n asks ≡ stance_by_asks w patterns site main (set nodes at new) texts j n asks
-      by_asks n None = refl
-      by_asks n (Some c) = ap (λ own. Waiting own n.left (λ reply. node_heard w patterns site main n (texts j) reply.body)) (own_same nodes at old new j c there was is)
+pub stands_as : (old new : Node) → new.parent ≡ old.parent → new.place ≡ old.place → StandsAs old new
+stands_as old new parent place = record { parent = parent; captured = ap is_captured place; stub = ap stub_in place; row = ap is_in_row place }
 
-      by : (o : Option Node) → stance_of w patterns site main nodes texts j o ≡ stance_of w patterns site main (set nodes at new) texts j o
-      by None = refl
-      by (Some n) = by_asks n n.asks
+-- where more bytes of it are held
+pub holds_as : (old new : Node) (bytes : List ℕ) → new.parent ≡ old.parent → new.place ≡ held_more bytes old.place → StandsAs old new
+holds_as old new bytes parent place =
+    let is = by old.place in
+    record { parent = parent; captured = ap is_captured place ∙ is.0; stub = ap stub_in place ∙ is.1; row = ap is_in_row place ∙ is.2 }
+  where
+    by : (p : Place) → (is_captured (held_more bytes p) ≡ is_captured p) × (stub_in (held_more bytes p) ≡ stub_in p) × (is_in_row (held_more bytes p) ≡ is_in_row p)
+    by InRow = (refl, refl, refl)
+    by (Stub stub text) = (refl, refl, refl)
+    by (Captured stub text) = (refl, refl, refl)
 
-  -- one node more makes none either
-  own_more : (nodes : List Node) (member : Node) (j c : ℕ) → (is_captured member.place && (member.parent == j)) ≡ false →
-      own_of w patterns site main j c (texts c) (slice_get nodes c) ≡ own_of w patterns site main j c (texts c) (slice_get (nodes ++ member ∷ []) c)
-  own_more nodes member j c is = by (c == length nodes) refl
-    where
-      by : (b : Bool) → (c == length nodes) ≡ b → own_of w patterns site main j c (texts c) (slice_get nodes c) ≡ own_of w patterns site main j c (texts c) (slice_get (nodes ++ member ∷ []) c)
-      by true e =
-          ap (λ i. own_of w patterns site main j c (texts c) (slice_get nodes i)) (same_number c (length nodes) e) ∙ ap (own_of w patterns site main j c (texts c)) (get_none nodes)
-          ∙ sym (ap (λ i. own_of w patterns site main j c (texts c) (slice_get (nodes ++ member ∷ []) i)) (same_number c (length nodes) e) ∙ ap (own_of w patterns site main j c (texts c)) (get_last nodes member)
-          ∙ ap (λ b. cond b (alone_line (held_text member.place) c member.left (node_act w patterns site main member (texts c))) Nil) is)
-      by false e = ap (own_of w patterns site main j c (texts c)) (sym (get_before nodes member c (other_number c (length nodes) e)))
+pub others_kept : (nodes : List Node) (at : ℕ) (new : Node) (j : ℕ) → (j == at) ≡ false → slice_get nodes j ≡ slice_get (set nodes at new) j
+others_kept nodes at new j e = sym (get_set_other nodes at j new (other_number j at e))
 
-  pub more_same : (nodes : List Node) (member : Node) (j : ℕ) → (j == length nodes) ≡ false → (is_captured member.place && (member.parent == j)) ≡ false →
-      stance_in w patterns site main nodes texts j ≡ stance_in w patterns site main (nodes ++ member ∷ []) texts j
-  more_same nodes member j apart is =
-      by (slice_get nodes j) ∙ ap (stance_of w patterns site main (nodes ++ member ∷ []) texts j) (sym (get_before nodes member j (other_number j (length nodes) apart)))
-    where
-      by_asks : (n : Node) (asks : Option ℕ) → stance_by_asks w patterns site main nodes texts j n asks ≡ stance_by_asks w patterns site main (nodes ++ member ∷ []) texts j n asks
-      by_asks n None = refl
-      by_asks n (Some c) = ap (λ own. Waiting own n.left (λ reply. node_heard w patterns site main n (texts j) reply.body)) (own_more nodes member j c is)
-
-      by : (o : Option Node) → stance_of w patterns site main nodes texts j o ≡ stance_of w patterns site main (nodes ++ member ∷ []) texts j o
-      by None = refl
-      by (Some n) = by_asks n n.asks
-
-  -- what is said of a node that doesn't wait for a reply
-  pub own_stance : (nodes : List Node) (j : ℕ) (n : Node) → slice_get nodes j ≡ Some n → n.asks ≡ None → stance_in w patterns site main nodes texts j ≡ stance_at j n.place n.left (node_act w patterns site main n (texts j))
-  own_stance nodes j n there none = ap (stance_of w patterns site main nodes texts j) there ∙ ap (stance_by_asks w patterns site main nodes texts j n) none
-
-  -- and of one that does
-  pub asks_stance : (nodes : List Node) (j c : ℕ) (p m : Node) → slice_get nodes j ≡ Some p → p.asks ≡ Some c → slice_get nodes c ≡ Some m → is_captured m.place ≡ true → m.parent ≡ j →
-      stance_in w patterns site main nodes texts j ≡ Waiting (alone_line (held_text m.place) c m.left (node_act w patterns site main m (texts c))) p.left (λ reply. node_heard w patterns site main p (texts j) reply.body)
-  asks_stance nodes j c p m there asks child is parent =
-      let k : Reply → Serving Answer = λ reply. node_heard w patterns site main p (texts j) reply.body in
-      ap (stance_of w patterns site main nodes texts j) there ∙ ap (stance_by_asks w patterns site main nodes texts j p) asks
-      ∙ ap (λ o. Waiting (own_of w patterns site main j c (texts c) o) p.left k) child
-      ∙ ap (λ b. Waiting (cond (b && (m.parent == j)) (alone_line (held_text m.place) c m.left (node_act w patterns site main m (texts c))) Nil) p.left k) is
-      ∙ ap (λ b. Waiting (cond b (alone_line (held_text m.place) c m.left (node_act w patterns site main m (texts c))) Nil) p.left k) (ap (λ i. i == j) parent ∙ eq_self j)
-
-  -- where the text of one node's file is another, it makes none to what is said of a third, if the one isn't its subrequest
-  own_text : (nodes : List Node) (at : ℕ) (n : Node) (texts' : ℕ → List ℕ) (j c : ℕ) → slice_get nodes at ≡ Some n → ((i : ℕ) → (i == at) ≡ false → texts i ≡ texts' i) → (is_captured n.place && (n.parent == j)) ≡ false →
-      own_of w patterns site main j c (texts c) (slice_get nodes c) ≡ own_of w patterns site main j c (texts' c) (slice_get nodes c)
-  own_text nodes at n texts' j c there agree is = by (c == at) refl
-    where
-      none : (text : List ℕ) → c ≡ at → own_of w patterns site main j c text (slice_get nodes c) ≡ Nil
-      none text e =
-          ap (λ i. own_of w patterns site main j c text (slice_get nodes i)) e ∙ ap (own_of w patterns site main j c text) there
-          ∙ ap (λ b. cond b (alone_line (held_text n.place) c n.left (node_act w patterns site main n text)) Nil) is
-
-      by : (b : Bool) → (c == at) ≡ b → own_of w patterns site main j c (texts c) (slice_get nodes c) ≡ own_of w patterns site main j c (texts' c) (slice_get nodes c)
-      by true e = none (texts c) (same_number c at e) ∙ sym (none (texts' c) (same_number c at e))
-      by false e = ap (λ t. own_of w patterns site main j c t (slice_get nodes c)) (agree c e)
-
--- what is said of a node whose bytes come to its parent
-pub hidden : (node : ℕ) (place : Place) (left : ℕ) (m : Serving Answer) → is_captured place ≡ true → stance_at node place left m ≡ Hidden
-hidden node InRow left m e = cc
-hidden node (Stub stub text) left m e = cc
-hidden node (Captured text) left m e = refl
-
-module _ (w : World) (patterns : List SetPattern) (site : Site) (main : Main) where
-  pub other_text : (nodes : List Node) (at : ℕ) (m : Node) (texts texts' : ℕ → List ℕ) (j : ℕ) → slice_get nodes at ≡ Some m → ((i : ℕ) → (i == at) ≡ false → texts i ≡ texts' i) → (j == at) ≡ false →
-      (is_captured m.place && (m.parent == j)) ≡ false → stance_in w patterns site main nodes texts j ≡ stance_in w patterns site main nodes texts' j
-  other_text nodes at m texts texts' j there agree apart is = by (slice_get nodes j)
-    where
-      by_asks : (n : Node) (asks : Option ℕ) → stance_by_asks w patterns site main nodes texts j n asks ≡ stance_by_asks w patterns site main nodes texts' j n asks
-      by_asks n None = ap (λ t. stance_at j n.place n.left (node_act w patterns site main n t)) (agree j apart)
-      by_asks n (Some c) =
-          ap (λ own. Waiting own n.left (λ reply. node_heard w patterns site main n (texts j) reply.body)) (own_text w patterns site main texts nodes at m texts' j c there agree is)
-          ∙ ap (λ t. Waiting (own_of w patterns site main j c (texts' c) (slice_get nodes c)) n.left (λ reply. node_heard w patterns site main n t reply.body)) (agree j apart)
-
-      by : (o : Option Node) → stance_of w patterns site main nodes texts j o ≡ stance_of w patterns site main nodes texts' j o
-      by None = refl
-      by (Some n) = by_asks n n.asks
-
-  -- A node that has other subrequests, or waits for the end of another, says the same.
-  pub told_same : (nodes : List Node) (texts : ℕ → List ℕ) (at : ℕ) (old : Node) (children : ℕ) (waits : Option ℕ) (j : ℕ) → slice_get nodes at ≡ Some old →
-      stance_in w patterns site main nodes texts j ≡ stance_in w patterns site main (set nodes at (record old { children = children; waits = waits })) texts j
-  told_same nodes texts at old children waits j there = by (j == at) refl
-    where
-      new : Node
-      new = record old { children = children; waits = waits }
-
-      own : (i c : ℕ) (b : Bool) → (c == at) ≡ b → own_of w patterns site main i c (texts c) (slice_get nodes c) ≡ own_of w patterns site main i c (texts c) (slice_get (set nodes at new) c)
-      own i c true e =
-          ap (λ k. own_of w patterns site main i c (texts c) (slice_get nodes k)) (same_number c at e) ∙ ap (own_of w patterns site main i c (texts c)) there
-          ∙ sym (ap (λ k. own_of w patterns site main i c (texts c) (slice_get (set nodes at new) k)) (same_number c at e) ∙ ap (own_of w patterns site main i c (texts c)) (get_set_same nodes at new old there))
-      own i c false e = ap (own_of w patterns site main i c (texts c)) (sym (get_set_other nodes at c new (other_number c at e)))
-
-      by_asks : (n : Node) (asks : Option ℕ) → stance_by_asks w patterns site main nodes texts j n asks ≡ stance_by_asks w patterns site main (set nodes at new) texts j n asks
-      by_asks n None = refl
-      by_asks n (Some c) = ap (λ line. Waiting line n.left (λ reply. node_heard w patterns site main n (texts j) reply.body)) (own j c (c == at) refl)
-
-      of : (o : Option Node) → stance_of w patterns site main nodes texts j o ≡ stance_of w patterns site main (set nodes at new) texts j o
-      of None = refl
-      of (Some n) = by_asks n n.asks
-
-      renewed : (asks : Option ℕ) → stance_by_asks w patterns site main (set nodes at new) texts j old asks ≡ stance_by_asks w patterns site main (set nodes at new) texts j new asks
-      renewed None = refl
-      renewed (Some c) = refl
-
-      by : (b : Bool) → (j == at) ≡ b → stance_in w patterns site main nodes texts j ≡ stance_in w patterns site main (set nodes at new) texts j
-      by true e =
-          ap (λ k. stance_of w patterns site main nodes texts j (slice_get nodes k)) (same_number j at e) ∙ ap (stance_of w patterns site main nodes texts j) there ∙ of (Some old) ∙ renewed old.asks
-          ∙ sym (ap (λ k. stance_of w patterns site main (set nodes at new) texts j (slice_get (set nodes at new) k)) (same_number j at e) ∙ ap (stance_of w patterns site main (set nodes at new) texts j) (get_set_same nodes at new old there))
-      by false e = of (slice_get nodes j) ∙ ap (stance_of w patterns site main (set nodes at new) texts j) (sym (get_set_other nodes at j new (other_number j at e)))
+pub free_then : (nodes : List Node) (at : ℕ) (old new : Node) → slice_get nodes at ≡ Some old → is_captured new.place ≡ false → is_free (slice_get (set nodes at new) at) ≡ true
+free_then nodes at old new there free = ap is_free (get_set_same nodes at new old there) ∙ ap not free
 
 -- ---- a node that may go on
 
+levels_are : (nodes : List Node) (at : ℕ) (n : Node) → is_heard 50 nodes at n ≡ true → is_heard most_levels nodes at n ≡ true
+unfolding most_levels
+levels_are nodes at n e = e
+
 -- a node that may go on waits for no reply
 pub asks_none : (nodes : List Node) (at : ℕ) (old : Node) → slice_get nodes at ≡ Some old → is_seated nodes at (slice_get nodes at) ≡ true → old.asks ≡ None
-asks_none nodes at old there e = none_of old.asks (left_true (is_none old.asks) (not (is_captured old.place) || hears_from at (slice_get nodes old.parent)) (sym (ap (is_seated nodes at) there) ∙ e))
+asks_none nodes at old there e = none_of old.asks (left_true (is_none old.asks) (is_heard 50 nodes at old) (sym (ap (is_seated nodes at) there) ∙ e))
   where
     none_of : (o : Option ℕ) → is_none o ≡ true → o ≡ None
     none_of None f = refl
     none_of (Some c) f = cc
 
--- and where its parent is told of it, that does
-pub heard_above : (nodes : List Node) (at : ℕ) (old : Node) → slice_get nodes at ≡ Some old → is_seated nodes at (slice_get nodes at) ≡ true → (not (is_captured old.place) || hears_from at (slice_get nodes old.parent)) ≡ true
-heard_above nodes at old there e = right_true (is_none old.asks) (not (is_captured old.place) || hears_from at (slice_get nodes old.parent)) (sym (ap (is_seated nodes at) there) ∙ e)
+-- and where its bytes come to another, that waits for them
+pub heard_above : (nodes : List Node) (at : ℕ) (old : Node) → slice_get nodes at ≡ Some old → is_seated nodes at (slice_get nodes at) ≡ true → is_heard most_levels nodes at old ≡ true
+heard_above nodes at old there e = levels_are nodes at old (right_true (is_none old.asks) (is_heard 50 nodes at old) (sym (ap (is_seated nodes at) there) ∙ e))
 
--- the parent that waits for a node
-pub record Above (nodes : List Node) (at : ℕ) (old : Node) : Type 0 where
-  pub waiting : Node
-  pub there : slice_get nodes old.parent ≡ Some waiting
-  pub asks : waiting.asks ≡ Some at
-  pub goes_on : goes_on_at (slice_get nodes old.parent) ≡ true
-
-pub above_is : (nodes : List Node) (at : ℕ) (old : Node) → slice_get nodes at ≡ Some old → is_seated nodes at (slice_get nodes at) ≡ true → is_captured old.place ≡ true → Above nodes at old
-above_is nodes at old there e held =
-    by (slice_get nodes old.parent) refl (ap (λ b. not b || hears_from at (slice_get nodes old.parent)) (sym held) ∙ heard_above nodes at old there e)
+pub not_over : (row : Row) (nodes : List Node) (at : ℕ) (old : Node) → slice_get nodes at ≡ Some old → IsSound row nodes → is_open at row.pieces ≡ true → old.over ≡ false
+not_over row nodes at old there sound goes_on = by old.over (ap goes_on_at (sym there) ∙ sym (sound.going at) ∙ goes_on)
   where
-    asked_for : (asks : Option ℕ) → is_asked at asks ≡ true → asks ≡ Some at
-    asked_for None f = cc
-    asked_for (Some c) f = ap Some (same_number c at f)
+    by : (b : Bool) → not b ≡ true → b ≡ false
+    by true e = cc
+    by false e = refl
 
-    by : (o : Option Node) → slice_get nodes old.parent ≡ o → hears_from at o ≡ true → Above nodes at old
-    by None f h = cc
-    by (Some p) f h = record { waiting = p; there = f; asks = asked_for p.asks (right_true (not p.over) (is_asked at p.asks) h); goes_on = ap goes_on_at f ∙ left_true (not p.over) (is_asked at p.asks) h }
+-- the node of another number that goes on has a place in the row
+pub open_there : (row : Row) (nodes : List Node) (h : ℕ) (host : Node) → slice_get nodes h ≡ Some host → host.over ≡ false → IsSound row nodes → is_open h row.pieces ≡ true
+open_there row nodes h host there goes_on sound = sound.going h ∙ ap goes_on_at there ∙ ap not goes_on
 
--- ---- a node in its seat
+-- the next number is of no node that is there
+pub next_number : (row : Row) (nodes : List Node) (h : ℕ) (host : Node) → slice_get nodes h ≡ Some host → IsSound row nodes → (row.nodes == h) ≡ false
+next_number row nodes h host there sound = by (row.nodes == h) refl
+  where
+    none_some : (x : Node) → None ≡ Some x → ⊥
+    none_some x e = cc
 
--- the same node but for what it does, what it asks, and how much of it is held
-pub record AsOld (old new : Node) : Type 0 where
-  pub left : new.left ≡ old.left
-  pub parent : new.parent ≡ old.parent
-  pub asks : new.asks ≡ old.asks
-  pub captured : is_captured new.place ≡ is_captured old.place
+    by : (b : Bool) → (row.nodes == h) ≡ b → b ≡ false
+    by true e = absurd (none_some host (sym (get_none nodes) ∙ ap (slice_get nodes) (sym sound.count ∙ same_number row.nodes h e) ∙ there))
+    by false e = refl
 
-pub as_old : (old new : Node) → IsSameNode old new → is_captured new.place ≡ is_captured old.place → AsOld old new
-as_old old new same captured = record { left = same.left; parent = same.parent; asks = same.asks; captured = captured }
-
--- The node with the number `at` is told of by the family at the number `h`: itself, or the one that waits for it.
-pub record Seated (w : World) (patterns : List SetPattern) (site : Site) (main : Main) (row : Row) (nodes : List Node) (texts : ℕ → List ℕ) (at : ℕ) (old : Node) : Type 0 where
-  pub h : ℕ
-  pub seat : Place → Seat
-  pub goes_on : is_open h row.pieces ≡ true
-  pub is : stance_in w patterns site main nodes texts h ≡ stance_so (seat old.place) at old.left (node_act w patterns site main old (texts at))
-  pub next : (new : Node) → AsOld old new → (texts' : ℕ → List ℕ) → ((j : ℕ) → (j == at) ≡ false → texts j ≡ texts' j) →
-      stance_in w patterns site main (set nodes at new) texts' h ≡ stance_so (seat new.place) at new.left (node_act w patterns site main new (texts' at))
-  pub same : (new : Node) → AsOld old new → (texts' : ℕ → List ℕ) → ((j : ℕ) → (j == at) ≡ false → texts j ≡ texts' j) → (j : ℕ) → (j == h) ≡ false →
-      stance_in w patterns site main nodes texts j ≡ stance_in w patterns site main (set nodes at new) texts' j
-  pub stubs : (stub text : List ℕ) → old.place ≡ Stub stub text → (h ≡ at) × ((t : List ℕ) → seat (Stub stub t) ≡ Beside stub t) × (seat InRow ≡ InItsRow)
-  pub below : (text : List ℕ) → old.place ≡ Captured text → (l : ℕ) × (k : Reply → Serving Answer) × ((t : List ℕ) → seat (Captured t) ≡ Below t l k)
-
-abbrev here_seat : Place → Seat
-here_seat InRow = InItsRow
-here_seat (Stub stub text) = Beside stub text
-here_seat (Captured text) = InItsRow
-
-module _ (w : World) (patterns : List SetPattern) (site : Site) (main : Main) (row : Row) (nodes : List Node) (texts : ℕ → List ℕ) (at : ℕ) (old : Node) (there : slice_get nodes at ≡ Some old) (none : old.asks ≡ None) where
-  pub seated_here : is_captured old.place ≡ false → is_open at row.pieces ≡ true → Seated w patterns site main row nodes texts at old
-  seated_here free goes_on = record {
-    h = at;
-    seat = here_seat;
-    goes_on = goes_on;
-    is = own_stance w patterns site main texts nodes at old there none ∙ so old.place old.left (node_act w patterns site main old (texts at)) free;
-    next = λ new e texts' agree. own_stance w patterns site main texts' (set nodes at new) at new (get_set_same nodes at new old there) (e.asks ∙ none) ∙ so new.place new.left (node_act w patterns site main new (texts' at)) (e.captured ∙ free);
-    same = λ new e texts' agree j apart.
-        let is = ap (λ b. b && (new.parent == j)) (e.captured ∙ free) in
-        other_same w patterns site main texts nodes at old new j there apart (ap (λ b. b && (old.parent == j)) free) is
-        ∙ other_text w patterns site main (set nodes at new) at new texts texts' j (get_set_same nodes at new old there) agree apart is;
-    stubs = λ stub text e. (refl, (λ t. refl), refl);
-    below = λ text e. absurd (no (sym free ∙ ap is_captured e));
-  }
-    where
-      no : false ≡ true → ⊥
-      no e = cc
-
-      so : (p : Place) (left : ℕ) (m : Serving Answer) → is_captured p ≡ false → stance_at at p left m ≡ stance_so (here_seat p) at left m
-      so InRow left m e = refl
-      so (Stub stub text) left m e = refl
-      so (Captured text) left m e = cc
-
-  -- its parent waits for it
-  pub seated_below : (p : Node) → is_captured old.place ≡ true → slice_get nodes old.parent ≡ Some p → p.asks ≡ Some at → is_open old.parent row.pieces ≡ true → Seated w patterns site main row nodes texts at old
-  seated_below p captured parent asks goes_on =
-      let h = old.parent in
-      let k : Reply → Serving Answer = λ reply. node_heard w patterns site main p (texts h) reply.body in
-      record {
-        h = h;
-        seat = λ place. Below (held_text place) p.left k;
-        goes_on = goes_on;
-        is = asks_stance w patterns site main texts nodes h at p old parent asks there captured refl;
-        next = λ new e texts' agree.
-            asks_stance w patterns site main texts' (set nodes at new) h at p new (get_set_other nodes at h new apart ∙ parent) asks (get_set_same nodes at new old there) (e.captured ∙ captured) e.parent
-            ∙ ap (λ t. Waiting (alone_line (held_text new.place) at new.left (node_act w patterns site main new (texts' at))) p.left (λ reply. node_heard w patterns site main p t reply.body)) (sym (agree h (apart_number h at apart)));
-        same = λ new e texts' agree j d. by new e texts' agree j d (j == at) refl;
-        stubs = λ stub text e. absurd (no (sym (ap is_captured e) ∙ captured));
-        below = λ text e. (p.left, k, (λ t. refl));
-      }
-    where
-      no : false ≡ true → ⊥
-      no e = cc
-
-      none_some : {A : Type 0} (x : A) → None ≡ Some x → ⊥
-      none_some x e = cc
-
-      -- it isn't its own parent, since that waits
-      apart : old.parent ≢ at
-      apart e = none_some at (sym none ∙ ap (λ (n : Node). n.asks) (ap (λ o. unwrap_or o old) (sym there ∙ ap (λ i. slice_get nodes i) (sym e) ∙ parent)) ∙ asks)
-
-      both_false : (a b : Bool) → b ≡ false → (a && b) ≡ false
-      both_false true b e = e
-      both_false false b e = refl
-
-      by : (new : Node) → AsOld old new → (texts' : ℕ → List ℕ) → ((j : ℕ) → (j == at) ≡ false → texts j ≡ texts' j) → (j : ℕ) → (j == old.parent) ≡ false → (b : Bool) → (j == at) ≡ b →
-          stance_in w patterns site main nodes texts j ≡ stance_in w patterns site main (set nodes at new) texts' j
-      by new e texts' agree j d true f =
-          ap (stance_in w patterns site main nodes texts) (same_number j at f)
-          ∙ own_stance w patterns site main texts nodes at old there none ∙ hidden at old.place old.left (node_act w patterns site main old (texts at)) captured
-          ∙ sym (ap (stance_in w patterns site main (set nodes at new) texts') (same_number j at f)
-          ∙ own_stance w patterns site main texts' (set nodes at new) at new (get_set_same nodes at new old there) (e.asks ∙ none) ∙ hidden at new.place new.left (node_act w patterns site main new (texts' at)) (e.captured ∙ captured))
-      by new e texts' agree j d false f =
-          let elsewhere : (old.parent == j) ≡ false = turned_number j old.parent d in
-          let is = both_false (is_captured new.place) (new.parent == j) (ap (λ i. i == j) e.parent ∙ elsewhere) in
-          other_same w patterns site main texts nodes at old new j there f (both_false (is_captured old.place) (old.parent == j) elsewhere) is
-          ∙ other_text w patterns site main (set nodes at new) at new texts texts' j (get_set_same nodes at new old there) agree f is
-
-  -- the seat of a node that may go on
-  pub seat_is : IsSound row nodes → is_open at row.pieces ≡ true → is_seated nodes at (slice_get nodes at) ≡ true → Seated w patterns site main row nodes texts at old
-  seat_is sound goes_on e = by (is_captured old.place) refl
-    where
-      by : (b : Bool) → is_captured old.place ≡ b → Seated w patterns site main row nodes texts at old
-      by true c = let p = above_is nodes at old there e c in seated_below p.waiting c p.there p.asks (sound.going old.parent ∙ p.goes_on)
-      by false c = seated_here c goes_on
-
+-- the seat of a node that may go on
 pub its_seat : (w : World) (patterns : List SetPattern) (site : Site) (main : Main) (row : Row) (nodes : List Node) (texts : ℕ → List ℕ) (at : ℕ) (old : Node) → slice_get nodes at ≡ Some old →
-    IsSound row nodes → is_open at row.pieces ≡ true → is_seated nodes at (slice_get nodes at) ≡ true → Seated w patterns site main row nodes texts at old
+    IsSound row nodes → is_open at row.pieces ≡ true → is_seated nodes at (slice_get nodes at) ≡ true → Seated most_levels (doing_by w patterns site main texts) nodes at old
 its_seat w patterns site main row nodes texts at old there sound goes_on e =
-    seat_is w patterns site main row nodes texts at old there (asks_none nodes at old there e) sound goes_on e
+    seated most_levels (doing_by w patterns site main texts) nodes at old there (asks_none nodes at old there e) (not_over row nodes at old there sound goes_on) (heard_above nodes at old there e)
+
+pub seat_open : (w : World) (patterns : List SetPattern) (site : Site) (main : Main) (row : Row) (nodes : List Node) (texts : ℕ → List ℕ) (at : ℕ) (old : Node) → IsSound row nodes →
+    (s : Seated most_levels (doing_by w patterns site main texts) nodes at old) → is_open s.h row.pieces ≡ true
+seat_open w patterns site main row nodes texts at old sound s = open_there row nodes s.h s.host s.there s.goes_on sound
+
+pub seat_and_open : (w : World) (patterns : List SetPattern) (site : Site) (main : Main) (row : Row) (nodes : List Node) (texts : ℕ → List ℕ) (at : ℕ) (old : Node) → slice_get nodes at ≡ Some old →
+    IsSound row nodes → is_open at row.pieces ≡ true → is_seated nodes at (slice_get nodes at) ≡ true → (s : Seated most_levels (doing_by w patterns site main texts) nodes at old) × (is_open s.h row.pieces ≡ true)
+seat_and_open w patterns site main row nodes texts at old there sound goes_on e =
+    let s = its_seat w patterns site main row nodes texts at old there sound goes_on e in
+    (s, seat_open w patterns site main row nodes texts at old sound s)
 
 -- ---- steps of a node in its seat
 
 module _ (laws : ShowsTheSame) (w : World) (patterns : List SetPattern) (site : Site) (main : Main) (row : Row) (nodes : List Node) (texts : ℕ → List ℕ) (at : ℕ) (old : Node)
-    (s : Seated w patterns site main row nodes texts at old) where
+    (there : slice_get nodes at ≡ Some old) (sound : IsSound row nodes) (goes_on : is_open at row.pieces ≡ true) (seat : is_seated nodes at (slice_get nodes at) ≡ true) (tree : Tree) (vars : Vars) where
   abbrev before : Family
   before = seen w patterns site main row nodes texts
 
   abbrev pub act : Node → Serving Answer
   act n = node_act w patterns site main n (texts at)
 
-  abbrev pub so : Node → Stance
-  so n = stance_so (s.seat n.place) at n.left (act n)
+  s : Seated most_levels (doing_by w patterns site main texts) nodes at old
+  s = its_seat w patterns site main row nodes texts at old there sound goes_on seat
 
-  pub begins : IsAlike before (doing s.h (so old) before)
-  begins = laws.others before (with_stance s.h (so old) before.stance) (λ j e. by j (j == s.h) refl)
+  h_open : is_open (its_seat w patterns site main row nodes texts at old there sound goes_on seat).h row.pieces ≡ true
+  h_open = seat_open w patterns site main row nodes texts at old sound (its_seat w patterns site main row nodes texts at old there sound goes_on seat)
+
+  put : (new : Node) → new.asks ≡ old.asks → Replaced (doing_by w patterns site main texts) nodes (doing_by w patterns site main texts) (set nodes at new) at old new
+  put new asks = replaced w patterns site main texts texts nodes at old new there (asks_none nodes at old there seat) (asks ∙ asks_none nodes at old there seat) (λ j e. refl)
+
+  pub turned : (vars' : Vars) (new : Node) → IsSameNode old new → new.place ≡ old.place → settled (act old) vars ≡ (act new, vars') →
+      Opening w tree 0 before vars (seen w patterns site main row (set nodes at new) texts) vars'
+  turned vars' new same place acts =
+      stepping.turned laws w patterns site main row nodes texts at old (its_seat w patterns site main row nodes texts at old there sound goes_on seat)
+      tree vars h_open (set nodes at new) new (put new same.asks) (stands_as old new same.parent place) same.left place vars' acts
+
+  pub worked : (new : Node) → IsSameNode old new → new.place ≡ old.place → Works vars (act old) (act new) →
+      Opening w tree 0 before vars (seen w patterns site main row (set nodes at new) texts) vars
+  worked new same place acts =
+      stepping.worked laws w patterns site main row nodes texts at old (its_seat w patterns site main row nodes texts at old there sound goes_on seat)
+      tree vars h_open (set nodes at new) new (put new same.asks) (stands_as old new same.parent place) same.left place acts
+
+  -- what is said of the others where neither it nor the other come to another
+  pub others_same : (nodes' : List Node) → is_captured old.place ≡ false → ((j : ℕ) → (j == at) ≡ false → slice_get nodes j ≡ slice_get nodes' j) → is_free (slice_get nodes' at) ≡ true →
+      (j : ℕ) → (j == at) ≡ false → (before).stance j ≡ stance_in (doing_by w patterns site main texts) nodes' most_levels j
+  others_same nodes' free others free_then j e =
+      still_stance (doing_by w patterns site main texts) nodes (doing_by w patterns site main texts) nodes' (λ i. by i (i == at) refl) most_levels j (others j e)
+      (λ n f. as_much (doing_by w patterns site main texts) (doing_by w patterns site main texts) j n refl refl)
     where
-      by : (j : ℕ) (b : Bool) → (j == s.h) ≡ b → before.stance j ≡ cond b (so old) (before.stance j)
-      by j true e = ap before.stance (same_number j s.h e) ∙ s.is
-      by j false e = refl
+      either : (i : ℕ) (o : Option Node) → slice_get nodes i ≡ o → slice_get nodes' i ≡ o → Beside (doing_by w patterns site main texts) (doing_by w patterns site main texts) i (slice_get nodes i) (slice_get nodes' i)
+      either i None f g = Neither f g
+      either i (Some n) f g = Both n n f g (as_much (doing_by w patterns site main texts) (doing_by w patterns site main texts) i n refl refl)
 
-  -- another node in its place, and another row
-  pub ends : (f : Family) (row' : Row) (new : Node) → AsOld old new → f.row ≡ row' → f.output ≡ [] → f.root ≡ 0 → ((j : ℕ) → (j == s.h) ≡ false → f.stance j ≡ before.stance j) →
-      IsAlike (doing s.h (so new) f) (seen w patterns site main row' (set nodes at new) texts)
-  ends f row' new like same_row none root others =
-      subst (λ r. IsAlike (doing s.h (so new) f) (record { row = r; output = []; stance = stance_in w patterns site main (set nodes at new) texts; root = 0 })) same_row
-      (subst (λ o. IsAlike (doing s.h (so new) f) (record { row = f.row; output = o; stance = stance_in w patterns site main (set nodes at new) texts; root = 0 })) none
-      (subst (λ r. IsAlike (doing s.h (so new) f) (record { row = f.row; output = f.output; stance = stance_in w patterns site main (set nodes at new) texts; root = r })) root
-      (laws.others (doing s.h (so new) f) (stance_in w patterns site main (set nodes at new) texts) (λ j e. by j (j == s.h) refl))))
+      by : (i : ℕ) (b : Bool) → (i == at) ≡ b → Beside (doing_by w patterns site main texts) (doing_by w patterns site main texts) i (slice_get nodes i) (slice_get nodes' i)
+      by i true f = Free (ap (λ k. is_free (slice_get nodes k)) (same_number i at f) ∙ ap is_free there ∙ ap not free) (ap (λ k. is_free (slice_get nodes' k)) (same_number i at f) ∙ free_then)
+      by i false f = either i (slice_get nodes i) refl (sym (others i f))
+
+  -- bytes of it come that aren't placed at once
+  pub came : (row' : Row) (new : Node) → IsSameNode old new → is_in_row old.place ≡ false → ((j : ℕ) → is_open j row'.pieces ≡ is_open j row.pieces) → IsWell before →
+      CameAs at row row' old new → Opening w tree 0 before vars (seen w patterns site main row' (set nodes at new) texts) vars
+  came row' new same apart opened well (Held rows place acts) =
+      subst (λ (r : Row). Opening w tree 0 before vars (seen w patterns site main r (set nodes at new) texts) vars) (sym rows)
+      (stepping.held laws w patterns site main row nodes texts at old (its_seat w patterns site main row nodes texts at old there sound goes_on seat)
+      tree vars h_open (set nodes at new) new (put new same.asks) (holds_as old new (hand_at old.stage) same.parent place) same.left apart place (acts w patterns site main (texts at)))
+  came row' new same apart opened well (Joined stub some any was place rows acts good) =
+      let f = placing at some before in
+      let after = stance_in (doing_by w patterns site main texts) (set nodes at new) most_levels in
+      let free = ap is_captured was in
+      let end : Stance = Going old.left (act new) in
+      steps.alike (framing.begins laws w patterns site main row nodes texts at (Apart (under [] (Gives at old.left (act old) Nil)) stub) begun)
+      (steps.then (steps.joins_row w tree laws at old.left before goes_on stub some (act old) (act new) vars (acts w patterns site main (texts at)) any (good w patterns site main (texts at)) well
+      (ap (λ (r : Row). is_open at r.pieces) (sym rows) ∙ opened at ∙ goes_on))
+      (subst (λ (r : Row). Opening w tree 0 (doing at (Going old.left (act new)) (placing at some before)) vars (seen w patterns site main r (set nodes at new) texts) vars) (sym rows)
+      (steps.alike (laws.others (doing at end f) after (λ j e. by j (j == at) refl)) steps.stays)))
     where
-      by : (j : ℕ) (b : Bool) → (j == s.h) ≡ b → cond b (so new) (f.stance j) ≡ stance_in w patterns site main (set nodes at new) texts j
-      by j true e = sym (s.next new like texts (λ i d. refl)) ∙ ap (stance_in w patterns site main (set nodes at new) texts) (sym (same_number j s.h e))
-      by j false e = others j e ∙ s.same new like texts (λ i d. refl) j e
+      begun : stance_in (doing_by w patterns site main texts) nodes most_levels at ≡ Apart (under [] (Gives at old.left (node_act w patterns site main old (texts at)) Nil)) stub
+      begun =
+          ap (stance_of (doing_by w patterns site main texts) nodes most_levels at) there
+          ∙ ap (place_stance (doing_by w patterns site main texts) nodes most_levels at old) was
+          ∙ ap (λ line. Apart line stub) (line_alone (doing_by w patterns site main texts) nodes (suc most_levels) at old Nil (asks_none nodes at old there seat)
+          ∙ ap (λ p. under (held_text p) (Gives at old.left (node_act w patterns site main old (texts at)) Nil)) was)
 
-  module _ (tree : Tree) (vars : Vars) where
-    now_new : (new : Node) → AsOld old new → new.place ≡ old.place → (f : Family) → doing s.h (stance_so (s.seat old.place) at old.left (act new)) f ≡ doing s.h (so new) f
-    now_new new like place f = ap (λ n. doing s.h (stance_so (s.seat old.place) at n (act new)) f) (sym like.left) ∙ ap (λ p. doing s.h (stance_so (s.seat p) at new.left (act new)) f) (sym place)
+      by : (j : ℕ) (b : Bool) → (j == at) ≡ b → cond b (Going old.left (node_act w patterns site main new (texts at))) (stance_in (doing_by w patterns site main texts) nodes most_levels j)
+          ≡ stance_in (doing_by w patterns site main texts) (set nodes at new) most_levels j
+      by j true e =
+          ap (λ l. Going l (node_act w patterns site main new (texts at))) (sym same.left)
+          ∙ sym (ap (stance_in (doing_by w patterns site main texts) (set nodes at new) most_levels) (same_number j at e)
+          ∙ in_row_is (doing_by w patterns site main texts) (set nodes at new) most_levels at new (get_set_same nodes at new old there) place (same.asks ∙ asks_none nodes at old there seat))
+      by j false e =
+          others_same (set nodes at new) (ap is_captured was) (others_kept nodes at new) (free_then nodes at old new there (ap is_captured place)) j e
 
-    pub turned : (vars' : Vars) (new : Node) → AsOld old new → new.place ≡ old.place → settled (act old) vars ≡ (act new, vars') →
-        Opening w tree 0 before vars (seen w patterns site main row (set nodes at new) texts) vars'
-    turned vars' new like place acts =
-        steps.alike begins
-        (steps.then (steps.thinks w tree laws s.h at (s.seat old.place) old.left before s.goes_on (act old) (act new) vars vars' acts)
-        (subst (λ f. Opening w tree 0 f vars' (seen w patterns site main row (set nodes at new) texts) vars') (sym (now_new new like place before))
-        (steps.alike (ends before row new like refl refl refl (λ j e. refl)) steps.stays)))
+  -- ---- a node in the row that opens a subrequest, or is over
 
-    pub worked : (new : Node) → AsOld old new → new.place ≡ old.place → Works vars (act old) (act new) →
-        Opening w tree 0 before vars (seen w patterns site main row (set nodes at new) texts) vars
-    worked new like place acts =
-        steps.alike begins
-        (steps.then (steps.works w tree laws s.h at (s.seat old.place) old.left before s.goes_on vars (act old) (act new) acts)
-        (subst (λ f. Opening w tree 0 f vars (seen w patterns site main row (set nodes at new) texts) vars) (sym (now_new new like place before))
-        (steps.alike (ends before row new like refl refl refl (λ j e. refl)) steps.stays)))
+  pub row_begins : old.place ≡ InRow → IsAlike before (doing at (Going old.left (act old)) before)
+  row_begins here = framing.begins laws w patterns site main row nodes texts at (Going old.left (act old)) (in_row_is (doing_by w patterns site main texts) nodes most_levels at old there here (asks_none nodes at old there seat))
 
-    -- bytes of it come that aren't placed at once
-    pub came : (row' : Row) (new : Node) → AsOld old new → is_in_row old.place ≡ false → ((j : ℕ) → is_open j row'.pieces ≡ is_open j row.pieces) → IsWell before →
-        CameAs at row row' old new → Opening w tree 0 before vars (seen w patterns site main row' (set nodes at new) texts) vars
-    came row' new like apart opened well how = by how
-      where
-        after : Family
-        after = seen w patterns site main row' (set nodes at new) texts
+  -- bytes of it are placed
+  pub placed : (some : List ℕ) (new : Node) → IsSameNode old new → old.place ≡ InRow → new.place ≡ old.place → is_open at (appended at some row).pieces ≡ true →
+      PlacesAs some (act old) (act new) → Opening w tree 0 before vars (seen w patterns site main (appended at some row) (set nodes at new) texts) vars
+  placed some new same here place goes_on' acts =
+      let f = placing at some before in
+      let end : Stance = Going old.left (act new) in
+      steps.alike (row_begins here)
+      (steps.then (steps.places w tree laws at old.left before goes_on some (act old) (act new) vars acts goes_on')
+      (steps.alike (laws.others (doing at end f) (stance_in (doing_by w patterns site main texts) (set nodes at new) most_levels) (λ j e. by j (j == at) refl)) steps.stays))
+    where
+      by : (j : ℕ) (b : Bool) → (j == at) ≡ b → cond b (Going old.left (node_act w patterns site main new (texts at))) (stance_in (doing_by w patterns site main texts) nodes most_levels j)
+          ≡ stance_in (doing_by w patterns site main texts) (set nodes at new) most_levels j
+      by j true e =
+          ap (λ l. Going l (node_act w patterns site main new (texts at))) (sym same.left)
+          ∙ sym (ap (stance_in (doing_by w patterns site main texts) (set nodes at new) most_levels) (same_number j at e)
+          ∙ in_row_is (doing_by w patterns site main texts) (set nodes at new) most_levels at new (get_set_same nodes at new old there) (place ∙ here) (same.asks ∙ asks_none nodes at old there seat))
+      by j false e =
+          others_same (set nodes at new) (ap is_captured here) (others_kept nodes at new) (free_then nodes at old new there (ap is_captured (place ∙ here))) j e
 
-        held_so : (p : Place) → p ≡ old.place → row' ≡ row → new.place ≡ held_more (hand_at old.stage) old.place → PlacesAs (hand_at old.stage) (act old) (act new) → Opening w tree 0 before vars after vars
-        held_so InRow e rows place acts = absurd (no (sym (ap is_in_row e ∙ apart)))
-          where
-            no : false ≡ true → ⊥
-            no u = cc
-        held_so (Stub stub text) e rows place acts =
-            let is = s.stubs stub text (sym e) in
-            let now : new.place ≡ Stub stub (text ++ hand_at old.stage) = place ∙ ap (held_more (hand_at old.stage)) (sym e) in
-            let was : so old ≡ Apart (alone_line text at old.left (act old)) stub = ap (λ p. stance_so (s.seat p) at old.left (act old)) (sym e) ∙ ap (λ q. stance_so q at old.left (act old)) (is.1 text) in
-            let then : so new ≡ Apart (alone_line (text ++ hand_at old.stage) at old.left (act new)) stub =
-            ap (λ p. stance_so (s.seat p) at new.left (act new)) now ∙ ap (λ q. stance_so q at new.left (act new)) (is.1 (text ++ hand_at old.stage)) ∙ ap (λ n. stance_so (Beside stub (text ++ hand_at old.stage)) at n (act new)) like.left in
-            steps.alike begins
-            (subst (λ t. Opening w tree 0 (doing s.h t before) vars after vars) (sym was)
-            (steps.then (subst (λ h. Opening w tree 0 (doing h (Apart (alone_line text at old.left (act old)) stub) before) vars (doing h (Apart (alone_line (text ++ hand_at old.stage) at old.left (act new)) stub) before) vars) (sym is.0)
-            (steps.holds w tree laws at old.left before (ap (λ h. is_open h row.pieces) (sym is.0) ∙ s.goes_on) stub text (hand_at old.stage) (act old) (act new) vars acts))
-            (subst (λ t. Opening w tree 0 (doing s.h t before) vars after vars) then
-            (steps.alike (ends before row' new like (sym rows) refl refl (λ j u. refl)) steps.stays))))
-        held_so (Captured text) e rows place acts =
-            let is = s.below text (sym e) in
-            let now : new.place ≡ Captured (text ++ hand_at old.stage) = place ∙ ap (held_more (hand_at old.stage)) (sym e) in
-            let was : so old ≡ Waiting (alone_line text at old.left (act old)) is.0 is.1 = ap (λ p. stance_so (s.seat p) at old.left (act old)) (sym e) ∙ ap (λ q. stance_so q at old.left (act old)) (is.2 text) in
-            let then : so new ≡ Waiting (alone_line (text ++ hand_at old.stage) at old.left (act new)) is.0 is.1 =
-            ap (λ p. stance_so (s.seat p) at new.left (act new)) now ∙ ap (λ q. stance_so q at new.left (act new)) (is.2 (text ++ hand_at old.stage)) ∙ ap (λ n. stance_so (Below (text ++ hand_at old.stage) is.0 is.1) at n (act new)) like.left in
-            steps.alike begins
-            (subst (λ t. Opening w tree 0 (doing s.h t before) vars after vars) (sym was)
-            (steps.then (steps.below_holds w tree laws s.h at old.left before s.goes_on is.0 is.1 text (hand_at old.stage) (act old) (act new) vars acts)
-            (subst (λ t. Opening w tree 0 (doing s.h t before) vars after vars) then
-            (steps.alike (ends before row' new like (sym rows) refl refl (λ j u. refl)) steps.stays))))
+  -- it is over
+  pub over : (answer : Answer) (nodes' : List Node) → old.place ≡ InRow → act old ≡ Done answer → at ≢ 0 →
+      ((j : ℕ) → (j == at) ≡ false → (before).stance j ≡ stance_in (doing_by w patterns site main texts) nodes' most_levels j) →
+      ((j : ℕ) → is_open j (ended at row).pieces ≡ cond (j == at) false (is_open j row.pieces)) →
+      Opening w tree 0 before vars (seen w patterns site main (ended at row) nodes' texts) vars
+  over answer nodes' here done child others closed =
+      let after = seen w patterns site main (ended at row) nodes' texts in
+      steps.alike (row_begins here)
+      (subst (λ m. Opening w tree 0 (doing at (Going old.left m) before) vars after vars) (sym done)
+      (steps.over w tree laws at old.left before goes_on answer vars after child
+      (laws.others (ending at (doing at (Going old.left (Done answer)) before)) after.stance (λ j e. by j (j == at) refl (sym (closed j) ∙ e)))))
+    where
+      by : (j : ℕ) (b : Bool) → (j == at) ≡ b → cond b false (is_open j row.pieces) ≡ true →
+          cond b (Going old.left (Done answer)) (stance_in (doing_by w patterns site main texts) nodes most_levels j) ≡ stance_in (doing_by w patterns site main texts) nodes' most_levels j
+      by j true e f = absurd (false_true f)
+      by j false e f = others j e
 
-        by : CameAs at row row' old new → Opening w tree 0 before vars after vars
-        by (Held rows place acts) = held_so old.place refl rows place (acts w patterns site main (texts at))
-        by (Joined stub some any was place rows acts good) =
-            let is = s.stubs stub [] was in
-            let begun : so old ≡ Apart (alone_line [] at old.left (act old)) stub = ap (λ p. stance_so (s.seat p) at old.left (act old)) was ∙ ap (λ q. stance_so q at old.left (act old)) (is.1 []) in
-            let then : so new ≡ Going old.left (act new) = ap (λ p. stance_so (s.seat p) at new.left (act new)) place ∙ ap (λ q. stance_so q at new.left (act new)) is.2 ∙ ap (λ n. Going n (act new)) like.left in
-            steps.alike begins
-            (subst (λ t. Opening w tree 0 (doing s.h t before) vars after vars) (sym begun)
-            (steps.then (subst (λ h. Opening w tree 0 (doing h (Apart (alone_line [] at old.left (act old)) stub) before) vars (doing h (Going old.left (act new)) (placing at some before)) vars) (sym is.0)
-            (steps.joins_row w tree laws at old.left before (ap (λ h. is_open h row.pieces) (sym is.0) ∙ s.goes_on) stub some (act old) (act new) vars (acts w patterns site main (texts at)) any (good w patterns site main (texts at)) well
-            (ap (λ (r : Row). is_open at r.pieces) (sym rows) ∙ opened at ∙ ap (λ h. is_open h row.pieces) (sym is.0) ∙ s.goes_on)))
-            (subst (λ t. Opening w tree 0 (doing s.h t (placing at some before)) vars after vars) then
-            (steps.alike (ends (placing at some before) row' new like (sym rows) refl refl (λ j u. refl)) steps.stays))))
+  -- so too where its stub stands in its place
+  pub decided : (answer : Answer) (row' : Row) (nodes' : List Node) (new : Node) → DecidedAs at row row' old new → act old ≡ Done answer → at ≢ 0 →
+      ((j : ℕ) → (j == at) ≡ false → (before).stance j ≡ stance_in (doing_by w patterns site main texts) nodes' most_levels j) →
+      ((j : ℕ) → is_open j row'.pieces ≡ cond (j == at) false (is_open j row.pieces)) →
+      Opening w tree 0 before vars (seen w patterns site main row' nodes' texts) vars
+  decided answer row' nodes' new d done child others closed =
+      let after = seen w patterns site main row' nodes' texts in
+      let stub = d.stub in
+      let text = d.is.text in
+      let stance : Stance = Apart (under text (Gives at old.left (Done answer) Nil)) stub in
+      let f = ending at (placing at stub (doing at stance before)) in
+      steps.alike (framing.begins laws w patterns site main row nodes texts at stance begun)
+      (steps.decided w tree laws at old.left before goes_on stub text answer vars after (d.is.chosen w patterns site main (texts at) answer done) child
+      (subst (λ (r : Row). IsAlike f (record { row = r; output = []; stance = after.stance; root = 0 })) (sym d.row)
+      (laws.others f after.stance (λ j e. by j (j == at) refl (sym (closed j) ∙ ap (λ (r : Row). is_open j r.pieces) d.row ∙ e)))))
+    where
+      begun : stance_in (doing_by w patterns site main texts) nodes most_levels at ≡ Apart (under d.is.text (Gives at old.left (Done answer) Nil)) d.stub
+      begun =
+          ap (stance_of (doing_by w patterns site main texts) nodes most_levels at) there
+          ∙ ap (place_stance (doing_by w patterns site main texts) nodes most_levels at old) d.is.place
+          ∙ ap (λ line. Apart line d.stub) (line_alone (doing_by w patterns site main texts) nodes (suc most_levels) at old Nil (asks_none nodes at old there seat)
+          ∙ ap (λ p. under (held_text p) (Gives at old.left (node_act w patterns site main old (texts at)) Nil)) d.is.place
+          ∙ ap (λ m. under d.is.text (Gives at old.left m Nil)) done)
 
--- ---- a node in the row that opens a subrequest, asks for one's reply, or is over
+      by : (j : ℕ) (b : Bool) → (j == at) ≡ b → cond b false (is_open j row.pieces) ≡ true →
+          cond b (Apart (under d.is.text (Gives at old.left (Done answer) Nil)) d.stub) (stance_in (doing_by w patterns site main texts) nodes most_levels j) ≡ stance_in (doing_by w patterns site main texts) nodes' most_levels j
+      by j true e f = absurd (false_true f)
+      by j false e f = others j e
+
+-- ---- a subrequest in the row opens
 
 module _ (laws : ShowsTheSame) (w : World) (patterns : List SetPattern) (site : Site) (main : Main) (row : Row) (nodes : List Node) (texts : ℕ → List ℕ) (at : ℕ) (old : Node)
     (there : slice_get nodes at ≡ Some old) (none : old.asks ≡ None) (tree : Tree) (vars : Vars) (goes_on : is_open at row.pieces ≡ true) where
@@ -492,55 +354,55 @@ module _ (laws : ShowsTheSame) (w : World) (patterns : List SetPattern) (site : 
   abbrev does_so : Node → Serving Answer
   does_so n = node_act w patterns site main n (texts at)
 
-  pub row_begins : old.place ≡ InRow → IsAlike family (doing at (Going old.left (does_so old)) family)
-  row_begins here = laws.others family (with_stance at (Going old.left (does_so old)) family.stance) (λ j e. by j (j == at) refl)
-    where
-      by : (j : ℕ) (b : Bool) → (j == at) ≡ b → family.stance j ≡ cond b (Going old.left (does_so old)) (family.stance j)
-      by j true e = ap family.stance (same_number j at e) ∙ own_stance w patterns site main texts nodes at old there none ∙ ap (λ p. stance_at at p old.left (does_so old)) here
-      by j false e = refl
-
-  row_ends : (f : Family) (row' : Row) (new : Node) → f.row ≡ row' → f.output ≡ [] → f.root ≡ 0 → ((j : ℕ) → (j == at) ≡ false → f.stance j ≡ family.stance j) → old.place ≡ InRow → new.place ≡ InRow → new.asks ≡ None →
-      IsAlike (doing at (Going new.left (does_so new)) f) (seen w patterns site main row' (set nodes at new) texts)
-  row_ends f row' new same_row no_output root others was here free =
-      let now : Stance = Going new.left (does_so new) in
-      let stance = stance_in w patterns site main (set nodes at new) texts in
-      subst (λ r. IsAlike (doing at now f) (record { row = r; output = []; stance = stance; root = 0 })) same_row
-      (subst (λ o. IsAlike (doing at now f) (record { row = f.row; output = o; stance = stance; root = 0 })) no_output
-      (subst (λ r. IsAlike (doing at now f) (record { row = f.row; output = f.output; stance = stance; root = r })) root
-      (laws.others (doing at now f) stance (λ j e. by j (j == at) refl))))
-    where
-      by : (j : ℕ) (b : Bool) → (j == at) ≡ b → cond b (Going new.left (does_so new)) (f.stance j) ≡ stance_in w patterns site main (set nodes at new) texts j
-      by j true e =
-          sym (ap (stance_in w patterns site main (set nodes at new) texts) (same_number j at e)
-          ∙ own_stance w patterns site main texts (set nodes at new) at new (get_set_same nodes at new old there) free ∙ ap (λ p. stance_at at p new.left (does_so new)) here)
-      by j false e =
-          others j e ∙ other_same w patterns site main texts nodes at old new j there e (ap (λ b. b && (old.parent == j)) (ap is_captured was)) (ap (λ b. b && (new.parent == j)) (ap is_captured here))
-
-  -- bytes of it are placed
-  pub placed : (some : List ℕ) (new : Node) → new.left ≡ old.left → old.place ≡ InRow → new.place ≡ old.place → new.asks ≡ old.asks → is_open at (appended at some row).pieces ≡ true →
-      PlacesAs some (does_so old) (does_so new) →
-      Opening w tree 0 family vars (seen w patterns site main (appended at some row) (set nodes at new) texts) vars
-  placed some new same here place asks goes_on' acts =
-      let after = seen w patterns site main (appended at some row) (set nodes at new) texts in
-      steps.alike (row_begins here)
-      (steps.then (steps.places w tree laws at old.left family goes_on some (does_so old) (does_so new) vars acts goes_on')
-      (subst (λ n. Opening w tree 0 (doing at (Going n (does_so new)) (placing at some family)) vars after vars) same
-      (steps.alike (row_ends (placing at some family) (appended at some row) new refl refl refl (λ j e. refl) here (place ∙ here) (asks ∙ none)) steps.stays)))
-
-  -- what it did before is forgotten
-  pub forgotten : (new : Node) (s : Stance) → is_captured old.place ≡ false → is_captured new.place ≡ false → IsAlike (doing at s family) (doing at s (seen w patterns site main row (set nodes at new) texts))
-  forgotten new s was is = laws.others (doing at s family) (with_stance at s (stance_in w patterns site main (set nodes at new) texts)) (λ j e. by j (j == at) refl)
-    where
-      by : (j : ℕ) (b : Bool) → (j == at) ≡ b → cond b s (family.stance j) ≡ cond b s (stance_in w patterns site main (set nodes at new) texts j)
-      by j true e = refl
-      by j false e = other_same w patterns site main texts nodes at old new j there e (ap (λ b. b && (old.parent == j)) was) (ap (λ b. b && (new.parent == j)) is)
+  abbrev does : Doing
+  does = doing_by w patterns site main texts
 
   -- the others are told of as before where one more is behind them
-  others_more : (new member : Node) (j : ℕ) → (j == at) ≡ false → (j == length nodes) ≡ false → is_captured old.place ≡ false → is_captured new.place ≡ false → (is_captured member.place && (member.parent == j)) ≡ false →
-      family.stance j ≡ stance_in w patterns site main (set nodes at new ++ member ∷ []) texts j
-  others_more new member j e f was is more =
-      other_same w patterns site main texts nodes at old new j there e (ap (λ b. b && (old.parent == j)) was) (ap (λ b. b && (new.parent == j)) is)
-      ∙ more_same w patterns site main texts (set nodes at new) member j (ap (λ n. j == n) (length_set nodes at new) ∙ f) more
+  others_more : (new member : Node) → is_captured old.place ≡ false → is_captured new.place ≡ false → is_captured member.place ≡ false → (j : ℕ) → (j == at) ≡ false → (j == length nodes) ≡ false →
+      family.stance j ≡ stance_in (doing_by w patterns site main texts) (set nodes at new ++ member ∷ []) most_levels j
+  others_more new member was is more j e f =
+      still_stance (doing_by w patterns site main texts) nodes (doing_by w patterns site main texts) (set nodes at new ++ member ∷ []) (λ i. by i (i == at) (i == length nodes) refl refl) most_levels j (same j e f)
+      (λ n g. as_much (doing_by w patterns site main texts) (doing_by w patterns site main texts) j n refl refl)
+    where
+      same : (i : ℕ) → (i == at) ≡ false → (i == length nodes) ≡ false → slice_get nodes i ≡ slice_get (set nodes at new ++ member ∷ []) i
+      same i g h =
+          sym (get_set_other nodes at i new (other_number i at g))
+          ∙ sym (get_before (set nodes at new) member i (other_number i (length (set nodes at new)) (ap (λ n. i == n) (length_set nodes at new) ∙ h)))
+
+      either : (i : ℕ) (o : Option Node) → slice_get nodes i ≡ o → slice_get (set nodes at new ++ member ∷ []) i ≡ o →
+          Beside (doing_by w patterns site main texts) (doing_by w patterns site main texts) i (slice_get nodes i) (slice_get (set nodes at new ++ member ∷ []) i)
+      either i None g h = Neither g h
+      either i (Some n) g h = Both n n g h (as_much (doing_by w patterns site main texts) (doing_by w patterns site main texts) i n refl refl)
+
+      by : (i : ℕ) (a b : Bool) → (i == at) ≡ a → (i == length nodes) ≡ b →
+          Beside (doing_by w patterns site main texts) (doing_by w patterns site main texts) i (slice_get nodes i) (slice_get (set nodes at new ++ member ∷ []) i)
+      by i true b g h =
+          Free (ap (λ k. is_free (slice_get nodes k)) (same_number i at g) ∙ ap is_free there ∙ ap not was)
+          (ap (λ k. is_free (slice_get (set nodes at new ++ member ∷ []) k)) (same_number i at g) ∙ ap is_free (get_kept (set nodes at new) (member ∷ []) at new (get_set_same nodes at new old there)) ∙ ap not is)
+      by i false true g h =
+          Free (ap (λ k. is_free (slice_get nodes k)) (same_number i (length nodes) h) ∙ ap is_free (get_none nodes))
+          (ap (λ k. is_free (slice_get (set nodes at new ++ member ∷ []) k)) (same_number i (length nodes) h ∙ sym (length_set nodes at new)) ∙ ap is_free (get_last (set nodes at new) member) ∙ ap not more)
+      by i false false g h = either i (slice_get nodes i) refl (sym (same i g h))
+
+  -- what is said of the new one
+  member_is : (nodes' : List Node) (number : ℕ) (stub : Option (List ℕ)) (member : Node) (l : ℕ) (m : Serving Answer) → slice_get nodes' number ≡ Some member → member.left ≡ l → member.place ≡ place_by stub → member.asks ≡ None →
+      node_act w patterns site main member (texts number) ≡ m → stance_at number (place_by stub) l m ≡ stance_in (doing_by w patterns site main texts) nodes' most_levels number
+  member_is nodes' number stub member l m here left place alone act =
+      sym (ap (stance_of (doing_by w patterns site main texts) nodes' most_levels number) here ∙ ap (place_stance (doing_by w patterns site main texts) nodes' most_levels number member) place ∙ by stub
+      ∙ ap (λ n. stance_at number (place_by stub) n (node_act w patterns site main member (texts number))) left ∙ ap (stance_at number (place_by stub) l) act)
+    where
+      by : (s : Option (List ℕ)) → place_stance (doing_by w patterns site main texts) nodes' most_levels number member (place_by s) ≡ stance_at number (place_by s) member.left (node_act w patterns site main member (texts number))
+      by None = ap (row_stance (doing_by w patterns site main texts) nodes' most_levels number member) alone
+      by (Some text) =
+          ap (λ line. Apart line text) (line_alone (doing_by w patterns site main texts) nodes' (suc most_levels) number member Nil alone
+          ∙ ap (λ t. under t (Gives number member.left (node_act w patterns site main member (texts number)) Nil)) (held place))
+        where
+          held : member.place ≡ place_by stub → held_text member.place ≡ []
+          held e = ap held_text e ∙ none_held stub
+            where
+              none_held : (o : Option (List ℕ)) → held_text (place_by o) ≡ []
+              none_held None = refl
+              none_held (Some t) = refl
 
   -- a subrequest opens; the node and the new one are told by what they do
   pub opened : (child : Child) (l : ℕ) (new member : Node) → old.left ≡ suc l → old.place ≡ InRow → new.place ≡ InRow → new.asks ≡ None → new.left ≡ old.left →
@@ -559,178 +421,22 @@ module _ (laws : ShowsTheSame) (w : World) (patterns : List SetPattern) (site : 
       not_captured None = refl
       not_captured (Some stub) = refl
 
+      nodes' : List Node
+      nodes' = set nodes at new ++ member ∷ []
+
       by : (j : ℕ) (b c : Bool) → (j == at) ≡ b → (j == row.nodes) ≡ c →
           cond b (Going (suc l) (does_so old)) (cond c (stance_by child.stub w row.nodes l child) (cond b (Going (suc l) (Inner child (does_so old))) (family.stance j)))
-          ≡ stance_in w patterns site main (set nodes at new ++ member ∷ []) texts j
+          ≡ stance_in (doing_by w patterns site main texts) (set nodes at new ++ member ∷ []) most_levels j
       by j true c e f =
-          ap (λ n. Going n (does_so old)) (sym (same ∙ deep)) ∙ ap (λ x. Going new.left x) (sym acts) ∙ ap (λ p. stance_at at p new.left (does_so new)) (sym here)
-          ∙ sym (own_stance w patterns site main texts (set nodes at new ++ member ∷ []) at new (get_kept (set nodes at new) (member ∷ []) at new (get_set_same nodes at new old there)) free)
-          ∙ ap (λ i. stance_in w patterns site main (set nodes at new ++ member ∷ []) texts i) (sym (same_number j at e))
+          ap (λ n. Going n (does_so old)) (sym (same ∙ deep)) ∙ ap (λ x. Going new.left x) (sym acts)
+          ∙ sym (ap (stance_in (doing_by w patterns site main texts) (set nodes at new ++ member ∷ []) most_levels) (same_number j at e)
+          ∙ in_row_is (doing_by w patterns site main texts) (set nodes at new ++ member ∷ []) most_levels at new (get_kept (set nodes at new) (member ∷ []) at new (get_set_same nodes at new old there)) here free)
       by j false true e f =
-          steps.begun_so w tree laws at l family goes_on row.nodes child ∙ ap (λ i. stance_at i (place_by child.stub) l (script w l child)) (sym (same_number j row.nodes f))
-          ∙ ap (λ n. stance_at j (place_by child.stub) n (script w l child)) (sym left) ∙ ap (λ x. stance_at j (place_by child.stub) member.left x) (sym (script_is (texts j)))
-          ∙ ap (λ p. stance_at j p member.left (node_act w patterns site main member (texts j))) (sym place)
-          ∙ sym (own_stance w patterns site main texts (set nodes at new ++ member ∷ []) j member
-          (ap (λ i. slice_get (set nodes at new ++ member ∷ []) i) (same_number j row.nodes f ∙ count ∙ sym (length_set nodes at new)) ∙ get_last (set nodes at new) member) alone)
+          steps.begun_so w tree laws at l family goes_on row.nodes child
+          ∙ member_is (set nodes at new ++ member ∷ []) row.nodes child.stub member l (script w l child) (ap (slice_get (set nodes at new ++ member ∷ [])) (count ∙ sym (length_set nodes at new)) ∙ get_last (set nodes at new) member) left place alone (script_is (texts row.nodes))
+          ∙ ap (stance_in (doing_by w patterns site main texts) (set nodes at new ++ member ∷ []) most_levels) (sym (same_number j row.nodes f))
       by j false false e f =
-          others_more new member j e (ap (λ n. j == n) (sym count) ∙ f) (ap is_captured was) (ap is_captured here) (ap (λ b. b && (member.parent == j)) (ap is_captured place ∙ not_captured child.stub))
-
-  -- the reply of a subrequest is asked for, which has a place in the row at which nothing is its own
-  pub asked : (child : Child) (l : ℕ) (new member : Node) (k : Reply → Serving Answer) → old.left ≡ suc l → old.place ≡ InRow → new.place ≡ InRow → new.asks ≡ Some row.nodes → new.left ≡ old.left → child.stub ≡ None →
-      (λ reply. node_heard w patterns site main new (texts at) reply.body) ≡ k → member.left ≡ l → member.place ≡ Captured [] → member.parent ≡ at → member.asks ≡ None →
-      ((text : List ℕ) → node_act w patterns site main member text ≡ script w l child) → row.nodes ≡ length nodes → IsWell family →
-      Opening w tree 1 (doing at (Going old.left (Call child k)) family) vars (seen w patterns site main (with_child at row) (set nodes at new ++ member ∷ []) texts) vars
-  asked child l new member k deep was here asks same plain heard left place parent alone script_is count well =
-      let after = seen w patterns site main (with_child at row) (set nodes at new ++ member ∷ []) texts in
-      let waiting : Stance = Waiting (alone_line [] row.nodes l (script w l child)) (suc l) k in
-      let f = doing at waiting family in
-      subst (λ n. Opening w tree 1 (doing at (Going n (Call child k)) family) vars after vars) (sym deep)
-      (steps.then (steps.asks w tree laws at l family goes_on row.nodes child k vars f plain (laws.others f f.stance (λ j e. refl)))
-      (steps.alike (laws.opens f at (well-doing at waiting family well refl) goes_on)
-      (steps.alike (laws.others (opening at Hidden f) after.stance (λ j e. by j (j == at) (j == row.nodes) refl refl)) steps.stays)))
-    where
-      some_none : {A : Type 0} (x : A) → Some x ≡ None → ⊥
-      some_none x e = cc
-
-      last_is : slice_get (set nodes at new ++ member ∷ []) row.nodes ≡ Some member
-      last_is = ap (λ i. slice_get (set nodes at new ++ member ∷ []) i) (count ∙ sym (length_set nodes at new)) ∙ get_last (set nodes at new) member
-
-      new_is : slice_get (set nodes at new ++ member ∷ []) at ≡ Some new
-      new_is = get_kept (set nodes at new) (member ∷ []) at new (get_set_same nodes at new old there)
-
-      by : (j : ℕ) (b c : Bool) → (j == at) ≡ b → (j == row.nodes) ≡ c →
-          cond c Hidden (cond b (Waiting (alone_line [] row.nodes l (script w l child)) (suc l) k) (family.stance j)) ≡ stance_in w patterns site main (set nodes at new ++ member ∷ []) texts j
-      by j true true e f = absurd (some_none old (sym there ∙ ap (λ i. slice_get nodes i) (sym (same_number j at e) ∙ same_number j row.nodes f ∙ count) ∙ get_none nodes))
-      by j true false e f =
-          let own : List ℕ → ℕ → Serving Answer → Stance = λ text n m. Waiting (alone_line text row.nodes n m) (suc l) k in
-          ap (λ n. own [] n (script w l child)) (sym left) ∙ ap (λ m. own [] member.left m) (sym (script_is (texts row.nodes)))
-          ∙ ap (λ p. own (held_text p) member.left (node_act w patterns site main member (texts row.nodes))) (sym place)
-          ∙ ap (λ n. Waiting (alone_line (held_text member.place) row.nodes member.left (node_act w patterns site main member (texts row.nodes))) n k) (sym (same ∙ deep))
-          ∙ ap (λ q. Waiting (alone_line (held_text member.place) row.nodes member.left (node_act w patterns site main member (texts row.nodes))) new.left q) (sym heard)
-          ∙ sym (asks_stance w patterns site main texts (set nodes at new ++ member ∷ []) at row.nodes new member new_is asks last_is (ap is_captured place) parent)
-          ∙ ap (stance_in w patterns site main (set nodes at new ++ member ∷ []) texts) (sym (same_number j at e))
-      by j false true e f =
-          sym (ap (stance_in w patterns site main (set nodes at new ++ member ∷ []) texts) (same_number j row.nodes f)
-          ∙ own_stance w patterns site main texts (set nodes at new ++ member ∷ []) row.nodes member last_is alone
-          ∙ ap (λ p. stance_at row.nodes p member.left (node_act w patterns site main member (texts row.nodes))) place)
-      by j false false e f =
-          others_more new member j e (ap (λ n. j == n) (sym count) ∙ f) (ap is_captured was) (ap is_captured here)
-          (ap (λ b. b && (member.parent == j)) (ap is_captured place) ∙ (ap (λ i. i == j) parent ∙ turned_number j at e))
-
-  -- it is over, and what the others do is as before
-  pub over : (answer : Answer) (nodes' : List Node) → old.place ≡ InRow → does_so old ≡ Done answer → at ≢ 0 →
-      ((j : ℕ) → (j == at) ≡ false → family.stance j ≡ stance_in w patterns site main nodes' texts j) →
-      ((j : ℕ) → is_open j (ended at row).pieces ≡ cond (j == at) false (is_open j row.pieces)) →
-      Opening w tree 0 family vars (seen w patterns site main (ended at row) nodes' texts) vars
-  over answer nodes' here done child others closed =
-      let after = seen w patterns site main (ended at row) nodes' texts in
-      steps.alike (row_begins here)
-      (subst (λ m. Opening w tree 0 (doing at (Going old.left m) family) vars after vars) (sym done)
-      (steps.over w tree laws at old.left family goes_on answer vars after child
-      (laws.others (ending at (doing at (Going old.left (Done answer)) family)) after.stance (λ j e. by j (j == at) refl (sym (closed j) ∙ e)))))
-    where
-      by : (j : ℕ) (b : Bool) → (j == at) ≡ b → cond b false (is_open j row.pieces) ≡ true → cond b (Going old.left (Done answer)) (family.stance j) ≡ stance_in w patterns site main nodes' texts j
-      by j true e f = absurd (false_true f)
-      by j false e f = others j e
-
-  -- so too where its stub stands in its place
-  pub decided : (answer : Answer) (row' : Row) (nodes' : List Node) (new : Node) → DecidedAs at row row' old new → does_so old ≡ Done answer → at ≢ 0 →
-      ((j : ℕ) → (j == at) ≡ false → family.stance j ≡ stance_in w patterns site main nodes' texts j) →
-      ((j : ℕ) → is_open j row'.pieces ≡ cond (j == at) false (is_open j row.pieces)) →
-      Opening w tree 0 family vars (seen w patterns site main row' nodes' texts) vars
-  decided answer row' nodes' new d done child others closed =
-      let after = seen w patterns site main row' nodes' texts in
-      let stub = d.stub in
-      let text = d.is.text in
-      let stance : Stance = Apart (alone_line text at old.left (Done answer)) stub in
-      let f = ending at (placing at stub (doing at stance family)) in
-      steps.alike (laws.others family (with_stance at stance family.stance) (λ j e. begun j (j == at) refl))
-      (steps.decided w tree laws at old.left family goes_on stub text answer vars after (d.is.chosen w patterns site main (texts at) answer done) child
-      (subst (λ (r : Row). IsAlike f (record { row = r; output = []; stance = after.stance; root = 0 })) (sym d.row)
-      (laws.others f after.stance (λ j e. by j (j == at) refl (sym (closed j) ∙ ap (λ (r : Row). is_open j r.pieces) d.row ∙ e)))))
-    where
-      begun : (j : ℕ) (b : Bool) → (j == at) ≡ b → family.stance j ≡ cond b (Apart (alone_line d.is.text at old.left (Done answer)) d.stub) (family.stance j)
-      begun j true e =
-          ap family.stance (same_number j at e) ∙ own_stance w patterns site main texts nodes at old there none ∙ ap (λ p. stance_at at p old.left (does_so old)) d.is.place
-          ∙ ap (λ m. Apart (alone_line d.is.text at old.left m) d.stub) done
-      begun j false e = refl
-
-      by : (j : ℕ) (b : Bool) → (j == at) ≡ b → cond b false (is_open j row.pieces) ≡ true →
-          cond b (Apart (alone_line d.is.text at old.left (Done answer)) d.stub) (family.stance j) ≡ stance_in w patterns site main nodes' texts j
-      by j true e f = absurd (false_true f)
-      by j false e f = others j e
-
--- ---- one whose parent waits for it is over
-
--- it isn't its own parent, since that waits
-pub not_itself : (nodes : List Node) (at : ℕ) (old p : Node) → slice_get nodes at ≡ Some old → old.asks ≡ None → slice_get nodes old.parent ≡ Some p → p.asks ≡ Some at → old.parent ≢ at
-not_itself nodes at old p there none parent asks e = none_some at (sym none ∙ ap (λ (n : Node). n.asks) (ap (λ o. unwrap_or o old) (sym there ∙ ap (λ i. slice_get nodes i) (sym e) ∙ parent)) ∙ asks)
-  where
-    none_some : {A : Type 0} (x : A) → None ≡ Some x → ⊥
-    none_some x e = cc
-
--- It has come to its answer: its parent hears that, with all bytes that are held.
-module _ (laws : ShowsTheSame) (w : World) (patterns : List SetPattern) (site : Site) (main : Main) (row : Row) (nodes : List Node) (texts : ℕ → List ℕ) (at : ℕ) (old gone p p' : Node)
-    (there : slice_get nodes at ≡ Some old) (none : old.asks ≡ None) (captured : is_captured old.place ≡ true) (parent : slice_get nodes old.parent ≡ Some p) (asks : p.asks ≡ Some at)
-    (held : is_captured gone.place ≡ true) (same_parent : gone.parent ≡ old.parent) (was : p.place ≡ InRow) (here : p'.place ≡ InRow) (free : p'.asks ≡ None) (same_left : p'.left ≡ p.left) where
-  abbrev apart_from : old.parent ≢ at
-  apart_from = not_itself nodes at old p there none parent asks
-
-  abbrev pub nodes_then : List Node
-  nodes_then = set (set nodes at gone) old.parent p'
-
-  parent_then : slice_get (set nodes at gone) old.parent ≡ Some p
-  parent_then = get_set_other nodes at old.parent gone apart_from ∙ parent
-
-  abbrev waits_so : Serving Answer → Stance
-  waits_so m = Waiting (alone_line (held_text old.place) at old.left m) p.left (λ reply. node_heard w patterns site main p (texts old.parent) reply.body)
-
-  waiting_is : stance_in w patterns site main nodes texts old.parent ≡ waits_so (node_act w patterns site main old (texts at))
-  waiting_is = asks_stance w patterns site main texts nodes old.parent at p old parent asks there captured refl
-
-  hidden_there : stance_in w patterns site main nodes texts at ≡ Hidden
-  hidden_there = own_stance w patterns site main texts nodes at old there none ∙ hidden at old.place old.left (node_act w patterns site main old (texts at)) captured
-
-  others_then : (j : ℕ) → (j == at) ≡ false → (j == old.parent) ≡ false → stance_in w patterns site main nodes texts j ≡ stance_in w patterns site main nodes_then texts j
-  others_then j e f =
-      let elsewhere : (old.parent == j) ≡ false = turned_number j old.parent f in
-      other_same w patterns site main texts nodes at old gone j there e (both_false (is_captured old.place) (old.parent == j) elsewhere) (both_false (is_captured gone.place) (gone.parent == j) (ap (λ i. i == j) same_parent ∙ elsewhere))
-      ∙ other_same w patterns site main texts (set nodes at gone) old.parent p p' j parent_then f (ap (λ b. b && (p.parent == j)) (ap is_captured was)) (ap (λ b. b && (p'.parent == j)) (ap is_captured here))
-    where
-      both_false : (a b : Bool) → b ≡ false → (a && b) ≡ false
-      both_false true b e = e
-      both_false false b e = refl
-
-  module _ (tree : Tree) (vars : Vars) (goes_on : is_open old.parent row.pieces ≡ true) (is_open_too : is_open at row.pieces ≡ true) where
-    pub returned : (answer : Answer) → node_act w patterns site main old (texts at) ≡ Done answer →
-        node_act w patterns site main p' (texts old.parent) ≡ node_heard w patterns site main p (texts old.parent) (held_text old.place) → at ≢ 0 → IsWell (seen w patterns site main row nodes texts) →
-        ((j : ℕ) → is_open j (ended at row).pieces ≡ cond (j == at) false (is_open j row.pieces)) →
-        Opening w tree 0 (seen w patterns site main row nodes texts) vars (seen w patterns site main (ended at row) nodes_then texts) vars
-    returned answer done heard child well closed =
-        let h = old.parent in
-        let k : Reply → Serving Answer = λ reply. node_heard w patterns site main p (texts h) reply.body in
-        let before = seen w patterns site main row nodes texts in
-        let after = seen w patterns site main (ended at row) nodes_then texts in
-        let now : Stance = Going p.left (node_heard w patterns site main p (texts h) (held_text old.place)) in
-        let f = doing h now before in
-        steps.alike (laws.others before (with_stance h (waits_so (Done answer)) before.stance) (λ j e. begins j (j == h) refl))
-        (steps.then (steps.heard w tree laws h at old.left before goes_on p.left k (held_text old.place) answer vars f (laws.others f f.stance (λ j e. refl)))
-        (steps.alike (laws.ends f at (well-doing h now before well refl) (record { goes_on = is_open_too; stands = ap (λ b. cond b now (before.stance at)) (apart_number at h (λ e. apart_from (sym e))) ∙ hidden_there }))
-        (steps.alike (laws.others (ending at f) after.stance (λ j e. ends j (j == at) (j == h) refl refl (sym (closed j) ∙ e))) steps.stays)))
-      where
-        begins : (j : ℕ) (b : Bool) → (j == old.parent) ≡ b → stance_in w patterns site main nodes texts j ≡ cond b (waits_so (Done answer)) (stance_in w patterns site main nodes texts j)
-        begins j true e = ap (stance_in w patterns site main nodes texts) (same_number j old.parent e) ∙ waiting_is ∙ ap waits_so done
-        begins j false e = refl
-
-        ends : (j : ℕ) (b c : Bool) → (j == at) ≡ b → (j == old.parent) ≡ c → cond b false (is_open j row.pieces) ≡ true →
-            cond c (Going p.left (node_heard w patterns site main p (texts old.parent) (held_text old.place))) (stance_in w patterns site main nodes texts j) ≡ stance_in w patterns site main nodes_then texts j
-        ends j true c e f g = absurd (false_true g)
-        ends j false true e f g =
-            sym (ap (stance_in w patterns site main nodes_then texts) (same_number j old.parent f)
-            ∙ own_stance w patterns site main texts nodes_then old.parent p' (get_set_same (set nodes at gone) old.parent p' p parent_then) free
-            ∙ ap (λ place. stance_at old.parent place p'.left (node_act w patterns site main p' (texts old.parent))) here
-            ∙ ap (λ n. Going n (node_act w patterns site main p' (texts old.parent))) same_left ∙ ap (Going p.left) heard)
-        ends j false false e f g = others_then j e f
+          others_more new member (ap is_captured was) (ap is_captured here) (ap is_captured place ∙ not_captured child.stub) j e (ap (λ n. j == n) (sym count) ∙ f)
 
 -- ---- rows
 
@@ -757,7 +463,7 @@ came_kept row row' at old new (Held rows place acts) = ap is_captured place ∙ 
     by : (p : Place) → is_captured (held_more (hand_at old.stage) p) ≡ is_captured p
     by InRow = refl
     by (Stub stub text) = refl
-    by (Captured text) = refl
+    by (Captured stub text) = refl
 came_kept row row' at old new (Joined stub some any was is rows acts good) = ap is_captured is ∙ sym (ap is_captured was)
 
 pub decided_well : (row row' : Row) (at : ℕ) (old new : Node) → IsWellRow 0 row → at ≢ 0 → DecidedAs at row row' old new → IsWellRow 0 row'
@@ -767,18 +473,63 @@ decided_well row row' at old new well child d = ended_well (appended at d.stub r
 pub seen_well : (w : World) (patterns : List SetPattern) (site : Site) (main : Main) (row : Row) (nodes : List Node) (texts : ℕ → List ℕ) → IsSound row nodes → IsWell (seen w patterns site main row nodes texts)
 seen_well w patterns site main row nodes texts s = record { row_is = s.well; root_is_shown = by nodes s.first (sym (s.going 0) ∙ s.well.root_goes_on) }
   where
-    shown : (place : Place) (left : ℕ) (m : Serving Answer) → is_captured place ≡ false → is_shown (stance_at 0 place left m) ≡ true
-    shown InRow left m e = refl
-    shown (Stub stub text) left m e = refl
-    shown (Captured text) left m e = cc
+    in_row : (ns : List Node) (n : Node) (asks : Option ℕ) → is_shown (row_stance (doing_by w patterns site main texts) ns most_levels 0 n asks) ≡ true
+    in_row ns n None = refl
+    in_row ns n (Some c) = refl
 
-    by_asks : (ns : List Node) (n : Node) (asks : Option ℕ) → is_captured n.place ≡ false → is_shown (stance_by_asks w patterns site main ns texts 0 n asks) ≡ true
-    by_asks ns n None e = shown n.place n.left (node_act w patterns site main n (texts 0)) e
-    by_asks ns n (Some c) e = refl
+    shown : (ns : List Node) (n : Node) (place : Place) → is_captured place ≡ false → is_shown (place_stance (doing_by w patterns site main texts) ns most_levels 0 n place) ≡ true
+    shown ns n InRow e = in_row ns n n.asks
+    shown ns n (Stub stub text) e = refl
+    shown ns n (Captured stub text) e = cc
 
-    by : (ns : List Node) → captured_at (slice_get ns 0) ≡ false → goes_on_at (slice_get ns 0) ≡ true → is_shown (stance_in w patterns site main ns texts 0) ≡ true
+    by : (ns : List Node) → captured_at (slice_get ns 0) ≡ false → goes_on_at (slice_get ns 0) ≡ true → is_shown (stance_in (doing_by w patterns site main texts) ns most_levels 0) ≡ true
     by [] e f = cc
-    by (n ∷ ns) e f = by_asks (n ∷ ns) n n.asks e
+    by (n ∷ ns) e f = shown (n ∷ ns) n n.place e
+
+-- ---- a node that is told of an end
+
+-- A node that has other subrequests, or waits for the end of another, says the same.
+pub told_same : (w : World) (patterns : List SetPattern) (site : Site) (main : Main) (nodes : List Node) (texts : ℕ → List ℕ) (at : ℕ) (old : Node) (children : ℕ) (waits : Option ℕ) (j : ℕ) → slice_get nodes at ≡ Some old →
+    stance_in (doing_by w patterns site main texts) nodes most_levels j ≡ stance_in (doing_by w patterns site main texts) (set nodes at (record old { children = children; waits = waits })) most_levels j
+told_same w patterns site main nodes texts at old children waits j there = stance (j == at) refl
+  where
+    new : Node
+    new = record old { children = children; waits = waits }
+
+    nodes' : List Node
+    nodes' = set nodes at (record old { children = children; waits = waits })
+
+    does : Doing
+    does = doing_by w patterns site main texts
+
+    much : (i : ℕ) → IsAsMuch (doing_by w patterns site main texts) (doing_by w patterns site main texts) i old (record old { children = children; waits = waits })
+    much i = record { place = refl; parent = refl; left = refl; asks = refl; capturing = refl; act = refl; heard = refl }
+
+    here : (i : ℕ) → (i == at) ≡ true → slice_get nodes i ≡ Some old
+    here i e = ap (slice_get nodes) (same_number i at e) ∙ there
+
+    then : (i : ℕ) → (i == at) ≡ true → slice_get (set nodes at (record old { children = children; waits = waits })) i ≡ Some (record old { children = children; waits = waits })
+    then i e = ap (slice_get (set nodes at (record old { children = children; waits = waits }))) (same_number i at e) ∙ get_set_same nodes at (record old { children = children; waits = waits }) old there
+
+    other : (i : ℕ) → (i == at) ≡ false → slice_get nodes i ≡ slice_get (set nodes at (record old { children = children; waits = waits })) i
+    other i e = sym (get_set_other nodes at i (record old { children = children; waits = waits }) (other_number i at e))
+
+    either : (i : ℕ) (o : Option Node) → slice_get nodes i ≡ o → slice_get (set nodes at (record old { children = children; waits = waits })) i ≡ o →
+        Beside (doing_by w patterns site main texts) (doing_by w patterns site main texts) i (slice_get nodes i) (slice_get (set nodes at (record old { children = children; waits = waits })) i)
+    either i None f g = Neither f g
+    either i (Some n) f g = Both n n f g (as_much (doing_by w patterns site main texts) (doing_by w patterns site main texts) i n refl refl)
+
+    beside : (i : ℕ) (b : Bool) → (i == at) ≡ b → Beside (doing_by w patterns site main texts) (doing_by w patterns site main texts) i (slice_get nodes i) (slice_get (set nodes at (record old { children = children; waits = waits })) i)
+    beside i true e = Both old (record old { children = children; waits = waits }) (here i e) (then i e) (much i)
+    beside i false e = either i (slice_get nodes i) refl (sym (other i e))
+
+    stance : (b : Bool) → (j == at) ≡ b → stance_in (doing_by w patterns site main texts) nodes most_levels j ≡ stance_in (doing_by w patterns site main texts) (set nodes at (record old { children = children; waits = waits })) most_levels j
+    stance true e =
+        same_stance (doing_by w patterns site main texts) nodes (doing_by w patterns site main texts) (set nodes at (record old { children = children; waits = waits })) (λ i. beside i (i == at) refl) most_levels j
+        old (record old { children = children; waits = waits }) (here j e) (then j e) (much j)
+    stance false e =
+        still_stance (doing_by w patterns site main texts) nodes (doing_by w patterns site main texts) (set nodes at (record old { children = children; waits = waits })) (λ i. beside i (i == at) refl) most_levels j
+        (other j e) (λ n f. as_much (doing_by w patterns site main texts) (doing_by w patterns site main texts) j n refl refl)
 
 -- ---- files
 
@@ -786,24 +537,18 @@ seen_well w patterns site main row nodes texts s = record { row_is = s.well; roo
 pub same_files : (laws : ShowsTheSame) (w : World) (patterns : List SetPattern) (site : Site) (main : Main) (row : Row) (nodes : List Node) (texts texts' : ℕ → List ℕ) → SameTexts nodes texts texts' →
     IsAlike (seen w patterns site main row nodes texts) (seen w patterns site main row nodes texts')
 same_files laws w patterns site main row nodes texts texts' same =
-    laws.others (seen w patterns site main row nodes texts) (stance_in w patterns site main nodes texts') (λ j e. by j (slice_get nodes j) refl)
+    laws.others (seen w patterns site main row nodes texts) (stance_in (doing_by w patterns site main texts') nodes most_levels)
+    (λ j e. still_stance (doing_by w patterns site main texts) nodes (doing_by w patterns site main texts') nodes (λ i. beside i (slice_get nodes i) refl) most_levels j refl (λ n f. much j n f))
   where
-    does : (j : ℕ) (n : Node) → slice_get nodes j ≡ Some n → (node_act w patterns site main n (texts j) ≡ node_act w patterns site main n (texts' j)) × (node_heard w patterns site main n (texts j) ≡ node_heard w patterns site main n (texts' j))
-    does j n e = same_heard w patterns site (lent main n.phases) n.left (asked_path n.ask) n.stage (texts j) (texts' j) (same j n e)
+    much : (j : ℕ) (n : Node) → slice_get nodes j ≡ Some n → IsAsMuch (doing_by w patterns site main texts) (doing_by w patterns site main texts') j n n
+    much j n e =
+        let is = same_heard w patterns site (lent main n.phases) n.left (asked_path n.ask) n.stage (texts j) (texts' j) (same j n e) in
+        let pass : (List ℕ → Serving Answer) → Reply → Serving Answer = λ k reply. k reply.body in
+        as_much (doing_by w patterns site main texts) (doing_by w patterns site main texts') j n is.0 (ap pass is.1)
 
-    own : (i c : ℕ) (o : Option Node) → slice_get nodes c ≡ o → own_of w patterns site main i c (texts c) o ≡ own_of w patterns site main i c (texts' c) o
-    own i c None e = refl
-    own i c (Some m) e = ap (λ act. cond (is_captured m.place && (m.parent == i)) (alone_line (held_text m.place) c m.left act) Nil) (does c m e).0
-
-    by_asks : (j : ℕ) (n : Node) (asks : Option ℕ) → slice_get nodes j ≡ Some n → stance_by_asks w patterns site main nodes texts j n asks ≡ stance_by_asks w patterns site main nodes texts' j n asks
-    by_asks j n None e = ap (λ m. stance_at j n.place n.left m) (does j n e).0
-    by_asks j n (Some c) e =
-        ap (λ line. Waiting line n.left (λ reply. node_heard w patterns site main n (texts j) reply.body)) (own j c (slice_get nodes c) refl)
-        ∙ ap (λ (k : List ℕ → Serving Answer). Waiting (own_of w patterns site main j c (texts' c) (slice_get nodes c)) n.left (λ reply. k reply.body)) (does j n e).1
-
-    by : (j : ℕ) (n : Option Node) → slice_get nodes j ≡ n → stance_of w patterns site main nodes texts j n ≡ stance_of w patterns site main nodes texts' j n
-    by j None e = refl
-    by j (Some n) e = by_asks j n n.asks e
+    beside : (j : ℕ) (o : Option Node) → slice_get nodes j ≡ o → Beside (doing_by w patterns site main texts) (doing_by w patterns site main texts') j (slice_get nodes j) (slice_get nodes j)
+    beside j None e = Neither e e
+    beside j (Some n) e = Both n n e e (much j n e)
 
 some_is : {A : Type 0} (x y : A) → Some x ≡ Some y → x ≡ y
 some_is x y f = ap (λ o. unwrap_or o x) f

@@ -1,82 +1,180 @@
 -- A node is over for whose body its parent waits.
-use Rattle.std.proofs.Common.{◌≡◌, ◌≢◌, ℕ, not, ◌==◌, true, false, cond, List, get_or, set, slice_get, None, Some, refl, sym, ap, ◌∙◌, subst, length, ◌+◌}
+use Rattle.std.proofs.Common.{◌≡◌, ◌≢◌, ℕ, suc, ◌+◌, ◌==◌, ◌&&◌, is_none, Bool, not, true, false, cond, List, [], ◌++◌, get_or, length, set, slice_get, None, Some, refl, sym, ap, ◌∙◌, subst, zero, take, ◌≤◌, ◌∷◌, arith, is_some, nat_lt, nat_le, Option}
+use Rattle.std.proofs.lemmas.Bool.Decides.{nat_tests}
 use Rattle.acts.specs.Vars.{Vars}
+use Rattle.acts.specs.Act.{Done}
 use Rattle.file_tree.specs.Tree.{Tree, Trees}
 use Rattle.ngx_pattern.specs.Pattern.{Pattern as SetPattern}
 use Rattle.ngx_variables.specs.declared.request.Main.{Main}
 use Rattle.site_model.specs.declared.site.Site.{Site}
-use Rattle.postpone_filter.specs.Row.{Row, ended, is_open}
-use Rattle.request_meaning.specs.Serving.{World}
+use Rattle.postpone_filter.specs.Row.{Row, appended, ended, is_open}
+use Rattle.request_meaning.specs.Serving.{World, Serving, Answer}
+use Rattle.family_order.specs.Items.{IsWell}
+use Rattle.family_order.specs.Items.{IsWellRow}
+use Rattle.family_meaning.specs.Moves.{IsGood}
 use Rattle.family_order.specs.Laws.{ShowsTheSame}
-use Rattle.node_turn.specs.Stages.{is_ending, node_heard}
+use Rattle.node_turn.specs.Stages.{held_more, is_ending, is_in_row, node_act, node_heard}
+use Rattle.node_turn.specs.Nodes.{answer_seen, asked_path, lent, stage_act}
 use Rattle.node_turn.specs.declared.node.Node.{Node}
+use Rattle.node_turn.specs.declared.node.Stage.{Stage}
+use Rattle.node_turn.specs.declared.node.Stage.TheVariants as stages
 use Rattle.node_turn.specs.declared.node.Place.{Place}
-use Rattle.node_turn.specs.declared.node.Place.TheVariants.{Captured}
+use Rattle.node_turn.specs.declared.node.Place.TheVariants.{Row as InRow, Stub, Captured}
 use Rattle.node_line.specs.Stances.{Opening}
-use Rattle.subrequests.specs.Families.{HasReply, IsSound, goes_on_at, held_text, is_captured, is_seated, seen, texts_of}
+use Rattle.node_line.specs.Stubs.{IsKept}
+use Rattle.node_seats.specs.Seats.{doing_by, held_text, is_captured, is_heard, is_seated, most_levels, seen, stub_in}
+use Rattle.node_seats.proofs.Included.{Waits_too}
+use Rattle.node_seats.proofs.Located.{Located, StandsAs, above_is, locate}
+use Rattle.node_seats.proofs.Others.{SameOrMore, is_its}
+use Rattle.node_seats.proofs.Others.SameOrMore.{Same, Its}
+use Rattle.node_seats.proofs.Returned as returned
+use Rattle.subrequests.specs.Families.{HasReply, IsSound, IsTaken, is_good_end, goes_on_at, texts_of}
+use Rattle.subrequests.specs.Families.HasReply.{Hears, Holds}
 use Rattle.subrequests.specs.Moved.{SameTexts, is_at}
 use Rattle.subrequests.proofs.Members as members
 use Rattle.subrequests.proofs.Sets.{get_set_other, get_set_same, length_set}
 use Rattle.subrequests.proofs.Wholes as wholes
+
+-- all bytes are placed
+pub taken_all : (n : ℕ) (text : List ℕ) → length text ≤ n → take n text ≡ text
+taken_all zero [] h = refl
+taken_all (suc n) [] h = refl
+taken_all zero (b ∷ text) h = absurd (omega (arith, h))
+taken_all (suc n) (b ∷ text) h = ap (λ t. b ∷ t) (taken_all n text (omega (arith, h)))
+
+-- some are held
+pub some_held : (old : Node) (stub : Option (List ℕ)) (text : List ℕ) → old.place ≡ Captured stub text → (length text == 0) ≡ false → held_text old.place ≢ []
+some_held old stub text place some none = no (sym some ∙ ap (λ (t : List ℕ). length t == 0) (sym (ap held_text place) ∙ none))
+  where
+    no : false ≡ true → ⊥
+    no e = cc
+
+-- a good answer
+good_end : (w : World) (patterns : List SetPattern) (site : Site) (main : Main) (n : Node) (text : List ℕ) (answer : Answer) → is_good_end n.stage ≡ true → node_act w patterns site main n text ≡ Done answer → IsGood answer
+good_end w patterns site main n text answer e done = by n.stage e done
+  where
+    low : (status : ℕ) → nat_lt status 400 ≡ true → nat_le 400 status ≡ false
+    low status f = grind (arith, nat_tests)
+
+    done_is : (x : Serving Answer) (a b : Answer) → x ≡ Done a → x ≡ Done b → a ≡ b
+    done_is x a b f g = cc
+
+    by : (s : Stage) → is_good_end s ≡ true → stage_act w patterns site (lent main n.phases) n.left (asked_path n.ask) s text ≡ Done answer → IsGood answer
+    by (stages.Begins ssi) f g = cc
+    by (stages.Asks wait ssi) f g = cc
+    by (stages.Told wait file ssi) f g = cc
+    by (stages.Places b) f g = cc
+    by (stages.Serves b) f g = cc
+    by (stages.Reads b) f g = cc
+    by (stages.Captures c) f g = cc
+    by (stages.Ends b) f g = subst IsGood (done_is (stage_act w patterns site (lent main n.phases) n.left (asked_path n.ask) (stages.Ends b) text) (answer_seen site (lent main n.phases) b.value.answered) answer refl g) (low b.value.answered.status f)
+
+-- the levels above it
+levels_are : most_levels ≡ suc 49
+unfolding most_levels
+levels_are = refl
+
+size : 2 + 49 ≡ suc most_levels
+unfolding most_levels
+size = refl
+
+-- what became of the one that waited
+pub record AsReplied (p p' : Node) : Type 0 where
+  pub left : p'.left ≡ p.left
+  pub over : p'.over ≡ p.over
+  pub asks : p'.asks ≡ None
+  pub captured : is_captured p.place ≡ is_captured p'.place
+  pub parent : p.parent ≡ p'.parent
+  pub file : (p'.ask ≡ p.ask) × (p'.start ≡ p.start)
+
+pub as_replied : (text : List ℕ) (p p' : Node) → HasReply text p p' → AsReplied p p'
+as_replied text p p' (Hears capturing same place file acts) = record { left = same.left; over = same.over; asks = same.asks; captured = ap is_captured (sym place); parent = sym same.parent; file = file }
+as_replied text p p' (Holds free apart is) =
+    let place : p'.place ≡ held_more text p.place = ap (λ (n : Node). n.place) is in
+    let like = members.holds_as p p' text (ap (λ (n : Node). n.parent) is) place in
+    record {
+      left = ap (λ (n : Node). n.left) is;
+      over = ap (λ (n : Node). n.over) is;
+      asks = ap (λ (n : Node). n.asks) is;
+      captured = sym like.captured;
+      parent = sym like.parent;
+      file = (ap (λ (n : Node). n.ask) is, ap (λ (n : Node). n.start) is);
+    }
+
+-- and stands where it stood
+pub stands_so : (text : List ℕ) (p p' : Node) → HasReply text p p' → StandsAs p' p
+stands_so text p p' (Hears capturing same place file acts) = members.stands_as p' p (sym same.parent) (sym place)
+stands_so text p p' (Holds free apart is) =
+    let like = members.holds_as p p' text (ap (λ (n : Node). n.parent) is) (ap (λ (n : Node). n.place) is) in
+    record { parent = sym like.parent; captured = sym like.captured; stub = sym like.stub; row = sym like.row }
 
 -- the node, which is over then, and its parent, which has its bytes then
 pub record Returned (row : Row) (nodes : List Node) (at : ℕ) (old gone p p' : Node) (text : List ℕ) : Type 0 where
   pub there : slice_get nodes at ≡ Some old
   pub ending : is_ending old.stage ≡ true
   pub none : old.asks ≡ None
-  pub held : old.place ≡ Captured text
-  pub held_then : is_captured gone.place ≡ true
+  pub taken : IsTaken old.stage text old.place gone.place
   pub same_parent : gone.parent ≡ old.parent
+  pub none_then : gone.asks ≡ None
   pub file : (gone.ask ≡ old.ask) × (gone.start ≡ old.start)
   pub over : gone.over ≡ true
   pub parent : slice_get nodes old.parent ≡ Some p
   pub asks : p.asks ≡ Some at
+  pub heard : is_heard 49 nodes old.parent p ≡ true
   pub goes_on : is_open old.parent row.pieces ≡ true
   pub is_open_too : is_open at row.pieces ≡ true
-  pub reply : HasReply text p p'
+  pub reply : AsReplied p p'
+  pub apart : old.parent ≢ at
 
 -- what its place is then makes no difference
 abbrev pub gone_of : Node → Place → Node
 gone_of old place = record old { place = place; over = true }
 
 pub returns_is : (row : Row) (nodes : List Node) (at : ℕ) (old : Node) (place : Place) (p p' : Node) (text : List ℕ) → slice_get nodes at ≡ Some old → IsSound row nodes → is_at is_ending (slice_get nodes at) ≡ true →
-    is_seated nodes at (slice_get nodes at) ≡ true → (old.place ≡ Captured text) × (is_captured place ≡ true) → p ≡ get_or (set nodes at (gone_of old place)) old.parent p → HasReply text p p' →
+    is_seated nodes at (slice_get nodes at) ≡ true → IsTaken old.stage text old.place place → p ≡ get_or (set nodes at (gone_of old place)) old.parent p → AsReplied p p' →
     Returned row nodes at old (gone_of old place) p p' text
-returns_is row nodes at old place p p' text there sound ends seated places is reply =
-    let none = members.asks_none nodes at old there seated in
-    let captured = ap is_captured places.0 in
-    let above = members.above_is nodes at old there seated captured in
-    let apart = members.not_itself nodes at old above.waiting there none above.there above.asks in
+returns_is row nodes at old place p p' text there sound ends seat places is reply =
+    let none = members.asks_none nodes at old there seat in
+    let captured = ap is_captured places.place in
+    let above = above_is 49 nodes at old (subst (λ l. is_heard l nodes at old ≡ true) levels_are (members.heard_above nodes at old there seat)) captured in
+    let apart = not_itself above.waiting none above.there above.asks in
     let then = get_set_other nodes at old.parent (gone_of old place) apart ∙ above.there in
     let same : p ≡ above.waiting = wholes.some_same p above.waiting (sym (wholes.found_there (set nodes at (gone_of old place)) old.parent p above.waiting then is) ∙ then) in
     record {
       there = there;
       ending = wholes.stage_is is_ending nodes at old ends there;
       none = none;
-      held = places.0;
-      held_then = places.1;
+      taken = places;
       same_parent = refl;
+      none_then = none;
       file = (refl, refl);
       over = refl;
       parent = above.there ∙ ap Some (sym same);
       asks = ap (λ (n : Node). n.asks) same ∙ above.asks;
-      goes_on = sound.going old.parent ∙ above.goes_on;
+      heard = subst (λ (n : Node). is_heard 49 nodes old.parent n ≡ true) (sym same) above.heard;
+      goes_on = members.open_there row nodes old.parent above.waiting above.there above.goes_on sound;
       is_open_too = wholes.open_is is_ending row nodes at sound ends;
       reply = reply;
+      apart = apart;
     }
+  where
+    none_some : (x : ℕ) → None ≡ Some x → ⊥
+    none_some x e = cc
+
+    -- it isn't its own parent, since that waits
+    not_itself : (q : Node) → old.asks ≡ None → slice_get nodes old.parent ≡ Some q → q.asks ≡ Some at → old.parent ≢ at
+    not_itself q none parent asks e =
+        none_some at (sym none ∙ ap (λ (n : Node). n.asks) (wholes.some_same old q (sym there ∙ ap (slice_get nodes) (sym e) ∙ parent)) ∙ asks)
 
 module _ (row : Row) (nodes : List Node) (at : ℕ) (old gone p p' : Node) (text : List ℕ) (r : Returned row nodes at old gone p p' text) where
   abbrev pub nodes_then : List Node
   nodes_then = set (set nodes at gone) old.parent p'
 
   captured : is_captured old.place ≡ true
-  captured = ap is_captured r.held
-
-  pub apart : old.parent ≢ at
-  apart = members.not_itself nodes at old p r.there r.none r.parent r.asks
+  captured = ap is_captured r.taken.place
 
   parent_then : slice_get (set nodes at gone) old.parent ≡ Some p
-  parent_then = get_set_other nodes at old.parent gone apart ∙ r.parent
+  parent_then = get_set_other nodes at old.parent gone r.apart ∙ r.parent
 
   pub as_many : length nodes_then ≡ length nodes + 0
   as_many = length_set (set nodes at gone) old.parent p' ∙ wholes.as_many nodes at gone
@@ -86,23 +184,145 @@ module _ (row : Row) (nodes : List Node) (at : ℕ) (old gone p p' : Node) (text
       members.set_texts trees nodes at old gone r.there (members.same_text trees old gone r.file) j
       ∙ members.set_texts trees (set nodes at gone) old.parent p p' parent_then (members.same_text trees p p' r.reply.file) j
 
+  pub whole_so : (row' : Row) → IsSound row nodes → IsWellRow 0 row' → row'.nodes ≡ row.nodes → ((j : ℕ) → is_open j row'.pieces ≡ cond (j == at) false (is_open j row.pieces)) → IsSound row' nodes_then
+  whole_so row' sound well numbers closed =
+      let first = members.over_sound row row' nodes at old gone r.there sound well numbers closed r.over (ap is_captured r.taken.then ∙ sym captured) in
+      members.set_sound row' row' (set nodes at gone) old.parent p p' parent_then first first.well refl (λ j. refl) r.reply.over (sym r.reply.captured)
+
   pub whole : (row' : Row) → IsSound row nodes → at ≢ 0 → row' ≡ ended at row → ((j : ℕ) → is_open j row'.pieces ≡ cond (j == at) false (is_open j row.pieces)) → IsSound row' nodes_then
-  whole row' sound child rows closed =
-      let first = members.over_sound row row' nodes at old gone r.there sound (members.ended_well row row' at sound.well child rows) (ap (λ (x : Row). x.nodes) rows) closed r.over (r.held_then ∙ sym captured) in
-      members.set_sound row' row' (set nodes at gone) old.parent p p' parent_then first first.well refl (λ j. refl) r.reply.same.over (ap is_captured r.reply.place)
+  whole row' sound child rows closed = whole_so row' sound (members.ended_well row row' at sound.well child rows) (ap (λ (x : Row). x.nodes) rows) closed
+
+  -- where bytes were placed before
+  pub whole_shown : (mid row' : Row) (some : List ℕ) → IsSound row nodes → at ≢ 0 → mid ≡ appended old.parent some row → row' ≡ ended at mid → ((j : ℕ) → is_open j row'.pieces ≡ cond (j == at) false (is_open j row.pieces)) → IsSound row' nodes_then
+  whole_shown mid row' some sound child placed rows closed =
+      whole_so row' sound (members.ended_well mid row' at (members.appended_well row mid old.parent some sound.well placed) child rows) (ap (λ (x : Row). x.nodes) rows ∙ ap (λ (x : Row). x.nodes) placed) closed
+
+  gone_there : slice_get nodes_then at ≡ Some gone
+  gone_there = get_set_other (set nodes at gone) old.parent at p' (λ e. r.apart (sym e)) ∙ get_set_same nodes at gone old r.there
 
   pub is_over : goes_on_at (slice_get nodes_then at) ≡ false
-  is_over = ap goes_on_at (get_set_other (set nodes at gone) old.parent at p' (λ e. apart (sym e)) ∙ get_set_same nodes at gone old r.there) ∙ ap not r.over
+  is_over = ap goes_on_at gone_there ∙ ap not r.over
 
-  module _ (laws : ShowsTheSame) (w : World) (patterns : List SetPattern) (site : Site) (main : Main) (tree : Tree) (vars : Vars) (sound : IsSound row nodes) where
-    pub opening : (texts : ℕ → List ℕ) (row' : Row) → at ≢ 0 → row' ≡ ended at row → ((j : ℕ) → is_open j row'.pieces ≡ cond (j == at) false (is_open j row.pieces)) →
+  module _ (laws : ShowsTheSame) (w : World) (patterns : List SetPattern) (site : Site) (main : Main) (tree : Tree) (vars : Vars) (sound : IsSound row nodes) (child : at ≢ 0) where
+    waits : (texts : ℕ → List ℕ) → Waits_too (doing_by w patterns site main texts) (set (set nodes at gone) old.parent p') (doing_by w patterns site main texts) nodes old.parent at p' p old
+    waits texts = record {
+      there = get_set_same (set nodes at gone) old.parent p' p parent_then;
+      then = r.parent;
+      free = r.reply.asks;
+      asks = r.asks;
+      last = r.there;
+      none = r.none;
+      captured = ap is_captured r.taken.place;
+      parent = refl;
+      others = λ j e. others j e (j == at) refl;
+      acts = λ j n e. refl;
+      heard = λ j n e. refl;
+    }
+      where
+        its : (n : Node) → is_captured n.place ≡ true → n.parent ≡ old.parent → n.asks ≡ None → is_its old.parent (Some n) ≡ true
+        its n a b c =
+            ap (λ x. x && ((n.parent == old.parent) && is_none n.asks)) a ∙ ap (λ i. (i == old.parent) && is_none n.asks) b ∙ ap (λ x. x && is_none n.asks) (members.eq_self old.parent) ∙ ap is_none c
+
+        others : (j : ℕ) → (j == old.parent) ≡ false → (b : Bool) → (j == at) ≡ b → SameOrMore old.parent (slice_get (set (set nodes at gone) old.parent p') j) (slice_get nodes j)
+        others j e true f =
+            Its (ap (λ i. is_its old.parent (slice_get (set (set nodes at gone) old.parent p') i)) (members.same_number j at f) ∙ ap (is_its old.parent) gone_there ∙ its gone (ap is_captured r.taken.then) r.same_parent r.none_then)
+            (ap (λ i. is_its old.parent (slice_get nodes i)) (members.same_number j at f) ∙ ap (is_its old.parent) r.there ∙ its old (ap is_captured r.taken.place) refl r.none)
+        others j e false f = Same (get_set_other (set nodes at gone) old.parent j p' (members.other_number j old.parent e) ∙ get_set_other nodes at j gone (members.other_number j at f))
+
+    -- where it has a stub its body is shown
+    shown_so : (texts : ℕ → List ℕ) (answer : Answer) → node_act w patterns site main old (texts at) ≡ Done answer → is_some (stub_in old.place) ≡ true → (held_text old.place ≢ []) × IsGood answer
+    shown_so texts answer done e =
+        let is = r.taken.shown (sym (ap (λ q. is_some (stub_in q)) r.taken.place) ∙ e) in
+        (some_held old r.taken.stub text r.taken.place is.0, good_end w patterns site main old (texts at) answer is.1 done)
+
+    pub opening : HasReply text p p' → (texts : ℕ → List ℕ) (row' : Row) → row' ≡ ended at row → ((j : ℕ) → is_open j row'.pieces ≡ cond (j == at) false (is_open j row.pieces)) →
         Opening w tree 0 (seen w patterns site main row nodes texts) vars (seen w patterns site main row' nodes_then texts) vars
-    opening texts row' child rows closed =
+    opening reply texts row' rows closed =
         let done = wholes.ended_act w patterns site main old (texts at) r.ending in
-        let in_row = wholes.row_is p.place r.reply.was in
+        let closed' : (j : ℕ) → is_open j (ended at row).pieces ≡ cond (j == at) false (is_open j row.pieces) = λ j. ap (λ (x : Row). is_open j x.pieces) (sym rows) ∙ closed j in
         subst (λ (x : Row). Opening w tree 0 (seen w patterns site main row nodes texts) vars (seen w patterns site main x nodes_then texts) vars) (sym rows)
-        (members.returned laws w patterns site main row nodes texts at old gone p p' r.there r.none captured r.parent r.asks r.held_then r.same_parent in_row (r.reply.place ∙ in_row) r.reply.same.asks r.reply.same.left
-        tree vars r.goes_on r.is_open_too done.0 done.1
-        (r.reply.acts w patterns site main (texts old.parent) ∙ ap (node_heard w patterns site main p (texts old.parent)) (ap held_text (sym r.held))) child
-        (members.seen_well w patterns site main row nodes texts sound)
-        (λ j. ap (λ (x : Row). is_open j x.pieces) (sym rows) ∙ closed j))
+        (by done.0 done.1 closed' (whole row' sound child rows closed) (is_in_row p.place) refl reply)
+      where
+        Goal : Type 0
+        Goal = Opening w tree 0 (seen w patterns site main row nodes texts) vars (seen w patterns site main (ended at row) (set (set nodes at gone) old.parent p') texts) vars
+
+        like : StandsAs p' p
+        like = stands_so text p p' reply
+
+        heard_so : is_heard 49 (set (set nodes at gone) old.parent p') old.parent p' ≡ true
+        heard_so =
+            returned.parent_heard (doing_by w patterns site main texts) nodes (doing_by w patterns site main texts) (set (set nodes at gone) old.parent p') old.parent at p p' old (waits texts) 49 r.reply.captured r.reply.parent r.heard
+
+        well : IsWell (seen w patterns site main row nodes texts)
+        well = members.seen_well w patterns site main row nodes texts sound
+
+        -- another that goes on then does so now, and isn't it
+        still_open : (b c : Bool) → cond b false c ≡ true → (c ≡ true) × (b ≡ false)
+        still_open true c e = cc
+        still_open false c e = (e, refl)
+
+        turned : (h : ℕ) → (h == at) ≡ false → (at == h) ≡ false
+        turned h e = members.turned_number h at e
+
+        parts : IsSound row' (set (set nodes at gone) old.parent p') → (h : ℕ) (host : Node) → slice_get (set (set nodes at gone) old.parent p') h ≡ Some host → host.over ≡ false → (is_open h row.pieces ≡ true) × ((at == h) ≡ false)
+        parts sound' h host there over =
+            let both = still_open (h == at) (is_open h row.pieces) (sym (closed h) ∙ members.open_there row' (set (set nodes at gone) old.parent p') h host there over sound') in
+            (both.0, turned h both.1)
+
+        located : is_in_row p'.place ≡ false → Located most_levels (doing_by w patterns site main texts) (set (set nodes at gone) old.parent p') 49 2 old.parent p'
+        located apart =
+            locate most_levels (doing_by w patterns site main texts) (set (set nodes at gone) old.parent p') 49 2 old.parent p' (get_set_same (set nodes at gone) old.parent p' p parent_then)
+            (r.reply.over ∙ members.not_over row nodes old.parent p r.parent sound r.goes_on) size heard_so apart
+
+        more_held : (place : Place) → is_in_row place ≡ false → held_text (held_more text place) ≡ held_text place ++ text
+        more_held InRow e = cc
+        more_held (Stub stub t) e = refl
+        more_held (Captured stub t) e = refl
+
+        by : (answer : Answer) → node_act w patterns site main old (texts at) ≡ Done answer → ((j : ℕ) → is_open j (ended at row).pieces ≡ cond (j == at) false (is_open j row.pieces)) →
+            IsSound row' (set (set nodes at gone) old.parent p') → (b : Bool) → is_in_row p.place ≡ b → HasReply text p p' → Goal
+        by answer done closed' sound' true e (Hears capturing same place file acts) =
+            let row_is = wholes.row_is p.place e in
+            returned.row_told laws w patterns site main row nodes (set (set nodes at gone) old.parent p') texts old.parent at p p' old (waits texts) like 49 heard_so tree vars r.is_open_too well closed' answer done (shown_so texts answer done) same.left
+            row_is (place ∙ row_is) r.goes_on (members.apart_number at old.parent (λ f. r.apart (sym f)))
+            (acts w patterns site main (texts old.parent) ∙ ap (node_heard w patterns site main p (texts old.parent)) (ap held_text (sym r.taken.place)))
+        by answer done closed' sound' false e (Hears capturing same place file acts) =
+            let q = located (sym like.row ∙ e) in
+            let part = parts sound' q.h q.host q.there q.goes_on in
+            returned.told laws w patterns site main row nodes (set (set nodes at gone) old.parent p') texts old.parent at p p' old (waits texts) like 49 heard_so tree vars r.is_open_too well closed' answer done (shown_so texts answer done) same.left
+            q part.0 part.1 capturing (ap held_text place)
+            (acts w patterns site main (texts old.parent) ∙ ap (node_heard w patterns site main p (texts old.parent)) (ap held_text (sym r.taken.place)))
+        by answer done closed' sound' b e (Holds free apart is) =
+            let q = located (sym like.row ∙ apart) in
+            let part = parts sound' q.h q.host q.there q.goes_on in
+            returned.leaves laws w patterns site main row nodes (set (set nodes at gone) old.parent p') texts old.parent at p p' old (waits texts) like 49 heard_so tree vars r.is_open_too well closed' answer done (shown_so texts answer done) (ap (λ (n : Node). n.left) is)
+            q part.0 part.1 free
+            (ap (λ (n : Node). held_text n.place) is ∙ more_held p.place apart ∙ ap (λ t. held_text p.place ++ t) (ap held_text (sym r.taken.place)))
+            (ap (λ (n : Node). node_act w patterns site main n (texts old.parent)) is)
+
+    -- the parent has a stub, and is shown from now on
+    pub shown : IsKept p → p' ≡ record p { asks = None; place = InRow } → held_text old.place ≢ [] → (texts : ℕ → List ℕ) (mid row' : Row) → mid ≡ appended old.parent (held_text old.place) row → row' ≡ ended at mid →
+        ((j : ℕ) → is_open j mid.pieces ≡ is_open j row.pieces) → ((j : ℕ) → is_open j row'.pieces ≡ cond (j == at) false (is_open j row.pieces)) →
+        Opening w tree 0 (seen w patterns site main row nodes texts) vars (seen w patterns site main row' nodes_then texts) vars
+    shown kept is some texts mid row' placed rows opened closed =
+        let done = wholes.ended_act w patterns site main old (texts at) r.ending in
+        let both : row' ≡ ended at (appended old.parent (held_text old.place) row) = rows ∙ ap (ended at) placed in
+        subst (λ (x : Row). Opening w tree 0 (seen w patterns site main row nodes texts) vars (seen w patterns site main x nodes_then texts) vars) (sym both)
+        (returned.shows laws w patterns site main row nodes (set (set nodes at gone) old.parent p') texts old.parent at p p' old (waits texts) r.reply.parent 49
+        (returned.parent_heard (doing_by w patterns site main texts) nodes (doing_by w patterns site main texts) (set (set nodes at gone) old.parent p') old.parent at p p' old (waits texts) 49 r.reply.captured r.reply.parent r.heard)
+        tree vars r.is_open_too r.goes_on (members.seen_well w patterns site main row nodes texts sound)
+        (λ j. ap (λ (x : Row). is_open j x.pieces) (sym placed) ∙ opened j)
+        (λ j. ap (λ (x : Row). is_open j x.pieces) (sym both) ∙ closed j)
+        done.0 done.1 (shown_so texts done.0 done.1) kept.stub kept.place (ap (λ (n : Node). n.place) is) kept.free (kept.good w patterns site main (texts old.parent)) some
+        (ap (λ (n : Node). n.left) is) (ap (λ (n : Node). node_act w patterns site main n (texts old.parent)) is) (members.apart_number at old.parent (λ f. r.apart (sym f))))
+
+-- it goes on in the row
+pub as_shown : (p p' : Node) → IsKept p → p' ≡ record p { asks = None; place = InRow } → AsReplied p p'
+as_shown p p' kept is = record {
+  left = ap (λ (n : Node). n.left) is;
+  over = ap (λ (n : Node). n.over) is;
+  asks = ap (λ (n : Node). n.asks) is;
+  captured = ap is_captured kept.place ∙ sym (ap (λ (n : Node). is_captured n.place) is);
+  parent = sym (ap (λ (n : Node). n.parent) is);
+  file = (ap (λ (n : Node). n.ask) is, ap (λ (n : Node). n.start) is);
+}

@@ -17,10 +17,12 @@ use Rattle.family_order.specs.Acts.{IsOver}
 use Rattle.family_order.specs.Items.Stance.{Going}
 use Rattle.family_order.specs.Laws.{ShowsTheSame}
 use Rattle.node_turn.specs.Stages.{is_ending, is_in_row, is_placing, is_serving, is_turning, node_act, can_place}
-use Rattle.subrequests.specs.Families.{AreDone, IsSound, captured_at, goes_on_at, in_row_at, is_captured, over_node, seen, stance_by_asks}
+use Rattle.subrequests.specs.Families.{AreDone, IsSound, captured_at, goes_on_at, in_row_at, over_node}
+use Rattle.node_seats.specs.Seats.{doing_by, is_captured, most_levels, seen}
+use Rattle.node_seats.proofs.Seated.{in_row_is}
 use Rattle.node_turn.specs.declared.node.Place.{Place}
 use Rattle.node_turn.specs.declared.node.Place.TheVariants.{Row as InRow, Stub, Captured}
-use Rattle.node_line.specs.Stances.{Opening, stance_at}
+use Rattle.node_line.specs.Stances.{Opening}
 use Rattle.subrequests.specs.Moved.{IsFromAt, OverrunsBy, SameFiles, Steps, files, fits_at, is_at, meant}
 use Rattle.node_turn.specs.Nodes.{answer_seen, asked_path, lent, stage_act}
 use Rattle.subrequests.specs.Runs.{runs_at}
@@ -79,7 +81,7 @@ not_over (n ∷ nodes) (suc at) x e is = not_over nodes at x e is
 pub row_is : (place : Place) → is_in_row place ≡ true → place ≡ InRow
 row_is InRow e = refl
 row_is (Stub stub text) e = cc
-row_is (Captured text) e = cc
+row_is (Captured stub text) e = cc
 
 -- the bytes of the node that is there go to the row, or don't
 pub in_row : (nodes : List Node) (at : ℕ) (x : Node) → in_row_at (slice_get nodes at) ≡ true → slice_get nodes at ≡ Some x → x.place ≡ InRow
@@ -163,8 +165,7 @@ done_is w patterns site main row (n ∷ nodes) texts e sound =
       record {
         left = n.left;
         stands =
-            ap (stance_by_asks w patterns site main (n ∷ nodes) texts 0 n) is.3
-            ∙ ap (λ p. stance_at 0 p n.left (node_act w patterns site main n (texts 0))) (row_is n.place is.2) ∙ ap (Going n.left) act.1;
+            in_row_is (doing_by w patterns site main texts) (n ∷ nodes) most_levels 0 n refl (row_is n.place is.2) is.3 ∙ ap (Going n.left) act.1;
         goes_on = sound.going 0 ∙ ap not is.1;
         alone = alone;
       },

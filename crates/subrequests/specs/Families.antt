@@ -1,5 +1,5 @@
 -- A family as its nodes keep it.
-use Rattle.std.specs.Prelude.{◌≡◌, ℕ, ◌-◌, ◌≤◌, ◌==◌, ◌&&◌, ◌||◌, Bool, true, false, not, List, [], ◌∷◌, ◌++◌, length, slice_get, Option, None, Some, is_none, if◌then◌else◌}
+use Rattle.std.specs.Prelude.{◌≡◌, ℕ, ◌-◌, ◌≤◌, Bool, true, false, not, List, [], ◌∷◌, ◌++◌, length, slice_get, Option, None, Some, nat_lt, is_some, ◌==◌}
 use Rattle.std.specs.List.{list_all}
 use Rattle.file_tree.specs.Tree.{Trees}
 use Rattle.ngx_pattern.specs.Pattern.{Pattern as SetPattern}
@@ -8,59 +8,22 @@ use Rattle.site_model.specs.declared.site.Site.{Site}
 use Rattle.postpone_filter.specs.Row.{Row, is_open}
 use Rattle.request_meaning.specs.Replies.{script}
 use Rattle.request_meaning.specs.Serving.{World}
-use Rattle.family_order.specs.Items.{Stance, Family, IsWellRow}
-use Rattle.family_meaning.specs.Line.{Line}
-use Rattle.family_meaning.specs.Line.Line.{Nil}
-use Rattle.family_order.specs.Items.Stance.{Waiting, Hidden}
+use Rattle.family_order.specs.Items.{IsWellRow}
 use Rattle.ssi_exec.specs.Scenes.{child_seen}
 use Rattle.ssi_exec.specs.declared.document.Child.{Child}
-use Rattle.node_turn.specs.Stages.{IsSameNode, is_ending, is_in_row, main_of, node_act, node_heard, text_in}
+use Rattle.node_turn.specs.Stages.{IsSameNode, held_more, is_capturing, is_ending, is_in_row, main_of, node_act, node_heard, text_in}
 use Rattle.node_turn.specs.declared.node.Node.{Node}
 use Rattle.node_turn.specs.declared.node.Stage.{Stage}
 use Rattle.node_turn.specs.declared.node.Stage.TheVariants.{Begins, Asks, Told, Places, Serves, Reads, Captures, Ends}
 use Rattle.node_turn.specs.declared.node.Place.{Place}
-use Rattle.node_turn.specs.declared.node.Place.TheVariants.{Row as InRow, Stub, Captured}
-use Rattle.node_line.specs.Stances.{alone_line, place_by, stance_at}
-
--- the bytes of a node that are held
-abbrev pub held_text : Place → List ℕ
-held_text InRow = []
-held_text (Stub stub text) = text
-held_text (Captured text) = text
-
-abbrev pub is_captured : Place → Bool
-is_captured InRow = false
-is_captured (Stub stub text) = false
-is_captured (Captured text) = true
+use Rattle.node_turn.specs.declared.node.Place.TheVariants.{Captured}
+use Rattle.node_line.specs.Stances.{place_by}
+use Rattle.node_seats.specs.Seats.{is_captured}
 
 -- where the bytes of a subrequest go whose body is captured, or that has this stub, or none
 abbrev pub place_for : (captured : Bool) → Option (List ℕ) → Place
-place_for true stub = Captured []
+place_for true stub = Captured stub []
 place_for false stub = place_by stub
-
--- The line for which a node waits: that of the subrequest with a number, if this is one of it whose bytes come to it.
-abbrev pub own_of : World → List SetPattern → Site → Main → (node child : ℕ) → (text : List ℕ) → Option Node → Line
-own_of w patterns site main node child text None = Nil
-own_of w patterns site main node child text (Some m) =
-    if is_captured m.place && (m.parent == node) then alone_line (held_text m.place) child m.left (node_act w patterns site main m text) else Nil
-
--- What the node with a number still does, where the files that are read still have these texts: by itself, or once it hears the reply
--- of the subrequest for which it waits.
-abbrev pub stance_by_asks : World → List SetPattern → Site → Main → List Node → (texts : ℕ → List ℕ) → (node : ℕ) → Node → Option ℕ → Stance
-stance_by_asks w patterns site main nodes texts node n None = stance_at node n.place n.left (node_act w patterns site main n (texts node))
-stance_by_asks w patterns site main nodes texts node n (Some child) =
-    Waiting (own_of w patterns site main node child (texts child) (slice_get nodes child)) n.left (λ reply. node_heard w patterns site main n (texts node) reply.body)
-
-abbrev pub stance_of : World → List SetPattern → Site → Main → List Node → (texts : ℕ → List ℕ) → (node : ℕ) → Option Node → Stance
-stance_of w patterns site main nodes texts node None = Hidden
-stance_of w patterns site main nodes texts node (Some n) = stance_by_asks w patterns site main nodes texts node n n.asks
-
-abbrev pub stance_in : World → List SetPattern → Site → Main → List Node → (texts : ℕ → List ℕ) → ℕ → Stance
-stance_in w patterns site main nodes texts j = stance_of w patterns site main nodes texts j (slice_get nodes j)
-
--- The family, where the files that are read still have these texts, by node.
-abbrev pub seen : World → List SetPattern → Site → Main → Row → List Node → (texts : ℕ → List ℕ) → Family
-seen w patterns site main row nodes texts = record { row = row; output = []; stance = stance_in w patterns site main nodes texts; root = 0 }
 
 -- those that they have in these trees
 abbrev pub text_at : Trees → Option Node → List ℕ
@@ -88,20 +51,6 @@ reads_text (Reads b) = true
 reads_text (Captures c) = true
 reads_text (Ends answered) = false
 
-abbrev pub is_asked : (child : ℕ) → Option ℕ → Bool
-is_asked child None = false
-is_asked child (Some asked) = asked == child
-
--- a node that goes on waits for the reply of the subrequest with this number
-abbrev pub hears_from : (child : ℕ) → Option Node → Bool
-hears_from child None = false
-hears_from child (Some n) = not n.over && is_asked child n.asks
-
--- The node itself goes on in its own name; or its bytes are held for its parent, which waits for them.
-abbrev pub is_seated : List Node → (at : ℕ) → Option Node → Bool
-is_seated nodes at None = false
-is_seated nodes at (Some n) = is_none n.asks && (not (is_captured n.place) || hears_from at (slice_get nodes n.parent))
-
 -- the bytes of a node go to the row
 abbrev pub in_row_at : Option Node → Bool
 in_row_at None = false
@@ -117,14 +66,31 @@ abbrev pub AreDone : List Node → Type 0
 AreDone [] = ⊥
 AreDone (n ∷ nodes) = ((is_ending n.stage ≡ true) × (n.over ≡ false) × (is_in_row n.place ≡ true) × (n.asks ≡ None)) × (list_all over_node nodes ≡ true)
 
--- A node in the row has the body for which it waited, and goes on with it.
-pub record HasReply (body : List ℕ) (old new : Node) : Type 0 where
-  pub same : IsSameNode (record old { asks = None }) new
-  pub was : is_in_row old.place ≡ true
-  pub place : new.place ≡ old.place
-  pub file : (new.ask ≡ old.ask) × (new.start ≡ old.start)
-  pub acts : (w : World) (patterns : List SetPattern) (site : Site) (main : Main) (text : List ℕ) →
-      node_act w patterns site main new text ≡ node_heard w patterns site main old text body
+-- the node has come to an answer below 400
+abbrev pub is_good_end : Stage → Bool
+is_good_end (Begins ssi) = false
+is_good_end (Asks wait ssi) = false
+is_good_end (Told wait file ssi) = false
+is_good_end (Places b) = false
+is_good_end (Serves b) = false
+is_good_end (Reads b) = false
+is_good_end (Captures c) = false
+is_good_end (Ends b) = nat_lt b.value.answered.status 400
+
+-- All bytes of a node are taken, which come to its parent; where it has a stub they are some, and its answer is below 400.
+pub record IsTaken (stage : Stage) (text : List ℕ) (old new : Place) : Type 0 where
+  pub stub : Option (List ℕ)
+  pub place : old ≡ Captured stub text
+  pub then : new ≡ Captured stub []
+  pub shown : is_some stub ≡ true → ((length text == 0) ≡ false) × (is_good_end stage ≡ true)
+
+-- A node has the bytes for which it waited: as those of a reply, with which it goes on; or behind its own that are held, in whose
+-- place they stand.
+pub data HasReply (body : List ℕ) (old new : Node) : Type 0 where
+  Hears : is_capturing old.stage ≡ true → IsSameNode (record old { asks = None }) new → new.place ≡ old.place → (new.ask ≡ old.ask) × (new.start ≡ old.start) →
+      ((w : World) (patterns : List SetPattern) (site : Site) (main : Main) (text : List ℕ) → node_act w patterns site main new text ≡ node_heard w patterns site main old text body) →
+      HasReply body old new
+  Holds : is_capturing old.stage ≡ false → is_in_row old.place ≡ false → new ≡ record old { asks = None; place = held_more body old.place } → HasReply body old new
 
 -- The row has a place for each node that isn't over, and for no other, and the main request's behind all, whose bytes no other
 -- waits for; and there are no more nodes than make one response.

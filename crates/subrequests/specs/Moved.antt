@@ -1,6 +1,6 @@
 -- What becomes of a family by its nodes.
-use Rattle.std.specs.Prelude.{◌≡◌, ℕ, ◌+◌, ◌&&◌, ◌==◌, not, Bool, true, false, List, [], length, slice_get, Option, None, Some}
-use Rattle.acts.specs.Act.{Call, Inner, settled}
+use Rattle.std.specs.Prelude.{◌≡◌, ◌≢◌, ℕ, ◌+◌, ◌&&◌, ◌==◌, not, Bool, true, false, List, [], length, slice_get, slice_set, Option, None, Some}
+use Rattle.acts.specs.Act.{Inner, settled}
 use Rattle.acts.specs.Vars.{Vars}
 use Rattle.file_tree.specs.Tree.{IsFrom, Tree, Trees, is_fitting, tree_of}
 use Rattle.file_tree.specs.declared.job.JobAnswer.{JobAnswer}
@@ -20,12 +20,15 @@ use Rattle.family_order.specs.Items.Stance.{Going}
 use Rattle.family_rest.specs.Still.{still, subs_still}
 use Rattle.ssi_exec.specs.Scenes.{child_seen}
 use Rattle.ssi_exec.specs.declared.document.Child.{Child}
-use Rattle.node_turn.specs.Stages.{main_of, node_act, node_heard}
-use Rattle.subrequests.specs.Families.{IsSound, reads_text, seen, texts_of}
+use Rattle.node_turn.specs.Stages.{main_of, node_act}
+use Rattle.subrequests.specs.Families.{IsPushed, IsSound, reads_text, texts_of}
+use Rattle.node_seats.specs.Seats.{seen}
 use Rattle.node_turn.specs.Nodes.{after_phases, bytes_for}
 use Rattle.node_line.specs.Stances.{Opening}
 use Rattle.subrequests.specs.declared.family.Family.{Family}
 use Rattle.node_turn.specs.declared.node.Node.{Node}
+use Rattle.node_turn.specs.declared.node.Place.TheVariants.{Captured}
+use Rattle.postpone_filter.specs.Row.{with_child}
 use Rattle.node_turn.specs.declared.node.Stage.{Stage}
 
 -- The family that the meaning has, where the files that are read still have these texts, by node; and those of these trees.
@@ -65,14 +68,17 @@ OpensAt patterns g at child old new =
     → Opening w tree 1 (doing at (Going n.left (Inner (child_seen (main_of old.main n) child) (node_act w patterns site old.main n (texts at)))) (meant w patterns site texts old)) old.vars
     (meant w patterns site texts new) new.vars
 
--- The subrequest is asked for that a node waits for, which goes on as it is said in the old family.
-abbrev pub AsksAt : List SetPattern → Ground → (at : ℕ) → Child → (old new : Family) → Type 0
-AsksAt patterns g at child old new =
-    let w = world_in patterns g shipped in
-    let site = g.site.now in
-    (n : Node) → slice_get old.nodes at ≡ Some n → (tree : Tree) (texts : ℕ → List ℕ)
-    → Opening w tree 1 (doing at (Going n.left (Call (child_seen (main_of old.main n) child) (λ reply. node_heard w patterns site old.main n (texts at) reply.body))) (meant w patterns site texts old)) old.vars
-    (meant w patterns site texts new) new.vars
+-- The subrequest is asked for whose body a node waits for, which may have one more: it has a place in the row, and its node is the last.
+pub record IsAsking (at : ℕ) (child : Child) (old new : Family) (n : Node) : Type 0 where
+  pub free : n.asks ≡ None
+  pub deep : n.left ≢ 0
+  pub row : new.order ≡ with_child at old.order
+  pub asking : Node
+  pub asks : asking ≡ record n { children = asking.children; asks = Some old.order.nodes }
+  pub pushed : IsPushed (slice_set old.nodes at asking) new.nodes at (Captured child.stub []) asking child
+
+abbrev pub AsksAt : (at : ℕ) → Child → (old new : Family) → Type 0
+AsksAt at child old new = (n : Node) → slice_get old.nodes at ≡ Some n → IsAsking at child old new n
 
 -- The texts are the same that nodes read.
 abbrev pub SameTexts : List Node → (texts texts' : ℕ → List ℕ) → Type 0

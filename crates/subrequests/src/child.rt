@@ -101,7 +101,10 @@ fn place_of(alloc: Global, stub: Option<ByteText>, captured: bool) -> Place
     ensures { result ≡ place_for captured stub }
 {
     if captured {
-        return Place::Captured(ByteText::new(alloc));
+        return Place::Captured {
+            stub,
+            text: ByteText::new(alloc),
+        };
     }
     match stub {
         Some(stub) => Place::Stub {

@@ -8,8 +8,9 @@ ghost use Rattle.request_phases.specs.Rounds.{IsGround};
 ghost use Rattle.request_phases.specs.declared.ground.Ground.{Ground as GroundView};
 ghost use Rattle.site_model.specs.declared.site.Site.{Site as SiteRow};
 ghost use Rattle.node_turn.specs.Stages.{is_ending, is_in_row as in_row, is_placing, is_serving, is_turning, item_asked};
-ghost use Rattle.subrequests.specs.Families.{AreDone, HasReply, captured_at, goes_on_at, hears_from as hearing, in_row_at, is_asked as asked_for, is_captured, is_seated as has_seat, over_node};
-ghost use Rattle.node_turn.specs.declared.node.Place.TheVariants.{Captured as CapturedView};
+ghost use Rattle.node_turn.specs.declared.node.Place.TheVariants.{Row as RowView};
+ghost use Rattle.subrequests.specs.Families.{AreDone, HasReply, IsTaken, captured_at, goes_on_at, in_row_at, is_good_end, over_node};
+ghost use Rattle.node_seats.specs.Seats.{is_seated as has_seat};
 ghost use Rattle.std.specs.List.{list_all};
 ghost use Rattle.subrequests.specs.Moved.{AsksAt, BeginsWith, Comes, IsDone, IsFromAt, IsWhole, Keeps, OpensAt, OverrunsBy, SameFiles, Steps, files, fits_at, meant, stands};
 ghost use Rattle.subrequests.specs.Runs.{runs_at};
@@ -19,7 +20,7 @@ ghost use Rattle.subrequests.specs.declared.family.Stepped.TheVariants.{On as Go
 
 use crate::child::{blank_main, push_child, put_asks, put_child};
 use crate::hear::hears;
-use crate::next_step::{Next, is_held, is_in_row, next_of};
+use crate::next_step::{Next, is_in_row, next_of};
 use crate::nodes::Nodes;
 use crate::wants::can_run;
 use byte_text::{ByteText, OutOfMemory};
@@ -29,9 +30,10 @@ use file_tree::{Ask, JobAnswer};
 use http_types::Method;
 use ngx_pattern::PatternSet;
 use ngx_variables::{Main, VarTable};
-use node_line::{comes, decides};
+use node_line::{comes, decides, is_kept};
+use node_seats::is_seated;
 use node_turn::{
-    Capture, Node, Place, Stage, Turn, answering, lend, places, put, take, takes, turns,
+    Capture, Node, Place, Stage, Turn, answering, hold, lend, places, put, take, takes, turns,
 };
 use postpone_filter::Order;
 use request_phases::{Ground, Outcome, Phases};
@@ -88,48 +90,24 @@ fn on_or_rests(on: bool) -> Stepped
     if on { Stepped::On } else { Stepped::Rests }
 }
 
-/// Whether a node may open a subrequest, where there are so many nodes. One of which it isn't known
-/// whether its body is shown opens none yet, and one for whose body its parent waits none either.
+/// Whether a node may have one more subrequest, where there are so many nodes.
+fn may_ask(node: &Node, count: usize) -> bool
+    ensures free { result ≡ true → node.now.asks ≡ None }
+    ensures deep { result ≡ true → node.now.left ≢ 0 }
+    ensures few { result ≡ true → count < 1001 }
+{
+    node.asks.is_none() && node.left > 0 && count < MOST_NODES
+}
+
+/// Whether a node may open a subrequest beside it, where there are so many nodes. One whose bytes
+/// don't go to the row waits for those of its subrequests.
 fn may_open(node: &Node, count: usize) -> bool
     ensures row { result ≡ true → in_row node.now.place ≡ true }
     ensures free { result ≡ true → node.now.asks ≡ None }
     ensures deep { result ≡ true → node.now.left ≢ 0 }
     ensures few { result ≡ true → count < 1001 }
 {
-    is_in_row(&node.place) && node.asks.is_none() && node.left > 0 && count < MOST_NODES
-}
-
-/// Whether the subrequest with this number is the one for whose body a node waits.
-fn is_asked(child: u32, asks: Option<u32>) -> bool
-    ensures { result ≡ asked_for child asks }
-{
-    match asks {
-        Some(asked) => asked == child,
-        None => false,
-    }
-}
-
-/// Whether a node that goes on waits for the body of the subrequest with this number.
-fn hears_from(nodes: &[Node], at: u32, child: u32) -> bool
-    ensures { result ≡ hearing child (slice_get nodes.now at) }
-{
-    match nodes.get(at as usize) {
-        Some(node) => !node.over && is_asked(child, node.asks),
-        None => false,
-    }
-}
-
-/// Whether a node goes on by itself: it waits for no body of a subrequest; and where its own bytes
-/// come to its parent, that waits for them.
-fn is_seated(nodes: &[Node], at: u32) -> bool
-    ensures { result ≡ has_seat nodes.now at (slice_get nodes.now at) }
-{
-    match nodes.get(at as usize) {
-        Some(node) => {
-            node.asks.is_none() && (!is_held(&node.place) || hears_from(nodes, node.parent, at))
-        }
-        None => false,
-    }
+    is_in_row(&node.place) && may_ask(node, count)
 }
 
 /// Whether a node is over.
@@ -168,24 +146,47 @@ fn are_done(nodes: &[Node]) -> bool
     }
 }
 
-/// The bytes of a node for whose body its parent waits: all that came.
-fn taken(alloc: Global, place: &mut Place) -> Result<ByteText, OutOfMemory>
-    ensures { IfOk result (λ text. (place.old ≡ CapturedView text)
-        × (is_captured place.new ≡ true)) }
+/// Whether a node has come to an answer below 400.
+fn ends_well(stage: &Stage) -> bool
+    ensures { result ≡ is_good_end stage.now }
+{
+    match stage {
+        Stage::Begins(_) => false,
+        Stage::Asks { wait: _, ssi: _ } => false,
+        Stage::Told {
+            wait: _,
+            file: _,
+            ssi: _,
+        } => false,
+        Stage::Places(_) => false,
+        Stage::Serves(_) => false,
+        Stage::Reads(_) => false,
+        Stage::Captures(_) => false,
+        Stage::Ends(body) => body.answered.status < 400,
+    }
+}
+
+/// The bytes of a node for whose body its parent waits: all that came. Where its stub would stand in
+/// their place there is no memory.
+fn taken(alloc: Global, stage: &Stage, place: &mut Place) -> Result<ByteText, OutOfMemory>
+    ensures { IfOk result (λ text. IsTaken stage.now text place.old place.new) }
 {
     match place {
-        Place::Captured(text) => Ok(take(text, ByteText::new(alloc))),
+        Place::Captured { stub, text } => {
+            if stub.is_some() && (text.is_empty() || !ends_well(stage)) {
+                return Err(OutOfMemory);
+            }
+            Ok(take(text, ByteText::new(alloc)))
+        }
         _ => Err(OutOfMemory),
     }
 }
 
-/// A node has the body for which it waited: it goes on with its page.
+/// A node has the body for which it waited: it goes on with its page; or its own bytes go on behind
+/// it.
 fn put_reply(alloc: Global, node: &mut Node, body: ByteText) -> Result<(), OutOfMemory>
     ensures { OnOk result (HasReply body node.old node.new) }
 {
-    if !is_in_row(&node.place) {
-        return Err(OutOfMemory);
-    }
     match take(&mut node.stage, Stage::Begins(Table::new(alloc))) {
         Stage::Captures(capture) => {
             let Capture {
@@ -202,8 +203,25 @@ fn put_reply(alloc: Global, node: &mut Node, body: ByteText) -> Result<(), OutOf
             node.asks = None;
             Ok(())
         }
+        Stage::Serves(page) => {
+            if is_in_row(&node.place) {
+                return Err(OutOfMemory);
+            }
+            put(&mut node.stage, Stage::Serves(page));
+            hold(&mut node.place, body.as_slice())?;
+            node.asks = None;
+            Ok(())
+        }
         _ => Err(OutOfMemory),
     }
+}
+
+/// A node with a stub has bytes for which it waited, and goes on in the row.
+fn put_shown(node: &mut Node)
+    ensures { node.new ≡ record node.old { asks = None; place = RowView } }
+{
+    node.asks = None;
+    put(&mut node.place, Place::Row);
 }
 
 /// A subrequest of a node is over.
@@ -374,20 +392,21 @@ impl Family {
                 if node.left == 0 {
                     return Err(OutOfMemory);
                 }
-                if !is_in_row(&node.place) {
-                    return Err(OutOfMemory);
+                if is_in_row(&node.place) {
+                    if self.nodes.len() >= MOST_NODES {
+                        return Ok(false);
+                    }
+                    self.open_at(alloc, ground, at, child)?;
+                    return Ok(true);
                 }
                 if self.nodes.len() >= MOST_NODES {
                     return Ok(false);
                 }
-                self.open_at(alloc, ground, at, child)?;
+                self.ask_at(alloc, ground, at, child)?;
                 Ok(true)
             }
             Turn::Asks(child) => {
-                if node.left == 0 || child.stub.is_some() {
-                    return Err(OutOfMemory);
-                }
-                if !is_in_row(&node.place) {
+                if node.left == 0 {
                     return Err(OutOfMemory);
                 }
                 if self.nodes.len() >= MOST_NODES {
@@ -446,18 +465,13 @@ impl Family {
     ) -> Result<(), OutOfMemory>
         requires whole { IsWhole self.old }
         requires there { goes_on_at (slice_get self.old.nodes at) ≡ true }
-        requires plain { child.stub ≡ None }
-        ensures asks { (patterns : List SetPattern) → OnOk result
-            (AsksAt patterns ground.now at child self.old self.new) }
-        ensures files { OnOk result (SameFiles self.old self.new) }
-        ensures grows { OnOk result
-            (length self.new.nodes ≡ length self.old.nodes + 1) }
+        ensures asks { OnOk result (AsksAt at child self.old self.new) }
         ensures whole { OnOk result (IsWhole self.new) }
         ensures tree { OnOk result (self.new.tree ≡ self.old.tree) }
-        ensures main { OnOk result (self.new.main ≡ self.old.main) }
+        ensures same { OnOk result
+            ((self.new.main ≡ self.old.main) × (self.new.vars ≡ self.old.vars)) }
     {
-        shows_the_same();
-        if !may_open(self.nodes.node_at(at as usize), self.nodes.len()) {
+        if !may_ask(self.nodes.node_at(at as usize), self.nodes.len()) {
             return Err(OutOfMemory);
         }
         let id = self.order.add_child(alloc, at)?;
@@ -525,15 +539,73 @@ impl Family {
         ensures tree { OnOk result (self.new.tree ≡ self.old.tree) }
     {
         shows_the_same();
+        if self.shows_parent(at) {
+            return Ok(self.show_at(alloc, at)?);
+        }
         self.order.end(at);
         let node = self.nodes.node_mut(at as usize);
-        let text = taken(alloc, &mut node.place)?;
+        let text = taken(alloc, &node.stage, &mut node.place)?;
         node.over = true;
         let parent = node.parent;
         if parent as usize >= self.nodes.len() {
             return Err(OutOfMemory);
         }
         put_reply(alloc, self.nodes.node_mut(parent as usize), text)?;
+        Ok(parent)
+    }
+
+    /// Whether the parent of a node, which waits for its body, has a stub, and is shown because of
+    /// that body.
+    fn shows_parent(&self, at: u32) -> bool {
+        let Some(node) = self.nodes.as_slice().get(at as usize) else {
+            return false;
+        };
+        match &node.place {
+            Place::Captured { stub: _, text } => {
+                !text.is_empty()
+                    && match self.nodes.as_slice().get(node.parent as usize) {
+                        Some(parent) => is_kept(parent),
+                        None => false,
+                    }
+            }
+            _ => false,
+        }
+    }
+
+    /// A node for whose body its parent waits, which has a stub, has come to its answer: it is over,
+    /// and its parent, whose number this is, has placed its bytes and goes on in the row.
+    fn show_at(&mut self, alloc: Global, at: u32) -> Result<u32, OutOfMemory>
+        requires whole { IsWhole self.old }
+        requires there { stands is_ending self.old at }
+        requires held { captured_at (slice_get self.old.nodes at) ≡ true }
+        requires seated { has_seat self.old.nodes at (slice_get self.old.nodes at)
+            ≡ true }
+        requires child { at ≢ 0 }
+        ensures steps { OnOk result ((patterns : List SetPattern) (g : GroundView) →
+            Steps patterns g self.old self.new) }
+        ensures whole { OnOk result (IsWhole self.new) }
+        ensures ended { OnOk result
+            (goes_on_at (slice_get self.new.nodes at) ≡ false) }
+        ensures tree { OnOk result (self.new.tree ≡ self.old.tree) }
+    {
+        shows_the_same();
+        let node = self.nodes.node_mut(at as usize);
+        let text = taken(alloc, &node.stage, &mut node.place)?;
+        node.over = true;
+        let parent = node.parent;
+        if parent as usize >= self.nodes.len() || text.is_empty() {
+            return Err(OutOfMemory);
+        }
+        let node = self.nodes.node_mut(parent as usize);
+        if !is_kept(node) {
+            return Err(OutOfMemory);
+        }
+        put_shown(node);
+        let count = self.order.append(parent, text.as_slice());
+        if count < text.len() {
+            return Err(OutOfMemory);
+        }
+        self.order.end(at);
         Ok(parent)
     }
 

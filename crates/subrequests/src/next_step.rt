@@ -1,7 +1,7 @@
 // What a node does next.
 ghost use Rattle.std.specs.Prelude.{◌≡◌, Some, true, false, slice_get, if◌then◌else◌};
 ghost use Rattle.node_turn.specs.Stages.{is_in_row as in_row};
-ghost use Rattle.subrequests.specs.Families.{is_captured};
+ghost use Rattle.node_seats.specs.Seats.{is_captured};
 ghost use Rattle.subrequests.specs.Wants.{StandsAt};
 ghost use Rattle.subrequests.specs.declared.next_step.Next.TheVariants.{Ends as EndsNext, Decides as DecidesNext, Returns as ReturnsNext};
 
@@ -35,18 +35,7 @@ pub(crate) fn is_in_row(place: &Place) -> bool
     match place {
         Place::Row => true,
         Place::Stub { stub: _, text: _ } => false,
-        Place::Captured(_) => false,
-    }
-}
-
-/// Whether the bytes of a node come to its parent.
-pub(crate) fn is_held(place: &Place) -> bool
-    ensures { result ≡ is_captured place.now }
-{
-    match place {
-        Place::Row => false,
-        Place::Stub { stub: _, text: _ } => false,
-        Place::Captured(_) => true,
+        Place::Captured { stub: _, text: _ } => false,
     }
 }
 
@@ -58,7 +47,7 @@ fn ends_by(place: &Place) -> Next
     match place {
         Place::Row => Next::Ends,
         Place::Stub { stub: _, text: _ } => Next::Decides,
-        Place::Captured(_) => Next::Returns,
+        Place::Captured { stub: _, text: _ } => Next::Returns,
     }
 }
 

@@ -1,7 +1,8 @@
 //! Runs `ngx replay` on each of the scripts that its words name, one after another, and prints the exit status behind each.
 #![tactic(auto)]
 
-use memory_outside::{FixedClock, MemoryLinks};
+use memory_links::MemoryLinks;
+use memory_outside::FixedClock;
 use ngx_cli::ngx;
 use ngx_pattern::CrateMaker;
 use std::alloc::Global;

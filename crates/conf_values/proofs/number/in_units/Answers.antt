@@ -2,7 +2,8 @@ use Rattle.std.proofs.Common.{◌≡◌, ℕ, zero, suc, ◌*◌, ◌^◌, ◌<�
 use Rattle.std.proofs.Math.Nat.{mul-suc}
 use Rattle.std.proofs.lemmas.Bool.Decides.{nat_tests}
 use Rattle.std.specs.Option.{ForSome}
-use Rattle.conf_values.specs.Numbers.{value_behind, in_units}
+use Rattle.text_words.specs.Digits.{value_behind}
+use Rattle.conf_values.specs.Numbers.{in_units}
 use Rattle.conf_values.proofs.number.in_units.Goals as goal
 
 too_much : (most n : ℕ) → most < 2 ^ 64 → 2 ^ 64 ≤ n → nat_le n most ≡ false

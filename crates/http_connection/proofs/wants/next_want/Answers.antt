@@ -1,4 +1,4 @@
-use Rattle.std.proofs.Common.{Option, Some, None, length, eqb, ◌≡◌, refl, sym, ◌∙◌, rules}
+use Rattle.std.proofs.Common.{Some, None, length, eqb, ◌≡◌, refl, sym, ◌∙◌, rules}
 use Rattle.std.specs.Prelude.{is_some}
 use Rattle.ngx_outside.specs.Wants.{wants_at}
 use Rattle.response_flow.specs.Flights.{jobs_of}

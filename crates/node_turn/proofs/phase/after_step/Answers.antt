@@ -25,4 +25,4 @@ returns-in_ok-answering-in-Answers-clause-turns c = λ patterns path text vars.
     ∙ (phased.done_so w c.args.left c.args.ssi (prepared_as w (asked_in p) s (padded c.args.len text) o) vars
     ∙ (ap (λ m. settled (after_phases w c.args.left c.args.ssi m) vars) (phased.same_outcome w (asked_in p) s c.args.len text o)
     ∙ (ap (λ o. settled (after_phases w c.args.left c.args.ssi (prepared_as w (asked_in p) s (bytes_for o text) o)) vars) (sym c.with_length-outcome.ensures)
-    ∙ c.in_ok-answering-in-Answers.ensures patterns path text vars)))
+    ∙ c.in_ok-answering-in-Answers.ensures.acts patterns path text vars)))

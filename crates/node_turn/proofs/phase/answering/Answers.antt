@@ -9,8 +9,8 @@ use Rattle.node_turn.specs.Nodes.{answer_seen, body_then, bytes_for, padded}
 use Rattle.node_turn.proofs.Phased as phased
 use Rattle.node_turn.proofs.phase.answering.Goals as goal
 
-pub returns-in_ok-bare-in-Nothing : goal.returns-in_ok-bare-in-Nothing
-returns-in_ok-bare-in-Nothing c = λ patterns path text vars.
+pub returns-in_ok-bare-in-Nothing-clause-acts : goal.returns-in_ok-bare-in-Nothing-clause-acts
+returns-in_ok-bare-in-Nothing-clause-acts c = λ patterns path text vars.
     let g = c.args.ground.now in
     let site = g.site.now in
     let p = c.args.phases.now in
@@ -21,10 +21,10 @@ returns-in_ok-bare-in-Nothing c = λ patterns path text vars.
     let parts = c.in_ok-answered.ensures site p bytes made (phased.is_for w site p bytes o) (phased.reply_so w site p text c.in_ok-reply.reply o c.args.outcome refl refl c.in_ok-reply.ensures) in
     phased.answers_so w c.args.left c.args.ssi made (answer_seen site p c.in_ok-answered.field-0.answered) bytes c.in_ok-answered.field-0.facts c.in_ok-answered.field-0.body _ vars parts.0 parts.1 c.in-Nothing.is
     ∙ (phased.bare_so w c.args.left c.args.ssi (answer_seen site p c.in_ok-answered.field-0.answered) vars
-    ∙ ap (λ m. (m, vars)) (sym (c.in_ok-bare-in-Nothing.ensures g p c.args.left patterns path text)))
+    ∙ ap (λ m. (m, vars)) (sym (c.in_ok-bare-in-Nothing.ensures.acts g p c.args.left patterns path text)))
 
-pub returns-in_ok-plain-in-Page : goal.returns-in_ok-plain-in-Page
-returns-in_ok-plain-in-Page c = λ patterns path text vars.
+pub returns-in_ok-plain-in-Page-clause-acts : goal.returns-in_ok-plain-in-Page-clause-acts
+returns-in_ok-plain-in-Page-clause-acts c = λ patterns path text vars.
     let g = c.args.ground.now in
     let site = g.site.now in
     let p = c.args.phases.now in
@@ -37,10 +37,10 @@ returns-in_ok-plain-in-Page c = λ patterns path text vars.
     phased.answers_so w c.args.left c.args.ssi made answer bytes c.in_ok-answered.field-0.facts c.in_ok-answered.field-0.body _ vars parts.0 parts.1 c.in-Page.is
     ∙ (phased.plain_so w c.args.left c.args.ssi answer (page_of c.in-Page.code) vars
     ∙ ap (λ m. (m, vars)) (ap (λ b. Write b (Done answer)) (sym (phased.none_behind c.page_text.new.out text ∙ (c.in_ok-page_text-in-Page.ensures ∙ ap (λ b. b ++ page_of c.in-Page.code) c.new-bytes.ensures)))
-    ∙ sym (c.in_ok-plain-in-Page.ensures g p c.args.left patterns path text)))
+    ∙ sym (c.in_ok-plain-in-Page.ensures.acts g p c.args.left patterns path text)))
 
-pub returns-in_ok-sent-in-Text : goal.returns-in_ok-sent-in-Text
-returns-in_ok-sent-in-Text c = λ patterns path text vars.
+pub returns-in_ok-sent-in-Text-clause-acts : goal.returns-in_ok-sent-in-Text-clause-acts
+returns-in_ok-sent-in-Text-clause-acts c = λ patterns path text vars.
     let g = c.args.ground.now in
     let site = g.site.now in
     let p = c.args.phases.now in
@@ -53,10 +53,10 @@ returns-in_ok-sent-in-Text c = λ patterns path text vars.
     let parts = c.in_ok-answered.ensures site p bytes made (phased.is_for w site p bytes o) (phased.reply_so w site p text c.in_ok-reply.reply o c.args.outcome refl refl c.in_ok-reply.ensures) in
     phased.answers_so w c.args.left c.args.ssi made answer bytes facts c.in_ok-answered.field-0.body _ vars parts.0 parts.1 c.in-Text.is
     ∙ (ap (λ b. settled (body_then w c.args.left c.args.ssi answer (sent_as facts b)) vars) (sym (phased.none_behind c.in-Text.text text))
-    ∙ c.in_ok-sent-in-Text.ensures g p c.args.left patterns path text vars c.scene_of-scene.ensures)
+    ∙ c.in_ok-sent-in-Text.ensures.acts g p c.args.left patterns path text vars c.scene_of-scene.ensures)
 
-pub returns-in_ok-sent-in-File : goal.returns-in_ok-sent-in-File
-returns-in_ok-sent-in-File c = λ patterns path text vars.
+pub returns-in_ok-sent-in-File-clause-acts : goal.returns-in_ok-sent-in-File-clause-acts
+returns-in_ok-sent-in-File-clause-acts c = λ patterns path text vars.
     let g = c.args.ground.now in
     let site = g.site.now in
     let p = c.args.phases.now in
@@ -71,4 +71,4 @@ returns-in_ok-sent-in-File c = λ patterns path text vars.
     phased.answers_so w c.args.left c.args.ssi made answer bytes facts c.in_ok-answered.field-0.body _ vars parts.0 parts.1 c.in-File.is
     ∙ (ap (λ b. settled (body_then w c.args.left c.args.ssi answer (sent_as facts b)) vars)
     (sym (ap (λ (x : List ℕ). x ++ padded len text) c.new-none.ensures ∙ c.file_len-len.ensures text))
-    ∙ c.in_ok-sent-in-File.ensures g p c.args.left patterns path text vars c.scene_of-scene.ensures)
+    ∙ c.in_ok-sent-in-File.ensures.acts g p c.args.left patterns path text vars c.scene_of-scene.ensures)

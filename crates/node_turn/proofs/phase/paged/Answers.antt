@@ -9,8 +9,8 @@ use Rattle.node_turn.specs.declared.node.Body.{Body}
 use Rattle.node_turn.proofs.Paged as paged
 use Rattle.node_turn.proofs.phase.paged.Goals as goal
 
-pub returns : goal.returns
-returns c = λ g p levels patterns path file is.
+pub returns-clause-acts : goal.returns-clause-acts
+returns-clause-acts c = λ g p levels patterns path file is.
     let w = world_in patterns g shipped in
     let answer = answer_seen g.site.now p c.args.answered in
     let bytes = c.args.text ++ padded c.args.left file in

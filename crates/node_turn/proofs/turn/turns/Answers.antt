@@ -2,7 +2,8 @@ use Rattle.std.proofs.Common.{sym, ap, ◌∙◌}
 use Rattle.acts.specs.Act.{settled}
 use Rattle.request_meaning.specs.Laws.{shipped}
 use Rattle.request_phases.specs.Rounds.{world_in}
-use Rattle.node_turn.specs.Stages.{ask_or, node_act}
+use Rattle.file_tree.specs.Tree.{tree_of}
+use Rattle.node_turn.specs.Stages.{ask_or, is_asking, node_act}
 use Rattle.node_turn.specs.Nodes.{asked_path, lent, stage_act}
 use Rattle.node_turn.specs.declared.node.Node.{Node}
 use Rattle.node_turn.specs.declared.node.Stage.TheVariants.{Begins, Told}
@@ -46,3 +47,15 @@ returns-in_ok-turned-in-Told-clause-acts c = λ text.
     ∙ (ap (λ path. (stage_act w ps site (lent main phases) old.left path turned.stage text, new)) (phased.asked_or turned.path c.args.of old.ask)
     ∙ (ap (λ (n : Node). (stage_act w ps site (lent main phases) n.left (asked_path (ask_or turned.path c.args.of n.ask)) turned.stage text, new)) (sym c.stage_of.ensures.node)
     ∙ ap (λ (n : Node). (node_act w ps site main n text, new)) (sym c.put_turned-in-Told.ensures)))))
+
+pub returns-in_ok-turned-in-Begins-clause-tree : goal.returns-in_ok-turned-in-Begins-clause-tree
+returns-in_ok-turned-in-Begins-clause-tree c = λ asks.
+    let turned = c.in_ok-turned-in-Begins.turned in
+    ap (λ (n : Node). tree_of n.ask) c.put_turned.ensures
+    ∙ phased.asked_tree turned.path c.args.of _ (c.in_ok-turned-in-Begins.ensures.path (sym (ap (λ (n : Node). is_asking n.stage) c.put_turned.ensures) ∙ asks))
+
+pub returns-in_ok-turned-in-Told-clause-tree : goal.returns-in_ok-turned-in-Told-clause-tree
+returns-in_ok-turned-in-Told-clause-tree c = λ asks.
+    let turned = c.in_ok-turned-in-Told.turned in
+    ap (λ (n : Node). tree_of n.ask) c.put_turned-in-Told.ensures
+    ∙ phased.asked_tree turned.path c.args.of _ (c.in_ok-turned-in-Told.ensures.path (sym (ap (λ (n : Node). is_asking n.stage) c.put_turned-in-Told.ensures) ∙ asks))

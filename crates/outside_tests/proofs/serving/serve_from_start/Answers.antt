@@ -1,5 +1,5 @@
 use Rattle.telling_core.specs.Core.{events_of}
-use Rattle.memory_outside.specs.Told.{answers_of}
+use Rattle.memory_links.specs.Told.{answers_of}
 use Rattle.ngx_outside.specs.Records.{beside_link}
 use Rattle.ready_loop.specs.Tellings.{of_link}
 use Rattle.ready_loop.proofs.BesideLemmas.{beside_from_start, moments_from_start}

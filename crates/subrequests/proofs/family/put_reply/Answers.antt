@@ -1,16 +1,14 @@
 use Rattle.std.proofs.Common.{refl, sym, ap, ◌∙◌}
 use Rattle.node_turn.specs.Nodes.{asked_path, lent, stage_act, stage_heard}
+use Rattle.node_turn.specs.Stages.{is_capturing}
+use Rattle.subrequests.specs.Families.HasReply.{Hears}
 use Rattle.subrequests.proofs.family.put_reply.Goals as goal
 
 pub returns-in-Captures : goal.returns-in-Captures
 returns-in-Captures c =
     let n = c.args.node.now in
-    record {
-      same = record { parent = refl; left = refl; children = refl; over = refl; asks = refl };
-      was = sym c.is_in_row.ensures ∙ c.if-not-is_in_row.false;
-      place = refl;
-      file = (refl, refl);
-      acts = λ w patterns site main text.
-          ap (λ s. stage_act w patterns site (lent main n.phases) n.left (asked_path n.ask) s text) c.put.ensures.put
-          ∙ ap (λ s. stage_heard w patterns site (lent main n.phases) n.left (asked_path n.ask) s text c.args.body) (sym (sym c.take.ensures.taken ∙ c.in-Captures.is));
-    }
+    let was = sym c.take.ensures.taken ∙ c.in-Captures.is in
+    Hears (ap is_capturing was) (record { parent = refl; left = refl; children = refl; over = refl; asks = refl }) refl (refl, refl)
+    (λ w patterns site main text.
+    ap (λ s. stage_act w patterns site (lent main n.phases) n.left (asked_path n.ask) s text) c.put.ensures.put
+    ∙ ap (λ s. stage_heard w patterns site (lent main n.phases) n.left (asked_path n.ask) s text c.args.body) (sym was))

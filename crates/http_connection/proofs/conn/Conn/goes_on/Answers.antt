@@ -1,4 +1,4 @@
-use Rattle.std.proofs.Common.{◌≡◌, ◌<◌, ◌+◌, Some, [], inl, refl, sym, ap, ◌∙◌, subst, length, arith}
+use Rattle.std.proofs.Common.{◌≡◌, true, Some, [], inl, refl, sym, ap, ◌∙◌, subst, arith}
 use Rattle.std.specs.Prelude.{is_some}
 use Rattle.ngx_outside.specs.Views.{Goes}
 use Rattle.ngx_outside.specs.Views.Ground.{Raceless}
@@ -7,30 +7,32 @@ use Rattle.http_connection.specs.Conn.{ready_at, PaceRan}
 use Rattle.http_connection.specs.Steps.{IsLogged}
 use Rattle.http_connection.proofs.Moves.{goes_halts, goes_went, goes_left, refused, stopped_left, waits_live, same_length, not_over}
 use Rattle.http_connection.proofs.Kept.{never, none_fits}
-use Rattle.http_connection.proofs.Going.{Runs, on_by, on_runs, over_runs, ran_keeps, ran_level, ran_over, ran_reached}
+use Rattle.http_connection.proofs.Going.{Runs, on_by, on_runs, over_runs, runs_of, ran_keeps, ran_level, ran_over, ran_reached}
 use Rattle.http_connection.proofs.Opens.{level_is}
 use Rattle.http_connection.proofs.Readies.{ready_contains, ready_flying}
 use Rattle.served_site.specs.Served.{raw_server}
 use Rattle.http_connection.proofs.Timed.{went_until, ran_until, refused_until, marks_by, mark_rests}
 use Rattle.http_connection.proofs.conn.Conn.goes_on.Goals as goal
 use Rattle.http_connection.specs.Rests.{ReachedIn, Serves, service_in, rest_in, values_at}
-use Rattle.response_flow.specs.Flights.{FlightFits, flight_left, flight_tree}
+use Rattle.response_flow.specs.Continues.{ran_in}
+use Rattle.subrequests.specs.Wants.{is_among}
+use Rattle.request_meaning.specs.Laws.{shipped}
+use Rattle.request_phases.specs.Rounds.{world_in}
+use Rattle.response_flow.specs.Flights.{FlightReached, flight_tree, ready_of}
+use Rattle.response_flow.specs.declared.flight.Onward.{Onward}
+use Rattle.response_flow.specs.declared.flight.Ran.TheVariants.{On}
 
 pub finish-requires : goal.finish-requires
 finish-requires c =
     let s = c.args.self.now in
-    let is : s.flight ≡ Some c.in-Some.flight = sym c.take.ensures.value ∙ c.in-Some.is in
+    let is : s.flight ≡ Some c.in-Some.flight = c.in-Some.is in
     subst (λ b. IsLogged b s.journal.items) (ap is_some is) (s.logged (waits_live s.cause s.flight c.in-Some.flight s.quit is))
 
-pub run_on-requires-clause-fits : goal.run_on-requires-clause-fits
-run_on-requires-clause-fits c =
+pub run_in_place-requires-clause-runs : goal.run_in_place-requires-clause-runs
+run_in_place-requires-clause-runs c =
     let s = c.args.self.now in
-    subst (λ f. FlightFits f (length s.out)) (sym c.take.ensures.value ∙ c.in-Some.is) s.flying
-
-pub run_on-requires-clause-runs : goal.run_on-requires-clause-runs
-run_on-requires-clause-runs c =
-    let s = c.args.self.now in
-    ready_flying (is_some s.cause) s.flight c.in-Some.flight s.closing s.out s.body s.next c.args.node (sym c.take.ensures.value ∙ c.in-Some.is) c.requires.ready
+    subst (λ f. is_among c.args.node (ready_of f) ≡ true) (sym c.in-Some.is)
+    (ready_flying (is_some s.cause) s.flight c.in-Some.flight s.closing s.out s.body s.next c.args.node (c.in-Some.is) c.requires.ready)
 
 pub returns-in-Ok-On-clause-steps : goal.returns-in-Ok-On-clause-steps
 returns-in-Ok-On-clause-steps c = λ now conn.
@@ -38,17 +40,17 @@ returns-in-Ok-On-clause-steps c = λ now conn.
     let x : Serves = record { patterns = c.args.space.now.patterns; served = c.args.served.now } in
     let service = service_in x s.local s.peer in
     let flight = c.in-Some.flight in
-    let ran = c.in-Ok-On.field-0 in
-    let onward = c.in-Ok-On.onward in
-    let on = c.in-Ok-On.field-0-is in
-    let is : s.flight ≡ Some flight = sym c.take.ensures.value ∙ c.in-Some.is in
+    let f' = c.run_in_place.new.flight in
+    let ran = ran_in f' c.in-Ok-On.field-0 in
+    let onward : Onward = record { flight = f'; closing = c.in-Ok-On.closing; log = c.in-Ok-On.log; level = c.in-Ok-On.level } in
+    let on : ran ≡ On onward = ap (ran_in f') c.in-Ok-On.field-0-is in
+    let is : s.flight ≡ Some flight = c.in-Some.is in
     let live = waits_live s.cause s.flight flight s.quit is in
     let starts = c.finish.ensures.starts in
-    let f' = c.put-in-Ok-On.new.slot in
-    let p : onward.flight ≡ f' = sym c.put-in-Ok-On.ensures in
+    let p : onward.flight ≡ f' = refl in
     let g = c.ground-ground.result in
     let over = on_by _ ran onward on c.in-Ok-On.ensures.over in
-    let by = on_by _ ran onward on c.in-Ok-On.ensures.by in
+    let by = on_by _ ran onward on (c.in-Ok-On.ensures.by flight is) in
     let lowers = on_by _ ran onward on c.in-Ok-On.ensures.lowers in
     let asked = on_by _ ran onward on c.in-Ok-On.ensures.asked in
     let closes = on_by _ ran onward on c.in-Ok-On.ensures.closes in
@@ -56,16 +58,15 @@ returns-in-Ok-On-clause-steps c = λ now conn.
     record {
       own = λ tells led course. (
         ready_contains (ready_at (is_some s.cause) s.flight s.closing s.out s.body s.next) c.args.node c.requires.ready,
-        Goes [] (inl refl) (went_until _ _ _ _ _ [] [] [] (goes_went x (Raceless x.served.raceless) service s.cause s.flight f' s.out c.run_on.new.out s.journal.items c.finish.new.journal.items s.closing onward.closing s.ended s.body s.held s.next onward.log live (same_length s.journal.items c.finish.new.journal.items starts) starts c.finish.ensures.log
+        Goes [] (inl refl) (went_until _ _ _ _ _ [] [] [] (goes_went x (Raceless x.served.raceless) service s.cause s.flight f' s.out c.run_in_place.new.out s.journal.items c.finish.new.journal.items s.closing onward.closing s.ended s.body s.held s.next onward.log live (same_length s.journal.items c.finish.new.journal.items starts) starts c.finish.ensures.log
             (subst (λ b. IsLogged b c.finish.new.journal.items) (not_over (is_some onward.log) (is_some onward.flight) over ∙ ap is_some p) c.finish.ensures.logged)
-            (λ trees told. ran_keeps x g s.flight flight onward f' s.out c.run_on.new.out s.closing trees p runs by (λ raceless reached. on_runs _ _ _ _ _ _ _ _ ran onward on (c.in-Ok-On.ensures.runs trees raceless reached)) tells led told))),
+            (λ trees told. ran_keeps x g s.flight flight onward f' s.out c.run_in_place.new.out s.closing trees p runs by (λ raceless reached. on_runs _ _ _ _ _ _ _ _ ran onward on (runs_of _ _ _ trees s.flight flight _ _ _ ran is (c.in-Ok-On.ensures.runs trees raceless) reached)) tells led told))),
       );
-      reached = λ led. ran_reached x g s.flight flight onward.flight f' p runs by (λ reached. on_by _ ran onward on (c.in-Ok-On.ensures.reached reached)) led;
-      left = goes_left s.cause s.flight f' s.out c.run_on.new.out s.closing onward.closing s.held live closes
-          (subst (λ f. length c.run_on.new.out + flight_left f (length c.run_on.new.out) < length s.out + flight_left s.flight (length s.out)) p (subst (λ f. length c.run_on.new.out + flight_left onward.flight (length c.run_on.new.out) < length s.out + flight_left f (length s.out)) (sym is) lowers));
+      reached = λ led. ran_reached x g s.flight flight onward.flight f' p runs by (λ reached. on_by _ ran onward on (c.in-Ok-On.ensures.reached (subst (FlightReached (world_in x.patterns g shipped) x.patterns g.site.now) (sym is) reached))) led;
+      left = goes_left s.cause s.flight f' s.out c.run_in_place.new.out s.closing onward.closing s.held live closes lowers;
       ended = refl;
       taken = refl;
-      asked = inl (let b = ap flight_tree is in let d = ap flight_tree p in omega (arith, asked, b, d));
+      asked = inl asked;
     }
 
 pub returns-in-Ok-TooMany-clause-steps : goal.returns-in-Ok-TooMany-clause-steps
@@ -74,9 +75,11 @@ returns-in-Ok-TooMany-clause-steps c = λ now conn.
     let x : Serves = record { patterns = c.args.space.now.patterns; served = c.args.served.now } in
     let service = service_in x s.local s.peer in
     let flight = c.in-Some.flight in
-    let is : s.flight ≡ Some flight = sym c.take.ensures.value ∙ c.in-Some.is in
+    let is : s.flight ≡ Some flight = c.in-Some.is in
     let live = waits_live s.cause s.flight flight s.quit is in
     let g = c.ground-ground.result in
+    let was' = c.run_in_place.new.flight in
+    let ran = ran_in was' c.in-Ok-TooMany.field-0 in
     let f' = c.put.new.slot in
     let out' = c.clear.new.self in
     let runs : Runs x g s.flight flight = record { is = is; site = c.ground-ground.ensures.site; server = c.ground-ground.ensures.server ∙ ap (raw_server x.served) c.server_of.ensures; size = c.ground-ground.ensures.length ∙ c.length_of.ensures } in
@@ -84,7 +87,7 @@ returns-in-Ok-TooMany-clause-steps c = λ now conn.
       own = λ tells led course. ran_until _ _ _ now c.args.node _ _ (
         ready_contains (ready_at (is_some s.cause) s.flight s.closing s.out s.body s.next) c.args.node c.requires.ready,
         goes_halts x now service 1000 s.cause s.flight f' s.out out' s.journal.items s.journal.items s.closing s.closing s.ended s.ended s.body s.body s.held s.held s.next s.next live c.put.ensures c.clear.ensures refl
-            (λ told trees. ran_over x g s.flight flight trees runs (λ raceless reached. over_runs _ _ _ _ _ _ _ _ c.in-Ok-TooMany.field-0 c.in-Ok-TooMany.field-0-is (c.in-Ok-TooMany.ensures.runs trees raceless reached)) tells led told),
+            (λ told trees. ran_over x g s.flight flight trees runs (λ raceless reached. over_runs _ _ _ _ _ _ _ _ ran (ap (ran_in was') c.in-Ok-TooMany.field-0-is) (runs_of _ _ _ trees s.flight flight _ _ _ ran is (c.in-Ok-TooMany.ensures.runs trees raceless) reached)) tells led told),
       );
       reached = λ led. ∣ subst (ReachedIn x) (sym c.put.ensures) tt ∣₁;
       left = stopped_left (stop.SubLimit 1000) s.cause s.flight f' s.out out' s.closing s.closing s.held s.held live;
@@ -98,7 +101,7 @@ returns-in-Err-clause-steps c = λ now conn.
     let s = c.args.self.now in
     let x : Serves = record { patterns = c.args.space.now.patterns; served = c.args.served.now } in
     let service = service_in x s.local s.peer in
-    let is : s.flight ≡ Some c.in-Some.flight = sym c.take.ensures.value ∙ c.in-Some.is in
+    let is : s.flight ≡ Some c.in-Some.flight = c.in-Some.is in
     let live = waits_live s.cause s.flight c.in-Some.flight s.quit is in
     record {
       own = λ tells led course. refused_until _ _ now _ _ (refused x now service s.cause s.flight c.put-in-Err.new.slot s.out c.clear-in-Err.new.self s.journal.items s.journal.items s.closing s.closing s.ended s.ended s.body s.body s.held s.held s.next s.next live c.put-in-Err.ensures c.clear-in-Err.ensures refl);
@@ -114,21 +117,22 @@ returns-in-Ok-On-clause-times c = λ now conn m.
     let s = c.args.self.now in
     let x : Serves = record { patterns = c.args.space.now.patterns; served = c.args.served.now } in
     let flight = c.in-Some.flight in
-    let ran = c.in-Ok-On.field-0 in
-    let onward = c.in-Ok-On.onward in
-    let on = c.in-Ok-On.field-0-is in
-    let is : s.flight ≡ Some flight = sym c.take.ensures.value ∙ c.in-Some.is in
+    let f' = c.run_in_place.new.flight in
+    let ran = ran_in f' c.in-Ok-On.field-0 in
+    let onward : Onward = record { flight = f'; closing = c.in-Ok-On.closing; log = c.in-Ok-On.log; level = c.in-Ok-On.level } in
+    let on : ran ≡ On onward = ap (ran_in f') c.in-Ok-On.field-0-is in
+    let is : s.flight ≡ Some flight = c.in-Some.is in
     let g = c.ground-ground.result in
-    let by = on_by _ ran onward on c.in-Ok-On.ensures.by in
+    let by = on_by _ ran onward on (c.in-Ok-On.ensures.by flight is) in
     let runs : Runs x g (Some flight) flight = record { is = refl; site = c.ground-ground.ensures.site; server = c.ground-ground.ensures.server ∙ ap (raw_server x.served) c.server_of.ensures; size = c.ground-ground.ensures.length ∙ c.length_of.ensures } in
     record {
       mark = marks_by s.times.mark c.args.moment now.moment c.marked-self-in-Ok-On.result _ _ _ _ _ _ _ _ c.marked-self-in-Ok-On.ensures m c.sending-before.ensures.pending c.sending-before.ensures.in_flight c.sending-after.ensures.pending c.sending-after.ensures.in_flight;
       head = refl;
-      pace = λ alive. subst (λ f. PaceRan x now f s c.put-in-Ok-On.new.slot c.paced_on.new.pace) (sym is) (record {
+      pace = λ alive. subst (λ f. PaceRan x now f s c.run_in_place.new.flight c.paced_on.new.pace) (sym is) (record {
         told = values_at c.args.served.now onward.level;
         pace = c.paced_on.ensures.pace;
-        level = λ so trees. sym (level_is x onward.level (rest_in x c.put-in-Ok-On.new.slot trees).values)
-            ∙ (ran_level x g (Some flight) flight onward c.put-in-Ok-On.new.slot s.out c.run_on.new.out s.closing trees (sym c.put-in-Ok-On.ensures) runs by (λ raceless reached. on_runs _ _ _ _ _ _ _ _ ran onward on (c.in-Ok-On.ensures.runs trees raceless reached)) so.0 so.1).level;
+        level = λ so trees. sym (level_is x onward.level (rest_in x c.run_in_place.new.flight trees).values)
+            ∙ (ran_level x g (Some flight) flight onward c.run_in_place.new.flight s.out c.run_in_place.new.out s.closing trees refl runs by (λ raceless reached. on_runs _ _ _ _ _ _ _ _ ran onward on (runs_of _ _ _ trees s.flight flight _ _ _ ran is (c.in-Ok-On.ensures.runs trees raceless) reached)) so.0 so.1).level;
       });
     }
 
@@ -145,20 +149,21 @@ pub invariant_of-self-in-Ok-On : goal.invariant_of-self-in-Ok-On
 invariant_of-self-in-Ok-On c =
     let s = c.args.self.now in
     let flight = c.in-Some.flight in
-    let ran = c.in-Ok-On.field-0 in
-    let onward = c.in-Ok-On.onward in
-    let on = c.in-Ok-On.field-0-is in
-    let is : s.flight ≡ Some flight = sym c.take.ensures.value ∙ c.in-Some.is in
+    let f' = c.run_in_place.new.flight in
+    let ran = ran_in f' c.in-Ok-On.field-0 in
+    let onward : Onward = record { flight = f'; closing = c.in-Ok-On.closing; log = c.in-Ok-On.log; level = c.in-Ok-On.level } in
+    let on : ran ≡ On onward = ap (ran_in f') c.in-Ok-On.field-0-is in
+    let is : s.flight ≡ Some flight = c.in-Some.is in
     let live = waits_live s.cause s.flight flight s.quit is in
     record {
       looked = s.looked;
       dropped = λ h. never (is_some s.cause) live h;
       quit = λ h. never (is_some s.cause) live h;
-      flying = subst (λ f. FlightFits f (length c.run_on.new.out)) (sym c.put-in-Ok-On.ensures) (on_by _ ran onward on c.in-Ok-On.ensures.fits);
+      flying = on_by _ ran onward on c.in-Ok-On.ensures.fits;
       few = s.few;
       drained = s.drained;
       unended = s.unended;
-      logged = λ h. subst (λ b. IsLogged b c.finish.new.journal.items) (not_over (is_some onward.log) (is_some onward.flight) (on_by _ ran onward on c.in-Ok-On.ensures.over) ∙ ap is_some (sym c.put-in-Ok-On.ensures)) c.finish.ensures.logged;
+      logged = λ h. subst (λ b. IsLogged b c.finish.new.journal.items) (not_over (is_some onward.log) (is_some onward.flight) (on_by _ ran onward on c.in-Ok-On.ensures.over)) c.finish.ensures.logged;
       brief = c.paced_on.ensures.least;
     }
 

@@ -1,4 +1,4 @@
-use Rattle.std.proofs.Common.{◌≡◌, Bool, true, false, inl, [], ◌<◌, ◌≤◌, ◌+◌, ap, sym, subst, ◌∙◌, length, take, refl, arith}
+use Rattle.std.proofs.Common.{◌≡◌, Bool, true, false, inl, [], ◌<◌, ◌≤◌, ◌+◌, ap, sym, subst, ◌∙◌, length, refl, arith}
 use Rattle.std.specs.Prelude.{is_some}
 use Rattle.response_flow.specs.Flights.{FlightFits, flight_left, flight_tree, pending_of}
 use Rattle.http_connection.proofs.Moves.{not_stopped, wrote_went, goes_left}

@@ -7,7 +7,7 @@ use Rattle.postpone_filter.specs.Row.{Row}
 use Rattle.postpone_filter.specs.Runs.Call.{Use}
 use Rattle.family_order.specs.Items.{IsWellRow}
 use Rattle.family_order.proofs.Wells.{step-well}
-use Rattle.subrequests.specs.Families.{seen}
+use Rattle.node_seats.specs.Seats.{seen}
 use Rattle.subrequests.specs.Moved.{files, meant}
 use Rattle.page_response.proofs.Moving as moving
 use Rattle.page_response.proofs.pages.Pages.pump_one.Goals as goal

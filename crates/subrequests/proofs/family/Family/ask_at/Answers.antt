@@ -1,29 +1,17 @@
-use Rattle.std.proofs.Common.{◌≡◌, ◌+◌, ◌≢◌, suc, length, true, set, slice_get, None, Some, refl, sym, ap, ◌∙◌, subst, arith}
-use Rattle.request_meaning.specs.Laws.{shipped}
-use Rattle.request_meaning.specs.Replies.{script}
-use Rattle.request_meaning.specs.Serving.{Answer, Reply, Serving}
-use Rattle.request_phases.specs.Rounds.{world_in}
-use Rattle.postpone_filter.specs.Row.{Row, with_child}
-use Rattle.acts.specs.Act.{Call}
-use Rattle.family_order.specs.Items.{doing}
-use Rattle.family_order.specs.Items.Stance.{Going}
-use Rattle.ssi_exec.specs.Scenes.{child_seen}
-use Rattle.node_turn.specs.Stages.{is_in_row, main_of, node_heard}
-use Rattle.subrequests.specs.Families.{IsSound, is_captured, seen, texts_of}
-use Rattle.node_line.specs.Stances.{Opening}
+use Rattle.std.proofs.Common.{◌≡◌, ◌≢◌, ◌+◌, suc, length, set, None, Some, refl, sym, ap, ◌∙◌, subst, arith}
+use Rattle.postpone_filter.specs.Row.{Row}
 use Rattle.node_turn.specs.declared.node.Node.{Node}
-use Rattle.node_turn.specs.declared.node.Place.TheVariants.{Row as InRow}
+use Rattle.node_seats.specs.Seats.{is_captured}
+use Rattle.subrequests.specs.Families.{IsSound}
+use Rattle.subrequests.specs.Moved.{IsAsking}
 use Rattle.subrequests.proofs.Members as members
-use Rattle.subrequests.proofs.Sets.{get_set_same, length_set, length_snoc}
+use Rattle.subrequests.proofs.Sets.{get_set_same, length_set}
 use Rattle.subrequests.proofs.Wholes as wholes
 use Rattle.subrequests.proofs.family.Family.ask_at.Goals as goal
 
 pub returns-clause-asks : goal.returns-clause-asks
-returns-clause-asks c = λ ps n is tree texts.
+returns-clause-asks c = λ n is.
     let f = c.args.self.now in
-    let g = c.args.ground.now in
-    let site = g.site.now in
-    let w = world_in ps g shipped in
     let nodes = f.nodes in
     let at = c.args.at in
     let here = c.node_mut.result.now in
@@ -31,38 +19,15 @@ returns-clause-asks c = λ ps n is tree texts.
     let there = wholes.not_over nodes at here c.requires.there c.node_mut.ensures.value in
     let same : here ≡ n = wholes.some_same here n (sym there ∙ is) in
     let looked : c.node_at.result.now ≡ here = wholes.some_same c.node_at.result.now here (sym (wholes.not_over nodes at c.node_at.result.now c.requires.there c.node_at.ensures) ∙ there) in
-    let pushed = c.in_ok-push_child.ensures new (get_set_same nodes at new here there) in
-    let child = child_seen (main_of f.main here) c.args.child in
-    let l = pushed.member.left in
-    let below = pushed.left in
-    let kept = ap (λ (x : Node). x.left) c.put_asks.ensures in
-    let row : here.place ≡ InRow = wholes.row_is here.place (subst (λ (x : Node). is_in_row x.place ≡ true) looked (c.may_open.ensures.row c.if-not-may_open.false)) in
-    let free : here.asks ≡ None = subst (λ (x : Node). x.asks ≡ None) looked (c.may_open.ensures.free c.if-not-may_open.false) in
-    let some : here.left ≢ 0 = subst (λ (x : Node). x.left ≢ 0) looked (c.may_open.ensures.deep c.if-not-may_open.false) in
-    let deep : here.left ≡ suc l = omega (arith, below, kept, some) in
-    let heard : Node → Reply → Serving Answer = λ m reply. node_heard w ps site f.main m (texts at) reply.body in
-    subst (λ (m : Node). Opening w tree 1 (doing at (Going m.left (Call (child_seen (main_of f.main m) c.args.child) (heard m))) (seen w ps site f.main f.order nodes texts)) f.vars
-    (seen w ps site f.main c.add_child.new.self c.push_child.new.nodes texts) f.vars) same
-    (subst (λ (r : Row). Opening w tree 1 (doing at (Going here.left (Call child (heard here))) (seen w ps site f.main f.order nodes texts)) f.vars (seen w ps site f.main r c.push_child.new.nodes texts) f.vars) (sym c.in_ok-id.ensures.row)
-    (subst (λ ns. Opening w tree 1 (doing at (Going here.left (Call child (heard here))) (seen w ps site f.main f.order nodes texts)) f.vars (seen w ps site f.main (with_child at f.order) ns texts) f.vars) (sym pushed.items)
-    (members.asked c.shows_the_same.ensures w ps site f.main f.order nodes texts at here there free tree f.vars (c.requires.whole.going at ∙ c.requires.there) child l new pushed.member (heard here) deep row
-    (ap (λ (x : Node). x.place) c.put_asks.ensures ∙ row) (ap (λ (x : Node). x.asks) c.put_asks.ensures ∙ ap Some c.in_ok-id.ensures.child) kept c.requires.plain
-    (ap heard c.put_asks.ensures) refl pushed.goes pushed.parent pushed.asks
-    (λ text. pushed.acts w ps site f.main text ∙ ap (λ (x : Node). script w l (child_seen (main_of f.main x) c.args.child)) c.put_asks.ensures)
-    c.requires.whole.count (members.seen_well w ps site f.main f.order nodes texts c.requires.whole))))
-
-pub returns-clause-files : goal.returns-clause-files
-returns-clause-files c = λ trees j n is reads.
-    let f = c.args.self.now in
-    let nodes = f.nodes in
-    let at = c.args.at in
-    let here = c.node_mut.result.now in
-    let new = c.put_asks.new.node in
-    let there = wholes.not_over nodes at here c.requires.there c.node_mut.ensures.value in
-    let pushed = c.in_ok-push_child.ensures new (get_set_same nodes at new here there) in
-    members.set_texts trees nodes at here new there (members.same_text trees here new (ap (λ (x : Node). x.ask) c.put_asks.ensures, ap (λ (x : Node). x.start) c.put_asks.ensures)) j
-    ∙ (members.more_files trees (set nodes at new) pushed.member pushed.fresh j n (subst (λ ns. slice_get ns j ≡ Some n) pushed.items is) reads
-    ∙ ap (λ ns. texts_of trees ns j) (sym pushed.items))
+    subst (λ (m : Node). IsAsking at c.args.child f (record f { order = c.add_child.new.self; nodes = c.push_child.new.nodes }) m) same
+    (record {
+      free = subst (λ (x : Node). x.asks ≡ None) looked (c.may_ask.ensures.free c.if-not-may_ask.false);
+      deep = subst (λ (x : Node). x.left ≢ 0) looked (c.may_ask.ensures.deep c.if-not-may_ask.false);
+      row = c.in_ok-id.ensures.row;
+      asking = new;
+      asks = c.put_asks.ensures ∙ ap (λ i. record here { children = new.children; asks = Some i }) c.in_ok-id.ensures.child;
+      pushed = c.in_ok-push_child.ensures new (get_set_same nodes at new here there);
+    })
 
 pub returns-clause-whole : goal.returns-clause-whole
 returns-clause-whole c =
@@ -75,22 +40,9 @@ returns-clause-whole c =
     let pushed = c.in_ok-push_child.ensures new (get_set_same nodes at new here there) in
     let held = members.set_sound f.order f.order nodes at here new there c.requires.whole c.requires.whole.well refl (λ j. refl) (ap (λ (x : Node). x.over) c.put_asks.ensures) (ap (λ (x : Node). is_captured x.place) c.put_asks.ensures) in
     let size : length (set nodes at new) ≡ length nodes = length_set nodes at new in
-    let few = c.may_open.ensures.few c.if-not-may_open.false in
+    let few = c.may_ask.ensures.few c.if-not-may_ask.false in
     subst (IsSound c.add_child.new.self) (sym pushed.items)
     (members.open_sound f.order c.add_child.new.self (set nodes at new) pushed.member held
     (members.child_well f.order c.add_child.new.self at c.requires.whole.well c.in_ok-id.ensures.row)
     (ap (λ (r : Row). r.nodes) c.in_ok-id.ensures.row ∙ (let e : f.order.nodes + 1 ≡ suc f.order.nodes = omega arith in e)) c.in_ok-id.ensures.opened pushed.over
     (omega (arith, size, few, c.len.ensures)))
-
-pub returns-clause-grows : goal.returns-clause-grows
-returns-clause-grows c =
-    let f = c.args.self.now in
-    let nodes = f.nodes in
-    let at = c.args.at in
-    let new = c.put_asks.new.node in
-    let here = c.node_mut.result.now in
-    let there = wholes.not_over nodes at here c.requires.there c.node_mut.ensures.value in
-    let pushed = c.in_ok-push_child.ensures new (get_set_same nodes at new here there) in
-    let size : length (set nodes at new) ≡ length nodes = length_set nodes at new in
-    let more = ap length pushed.items ∙ length_snoc (set nodes at new) pushed.member in
-    omega (arith, size, more)

@@ -20,7 +20,7 @@ returns-clause-begins c = λ ps tree texts first table same.
     let back : lent c.lend.new.main c.lend.new.phases ≡ c.args.phases = beginning.given c.blank_main-main.result c.lend.new.main c.args.phases c.lend.new.phases c.lend.ensures.main c.lend.ensures.phases in
     beginning.begins c.shows_the_same.ensures w tree ps site c.lend.new.main c.in_ok-order.order c.push.new.self texts c.args.vars n first c.in_ok-order.ensures (c.in_ok-push.ensures.items ∙ ap (λ ns. ns ++ n ∷ []) c.new-nodes.ensures) refl refl refl
     table (same ∙ (ap (λ ssi. settled (after_phases w 50 ssi (prepared_as w (asked_in c.args.phases) (standing_seen site c.args.phases.at) (bytes_for c.args.outcome (texts 0)) c.args.outcome)) c.args.vars) (sym c.new.ensures)
-    ∙ (c.in_ok-stage.ensures ps path (texts 0) c.args.vars ∙ ap (λ (p : Phases). (stage_act w ps site p 50 path c.in_ok-stage.stage (texts 0), c.args.vars)) (sym back))))
+    ∙ (c.in_ok-stage.ensures.acts ps path (texts 0) c.args.vars ∙ ap (λ (p : Phases). (stage_act w ps site p 50 path c.in_ok-stage.stage (texts 0), c.args.vars)) (sym back))))
 
 pub returns-clause-whole : goal.returns-clause-whole
 returns-clause-whole c =

@@ -1,9 +1,9 @@
-use Rattle.std.proofs.Common.{◌==◌, ◌&&◌, true, set, refl, sym, ap, ◌∙◌, subst}
+use Rattle.std.proofs.Common.{true, set, refl, sym, ap, ◌∙◌, subst}
 use Rattle.request_meaning.specs.Laws.{shipped}
 use Rattle.request_phases.specs.Rounds.{world_in}
 use Rattle.postpone_filter.specs.Row.{Row, is_open}
 use Rattle.node_turn.specs.Stages.{is_ending}
-use Rattle.subrequests.specs.Families.{is_captured, seen}
+use Rattle.node_seats.specs.Seats.{is_captured, seen}
 use Rattle.node_turn.specs.declared.node.Node.{Node}
 use Rattle.node_line.specs.Stances.{Opening}
 use Rattle.subrequests.proofs.Members as members
@@ -27,8 +27,8 @@ returns-clause-steps c = λ ps g.
     let free = ap is_captured (wholes.in_row nodes at old c.requires.row there) in
     let act = wholes.ended_act w ps site f.main old (texts at) done in
     subst (λ (r : Row). Opening w tree 0 (seen w ps site f.main f.order nodes texts) f.vars (seen w ps site f.main r (set nodes at new) texts) f.vars) (sym c.end.ensures.row)
-    (members.over c.shows_the_same.ensures w ps site f.main f.order nodes texts at old there (members.asks_none nodes at old there c.requires.seated) tree f.vars goes_on act.0 (set nodes at new) (wholes.in_row nodes at old c.requires.row there) act.1 c.requires.child
-    (λ j e. members.other_same w ps site f.main texts nodes at old new j there e (ap (λ b. b && (old.parent == j)) free) (ap (λ b. b && (old.parent == j)) free))
+    (members.over c.shows_the_same.ensures w ps site f.main f.order nodes texts at old there c.requires.whole goes_on c.requires.seated tree f.vars act.0 (set nodes at new) (wholes.in_row nodes at old c.requires.row there) act.1 c.requires.child
+    (members.others_same c.shows_the_same.ensures w ps site f.main f.order nodes texts at old there c.requires.whole goes_on c.requires.seated tree f.vars (set nodes at new) free (members.others_kept nodes at new) (members.free_then nodes at old new there free))
     (λ j. ap (λ (r : Row). is_open j r.pieces) (sym c.end.ensures.row) ∙ c.end.ensures.opened j)))
     (λ trees. members.set_files trees nodes at old new there (λ reads. members.same_text trees old new (refl, refl)))
 

@@ -18,8 +18,7 @@ returns-clause-steps c = λ ps g.
     let there = wholes.here_is is_placing nodes at old c.requires.there c.node_mut-node.ensures.value in
     let goes_on = wholes.open_is is_placing f.order nodes at c.requires.whole c.requires.there in
     wholes.both_ways c.shows_the_same.ensures ps g f _ 0 (wholes.as_many nodes at new)
-    (λ tree texts. members.came c.shows_the_same.ensures w ps site f.main f.order nodes texts at old (members.its_seat w ps site f.main f.order nodes texts at old there c.requires.whole goes_on c.requires.seated)
-    tree f.vars c.comes.new.order new (members.as_old old new is.node (members.came_kept f.order c.comes.new.order at old new is.came))
+    (λ tree texts. members.came c.shows_the_same.ensures w ps site f.main f.order nodes texts at old there c.requires.whole goes_on c.requires.seated tree f.vars c.comes.new.order new is.node
     (wholes.not_in_row nodes at old c.requires.apart there) is.opened (members.seen_well w ps site f.main f.order nodes texts c.requires.whole) is.came)
     (λ trees. members.set_files trees nodes at old new there (λ reads. members.same_text trees old new is.file))
 

@@ -1,10 +1,11 @@
-use Rattle.std.proofs.Common.{◌==◌, ◌&&◌, set, Some, ap, ◌∙◌}
+use Rattle.std.proofs.Common.{set, Some, ap, ◌∙◌}
 use Rattle.request_meaning.specs.Laws.{shipped}
 use Rattle.request_phases.specs.Rounds.{world_in}
 use Rattle.postpone_filter.specs.Row.{Row}
 use Rattle.node_turn.specs.Stages.{is_ending}
 use Rattle.node_turn.specs.declared.node.Node.{Node}
-use Rattle.subrequests.specs.Families.{goes_on_at, is_captured}
+use Rattle.subrequests.specs.Families.{goes_on_at}
+use Rattle.node_seats.specs.Seats.{is_captured}
 use Rattle.subrequests.proofs.Members as members
 use Rattle.subrequests.proofs.Sets.{get_set_same}
 use Rattle.subrequests.proofs.Wholes as wholes
@@ -28,8 +29,8 @@ returns-clause-steps c = λ ps g.
     let free = ap is_captured is.decided.is.place in
     let kept = ap (λ (n : Node). is_captured n.place) is.decided.node in
     let act = wholes.ended_act w ps site f.main old (texts at) done in
-    members.decided c.shows_the_same.ensures w ps site f.main f.order nodes texts at old there (members.asks_none nodes at old there c.requires.seated) tree f.vars goes_on act.0 c.decides.new.order (set nodes at new) new is.decided act.1 c.requires.child
-    (λ j e. members.other_same w ps site f.main texts nodes at old new j there e (ap (λ b. b && (old.parent == j)) free) (ap (λ b. b && (new.parent == j)) (kept ∙ free))) is.opened)
+    members.decided c.shows_the_same.ensures w ps site f.main f.order nodes texts at old there c.requires.whole goes_on c.requires.seated tree f.vars act.0 c.decides.new.order (set nodes at new) new is.decided act.1 c.requires.child
+    (members.others_same c.shows_the_same.ensures w ps site f.main f.order nodes texts at old there c.requires.whole goes_on c.requires.seated tree f.vars (set nodes at new) free (members.others_kept nodes at new) (members.free_then nodes at old new there (kept ∙ free))) is.opened)
     (λ trees. members.set_files trees nodes at old new there (λ reads. members.same_text trees old new (ap (λ (n : Node). n.ask) is.decided.node, ap (λ (n : Node). n.start) is.decided.node)))
 
 pub returns-clause-whole : goal.returns-clause-whole

@@ -8,7 +8,8 @@ use Rattle.family_order.specs.Items.{doing}
 use Rattle.family_order.specs.Items.Stance.{Going}
 use Rattle.ssi_exec.specs.Scenes.{child_seen}
 use Rattle.node_turn.specs.Stages.{is_in_row, main_of, node_act}
-use Rattle.subrequests.specs.Families.{IsSound, is_captured, seen, texts_of}
+use Rattle.subrequests.specs.Families.{IsSound, texts_of}
+use Rattle.node_seats.specs.Seats.{is_captured, seen}
 use Rattle.node_line.specs.Stances.{Opening}
 use Rattle.node_turn.specs.declared.node.Node.{Node}
 use Rattle.node_turn.specs.declared.node.Place.TheVariants.{Row as InRow}

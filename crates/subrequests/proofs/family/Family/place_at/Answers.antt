@@ -3,7 +3,7 @@ use Rattle.request_meaning.specs.Laws.{shipped}
 use Rattle.request_phases.specs.Rounds.{world_in}
 use Rattle.postpone_filter.specs.Row.{Row, is_open}
 use Rattle.node_turn.specs.Stages.{hand_at, is_placing}
-use Rattle.subrequests.specs.Families.{is_captured, seen}
+use Rattle.node_seats.specs.Seats.{is_captured, seen}
 use Rattle.subrequests.specs.Runs.{runs_at}
 use Rattle.subrequests.proofs.Sets.{get_set_same}
 use Rattle.node_line.specs.Stances.{Opening}
@@ -26,7 +26,7 @@ returns-clause-steps c = λ ps g.
     let goes_on = wholes.open_is is_placing f.order nodes at c.requires.whole c.requires.there in
     wholes.both_ways c.shows_the_same.ensures ps g f _ 0 (wholes.as_many nodes at new)
     (λ tree texts. subst (λ (r : Row). Opening w tree 0 (seen w ps site f.main f.order nodes texts) f.vars (seen w ps site f.main r (set nodes at new) texts) f.vars) (sym is.row)
-    (members.placed c.shows_the_same.ensures w ps site f.main f.order nodes texts at old there (members.asks_none nodes at old there c.requires.seated) tree f.vars goes_on some new is.node.left (wholes.in_row nodes at old c.requires.row there) is.place is.node.asks
+    (members.placed c.shows_the_same.ensures w ps site f.main f.order nodes texts at old there c.requires.whole goes_on c.requires.seated tree f.vars some new is.node (wholes.in_row nodes at old c.requires.row there) is.place
     (ap (λ (r : Row). is_open at r.pieces) (sym is.row) ∙ (is.opened at ∙ goes_on)) (is.acts w ps site f.main (texts at))))
     (λ trees. members.set_files trees nodes at old new there (λ reads. members.same_text trees old new is.file))
 

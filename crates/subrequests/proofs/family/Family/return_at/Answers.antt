@@ -15,10 +15,10 @@ returns-clause-steps c = λ ps g.
     let old = c.node_mut-node.result.now in
     let p = c.node_mut.result.now in
     let there = wholes.here_is is_ending nodes at old c.requires.there c.node_mut-node.ensures.value in
-    let is = returning.returns_is f.order nodes at old c.taken.new.place p c.put_reply.new.node c.in_ok-text.text there c.requires.whole c.requires.there c.requires.seated c.in_ok-text.ensures c.node_mut.ensures.value c.in_ok-put_reply.ensures in
+    let is = returning.returns_is f.order nodes at old c.taken.new.place p c.put_reply.new.node c.in_ok-text.text there c.requires.whole c.requires.there c.requires.seated c.in_ok-text.ensures c.node_mut.ensures.value (returning.as_replied c.in_ok-text.text p c.put_reply.new.node c.in_ok-put_reply.ensures) in
     let gone = returning.gone_of old c.taken.new.place in
     wholes.both_ways c.shows_the_same.ensures ps g f _ 0 (returning.as_many f.order nodes at old gone p c.put_reply.new.node c.in_ok-text.text is)
-    (λ tree texts. returning.opening f.order nodes at old gone p c.put_reply.new.node c.in_ok-text.text is c.shows_the_same.ensures w ps site f.main tree f.vars c.requires.whole texts c.end.new.self c.requires.child c.end.ensures.row c.end.ensures.opened)
+    (λ tree texts. returning.opening f.order nodes at old gone p c.put_reply.new.node c.in_ok-text.text is c.shows_the_same.ensures w ps site f.main tree f.vars c.requires.whole c.requires.child c.in_ok-put_reply.ensures texts c.end.new.self c.end.ensures.row c.end.ensures.opened)
     (λ trees. returning.same_texts f.order nodes at old gone p c.put_reply.new.node c.in_ok-text.text is trees)
 
 pub returns-clause-whole : goal.returns-clause-whole
@@ -29,7 +29,7 @@ returns-clause-whole c =
     let old = c.node_mut-node.result.now in
     let p = c.node_mut.result.now in
     let there = wholes.here_is is_ending nodes at old c.requires.there c.node_mut-node.ensures.value in
-    let is = returning.returns_is f.order nodes at old c.taken.new.place p c.put_reply.new.node c.in_ok-text.text there c.requires.whole c.requires.there c.requires.seated c.in_ok-text.ensures c.node_mut.ensures.value c.in_ok-put_reply.ensures in
+    let is = returning.returns_is f.order nodes at old c.taken.new.place p c.put_reply.new.node c.in_ok-text.text there c.requires.whole c.requires.there c.requires.seated c.in_ok-text.ensures c.node_mut.ensures.value (returning.as_replied c.in_ok-text.text p c.put_reply.new.node c.in_ok-put_reply.ensures) in
     returning.whole f.order nodes at old (returning.gone_of old c.taken.new.place) p c.put_reply.new.node c.in_ok-text.text is c.end.new.self c.requires.whole c.requires.child c.end.ensures.row c.end.ensures.opened
 
 pub returns-clause-ended : goal.returns-clause-ended
@@ -40,5 +40,5 @@ returns-clause-ended c =
     let old = c.node_mut-node.result.now in
     let p = c.node_mut.result.now in
     let there = wholes.here_is is_ending nodes at old c.requires.there c.node_mut-node.ensures.value in
-    let is = returning.returns_is f.order nodes at old c.taken.new.place p c.put_reply.new.node c.in_ok-text.text there c.requires.whole c.requires.there c.requires.seated c.in_ok-text.ensures c.node_mut.ensures.value c.in_ok-put_reply.ensures in
+    let is = returning.returns_is f.order nodes at old c.taken.new.place p c.put_reply.new.node c.in_ok-text.text there c.requires.whole c.requires.there c.requires.seated c.in_ok-text.ensures c.node_mut.ensures.value (returning.as_replied c.in_ok-text.text p c.put_reply.new.node c.in_ok-put_reply.ensures) in
     returning.is_over f.order nodes at old (returning.gone_of old c.taken.new.place) p c.put_reply.new.node c.in_ok-text.text is

@@ -1,7 +1,7 @@
 use Rattle.std.proofs.Common.{set, refl, sym, ap, ◌∙◌, arith}
 use Rattle.request_meaning.specs.Laws.{shipped}
 use Rattle.request_phases.specs.Rounds.{world_in}
-use Rattle.subrequests.specs.Families.{is_captured, seen, stance_in}
+use Rattle.node_seats.specs.Seats.{doing_by, is_captured, most_levels, seen, stance_in}
 use Rattle.node_turn.specs.declared.node.Node.{Node}
 use Rattle.subrequests.proofs.Members as members
 use Rattle.node_line.proofs.Steps as steps
@@ -19,8 +19,8 @@ returns-then-at-len-clause-steps c = λ ps g.
     let new = c.put_end.new.node in
     let there = wholes.there_some nodes at old (omega (arith, c.if-at-len.true, c.len.ensures)) c.node_mut.ensures.value in
     wholes.both_ways c.shows_the_same.ensures ps g f _ 0 (wholes.as_many nodes at new)
-    (λ tree texts. steps.alike (c.shows_the_same.ensures.others (seen w ps site f.main f.order nodes texts) (stance_in w ps site f.main (set nodes at new) texts)
-    (λ j e. members.told_same w ps site f.main nodes texts at old new.children new.waits j there ∙ ap (λ n. stance_in w ps site f.main (set nodes at n) texts j) (sym c.put_end.ensures))) steps.stays)
+    (λ tree texts. steps.alike (c.shows_the_same.ensures.others (seen w ps site f.main f.order nodes texts) (stance_in (doing_by w ps site f.main texts) (set nodes at new) most_levels)
+    (λ j e. members.told_same w ps site f.main nodes texts at old new.children new.waits j there ∙ ap (λ n. stance_in (doing_by w ps site f.main texts) (set nodes at n) most_levels j) (sym c.put_end.ensures))) steps.stays)
     (λ trees. members.set_files trees nodes at old new there (λ reads. members.same_text trees old new (ap (λ (n : Node). n.ask) c.put_end.ensures, ap (λ (n : Node). n.start) c.put_end.ensures)))
 
 pub returns-then-at-len-clause-whole : goal.returns-then-at-len-clause-whole

@@ -3,7 +3,7 @@ use Rattle.ngx_variables.specs.declared.request.Main.{Main}
 use Rattle.request_meaning.specs.Laws.{shipped}
 use Rattle.request_phases.specs.Rounds.{world_in}
 use Rattle.node_turn.specs.Stages.{is_turning}
-use Rattle.subrequests.specs.Families.{is_captured, seen}
+use Rattle.node_seats.specs.Seats.{is_captured, seen}
 use Rattle.node_line.specs.Stances.{Opening}
 use Rattle.subrequests.proofs.Members as members
 use Rattle.subrequests.proofs.Wholes as wholes
@@ -25,8 +25,8 @@ returns-clause-steps c =
     let is = c.in_ok-turns.ensures in
     wholes.both_ways c.shows_the_same.ensures ps g f _ 0 (wholes.as_many nodes at new)
     (λ tree texts. subst (λ (m : Main). Opening w tree 0 (seen w ps site f.main f.order nodes texts) f.vars (seen w ps site m f.order (set nodes at new) texts) c.turns.new.vars) (sym is.main)
-    (members.turned c.shows_the_same.ensures w ps site f.main f.order nodes texts at old (members.its_seat w ps site f.main f.order nodes texts at old there c.requires.whole goes_on c.requires.seated)
-    tree f.vars c.turns.new.vars new (members.as_old old new is.node (ap is_captured is.place)) is.place (is.acts (texts at))))
+    (members.turned c.shows_the_same.ensures w ps site f.main f.order nodes texts at old there c.requires.whole goes_on c.requires.seated
+    tree f.vars c.turns.new.vars new is.node is.place (is.acts (texts at))))
     (λ trees. members.set_files trees nodes at old new there (members.kept_text trees old new is.file))
 
 pub returns-clause-whole : goal.returns-clause-whole

@@ -1,0 +1,4 @@
+pub mod Peers
+pub mod Answered
+pub mod Told
+pub mod Scripted

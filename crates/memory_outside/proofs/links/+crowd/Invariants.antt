@@ -1,5 +1,0 @@
-use Rattle.std.proofs.Common.{length}
-use Rattle.memory_outside.proofs.links.+crowd.Given as goal
-
-abbrev pub decreases-crowd : goal.decreases-crowd
-decreases-crowd l = length l.peers.now

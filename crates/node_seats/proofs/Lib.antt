@@ -1,0 +1,10 @@
+pub mod Paths
+pub mod Located
+pub mod Others
+pub mod Besides
+pub mod Seated
+pub mod Stepping
+pub mod Framing
+pub mod Included
+pub mod Returned
+pub mod Walks

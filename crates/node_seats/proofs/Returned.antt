@@ -1,0 +1,242 @@
+-- A subrequest for whose bytes a node waits has come to its answer: it is over, and the node goes on.
+use Rattle.std.proofs.Common.{◌≡◌, ◌≢◌, ℕ, zero, suc, ◌+◌, ◌==◌, ◌||◌, ◌&&◌, Bool, true, false, not, cond, is_none, is_some, Option, List, [], ◌++◌, None, Some, slice_get, refl, sym, ap, ◌∙◌, arith}
+use Rattle.std.proofs.lemmas.Bool.{eqb-true}
+use Rattle.acts.specs.Vars.{Vars}
+use Rattle.acts.specs.Act.{Done}
+use Rattle.file_tree.specs.Tree.{Tree}
+use Rattle.ngx_pattern.specs.Pattern.{Pattern as SetPattern}
+use Rattle.ngx_variables.specs.declared.request.Main.{Main}
+use Rattle.site_model.specs.declared.site.Site.{Site}
+use Rattle.postpone_filter.specs.Row.{Row as Order, appended, ended, is_open}
+use Rattle.request_meaning.specs.Serving.{World, Serving, Answer, Reply}
+use Rattle.family_meaning.specs.Line.{Line, has_node}
+use Rattle.family_meaning.specs.Line.Line.{Nil, Gives, Waits}
+use Rattle.family_order.specs.Items.{Stance, Family, IsWell, doing, is_shown}
+use Rattle.family_order.specs.Items.Stance.{Apart, Going, Hidden, Waiting}
+use Rattle.family_meaning.specs.Moves.{AllEnd, IsGood}
+use Rattle.family_order.specs.Laws.{ShowsTheSame}
+use Rattle.family_order.proofs.Wells.{well-append}
+use Rattle.node_turn.specs.Stages.{is_capturing, node_act, node_heard}
+use Rattle.node_turn.specs.declared.node.Node.{Node}
+use Rattle.node_turn.specs.declared.node.Place.TheVariants.{Row, Stub}
+use Rattle.node_line.specs.Stances.{Opening, Own, Spot, filling, owned, under}
+use Rattle.node_line.specs.Stances.Own.{Beside, Below}
+use Rattle.node_line.specs.Stances.Spot.{Behind, For, Whole}
+use Rattle.node_line.proofs.Steps as steps
+use Rattle.node_seats.specs.Seats.{Doing, doing_by, heard_by, held_text, is_asked, is_captured, is_heard, line_from, most_levels, place_stance, seen, stance_in, stance_of, stub_in}
+use Rattle.node_seats.proofs.Framing as framing
+use Rattle.node_seats.proofs.Included as waits_too
+use Rattle.node_seats.proofs.Included.{Waits_too}
+use Rattle.node_seats.proofs.Located.{Above, Located, StandsAs, above_is, eq_self, false_true}
+use Rattle.node_seats.proofs.Others.{SameOrMore, is_its, its_free}
+use Rattle.node_seats.proofs.Others.SameOrMore.{Same, Its}
+use Rattle.node_seats.proofs.Seated.{in_row_is}
+
+-- ---- where they are heard
+
+-- another node that stands so
+pub heard_like : (levels : ℕ) (nodes : List Node) (at : ℕ) (n n' : Node) → is_captured n.place ≡ is_captured n'.place → n.parent ≡ n'.parent → is_heard levels nodes at n ≡ is_heard levels nodes at n'
+unfolding is_heard
+heard_like zero nodes at n n' e f = ap not e
+heard_like (suc levels) nodes at n n' e f =
+    ap (λ b. not b || heard_by (is_heard levels nodes n.parent) at (slice_get nodes n.parent)) e
+    ∙ ap (λ i. not (is_captured n'.place) || heard_by (is_heard levels nodes i) at (slice_get nodes i)) f
+
+module _ (d : Doing) (nodes : List Node) (d' : Doing) (nodes' : List Node) (par at : ℕ) (p p' old : Node) (r : Waits_too d nodes' d' nodes par at p' p old) where
+  some_is : {A : Type 0} (x y : A) → Some x ≡ Some y → x ≡ y
+  some_is x y e = cc
+
+  none_some : {A : Type 0} (x : A) → None ≡ Some x → ⊥
+  none_some x e = cc
+
+  -- it isn't its own parent, since that waits
+  pub apart : (par == at) ≡ false
+  apart = by (par == at) refl
+    where
+      by : (b : Bool) → (par == at) ≡ b → b ≡ false
+      by true e =
+          let same : p ≡ old = some_is p old (sym r.then ∙ ap (slice_get nodes) (eqb-true par at e) ∙ r.last) in
+          absurd (none_some at (sym r.none ∙ ap (λ (n : Node). n.asks) (sym same) ∙ r.asks))
+      by false e = refl
+
+  -- those above it are heard as before
+  pub still_heard : (levels y : ℕ) (n : Node) → (y == at) ≡ false → is_heard levels nodes y n ≡ true → is_heard levels nodes' y n ≡ true
+  unfolding is_heard
+  still_heard zero y n other e = e
+  still_heard (suc levels) y n other e = by (λ x m o h. still_heard levels x m o h) (is_captured n.place) refl
+    where
+      Higher : Type 0
+      Higher = (x : ℕ) (m : Node) → (x == at) ≡ false → is_heard levels nodes x m ≡ true → is_heard levels nodes' x m ≡ true
+
+      not_it : (a : Above levels nodes y n) (b : Bool) → (n.parent == at) ≡ b → b ≡ false
+      not_it a true f =
+          let same : old ≡ a.waiting = some_is old a.waiting (sym r.last ∙ ap (slice_get nodes) (sym (eqb-true n.parent at f)) ∙ a.there) in
+          absurd (none_some y (sym r.none ∙ ap (λ (m : Node). m.asks) same ∙ a.asks))
+      not_it a false f = refl
+
+      not_parent : (a : Above levels nodes y n) (b : Bool) → (n.parent == par) ≡ b → b ≡ false
+      not_parent a true f =
+          let same : p ≡ a.waiting = some_is p a.waiting (sym r.then ∙ ap (slice_get nodes) (sym (eqb-true n.parent par f)) ∙ a.there) in
+          let it : at ≡ y = some_is at y (sym r.asks ∙ ap (λ (m : Node). m.asks) same ∙ a.asks) in
+          absurd (false_true (sym other ∙ ap (λ i. i == at) (sym it) ∙ eq_self at))
+      not_parent a false f = refl
+
+      there : (a : Above levels nodes y n) → SameOrMore par (slice_get nodes' n.parent) (slice_get nodes n.parent) → slice_get nodes' n.parent ≡ Some a.waiting
+      there a (Same f) = f ∙ a.there
+      there a (Its f g) = absurd (false_true (sym (ap is_none a.asks) ∙ its_free par a.waiting (sym (ap (is_its par) a.there) ∙ g)))
+
+      next : Higher → (a : Above levels nodes y n) → heard_by (is_heard levels nodes' n.parent) y (slice_get nodes' n.parent) ≡ true
+      next higher a =
+          ap (heard_by (is_heard levels nodes' n.parent) y) (there a (r.others n.parent (not_parent a (n.parent == par) refl)))
+          ∙ ap (λ b. (not b && is_asked y a.waiting.asks) && is_heard levels nodes' n.parent a.waiting) a.goes_on
+          ∙ ap (λ o. is_asked y o && is_heard levels nodes' n.parent a.waiting) a.asks
+          ∙ ap (λ b. b && is_heard levels nodes' n.parent a.waiting) (eq_self y)
+          ∙ higher n.parent a.waiting (not_it a (n.parent == at) refl) a.heard
+
+      by : Higher → (b : Bool) → is_captured n.place ≡ b → (not (is_captured n.place) || heard_by (is_heard levels nodes' n.parent) y (slice_get nodes' n.parent)) ≡ true
+      by higher true f = ap (λ b. not b || heard_by (is_heard levels nodes' n.parent) y (slice_get nodes' n.parent)) f ∙ next higher (above_is levels nodes y n e f)
+      by higher false f = ap (λ b. not b || heard_by (is_heard levels nodes' n.parent) y (slice_get nodes' n.parent)) f
+
+  -- so is the parent
+  pub parent_heard : (levels : ℕ) → is_captured p.place ≡ is_captured p'.place → p.parent ≡ p'.parent → is_heard levels nodes par p ≡ true → is_heard levels nodes' par p' ≡ true
+  parent_heard levels captured parent e = sym (heard_like levels nodes' par p p' captured parent) ∙ still_heard levels par p apart e
+
+-- ---- the steps
+
+-- it stands in the place of its stub
+keeps_part : (w : World) (tree : Tree) (laws : ShowsTheSame) (h at left : ℕ) (f : Family) (goes_on : is_open h f.row.pieces ≡ true) (own : Own) (spot : Spot) (rest : Line) (stub : Option (List ℕ)) (text : List ℕ) (answer : Answer) (vars : Vars) →
+    (is_some stub ≡ true → (text ≢ []) × IsGood answer) →
+    Opening w tree 0 (doing h (owned own (filling spot (waits_too.part stub text at left (Done answer) rest))) f) vars (doing h (owned own (filling spot (under text (Gives at left (Done answer) rest)))) f) vars
+keeps_part w tree laws h at left f goes_on own spot rest None text answer vars shown = steps.stays
+keeps_part w tree laws h at left f goes_on own spot rest (Some stub) text answer vars shown =
+    let is = shown refl in
+    steps.keeps_inside w tree laws h at left f goes_on own spot rest stub text answer vars is.0 is.1
+
+module _ (laws : ShowsTheSame) (w : World) (patterns : List SetPattern) (site : Site) (main : Main) (row : Order) (nodes nodes' : List Node) (texts : ℕ → List ℕ) (par at : ℕ) (p p' old : Node)
+    (r : Waits_too (doing_by w patterns site main texts) nodes' (doing_by w patterns site main texts) nodes par at p' p old) (like : StandsAs p' p) (up : ℕ) (heard_so : is_heard up nodes' par p' ≡ true)
+    (tree : Tree) (vars : Vars) (open_at : is_open at row.pieces ≡ true) (well : IsWell (seen w patterns site main row nodes texts))
+    (closed : (j : ℕ) → is_open j (ended at row).pieces ≡ cond (j == at) false (is_open j row.pieces)) (answer : Answer) (done : node_act w patterns site main old (texts at) ≡ Done answer) (is_shown_so : is_some (stub_in old.place) ≡ true → (held_text old.place ≢ []) × IsGood answer) (same_left : p'.left ≡ p.left) where
+  abbrev before : Family
+  before = seen w patterns site main row nodes texts
+
+  abbrev after : Family
+  after = seen w patterns site main (ended at row) nodes' texts
+
+  abbrev act : Node → Serving Answer
+  act n = node_act w patterns site main n (texts par)
+
+  abbrev heard : Reply → Serving Answer
+  heard reply = node_heard w patterns site main p (texts par) reply.body
+
+  shown : (own : Own) (line : Line) → is_shown (owned own line) ≡ true
+  shown (Beside stub) line = refl
+  shown (Below left k) line = refl
+
+  hidden : stance_in (doing_by w patterns site main texts) nodes most_levels at ≡ Hidden
+  hidden = waits_too.member_hidden (doing_by w patterns site main texts) nodes' (doing_by w patterns site main texts) nodes par at p' p old r most_levels
+
+  -- ---- in a line
+
+  module _ (q : Located most_levels (doing_by w patterns site main texts) nodes' up 2 par p') (open_h : is_open q.h row.pieces ≡ true) (other : (at == q.h) ≡ false) where
+    others_then : (j : ℕ) → (j == q.h) ≡ false → stance_in (doing_by w patterns site main texts) nodes most_levels j ≡ stance_in (doing_by w patterns site main texts) nodes' most_levels j
+    others_then j e =
+        sym (waits_too.others_same (doing_by w patterns site main texts) nodes' (doing_by w patterns site main texts) nodes par at p' p old r most_levels up heard_so like.captured like.parent q.h q.path j e)
+
+    alone_then : stance_in (doing_by w patterns site main texts) nodes' most_levels q.h ≡ owned q.own (filling (Behind (held_text p'.place) q.spot) (Gives par p'.left (act p') q.rest))
+    alone_then = waits_too.alone_is (doing_by w patterns site main texts) nodes' (doing_by w patterns site main texts) nodes par at p' p old r most_levels up 1 q like
+
+    -- its bytes stand behind those of the node
+    pub leaves : is_capturing p.stage ≡ false → held_text p'.place ≡ held_text p.place ++ held_text old.place → act p' ≡ act p → Opening w tree 0 before vars after vars
+    unfolding has_node
+    leaves e held does =
+        let rest = Gives par p.left (act p) q.rest in
+        let line : List ℕ → ℕ → Serving Answer → Stance = λ t l m. owned q.own (filling (Behind t q.spot) (Gives par l m q.rest)) in
+        let then = held_text p.place ++ held_text old.place in
+        steps.alike (framing.begins laws w patterns site main row nodes texts q.h (owned q.own (filling (Behind (held_text p.place) q.spot) (waits_too.part (stub_in old.place) (held_text old.place) at old.left (Done answer) rest)))
+        (waits_too.included_is (doing_by w patterns site main texts) nodes' (doing_by w patterns site main texts) nodes par at p' p old r most_levels up 1 q like e
+        ∙ ap (λ m. owned q.own (filling (Behind (held_text p.place) q.spot) (waits_too.part (stub_in old.place) (held_text old.place) at old.left m rest))) done))
+        (steps.then (keeps_part w tree laws q.h at old.left before open_h q.own (Behind (held_text p.place) q.spot) rest (stub_in old.place) (held_text old.place) answer vars is_shown_so)
+        (steps.then (steps.leaves_inside w tree laws q.h at old.left before open_h q.own q.spot rest (held_text p.place) (held_text old.place) answer vars refl)
+        (framing.ends laws w patterns site main row nodes texts nodes' q.h others_then at (line then p.left (act p)) (shown q.own (filling (Behind then q.spot) rest))
+        (sym (alone_then ∙ ap (λ t. line t p'.left (act p')) held ∙ ap (λ l. line then l (act p')) same_left ∙ ap (line then p.left) does))
+        well open_at hidden other closed tree vars)))
+
+    -- the node hears its reply
+    pub told : is_capturing p.stage ≡ true → held_text p'.place ≡ held_text p.place → act p' ≡ node_heard w patterns site main p (texts par) (held_text old.place) → Opening w tree 0 before vars after vars
+    told e held does =
+        let line : List ℕ → ℕ → Serving Answer → Stance = λ t l m. owned q.own (filling (Behind t q.spot) (Gives par l m q.rest)) in
+        let now = node_heard w patterns site main p (texts par) (held_text old.place) in
+        steps.alike (framing.begins laws w patterns site main row nodes texts q.h (owned q.own (filling (Behind (held_text p.place) q.spot) (Waits par (waits_too.part (stub_in old.place) (held_text old.place) at old.left (Done answer) Nil) p.left heard q.rest)))
+        (waits_too.asked_is (doing_by w patterns site main texts) nodes' (doing_by w patterns site main texts) nodes par at p' p old r most_levels up 1 q like e
+        ∙ ap (λ m. owned q.own (filling (Behind (held_text p.place) q.spot) (Waits par (waits_too.part (stub_in old.place) (held_text old.place) at old.left m Nil) p.left heard q.rest))) done))
+        (steps.then (keeps_part w tree laws q.h at old.left before open_h q.own (For par p.left heard q.rest (Behind (held_text p.place) q.spot)) Nil (stub_in old.place) (held_text old.place) answer vars is_shown_so)
+        (steps.then (steps.hears_inside w tree laws q.h par p.left before open_h q.own (Behind (held_text p.place) q.spot) q.rest at old.left (held_text old.place) answer heard vars)
+        (framing.ends laws w patterns site main row nodes texts nodes' q.h others_then at (line (held_text p.place) p.left now) (shown q.own (filling (Behind (held_text p.place) q.spot) (Gives par p.left now q.rest)))
+        (sym (alone_then ∙ ap (λ t. line t p'.left (act p')) held ∙ ap (λ l. line (held_text p.place) l (act p')) same_left ∙ ap (line (held_text p.place) p.left) does))
+        well open_at hidden other closed tree vars)))
+
+  -- ---- in the row
+
+  module _ (is_row : p.place ≡ Row) (row_then : p'.place ≡ Row) (open_par : is_open par row.pieces ≡ true) (other : (at == par) ≡ false) where
+    pub row_told : act p' ≡ node_heard w patterns site main p (texts par) (held_text old.place) → Opening w tree 0 before vars after vars
+    row_told does =
+        let now : Stance = Going p.left (node_heard w patterns site main p (texts par) (held_text old.place)) in
+        let f = doing par now before in
+        steps.alike (framing.begins laws w patterns site main row nodes texts par (Waiting (waits_too.part (stub_in old.place) (held_text old.place) at old.left (Done answer) Nil) p.left heard)
+        (waits_too.row_asked_is (doing_by w patterns site main texts) nodes' (doing_by w patterns site main texts) nodes par at p' p old r most_levels is_row
+        ∙ ap (λ m. Waiting (waits_too.part (stub_in old.place) (held_text old.place) at old.left m Nil) p.left heard) done))
+        (steps.then (keeps_part w tree laws par at old.left before open_par (Below p.left heard) Whole Nil (stub_in old.place) (held_text old.place) answer vars is_shown_so)
+        (steps.then (steps.heard w tree laws par at old.left before open_par p.left heard (held_text old.place) answer vars f (laws.others f f.stance (λ j e. refl)))
+        (framing.ends laws w patterns site main row nodes texts nodes' par
+        (λ j e. sym (waits_too.row_others_same (doing_by w patterns site main texts) nodes' (doing_by w patterns site main texts) nodes par at p' p old r most_levels up heard_so like.captured like.parent (ap is_captured row_then) j e))
+        at now refl
+        (sym (in_row_is (doing_by w patterns site main texts) nodes' most_levels par p' r.there row_then r.free ∙ ap (λ l. Going l (act p')) same_left ∙ ap (Going p.left) does))
+        well open_at hidden other closed tree vars)))
+
+-- ---- the node is shown from now on
+
+module _ (laws : ShowsTheSame) (w : World) (patterns : List SetPattern) (site : Site) (main : Main) (row : Order) (nodes nodes' : List Node) (texts : ℕ → List ℕ) (par at : ℕ) (p p' old : Node)
+    (r : Waits_too (doing_by w patterns site main texts) nodes' (doing_by w patterns site main texts) nodes par at p' p old) (same_parent : p.parent ≡ p'.parent) (up : ℕ) (heard_so : is_heard up nodes' par p' ≡ true)
+    (tree : Tree) (vars : Vars) (open_at : is_open at row.pieces ≡ true) (open_par : is_open par row.pieces ≡ true) (well : IsWell (seen w patterns site main row nodes texts))
+    (opened : (j : ℕ) → is_open j (appended par (held_text old.place) row).pieces ≡ is_open j row.pieces)
+    (closed : (j : ℕ) → is_open j (ended at (appended par (held_text old.place) row)).pieces ≡ cond (j == at) false (is_open j row.pieces)) (answer : Answer) (done : node_act w patterns site main old (texts at) ≡ Done answer) (is_shown_so : is_some (stub_in old.place) ≡ true → (held_text old.place ≢ []) × IsGood answer)
+    (stub : List ℕ) (place : p.place ≡ Stub stub []) (row_then : p'.place ≡ Row) (free : is_capturing p.stage ≡ false) (good : AllEnd IsGood (node_act w patterns site main p (texts par))) (some : held_text old.place ≢ [])
+    (same_left : p'.left ≡ p.left) (does : node_act w patterns site main p' (texts par) ≡ node_act w patterns site main p (texts par)) (other : (at == par) ≡ false) where
+  abbrev then_seen : Family
+  then_seen = seen w patterns site main row nodes texts
+
+  one_more : (n : ℕ) → suc n ≡ suc 0 + n
+  one_more n = omega arith
+
+  -- what is said of it
+  waits_so : stance_in (doing_by w patterns site main texts) nodes most_levels par ≡ Apart (waits_too.part (stub_in old.place) (held_text old.place) at old.left (Done answer) (Gives par p.left (node_act w patterns site main p (texts par)) Nil)) stub
+  unfolding under
+  waits_so =
+      let line : Line → Stance = λ l. Apart l stub in
+      ap (stance_of (doing_by w patterns site main texts) nodes most_levels par) r.then
+      ∙ ap (place_stance (doing_by w patterns site main texts) nodes most_levels par p) place
+      ∙ ap (λ n. line (line_from (doing_by w patterns site main texts) nodes n par p Nil)) (one_more most_levels)
+      ∙ ap line (waits_too.included_line (doing_by w patterns site main texts) nodes' (doing_by w patterns site main texts) nodes par at p' p old r 0 most_levels Nil free)
+      ∙ ap (λ q. line (under (held_text q) (waits_too.part (stub_in old.place) (held_text old.place) at old.left (node_act w patterns site main old (texts at)) (Gives par p.left (node_act w patterns site main p (texts par)) Nil)))) place
+      ∙ ap (λ m. line (waits_too.part (stub_in old.place) (held_text old.place) at old.left m (Gives par p.left (node_act w patterns site main p (texts par)) Nil))) done
+
+  pub shows : Opening w tree 0 (seen w patterns site main row nodes texts) vars (seen w patterns site main (ended at (appended par (held_text old.place) row)) nodes' texts) vars
+  unfolding has_node under
+  shows =
+      let text = held_text old.place in
+      let act = node_act w patterns site main p (texts par) in
+      let rest = Gives par p.left act Nil in
+      let now : Stance = Going p.left act in
+      let row' = appended par text row in
+      steps.alike (framing.begins laws w patterns site main row nodes texts par (Apart (waits_too.part (stub_in old.place) text at old.left (Done answer) rest) stub) waits_so)
+      (steps.then (keeps_part w tree laws par at old.left then_seen open_par (Beside stub) Whole rest (stub_in old.place) text answer vars is_shown_so)
+      (steps.then (steps.leaves_inside w tree laws par at old.left then_seen open_par (Beside stub) Whole rest [] text answer vars refl)
+      (steps.then (steps.joins_held w tree laws par p.left then_seen open_par stub text act vars some good well (opened par ∙ open_par))
+      (framing.ends laws w patterns site main row' nodes texts nodes' par
+      (λ j e. sym (waits_too.row_others_same (doing_by w patterns site main texts) nodes' (doing_by w patterns site main texts) nodes par at p' p old r most_levels up heard_so
+      (ap is_captured place ∙ sym (ap is_captured row_then)) same_parent (ap is_captured row_then) j e))
+      at now refl
+      (sym (in_row_is (doing_by w patterns site main texts) nodes' most_levels par p' r.there row_then r.free ∙ ap (λ l. Going l (node_act w patterns site main p' (texts par))) same_left ∙ ap (Going p.left) does))
+      (well-append par text then_seen well) (opened at ∙ open_at)
+      (waits_too.member_hidden (doing_by w patterns site main texts) nodes' (doing_by w patterns site main texts) nodes par at p' p old r most_levels) other
+      (λ j. closed j ∙ ap (cond (j == at) false) (sym (opened j))) tree vars))))

@@ -1,0 +1,127 @@
+-- Where the nodes of a family stand, and what is said there of each.
+use Rattle.std.specs.Prelude.{ℕ, zero, suc, ◌==◌, ◌&&◌, ◌||◌, Bool, true, false, not, List, [], Option, None, Some, is_none, slice_get, if◌then◌else◌}
+use Rattle.ngx_pattern.specs.Pattern.{Pattern as SetPattern}
+use Rattle.ngx_variables.specs.declared.request.Main.{Main}
+use Rattle.site_model.specs.declared.site.Site.{Site}
+use Rattle.postpone_filter.specs.Row.{Row as Order}
+use Rattle.request_meaning.specs.Serving.{World, Serving, Answer, Reply}
+use Rattle.family_meaning.specs.Line.{Line}
+use Rattle.family_meaning.specs.Line.Line.{Nil, Gives, Waits, Stubs}
+use Rattle.family_order.specs.Items.{Stance, Family}
+use Rattle.family_order.specs.Items.Stance.{Going, Waiting, Apart, Hidden}
+use Rattle.node_turn.specs.Stages.{is_capturing, node_act, node_heard}
+use Rattle.node_turn.specs.declared.node.Node.{Node}
+use Rattle.node_turn.specs.declared.node.Place.{Place}
+use Rattle.node_turn.specs.declared.node.Place.TheVariants.{Row, Stub, Captured}
+use Rattle.node_line.specs.Stances.{under}
+
+-- ---- by a node alone
+
+-- the bytes of a node that are held
+abbrev pub held_text : Place → List ℕ
+held_text Row = []
+held_text (Stub stub text) = text
+held_text (Captured stub text) = text
+
+-- they come to its parent
+abbrev pub is_captured : Place → Bool
+is_captured Row = false
+is_captured (Stub stub text) = false
+is_captured (Captured stub text) = true
+
+-- the stub that may yet stand in the place of its body
+abbrev pub stub_in : Place → Option (List ℕ)
+stub_in Row = None
+stub_in (Stub stub text) = Some stub
+stub_in (Captured stub text) = stub
+
+-- What nodes still do by their numbers: by themselves, or once they hear the reply of the subrequest for which they wait.
+pub record Doing : Type 0 where
+  pub act : (node : ℕ) → Node → Serving Answer
+  pub heard : (node : ℕ) → Node → Reply → Serving Answer
+
+-- where the files that are read still have these texts, by node
+abbrev pub doing_by : World → List SetPattern → Site → Main → (texts : ℕ → List ℕ) → Doing
+doing_by w patterns site main texts = record {
+  act = λ j n. node_act w patterns site main n (texts j);
+  heard = λ j n reply. node_heard w patterns site main n (texts j) reply.body;
+}
+
+-- ---- lines
+
+-- a line before more of another, or apart from it where there is a stub
+abbrev pub put_by : Option (List ℕ) → (Line → Line) → (rest : Line) → Line
+put_by None line rest = line rest
+put_by (Some stub) line rest = Stubs (line Nil) stub rest
+
+-- The line of the subrequest with a number, for whose bytes a node waits, before more of another: nothing of it, unless it is one of
+-- that node whose bytes come to it.
+abbrev pub waited_line : (below : ℕ → Node → Line → Line) → (parent child : ℕ) → Option Node → (rest : Line) → Line
+waited_line below parent child None rest = rest
+waited_line below parent child (Some n) rest =
+    if is_captured n.place && (n.parent == parent) then put_by (stub_in n.place) (below child n) rest else rest
+
+-- A node, and before it the subrequest for whose bytes it waits, or in it that for whose reply it waits.
+abbrev pub asking_line : Doing → List Node → (below : ℕ → Node → Line → Line) → (node : ℕ) → Node → Option ℕ → (rest : Line) → Line
+asking_line d nodes below node n None rest = Gives node n.left (d.act node n) rest
+asking_line d nodes below node n (Some child) rest =
+    if is_capturing n.stage then Waits node (waited_line below node child (slice_get nodes child) Nil) n.left (d.heard node n) rest
+    else waited_line below node child (slice_get nodes child) (Gives node n.left (d.act node n) rest)
+
+-- The line of a node with all that comes to it, at most so many levels below, before more of another.
+unfoldable pub line_from : Doing → List Node → (levels : ℕ) → (node : ℕ) → Node → (rest : Line) → Line
+line_from d nodes zero node n rest = under (held_text n.place) (Gives node n.left (d.act node n) rest)
+line_from d nodes (suc levels) node n rest = under (held_text n.place) (asking_line d nodes (line_from d nodes levels) node n n.asks rest)
+
+-- ---- stances
+
+-- what is said of a node of the row, at most so many levels below which bytes come to it
+abbrev pub row_stance : Doing → List Node → (levels node : ℕ) → Node → Option ℕ → Stance
+row_stance d nodes levels node n None = Going n.left (d.act node n)
+row_stance d nodes levels node n (Some child) =
+    Waiting (waited_line (line_from d nodes levels) node child (slice_get nodes child) Nil) n.left (d.heard node n)
+
+abbrev pub place_stance : Doing → List Node → (levels node : ℕ) → Node → Place → Stance
+place_stance d nodes levels node n Row = row_stance d nodes levels node n n.asks
+place_stance d nodes levels node n (Stub stub text) = Apart (line_from d nodes (suc levels) node n Nil) stub
+place_stance d nodes levels node n (Captured stub text) = Hidden
+
+abbrev pub stance_of : Doing → List Node → (levels node : ℕ) → Option Node → Stance
+stance_of d nodes levels node None = Hidden
+stance_of d nodes levels node (Some n) = place_stance d nodes levels node n n.place
+
+abbrev pub stance_in : Doing → List Node → (levels : ℕ) → ℕ → Stance
+stance_in d nodes levels j = stance_of d nodes levels j (slice_get nodes j)
+
+-- no subrequest is more levels below
+unfoldable pub most_levels : ℕ
+most_levels = 50
+
+-- The family, where the files that are read still have these texts, by node.
+abbrev pub seen : World → List SetPattern → Site → Main → Order → List Node → (texts : ℕ → List ℕ) → Family
+seen w patterns site main row nodes texts = record { row = row; output = []; stance = stance_in (doing_by w patterns site main texts) nodes most_levels; root = 0 }
+
+-- ---- seats
+
+abbrev pub is_asked : (child : ℕ) → Option ℕ → Bool
+is_asked child None = false
+is_asked child (Some asked) = asked == child
+
+-- a node goes on, and waits for the bytes of the subrequest with this number
+abbrev pub hears : (child : ℕ) → Node → Bool
+hears child n = not n.over && is_asked child n.asks
+
+abbrev pub heard_by : (above : Node → Bool) → (child : ℕ) → Option Node → Bool
+heard_by above child None = false
+heard_by above child (Some n) = hears child n && above n
+
+-- A node, at most so many levels below, stands in the row or in a line of its own; or its bytes come to one that waits for them, and
+-- stands so.
+unfoldable pub is_heard : (levels : ℕ) → List Node → (at : ℕ) → Node → Bool
+is_heard zero nodes at n = not (is_captured n.place)
+is_heard (suc levels) nodes at n = not (is_captured n.place) || heard_by (is_heard levels nodes n.parent) at (slice_get nodes n.parent)
+
+-- a node goes on by itself
+abbrev pub is_seated : List Node → (at : ℕ) → Option Node → Bool
+is_seated nodes at None = false
+is_seated nodes at (Some n) = is_none n.asks && is_heard 50 nodes at n

@@ -1,0 +1,54 @@
+use Rattle.std.proofs.Common.{◌≡◌, [], length, true, None, Some, refl, sym, ap, ◌∙◌, subst}
+use Rattle.request_meaning.specs.Laws.{shipped}
+use Rattle.request_phases.specs.Rounds.{world_in}
+use Rattle.subrequests.specs.Moved.{files}
+use Rattle.response_flow.specs.Continues.{IfOn, RunsOn, ran_as}
+use Rattle.response_flow.specs.Flights.{FlightFits, FlightReached, FlightServedBy, flight_length, flight_rest, flight_server, page_left}
+use Rattle.response_flow.specs.declared.flight.Flight.{Flight}
+use Rattle.response_flow.specs.declared.flight.PageFlow.{PageFlow}
+use Rattle.response_flow.specs.declared.flight.Flight.TheVariants.{Page}
+use Rattle.response_flow.proofs.Goes as goes
+use Rattle.response_flow.proofs.run.run_in_place.Goals as goal
+
+pub returns-in-Some-Alone-clause-runs : goal.returns-in-Some-Alone-clause-runs
+returns-in-Some-Alone-clause-runs c = λ trees raceless reached.
+    let g = c.args.ground.now in
+    let site = g.site.now in
+    let patterns = c.args.space.now.patterns in
+    let w = world_in patterns g shipped in
+    let is = c.in-Some-Alone.is ∙ (sym c.take.ensures.taken ∙ c.in-Some.is) in
+    let out = c.run_on.new.out in
+    subst (RunsOn w patterns site trees (flight_rest w patterns site c.args.flight.now trees) c.args.out.now out c.args.closing) (sym c.passed.ensures)
+    (subst (λ f. RunsOn w patterns site trees (flight_rest w patterns site f trees) c.args.out.now out c.args.closing c.in_ok-ran-in-Some-Alone.ran) (sym is)
+    (c.in_ok-ran-in-Some-Alone.ensures.runs trees raceless (subst (FlightReached w patterns site) is reached)))
+
+pub returns-in-Some-Alone-clause-by : goal.returns-in-Some-Alone-clause-by
+returns-in-Some-Alone-clause-by c = λ f so.
+    let is = sym so ∙ (c.in-Some-Alone.is ∙ (sym c.take.ensures.taken ∙ c.in-Some.is)) in
+    let same : c.in-Some.alone ≡ f = sym (ap (λ o. goes.flight_in o f) is) in
+    subst (λ ran. IfOn ran (λ o. FlightServedBy (flight_server f) (flight_length f) o.flight)) (sym c.passed.ensures)
+    (subst (λ (x : Flight). IfOn c.in_ok-ran-in-Some-Alone.ran (λ o. FlightServedBy (flight_server x) (flight_length x) o.flight)) same c.in_ok-ran-in-Some-Alone.ensures.by)
+
+pub returns-in_ok-page_ends-in-Some-true-clause-runs : goal.returns-in_ok-page_ends-in-Some-true-clause-runs
+returns-in_ok-page_ends-in-Some-true-clause-runs c = λ trees raceless reached.
+    let g = c.args.ground.now in
+    let site = g.site.now in
+    let patterns = c.args.space.now.patterns in
+    let w = world_in patterns g shipped in
+    let page = c.in-Some-Page.page in
+    let p = page.pages.value in
+    let q = c.page_passes.new.pages in
+    let out = c.args.out.now in
+    let closing = c.args.closing in
+    let is : c.args.flight.now ≡ Some (Page page) = c.in-Some-Page.is ∙ ap (λ f. Some f) c.in-Some-Page.field-0-is in
+    let so : c.in_ok-over-in-Some-Page.over ≡ Some true = c.in-Some-true.is ∙ ap (λ b. Some b) c.in-Some-true.field-0-test in
+    let to = c.in_ok-over-in-Some-Page.ensures in
+    let go = goes.rested patterns g c.deref_mut.result.now p q (ran_as c.in_ok-over-in-Some-Page.over) c.deref_mut.ensures.value to.runs (ap ran_as so) in
+    let left = goes.same_left w patterns site trees p q (go.same trees raceless (subst (FlightReached w patterns site) is reached)) go.status in
+    let before = flight_rest w patterns site c.args.flight.now trees in
+    let none = goes.no_bytes out (subst (λ f. FlightFits f (length out)) is c.requires.fits).0 in
+    let page' : PageFlow = record page { pages = record page.pages { value = q } } in
+    c.in_ok-page_ends-in-Some-true.ensures.ends page' w patterns site trees before out closing refl
+    (to.done so go.whole patterns g (files trees q.family))
+    (goes.moved site before before (page_left w patterns site trees q) out out [] closing closing None (ap (λ f. flight_rest w patterns site f trees) is ∙ left) none
+    (goes.same_continues site before out closing))
