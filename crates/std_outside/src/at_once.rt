@@ -1,10 +1,12 @@
 // The bytes of a file that is read at once, for reads of its parts.
 ghost use Rattle.std.specs.Prelude.{◌≡◌, ◌≤◌, ◌++◌, ℕ, List, length, OnOk, OnErr};
 
+use crate::files::has_same_bytes;
 use crate::kept::KeptFile;
 use byte_text::{ByteText, OutOfMemory};
 use ngx_outside::FileFault;
 use std::alloc::Global;
+use std::fs::OpenFile;
 use std::os::unix::fs::FileExt;
 
 /// A file of no more bytes than this is read at once, and its parts are copied: so the host is asked once, and all are of one state.
@@ -35,8 +37,12 @@ impl AtOnce {
         (start == 0 && kept.len() <= MOST as u64) || self.of == Some((kept.number(), of))
     }
 
-    // Reads all of a file.
-    fn fill<F: FileExt + Drop>(&mut self, kept: &KeptFile<F>, of: u64) -> Result<(), FileFault> {
+    // Reads all of a file. Where others began to read it, it has to be as it was opened: else their parts could be of two states.
+    fn fill<F: FileExt + OpenFile + Drop>(
+        &mut self,
+        kept: &KeptFile<F>,
+        of: u64,
+    ) -> Result<(), FileFault> {
         self.of = None;
         let len = kept.len().min(MOST as u64) as usize;
         if self.room.len() < MOST {
@@ -47,6 +53,9 @@ impl AtOnce {
         let Ok(()) = kept.file.read_exact_at(&mut self.room[..len], 0) else {
             return Err(FileFault::Failed);
         };
+        if kept.is_read() && !has_same_bytes(&kept.file, &kept.identity) {
+            return Err(FileFault::Failed);
+        }
         self.len = len;
         self.of = Some((kept.number(), of));
         Ok(())
@@ -54,7 +63,7 @@ impl AtOnce {
 
     /// Adds so many bytes of a file from a place on, as the tree of a number shows it. What was read for that tree before is
     /// not read again: so all parts that it shows are of one state.
-    pub fn add<F: FileExt + Drop>(
+    pub fn add<F: FileExt + OpenFile + Drop>(
         &mut self,
         kept: &KeptFile<F>,
         start: u64,

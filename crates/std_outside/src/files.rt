@@ -183,7 +183,7 @@ fn look<R: Host>(
 }
 
 // Whether a file has been neither written nor cut since it was opened.
-fn has_same_bytes<F: OpenFile>(file: &F, identity: &Identity) -> bool {
+pub(crate) fn has_same_bytes<F: OpenFile>(file: &F, identity: &Identity) -> bool {
     match file.metadata() {
         Ok(found) => Identity::of(&found).has_bytes_of(identity),
         Err(_) => false,

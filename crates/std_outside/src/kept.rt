@@ -94,6 +94,11 @@ impl<F: Drop> KeptFile<F> {
         self.number
     }
 
+    /// Whether some began to read it and didn't read its end yet.
+    pub fn is_read(&self) -> bool {
+        self.readers > 0
+    }
+
     /// How many bytes it had when it was opened.
     pub fn len(&self) -> u64 {
         self.identity.len
