@@ -1,6 +1,6 @@
 #!/bin/sh
 # Counts the instructions that a byte of configuration text costs, at 64 KiB and at 1 MiB, under callgrind (valgrind). It is read
-# in one pass, so the two numbers are about the same. The text is an ordinary block, repeated, behind a directive that isn't
+# in one pass, so the two numbers are about the same. The text is an ordinary block, repeated, after a directive that isn't
 # known: that is the first fault of the built site, so that nothing but reading the text is counted.
 # usage: bench/configuration.sh
 set -eu

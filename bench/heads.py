@@ -42,7 +42,7 @@ def build(work):
 
 
 def count(program, text, times, out):
-    """All that the program executes that reads a head so many times."""
+    """All the instructions of the program that reads a head `times` times."""
     vectors = {**os.environ, 'GLIBC_TUNABLES': 'glibc.cpu.hwcaps=-ERMS'}
     vectors = {**os.environ, 'GLIBC_TUNABLES': 'glibc.cpu.hwcaps=-ERMS'}
     words = ['valgrind', '--tool=callgrind', f'--callgrind-out-file={out}', program, text, str(times)]

@@ -22,7 +22,7 @@ CONFIGURATION = 'http { client_header_timeout 1h; server { listen 127.0.0.1:%d; 
 
 
 def instructions(work, connections, seconds):
-    """All that a server executes that holds so many connections, and waits for so many seconds."""
+    """All the instructions of a server that holds this many connections, and waits for this many seconds."""
     counts = os.path.join(work, 'out')
     server = subprocess.Popen(['valgrind', '--tool=callgrind', '--callgrind-out-file=' + counts, PROGRAM, 'serve', os.path.join(work, 'conf')], stderr=subprocess.DEVNULL, stdout=subprocess.DEVNULL)
     links = [connect(PORT) for _ in range(connections)]

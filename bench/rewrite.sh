@@ -9,7 +9,7 @@ trap 'rm -rf "$work"' EXIT
 mkdir -p "$work/crates/rewrite/src"
 cp "$top/bench/rewrite/rewrite.rt.txt" "$work/crates/rewrite/src/main.rt"
 crates=
-add() { # a crate of the repository, and those that it stands on
+add() { # a crate of the repository, and those that it rests on
     case " $crates " in *" $1 "*) return ;; esac
     [ -d "$top/crates/$1" ] || return 0
     crates="$crates $1"

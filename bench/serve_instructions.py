@@ -1,6 +1,6 @@
 #!/usr/bin/env python3
 """Counts the instructions that a request costs a server, `ngx serve` and Debian's nginx (one worker, no access log), by callgrind
-(valgrind): requests one after another, on so many open connections in turn, for a text of `return`, a file of 5 bytes and one of
+(valgrind): requests one after another, on a number of open connections in turn, for a text of `return`, a file of 5 bytes and one of
 20,000 bytes, with the field Host alone or with those of two browsers; what 800 more of them cost is shared out. Counts of the same program on the same machine differ by less than 1 %.
 nginx is left out where it isn't installed.
 
@@ -72,7 +72,7 @@ def ask(link, request):
 
 
 def instructions(words, port, request, connections, count):
-    """All that a server executes that answers so many requests on so many connections."""
+    """All the instructions of a server that answers `count` requests on `connections` connections."""
     with tempfile.TemporaryDirectory() as folder:
         server = subprocess.Popen(['valgrind', '--tool=callgrind', '--callgrind-out-file=%s/out' % folder] + words, stderr=subprocess.DEVNULL, stdout=subprocess.DEVNULL)
         links = [connect(port) for _ in range(connections)]

@@ -76,7 +76,7 @@ class Server:
             return answer(s)
 
 def rest_of(s, text=b''):
-    """What still comes on a link, behind a text, and how it ended."""
+    """What still comes on a link, after a text, and how it ended."""
     all = bytearray(text)
     try:
         while True:
@@ -360,9 +360,9 @@ def words():
             if status in (126, 127): left_out('8. no right for port 80', 'the program is not for all')
             else: told('8. no right for a port: the address and the reason', status == 6 and '127.0.0.1:80' in words and 'ermission denied' in words, (status, words))
     else: left_out('8. no right for port 80', 'only root can give up rights here')
-    for asked in (['--help'], ['-h'], ['serve', '--help'], ['check', '-h']):
+    for asked, usage in (['--help'], 'ngx <COMMAND>'), (['-h'], 'ngx <COMMAND>'), (['serve', '--help'], 'ngx serve [OPTIONS] <CONF>'), (['check', 'a', '-h'], 'ngx check <CONF>'):
         got = run(*asked)
-        told(f"8. {' '.join(asked)} prints the help", got[0] == 0 and got[1].startswith('ngx ') and 'Exit status:' in got[1] and not got[2], got)
+        told(f"8. {' '.join(asked)} prints the help", got[0] == 0 and f'\nUsage: {usage}\n' in got[1] and 'Exit status:' in got[1] and not got[2], got)
     for asked in ('--version', '-V'):
         got = run(asked)
         told(f'8. {asked} prints the version', got[0] == 0 and got[1].startswith('ngx ') and got[1].count('\n') == 1 and not got[2], got)

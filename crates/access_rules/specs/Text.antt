@@ -23,11 +23,11 @@ abbrev pub IsSourceText : List ℕ → Source → Type 0
 IsSourceText text All = text ≡ codes "all"
 IsSourceText text (Network addr bits) = IsAddressText text addr bits ⊎ IsCidrText text addr bits
 
--- no such byte stands in the text
+-- no such byte is in the text
 abbrev pub Lacks : ℕ → List ℕ → Type 0
 Lacks byte text = (k : ℕ) → k < length text → ¬ (slice_index text k ≡ byte)
 
--- the source is the network of so many first bits of an address with this text
+-- the source is the network of the first `bits` bits of an address with this text
 abbrev pub IsNetworkOf : List ℕ → ℕ → Source → Type 0
 IsNetworkOf text bits All = ⊥
 IsNetworkOf text bits (Network addr n) = (n ≡ bits) × (bits ≤ width_of addr) × IsIpText text addr

@@ -9,9 +9,10 @@ use crate::{Rule, Source};
 use memchr::memrchr;
 use std::net::{IpAddr, Ipv4Addr, Ipv6Addr};
 
-/// What stands before and behind the last such byte of a text.
+/// The text before the last `byte` and the text after it.
 fn split_at_last(text: &[u8], byte: u8) -> Option<(&[u8], &[u8])>
-    ensures found { IfSome result (λ parts. (text.now ≡ parts.0.now ++ byte ∷ parts.1.now) × Lacks byte parts.1.now) }
+    ensures found { IfSome result (λ parts. (text.now ≡ parts.0.now ++ byte ∷ parts.1.now)
+        × Lacks byte parts.1.now) }
     ensures none { IfNone result (Lacks byte text.now) }
 {
     let at = memrchr(byte, text)?;
@@ -42,10 +43,11 @@ fn small_number(text: &[u8]) -> Option<u8>
     }
 }
 
-/// The network of the address with this text, where so many bits are not more than it has.
+/// The network of the address with this text and of its first `bits` bits, where the address has as many.
 fn network(text: &[u8], bits: u8) -> Option<Source>
     ensures found { IfSome result (IsNetworkOf text.now bits) }
-    ensures none { IfNone result ((addr : IpAddr) → IsIpText text.now addr → ¬ (bits ≤ width_of addr)) }
+    ensures none { IfNone result ((addr : IpAddr) → IsIpText text.now addr
+        → ¬ (bits ≤ width_of addr)) }
 {
     if bits <= 32
         && let Ok(addr) = Ipv4Addr::parse_ascii(text)
@@ -78,7 +80,7 @@ fn read_cidr(text: &[u8]) -> Option<Source>
 
 impl Source {
     /// Reads `all`, an address, or an address, `/` and the number of its first bits (RFC 4632, section 3.1, and RFC
-    /// 4291, section 2.3). Bits of the address behind those are ignored.
+    /// 4291, section 2.3). The bits of the address after those are ignored.
     pub fn read(text: &[u8]) -> Option<Source>
         ensures found { IfSome result (IsSourceText text.now) }
         ensures none { IfNone result ((source : Source) → ¬ (IsSourceText text.now source)) }
@@ -102,7 +104,8 @@ impl Source {
 impl Rule {
     /// Reads a rule from its directive, which is `allow` or else `deny`, and the text of its one argument.
     pub fn read(allow: bool, text: &[u8]) -> Option<Rule>
-        ensures found { IfSome result (λ rule. (rule.allow ≡ allow) × IsSourceText text.now rule.source) }
+        ensures found { IfSome result (λ rule. (rule.allow ≡ allow)
+            × IsSourceText text.now rule.source) }
         ensures none { IfNone result ((source : Source) → ¬ (IsSourceText text.now source)) }
     {
         let source = Source::read(text)?;

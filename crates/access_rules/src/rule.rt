@@ -10,8 +10,8 @@ use std::net::{IpAddr, Ipv4Addr, Ipv6Addr};
 pub enum Source {
     /// Every address.
     All,
-    /// The addresses of the same family that have the same first bits as this one, so many of them. A number above
-    /// the width of the address counts as its width.
+    /// The addresses of the same family whose first `bits` bits are those of `addr`. A number above the width of the
+    /// address counts as its width.
     Network { addr: IpAddr, bits: u8 },
 }
 

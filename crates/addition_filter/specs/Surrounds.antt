@@ -13,7 +13,7 @@ step_on s x e = ap (λ t. if t then (let a : FilterState × List Mark = (begun s
 step_first : (s : FilterState) (x : Mark) → (s.count == 0) ≡ true → addition_step s x ≡ (begun s, Other Before ∷ x ∷ [])
 step_first s x e = ap (λ t. if t then (let a : FilterState × List Mark = (begun s, Other Before ∷ x ∷ []) in a) else (s, x ∷ [])) e
 
--- behind the first mark it passes all on
+-- after the first mark it passes all on
 pub feeds-on : (facts : Facts) (s : FilterState) (xs : List Mark) → (s.count == 0) ≡ false → feeds (addition_machine facts) s xs ≡ (s, xs)
 feeds-on facts s [] e = refl
 feeds-on facts s (x ∷ xs) e = ap (λ a. let b = feeds (addition_machine facts) a.0 xs in (b.0, a.1 ++ b.1)) (step_on s x e) ∙ ap (λ b. (b.0, x ∷ b.1)) (feeds-on facts s xs e)

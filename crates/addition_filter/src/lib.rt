@@ -1,4 +1,4 @@
-//! The filter of additions: marks the places before and behind a body (nginx's ngx_http_addition_module).
+//! The filter of additions: marks the places before and after a body (nginx's ngx_http_addition_module).
 #![tactic(auto)]
 
 mod filter;

@@ -24,8 +24,8 @@ fn facts(splits: bool, adds: bool) -> Facts {
     }
 }
 
-/// What the parts that wait come to: texts, `{path}` where a subrequest stands, and `[path]` where one is captured, whose body
-/// is `c`.
+/// What the parts that wait come to: texts, `{path}` where a subrequest is, and `[path]` where one is captured, whose
+/// body is `c`.
 fn done(
     alloc: Global,
     page: &mut Page,

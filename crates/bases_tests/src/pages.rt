@@ -1,6 +1,6 @@
 use crate::samples::{main_request, request, value};
 use byte_text::ByteText;
-use error_pages::{PageStep, page_for};
+use error_pages::{Handling, PageStep, page_for};
 use ngx_variables::VarTable;
 use site_model::{PageRule, PageTarget, Shown};
 use std::alloc::Global;
@@ -38,9 +38,12 @@ fn pages_are(
     let request = request(alloc)?;
     let vars = VarTable::new(alloc);
     for (code, used, changes, expected) in cases {
-        let step = page_for(
-            alloc, rules, *code, *used, false, *changes, &main, &request, &vars,
-        )?;
+        let handling = Handling {
+            used: *used,
+            recursive: false,
+            changes: *changes,
+        };
+        let step = page_for(alloc, rules, *code, handling, &main, &request, &vars)?;
         assert_eq!(rt; step.is_some(), *expected);
     }
     Ok(())
@@ -65,7 +68,7 @@ fn an_error_goes_to_its_page_once(rt: HostRuntime) -> Result<(), Fail> {
     )
 }
 
-/// The length of the address that the page of 500 has, where `$v` has so many bytes; none where there is no page.
+/// The length of the address that the page of 500 has, where `$v` has `size` bytes; none where there is no page.
 fn address_len(alloc: Global, size: usize) -> Result<Option<usize>, Fail> {
     let mut bytes = ByteText::new(alloc);
     for _ in 0..size {
@@ -76,13 +79,16 @@ fn address_len(alloc: Global, size: usize) -> Result<Option<usize>, Fail> {
     let rules = rules(alloc)?;
     let main = main_request(alloc)?;
     let request = request(alloc)?;
+    let handling = Handling {
+        used: false,
+        recursive: false,
+        changes: 1,
+    };
     match page_for(
         alloc,
         rules.as_slice(),
         500,
-        false,
-        false,
-        1,
+        handling,
         &main,
         &request,
         &vars,

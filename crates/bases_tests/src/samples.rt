@@ -1,7 +1,7 @@
 // A request to `/d/` with the arguments `a=1`, whose files are below `/w`.
 use byte_text::ByteText;
 use http_types::{Addr, Method, Version};
-use ngx_variables::{Groups, LocalDate, Main, Place, Request, Role, Value};
+use ngx_variables::{FileRoot, Groups, LocalDate, Main, Request, Role, Value};
 use req_head::HeadFields;
 use site_model::{Level, Program};
 use std::alloc::Global;
@@ -16,8 +16,8 @@ pub fn value(alloc: Global, bytes: &[u8]) -> Result<Value, Fail> {
     Ok(Value::compile(alloc, bytes)?)
 }
 
-pub fn place(alloc: Global) -> Result<Place, Fail> {
-    Ok(Place::Root(value(alloc, b"/w")?))
+pub fn place(alloc: Global) -> Result<FileRoot, Fail> {
+    Ok(FileRoot::Root(value(alloc, b"/w")?))
 }
 
 pub fn main_request(alloc: Global) -> Result<Main, Fail> {

@@ -6,7 +6,7 @@ use site_model::{IndexName, LastTry, Tries};
 use std::alloc::Global;
 use std::process::Abort;
 use std::test::Fail;
-use try_index::{IndexState, IndexStep, TryState, TryStep, default_index};
+use try_index::{IndexState, IndexStep, Scene, TryState, TryStep, default_index};
 
 /// What a step says, in one text.
 fn try_text(alloc: Global, step: Result<TryStep, EvalFault>) -> Result<ByteText, Fail> {
@@ -57,9 +57,15 @@ fn tries_go(
         names: compiled,
         last,
     };
+    let scene = Scene {
+        place: &place,
+        main: &main,
+        request: &request,
+        vars: &vars,
+    };
     let mut state = TryState::new();
     for (answer, expected) in steps {
-        let step = state.next(alloc, *answer, &tries, &place, &main, &request, &vars);
+        let step = state.next(alloc, *answer, &tries, &scene);
         assert!(rt; try_text(alloc, step)?.as_slice() == *expected);
     }
     Ok(())
@@ -100,9 +106,15 @@ fn index_goes(
     let request = request(alloc)?;
     let place = place(alloc)?;
     let vars = VarTable::new(alloc);
+    let scene = Scene {
+        place: &place,
+        main: &main,
+        request: &request,
+        vars: &vars,
+    };
     let mut state = IndexState::new();
     for (answer, expected) in steps {
-        let step = state.next(alloc, *answer, names, &place, &main, &request, &vars);
+        let step = state.next(alloc, *answer, names, &scene);
         assert!(rt; index_text(alloc, step)?.as_slice() == *expected);
     }
     Ok(())

@@ -9,33 +9,33 @@ use Rattle.std.proofs.lemmas.Bool.{and_parts, ne_eqb, eq-eqb}
 use Rattle.std.proofs.lemmas.Bool.Decides.{nat_tests}
 use Rattle.body_frame.specs.Outcome.{Whole, Short, behind}
 use Rattle.body_frame.specs.Grammar.{line_end, is_blank, is_text, Extension, print_extension, IsExtension, SizeLine, print_size_line, size_of, IsSizeLine, Chunk, print_chunk, IsChunk, IsTrailer, print_trailers, ChunkedBody, print_body, IsChunkedBody}
-use Rattle.body_frame.specs.declared.place.Place.{Place}
-use Rattle.body_frame.specs.declared.place.Place.TheVariants as at
-use Rattle.body_frame.specs.Place.{place_after, stops_at, rest_at}
+use Rattle.body_frame.specs.declared.place.Position.{Position}
+use Rattle.body_frame.specs.declared.place.Position.TheVariants as at
+use Rattle.body_frame.specs.Position.{place_after, stops_at, rest_at}
 use Rattle.body_frame.proofs.RunLemmas.{behind-zero, behind-behind, rest_at-one, rest_at_whole, skips_data}
 
 -- a text leads from one place to the other
-pub record Reads (p : Place) (text : List ℕ) (q : Place) : Type 0 where
+pub record Reads (p : Position) (text : List ℕ) (q : Position) : Type 0 where
   pub rest : (more : List ℕ) → rest_at p (text ++ more) ≡ behind (length text) (rest_at q more)
 
-pub reads_none : (p : Place) → Reads p [] p
+pub reads_none : (p : Position) → Reads p [] p
 reads_none p = record { rest = λ more. sym (behind-zero (rest_at p more)) }
 
-pub reads_to : (p q r : Place) (text : List ℕ) → q ≡ r → Reads p text q → Reads p text r
+pub reads_to : (p q r : Position) (text : List ℕ) → q ≡ r → Reads p text q → Reads p text r
 reads_to p q r text e h = subst (Reads p text) e h
 
-pub reads_as : (p q : Place) (s t : List ℕ) → s ≡ t → Reads p t q → Reads p s q
+pub reads_as : (p q : Position) (s t : List ℕ) → s ≡ t → Reads p t q → Reads p s q
 reads_as p q s t e h = subst (λ x. Reads p x q) (sym e) h
 
 -- one byte, and the place that it leads to
-pub reads_cons : (p q r : Place) (b : ℕ) (text : List ℕ) → stops_at p ≡ Short → place_after p b ≡ q → Reads q text r → Reads p (b ∷ text) r
+pub reads_cons : (p q r : Position) (b : ℕ) (text : List ℕ) → stops_at p ≡ Short → place_after p b ≡ q → Reads q text r → Reads p (b ∷ text) r
 reads_cons p q r b text short next h =
     let count : 1 + length text ≡ suc (length text) = omega arith in
     record {
       rest = λ more. rest_at-one p b (text ++ more) short ∙ ap (λ x. behind 1 (rest_at x (text ++ more))) next ∙ ap (behind 1) (h.rest more) ∙ behind-behind 1 (length text) _ ∙ ap (λ n. behind n (rest_at r more)) count;
     }
 
-pub reads_append : (p q r : Place) (s t : List ℕ) → Reads p s q → Reads q t r → Reads p (s ++ t) r
+pub reads_append : (p q r : Position) (s t : List ℕ) → Reads p s q → Reads q t r → Reads p (s ++ t) r
 reads_append p q r s t f g = record {
   rest = λ more. ap (rest_at p) (append_assoc s t more) ∙ f.rest (t ++ more) ∙ ap (behind (length s)) (g.rest more) ∙ behind-behind (length s) (length t) _ ∙ ap (λ n. behind n (rest_at r more)) (sym (length-append s t));
 }
@@ -86,14 +86,14 @@ reads_text (b ∷ text) size line ok room =
     reads_cons _ _ _ b text refl (step_text size line b parts.0 (omega arith))
     (reads_to _ _ _ text (ap (at.Extension size) same) (reads_text text size (line + 1) parts.1 (omega arith)))
 
--- the place behind a size's line
-abbrev pub after_line : ℕ → Place
+-- the place after a size's line
+abbrev pub after_line : ℕ → Position
 after_line size = cond (eqb size 0) (at.Trailers 0) (at.Data size)
 
 reads_line_feed : (size : ℕ) → Reads (at.SizeLineFeed size) (10 ∷ []) (after_line size)
 reads_line_feed size = reads_cons _ _ _ 10 [] refl refl (reads_none (after_line size))
 
--- a text behind `;`, and the line's end
+-- a text after `;`, and the line's end
 reads_text_end : (text : List ℕ) (size line : ℕ) → list_all is_text text ≡ true → line + length text ≤ 4096 → Reads (at.Extension size line) (text ++ line_end) (after_line size)
 reads_text_end text size line ok room =
     reads_append _ _ _ text line_end (reads_text text size line ok room) (reads_cons (at.Extension size (line + length text)) _ _ 13 (10 ∷ []) refl refl (reads_line_feed size))
@@ -211,7 +211,7 @@ reads_body b ok =
     (reads_append _ _ _ (print_trailers b.trailers) line_end (reads_trailers b.trailers 0 ok.trailers (omega (arith, limit))) crlf)))
 
 -- a text that leads to the end is the body, whatever follows
-pub reads_whole : (p : Place) (text more : List ℕ) → Reads p text (at.Plain 0) → rest_at p (text ++ more) ≡ Whole (length text)
+pub reads_whole : (p : Position) (text more : List ℕ) → Reads p text (at.Plain 0) → rest_at p (text ++ more) ≡ Whole (length text)
 reads_whole p text more h =
     let sum : length text + 0 ≡ length text = omega arith in
     h.rest more ∙ ap (behind (length text)) (rest_at_whole (at.Plain 0) more 0 refl) ∙ ap Whole sum

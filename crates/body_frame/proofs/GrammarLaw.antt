@@ -5,9 +5,9 @@ use Rattle.http_types.specs.declared.words.BodyKind.{BodyKind}
 use Rattle.http_types.specs.declared.words.BodyKind.TheVariants.{Empty, Length, Chunked}
 use Rattle.body_frame.specs.Outcome.{BodyOutcome, Whole, Short, Broken, behind}
 use Rattle.body_frame.specs.Grammar.{IsBody, Decides}
-use Rattle.body_frame.specs.declared.place.Place.{Place}
-use Rattle.body_frame.specs.declared.place.Place.TheVariants as at
-use Rattle.body_frame.specs.Place.{place_after, stops_at, rest_at}
+use Rattle.body_frame.specs.declared.place.Position.{Position}
+use Rattle.body_frame.specs.declared.place.Position.TheVariants as at
+use Rattle.body_frame.specs.Position.{place_after, stops_at, rest_at}
 use Rattle.body_frame.specs.State.{first_place, body_of}
 use Rattle.body_frame.specs.Laws.{BodiesAreTheGrammars}
 use Rattle.body_frame.proofs.RunLemmas.{rest_at-nil, rest_at-one, rest_at_whole, skips_plain, whole_within, whole_stays, broken_stays, place_behind, short_goes_on}
@@ -16,7 +16,7 @@ use Rattle.body_frame.proofs.GrammarComplete.{reads_whole, reads_body}
 use Rattle.body_frame.proofs.GrammarSound.{body_from_rest, length_from_rest}
 
 -- one body after another can't be told by a body's end
-not_whole_yet : (p : Place) (text : List ℕ) → stops_at p ≡ Short → rest_at p text ≡ Whole 0 → ⊥
+not_whole_yet : (p : Position) (text : List ℕ) → stops_at p ≡ Short → rest_at p text ≡ Whole 0 → ⊥
 not_whole_yet p [] short whole = let f : Short ≡ Whole 0 = sym (rest_at-nil p ∙ short) ∙ whole in cc
 not_whole_yet p (b ∷ text) short whole = by (rest_at (place_after p b) text) (sym (rest_at-one p b text short) ∙ whole)
   where
@@ -34,7 +34,7 @@ whole_zero n Short e = cc
 whole_zero n Broken e = cc
 
 -- the bytes of a whole body alone are whole
-module _ (p : Place) (front rest : List ℕ) (whole : rest_at p (front ++ rest) ≡ Whole (length front)) where
+module _ (p : Position) (front rest : List ℕ) (whole : rest_at p (front ++ rest) ≡ Whole (length front)) where
   front_by : (o : BodyOutcome) → rest_at p front ≡ o → o ≡ Whole (length front)
   front_by (Whole k) e = sym (whole_stays p front rest k e) ∙ whole
   front_by Short e =
@@ -44,7 +44,7 @@ module _ (p : Place) (front rest : List ℕ) (whole : rest_at p (front ++ rest) 
       let f : Broken ≡ Whole (length front) = sym (broken_stays p front rest e) ∙ whole in
       cc
 
-whole_front : (p : Place) (text : List ℕ) (n : ℕ) → rest_at p text ≡ Whole n → rest_at p (take n text) ≡ Whole n
+whole_front : (p : Position) (text : List ℕ) (n : ℕ) → rest_at p text ≡ Whole n → rest_at p (take n text) ≡ Whole n
 whole_front p text n whole =
     let len : length (take n text) ≡ n = length-take-le n text (whole_within p text n whole) in
     let f : rest_at p (take n text ++ drop n text) ≡ Whole (length (take n text)) = ap (rest_at p) (take-append-drop n text) ∙ whole ∙ ap Whole (sym len) in
@@ -73,7 +73,7 @@ sound (Length n) text whole = length_from_rest n text whole
 sound Chunked text whole = body_from_rest text whole
 
 module _ (kind : BodyKind) (text : List ℕ) where
-  abbrev p : Place
+  abbrev p : Position
   p = first_place kind
 
   forward : (o : BodyOutcome) → rest_at p text ≡ o → Decides kind text o

@@ -7,16 +7,16 @@ use Rattle.std.proofs.lemmas.List.{append_assoc, length-append}
 use Rattle.std.proofs.lemmas.Bool.{and_parts, and_from, or_parts, not_from_false, eqb-true, eqb-false, ltb-true, ltb-false, leb-false}
 use Rattle.body_frame.specs.Outcome.{BodyOutcome, Whole, Short, Broken, behind}
 use Rattle.body_frame.specs.Grammar.{line_end, is_blank, is_text, Extension, print_extension, IsExtension, SizeLine, print_size_line, size_of, IsSizeLine, Chunk, IsChunk, IsTrailer, print_trailers, ChunkedBody, print_body, IsChunkedBody}
-use Rattle.body_frame.specs.declared.place.Place.{Place}
-use Rattle.body_frame.specs.declared.place.Place.TheVariants as at
-use Rattle.body_frame.specs.Place.{expected, after_digits, in_size, in_blanks, in_extension, in_trailer, place_after, stops_at, goes_on, rest_at}
+use Rattle.body_frame.specs.declared.place.Position.{Position}
+use Rattle.body_frame.specs.declared.place.Position.TheVariants as at
+use Rattle.body_frame.specs.Position.{expected, after_digits, in_size, in_blanks, in_extension, in_trailer, place_after, stops_at, goes_on, rest_at}
 use Rattle.body_frame.proofs.RunLemmas.{rest_at-nil, rest_at-cons, whole_within, stops_plain}
 
 -- the input is a chunked body
 abbrev pub HasBody : List ℕ → Type 0
 HasBody input = (b : ChunkedBody) × IsChunkedBody b × (input ≡ print_body b)
 
--- so many bytes of data, CR LF and the rest of a body
+-- this many bytes of data, CR LF and the rest of a body
 record DataThen (size : ℕ) (input : List ℕ) : Type 0 where
   bytes : List ℕ
   after : List ℕ
@@ -24,7 +24,7 @@ record DataThen (size : ℕ) (input : List ℕ) : Type 0 where
   input_is : input ≡ bytes ++ (line_end ++ after)
   body : HasBody after
 
--- trailer lines and the empty line, behind so many bytes of them
+-- trailer lines and the empty line, after this many bytes of them
 record TrailersThen (n : ℕ) (input : List ℕ) : Type 0 where
   lines : List (List ℕ)
   each : AllByRecursion IsTrailer lines
@@ -77,7 +77,7 @@ record DigitsThen (size line : ℕ) (input : List ℕ) : Type 0 where
   then : AfterLine (digits_value_after 16 size digits) after
 
 -- the part of the grammar that is left at each place
-abbrev Left : Place → List ℕ → Type 0
+abbrev Left : Position → List ℕ → Type 0
 Left (at.Plain n) input = length input ≡ n
 Left at.SizeStart input = HasBody input
 Left (at.Size size line) input = DigitsThen size line input
@@ -98,10 +98,10 @@ chosen P true x y h = inl (refl, h)
 chosen P false x y h = inr (refl, h)
 
 module _ (b : ℕ) (bs : List ℕ) where
-  abbrev Next : Place → Type 0
+  abbrev Next : Position → Type 0
   Next p = Left p bs
 
-  back_expected : (wanted : ℕ) (next : Place) → Next (expected b wanted next) → (b ≡ wanted) × Next next
+  back_expected : (wanted : ℕ) (next : Position) → Next (expected b wanted next) → (b ≡ wanted) × Next next
   back_expected wanted next h =
       ⊎_elim (λ w. (eqb-true b wanted w.0, w.1)) (λ w. absurd w.1) (chosen Next _ next at.Failed h)
 
@@ -367,7 +367,7 @@ back_start b bs h =
     (chosen (Next b bs) _ (at.Size (digit_value b) 1) at.Failed h)
 
 -- one byte back, at each place
-back : (p : Place) (b : ℕ) (bs : List ℕ) → stops_at p ≡ Short → Left (place_after p b) bs → Left p (b ∷ bs)
+back : (p : Position) (b : ℕ) (bs : List ℕ) → stops_at p ≡ Short → Left (place_after p b) bs → Left p (b ∷ bs)
 back (at.Plain zero) b bs short h = let g : Whole 0 ≡ Short = short in cc
 back (at.Plain (suc n)) b bs short h = omega (arith, h)
 back at.SizeStart b bs short h = back_start b bs h
@@ -394,7 +394,7 @@ back at.LastLineFeed b bs short h =
 back at.Failed b bs short h = cc
 
 -- a place where no byte is wanted
-at_end : (p : Place) → stops_at p ≡ Whole 0 → Left p []
+at_end : (p : Position) → stops_at p ≡ Whole 0 → Left p []
 at_end (at.Plain zero) e = refl
 at_end (at.Plain (suc n)) e = let g : Short ≡ Whole 0 = sym (stops_plain n) ∙ e in cc
 at_end at.SizeStart e = cc
@@ -418,7 +418,7 @@ whole_behind_one n (Whole k) e =
 whole_behind_one n Short e = cc
 whole_behind_one n Broken e = cc
 
-accepts_by : (o : BodyOutcome) (p : Place) (b : ℕ) (bs : List ℕ) → stops_at p ≡ o → (rest_at (place_after p b) bs ≡ Whole (length bs) → Left (place_after p b) bs) → rest_at p (b ∷ bs) ≡ Whole (suc (length bs)) → Left p (b ∷ bs)
+accepts_by : (o : BodyOutcome) (p : Position) (b : ℕ) (bs : List ℕ) → stops_at p ≡ o → (rest_at (place_after p b) bs ≡ Whole (length bs) → Left (place_after p b) bs) → rest_at p (b ∷ bs) ≡ Whole (suc (length bs)) → Left p (b ∷ bs)
 accepts_by (Whole n) p b bs e later whole =
     let none : n ≤ 0 = whole_within p [] n (rest_at-nil p ∙ e) in
     let f : Whole n ≡ Whole (suc (length bs)) = sym (ap (λ o. goes_on o (rest_at (place_after p b) bs)) e) ∙ sym (rest_at-cons p b bs) ∙ whole in
@@ -431,7 +431,7 @@ accepts_by Broken p b bs e later whole =
     let f : Broken ≡ Whole (suc (length bs)) = sym (ap (λ o. goes_on o (rest_at (place_after p b) bs)) e) ∙ sym (rest_at-cons p b bs) ∙ whole in
     cc
 
-accepts : (input : List ℕ) (p : Place) → rest_at p input ≡ Whole (length input) → Left p input
+accepts : (input : List ℕ) (p : Position) → rest_at p input ≡ Whole (length input) → Left p input
 accepts [] p whole = at_end p (sym (rest_at-nil p) ∙ whole)
 accepts (b ∷ bs) p whole = accepts_by (stops_at p) p b bs refl (accepts bs (place_after p b)) whole
 

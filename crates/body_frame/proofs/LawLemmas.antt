@@ -4,10 +4,10 @@ use Rattle.std.proofs.lemmas.List.{append_assoc, drop_all, drop_at, drop-drop, l
 use Rattle.std.proofs.lemmas.Bool.{ne_eqb}
 use Rattle.body_frame.specs.Outcome.{BodyOutcome, Whole, Short, Broken, behind, step_of, used_of}
 use Rattle.body_frame.specs.declared.step.BodyStep.{BodyStep}
-use Rattle.body_frame.specs.declared.place.Place.{Place}
-use Rattle.body_frame.specs.declared.place.Place.TheVariants.{Plain, SizeStart, Size, Blanks, Extension, SizeLineFeed, Data, DataLineFeed, Trailers, Trailer, TrailerLineFeed, LastLineFeed, Failed}
+use Rattle.body_frame.specs.declared.place.Position.{Position}
+use Rattle.body_frame.specs.declared.place.Position.TheVariants.{Plain, SizeStart, Size, Blanks, Extension, SizeLineFeed, Data, DataLineFeed, Trailers, Trailer, TrailerLineFeed, LastLineFeed, Failed}
 use Rattle.body_frame.specs.declared.state.BodyState.{BodyState}
-use Rattle.body_frame.specs.Place.{place_after, stops_at, rest_at}
+use Rattle.body_frame.specs.Position.{place_after, stops_at, rest_at}
 use Rattle.body_frame.specs.State.{rest_body, Takes}
 use Rattle.body_frame.specs.Laws.{BodiesStay, BodiesGoOn, TakesCompose}
 use Rattle.body_frame.proofs.RunLemmas.{behind-behind, rest_at-one, whole_within, whole_stays, broken_stays, place_behind, short_goes_on, after_data, after_plain, stops_plain}
@@ -21,10 +21,10 @@ stay = record {
 }
 
 -- some bytes end the body, and all of them are used
-abbrev Finish : Place → Type 0
+abbrev Finish : Position → Type 0
 Finish p = (more : List ℕ) × (rest_at p more ≡ Whole (length more))
 
-finish_one : (p : Place) (b : ℕ) → stops_at p ≡ Short → Finish (place_after p b) → Finish p
+finish_one : (p : Position) (b : ℕ) → stops_at p ≡ Short → Finish (place_after p b) → Finish p
 finish_one p b short f =
     let count : 1 + length f.0 ≡ suc (length f.0) = omega arith in
     (b ∷ f.0, rest_at-one p b f.0 short ∙ ap (behind 1) f.1 ∙ ap Whole count)
@@ -52,7 +52,7 @@ finish_line (suc n) =
     let next : place_after (SizeLineFeed (suc n)) 10 ≡ Data (suc n) = ap (λ t. cond t (Trailers 0) (Data (suc n))) (ne_eqb (suc n) 0 (omega arith)) in
     finish_one (SizeLineFeed (suc n)) 10 refl (subst Finish (sym next) (finish_data (suc n)))
 
-finish : (p : Place) → stops_at p ≡ Short → Finish p
+finish : (p : Position) → stops_at p ≡ Short → Finish p
 finish (Plain n) short = finish_plain n
 finish SizeStart short = finish_start
 finish (Size s l) short = finish_one (Size s l) 13 refl (finish_line s)
@@ -67,7 +67,7 @@ finish (TrailerLineFeed n) short = finish_one (TrailerLineFeed n) 10 refl (finis
 finish LastLineFeed short = finish_one LastLineFeed 10 refl (finish_plain 0)
 finish Failed short = cc
 
-pub short_finishes : (p : Place) (text : List ℕ) → rest_at p text ≡ Short → (more : List ℕ) × (rest_at p (text ++ more) ≡ Whole (length (text ++ more)))
+pub short_finishes : (p : Position) (text : List ℕ) → rest_at p text ≡ Short → (more : List ℕ) × (rest_at p (text ++ more) ≡ Whole (length (text ++ more)))
 short_finishes p text e =
     let on = short_goes_on p text e in
     let f = finish (place_behind p text) on.stops in

@@ -4,9 +4,9 @@ use Rattle.std.specs.Prelude.{⊤}
 use Rattle.std.proofs.lemmas.List.{drop-drop}
 use Rattle.std.proofs.lemmas.Bool.{ne_eqb}
 use Rattle.body_frame.specs.Outcome.{BodyOutcome, Whole, Short, Broken, behind}
-use Rattle.body_frame.specs.declared.place.Place.{Place}
-use Rattle.body_frame.specs.declared.place.Place.TheVariants.{Plain, SizeStart, Size, Blanks, Extension, SizeLineFeed, Data, DataLineFeed, Trailers, Trailer, TrailerLineFeed, LastLineFeed, Failed}
-use Rattle.body_frame.specs.Place.{expected, place_after, stops_at, goes_on, rest_at, Skips}
+use Rattle.body_frame.specs.declared.place.Position.{Position}
+use Rattle.body_frame.specs.declared.place.Position.TheVariants.{Plain, SizeStart, Size, Blanks, Extension, SizeLineFeed, Data, DataLineFeed, Trailers, Trailer, TrailerLineFeed, LastLineFeed, Failed}
+use Rattle.body_frame.specs.Position.{expected, place_after, stops_at, goes_on, rest_at, Skips}
 
 pub behind-zero : (o : BodyOutcome) → behind 0 o ≡ o
 behind-zero (Whole n) = ap Whole (omega arith)
@@ -18,24 +18,24 @@ behind-behind m n (Whole k) = ap Whole (omega arith)
 behind-behind m n Short = refl
 behind-behind m n Broken = refl
 
-pub rest_at-nil : (p : Place) → rest_at p [] ≡ stops_at p
+pub rest_at-nil : (p : Position) → rest_at p [] ≡ stops_at p
 unfolding rest_at
 rest_at-nil p = refl
 
-pub rest_at-cons : (p : Place) (b : ℕ) (text : List ℕ) → rest_at p (b ∷ text) ≡ goes_on (stops_at p) (rest_at (place_after p b) text)
+pub rest_at-cons : (p : Position) (b : ℕ) (text : List ℕ) → rest_at p (b ∷ text) ≡ goes_on (stops_at p) (rest_at (place_after p b) text)
 unfolding rest_at
 rest_at-cons p b text = refl
 
 -- one byte, where the body goes on
-pub rest_at-one : (p : Place) (b : ℕ) (text : List ℕ) → stops_at p ≡ Short → rest_at p (b ∷ text) ≡ behind 1 (rest_at (place_after p b) text)
+pub rest_at-one : (p : Position) (b : ℕ) (text : List ℕ) → stops_at p ≡ Short → rest_at p (b ∷ text) ≡ behind 1 (rest_at (place_after p b) text)
 rest_at-one p b text e = rest_at-cons p b text ∙ ap (λ o. goes_on o (rest_at (place_after p b) text)) e
 
 -- where the body is ended or has failed, nothing more matters
-pub rest_at_whole : (p : Place) (text : List ℕ) (n : ℕ) → stops_at p ≡ Whole n → rest_at p text ≡ Whole n
+pub rest_at_whole : (p : Position) (text : List ℕ) (n : ℕ) → stops_at p ≡ Whole n → rest_at p text ≡ Whole n
 rest_at_whole p [] n e = rest_at-nil p ∙ e
 rest_at_whole p (b ∷ text) n e = rest_at-cons p b text ∙ ap (λ o. goes_on o (rest_at (place_after p b) text)) e
 
-pub rest_at_broken : (p : Place) (text : List ℕ) → stops_at p ≡ Broken → rest_at p text ≡ Broken
+pub rest_at_broken : (p : Position) (text : List ℕ) → stops_at p ≡ Broken → rest_at p text ≡ Broken
 rest_at_broken p [] e = rest_at-nil p ∙ e
 rest_at_broken p (b ∷ text) e = rest_at-cons p b text ∙ ap (λ o. goes_on o (rest_at (place_after p b) text)) e
 
@@ -65,7 +65,7 @@ kept_on (Whole n) l m h = refl
 kept_on Short l m h = kept_behind l m h
 kept_on Broken l m h = refl
 
-pub kept : (p : Place) (text more : List ℕ) → Kept (rest_at p text) (rest_at p (text ++ more))
+pub kept : (p : Position) (text more : List ℕ) → Kept (rest_at p text) (rest_at p (text ++ more))
 unfolding rest_at
 kept p [] [] = kept_self (stops_at p)
 kept p [] (b ∷ more) = kept_stop (stops_at p) (rest_at (place_after p b) more)
@@ -81,7 +81,7 @@ Within Broken m = ⊤
 pub stops_plain : (left : ℕ) → stops_at (Plain (suc left)) ≡ Short
 stops_plain left = ap (λ t. cond t (Whole 0) Short) (ne_eqb (suc left) 0 (omega arith))
 
-within_stop : (p : Place) → Within (stops_at p) 0
+within_stop : (p : Position) → Within (stops_at p) 0
 within_stop (Plain zero) = omega arith
 within_stop (Plain (suc n)) = subst (λ o. Within o 0) (sym (stops_plain n)) tt
 within_stop SizeStart = tt
@@ -107,27 +107,27 @@ within_on (Whole n) l m g h = omega arith
 within_on Short l m g h = within_behind l m h
 within_on Broken l m g h = tt
 
-within_all : (p : Place) (text : List ℕ) → Within (rest_at p text) (length text)
+within_all : (p : Position) (text : List ℕ) → Within (rest_at p text) (length text)
 unfolding rest_at
 within_all p [] = within_stop p
 within_all p (b ∷ text) = within_on (stops_at p) _ _ (within_stop p) (within_all (place_after p b) text)
 
-pub whole_within : (p : Place) (text : List ℕ) (n : ℕ) → rest_at p text ≡ Whole n → n ≤ length text
+pub whole_within : (p : Position) (text : List ℕ) (n : ℕ) → rest_at p text ≡ Whole n → n ≤ length text
 whole_within p text n e = subst (λ o. Within o (length text)) e (within_all p text)
 
-pub whole_stays : (p : Place) (text more : List ℕ) (n : ℕ) → rest_at p text ≡ Whole n → rest_at p (text ++ more) ≡ Whole n
+pub whole_stays : (p : Position) (text more : List ℕ) (n : ℕ) → rest_at p text ≡ Whole n → rest_at p (text ++ more) ≡ Whole n
 whole_stays p text more n e = subst (λ o. Kept o (rest_at p (text ++ more))) e (kept p text more)
 
-pub broken_stays : (p : Place) (text more : List ℕ) → rest_at p text ≡ Broken → rest_at p (text ++ more) ≡ Broken
+pub broken_stays : (p : Position) (text more : List ℕ) → rest_at p text ≡ Broken → rest_at p (text ++ more) ≡ Broken
 broken_stays p text more e = subst (λ o. Kept o (rest_at p (text ++ more))) e (kept p text more)
 
--- the place behind a text
-unfoldable pub place_behind : Place → List ℕ → Place
+-- the place after a text
+unfoldable pub place_behind : Position → List ℕ → Position
 place_behind p [] = p
 place_behind p (b ∷ text) = place_behind (place_after p b) text
 
 -- what a short text leaves
-pub record GoesOn (p : Place) (text : List ℕ) : Type 0 where
+pub record GoesOn (p : Position) (text : List ℕ) : Type 0 where
   pub stops : stops_at (place_behind p text) ≡ Short
   pub rest : (more : List ℕ) → rest_at p (text ++ more) ≡ behind (length text) (rest_at (place_behind p text) more)
 
@@ -138,7 +138,7 @@ short_parts Short Short e = (refl, refl)
 short_parts Short Broken e = cc
 short_parts Broken l e = cc
 
-pub short_goes_on : (p : Place) (text : List ℕ) → rest_at p text ≡ Short → GoesOn p text
+pub short_goes_on : (p : Position) (text : List ℕ) → rest_at p text ≡ Short → GoesOn p text
 unfolding rest_at place_behind
 short_goes_on p [] e = record { stops = e; rest = λ more. sym (behind-zero (rest_at p more)) }
 short_goes_on p (b ∷ text) e =
@@ -151,7 +151,7 @@ short_goes_on p (b ∷ text) e =
     }
 
 -- one byte leads on
-pub skips_one : (p : Place) (bytes : List ℕ) → 0 < length bytes → stops_at p ≡ Short → Skips p bytes 1 (place_after p (get_or bytes 0 0))
+pub skips_one : (p : Position) (bytes : List ℕ) → 0 < length bytes → stops_at p ≡ Short → Skips p bytes 1 (place_after p (get_or bytes 0 0))
 skips_one p [] some e = absurd (omega arith)
 skips_one p (b ∷ bytes) some e = λ more. rest_at-one p b (bytes ++ more) e
 
@@ -198,19 +198,19 @@ skips_plain (suc n) (suc left) (b ∷ bytes) low within = λ more.
     ∙ (λ i. behind (count i) (rest_at (Plain (same i)) (drop n bytes ++ more)))
 
 -- one run of bytes after another
-pub skips_more : (p q r : Place) (bytes : List ℕ) (m n : ℕ) → Skips p bytes m q → Skips q (drop m bytes) n r → Skips p bytes (m + n) r
+pub skips_more : (p q r : Position) (bytes : List ℕ) (m n : ℕ) → Skips p bytes m q → Skips q (drop m bytes) n r → Skips p bytes (m + n) r
 skips_more p q r bytes m n first second = λ more.
     first more ∙ ap (behind m) (second more) ∙ behind-behind m n _ ∙ ap (λ t. behind (m + n) (rest_at r (t ++ more))) (drop-drop n m bytes)
 
 -- the same at equal places
-pub skips_from : (p q r : Place) (bytes : List ℕ) (n : ℕ) → p ≡ q → Skips q bytes n r → Skips p bytes n r
+pub skips_from : (p q r : Position) (bytes : List ℕ) (n : ℕ) → p ≡ q → Skips q bytes n r → Skips p bytes n r
 skips_from p q r bytes n e h = subst (λ x. Skips x bytes n r) (sym e) h
 
-pub skips_to : (p q r : Place) (bytes : List ℕ) (n : ℕ) → r ≡ q → Skips p bytes n q → Skips p bytes n r
+pub skips_to : (p q r : Position) (bytes : List ℕ) (n : ℕ) → r ≡ q → Skips p bytes n q → Skips p bytes n r
 skips_to p q r bytes n e h = subst (λ x. Skips p bytes n x) (sym e) h
 
 -- all places but the ends go on
-pub stops_short : (p : Place) → ((n : ℕ) → p ≡ Plain n → ⊥) → (p ≡ Failed → ⊥) → stops_at p ≡ Short
+pub stops_short : (p : Position) → ((n : ℕ) → p ≡ Plain n → ⊥) → (p ≡ Failed → ⊥) → stops_at p ≡ Short
 stops_short (Plain n) a b = absurd (a n refl)
 stops_short SizeStart a b = refl
 stops_short (Size s l) a b = refl

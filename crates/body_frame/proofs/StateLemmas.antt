@@ -4,9 +4,9 @@ use Rattle.std.proofs.lemmas.List.{append-nil, drop_all}
 use Rattle.body_frame.specs.Outcome.{BodyOutcome, Whole, Short, Broken, behind, step_of, used_of}
 use Rattle.body_frame.specs.declared.step.BodyStep.{BodyStep}
 use Rattle.body_frame.specs.declared.step.BodyStep.TheVariants as steps
-use Rattle.body_frame.specs.declared.place.Place.{Place}
+use Rattle.body_frame.specs.declared.place.Position.{Position}
 use Rattle.body_frame.specs.declared.state.BodyState.{BodyState}
-use Rattle.body_frame.specs.Place.{stops_at, rest_at, Skips}
+use Rattle.body_frame.specs.Position.{stops_at, rest_at, Skips}
 use Rattle.body_frame.specs.State.{rest_body, Takes}
 use Rattle.body_frame.proofs.RunLemmas.{skips_more, rest_at-nil, rest_at_whole, rest_at_broken, whole_within}
 
@@ -16,14 +16,14 @@ counted (Whole n) u len = u
 counted Short u len = len
 counted Broken u len = len
 
-abbrev pub at_place : Place → BodyState
+abbrev pub at_place : Position → BodyState
 at_place p = record { place = p }
 
 -- the outcome of the bytes alone
-alone : (p q : Place) (bytes : List ℕ) (u : ℕ) → Skips p bytes u q → rest_at p bytes ≡ behind u (rest_at q (drop u bytes))
+alone : (p q : Position) (bytes : List ℕ) (u : ℕ) → Skips p bytes u q → rest_at p bytes ≡ behind u (rest_at q (drop u bytes))
 alone p q bytes u h = ap (rest_at p) (sym (append-nil bytes)) ∙ h [] ∙ ap (λ t. behind u (rest_at q t)) (append-nil (drop u bytes))
 
-taken_by : (p q : Place) (bytes : List ℕ) (u count : ℕ) (told : BodyStep) (o : BodyOutcome)
+taken_by : (p q : Position) (bytes : List ℕ) (u count : ℕ) (told : BodyStep) (o : BodyOutcome)
     → stops_at q ≡ o → Skips p bytes u q → u ≤ length bytes → (stops_at q ≡ Short → u ≡ length bytes)
     → told ≡ step_of o → count ≡ counted o u (length bytes) → Takes (at_place p) bytes count told (at_place q)
 unfolding rest_body
@@ -60,13 +60,13 @@ taken_by p q bytes u count told Broken e h within short step used =
       broken = λ f more. rest_at_broken q more e;
     }
 
-pub taken : (p q : Place) (bytes : List ℕ) (u count : ℕ) (told : BodyStep)
+pub taken : (p q : Position) (bytes : List ℕ) (u count : ℕ) (told : BodyStep)
     → Skips p bytes u q → u ≤ length bytes → (stops_at q ≡ Short → u ≡ length bytes)
     → told ≡ step_of (stops_at q) → count ≡ counted (stops_at q) u (length bytes) → Takes (at_place p) bytes count told (at_place q)
 taken p q bytes u count told h within short step used = taken_by p q bytes u count told (stops_at q) refl h within short step used
 
 -- a last run that is empty changes no count
-pub skips_end : (p q r : Place) (bytes rest : List ℕ) (u n : ℕ) → Skips p bytes u q → rest ≡ drop u bytes → n ≡ 0 → Skips q rest n r → Skips p bytes u r
+pub skips_end : (p q r : Position) (bytes rest : List ℕ) (u n : ℕ) → Skips p bytes u q → rest ≡ drop u bytes → n ≡ 0 → Skips q rest n r → Skips p bytes u r
 skips_end p q r bytes rest u n first left none last =
     let second : Skips q (drop u bytes) n r = subst (λ t. Skips q t n r) left last in
     let sum : u + n ≡ u = omega arith in

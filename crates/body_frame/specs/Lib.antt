@@ -1,5 +1,5 @@
 pub mod Outcome
 pub mod Grammar
-pub mod Place
+pub mod Position
 pub mod State
 pub mod Laws

@@ -1,4 +1,4 @@
-//! The bodies behind request heads: where one ends in the bytes that come (RFC 9112, sections 6 and 7.1).
+//! The bodies after request heads: where one ends in the bytes that come (RFC 9112, sections 6 and 7.1).
 #![tactic(auto)]
 
 mod laws;

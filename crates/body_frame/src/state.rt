@@ -3,14 +3,14 @@ ghost use Rattle.std.specs.Prelude.{◌≡◌, ℕ, ◌+◌, ◌≤◌, ◌<◌,
 ghost use Rattle.body_frame.specs.State.{rest_body, IsBegun, Takes};
 
 use crate::BodyStep;
-use crate::place::Place;
+use crate::place::Position;
 use http_types::BodyKind;
 
 /// Finds the end of a request's body in bytes that come in pieces of any size. It keeps none of them, and takes no
 /// memory.
 #[derive(Clone, Copy, Debug)]
 pub struct BodyState {
-    place: Place,
+    place: Position,
 }
 
 impl BodyState {
@@ -19,9 +19,9 @@ impl BodyState {
         ensures { IsBegun kind result }
     {
         let place = match kind {
-            BodyKind::Empty => Place::Plain(0),
-            BodyKind::Length(count) => Place::Plain(count),
-            BodyKind::Chunked => Place::SizeStart,
+            BodyKind::Empty => Position::Plain(0),
+            BodyKind::Length(count) => Position::Plain(count),
+            BodyKind::Chunked => Position::SizeStart,
         };
         BodyState { place }
     }

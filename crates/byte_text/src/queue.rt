@@ -5,16 +5,18 @@ use crate::OutOfMemory;
 use std::alloc::Global;
 use std::marker::Model;
 
-/// Takes the first `start` bytes away, by moving the others down.
+/// Takes the first `start` bytes away, by moving the others down. These are no more, so that they are copied at once.
 fn move_down(bytes: &mut Vec<u8>, start: usize)
-    requires { start ≤ vec_len bytes.old }
+    requires within { start ≤ vec_len bytes.old }
+    requires apart { vec_len bytes.old ≤ start + start }
     ensures items { bytes.new.items ≡ drop start bytes.old.items }
     ensures len { vec_len bytes.new + start ≡ vec_len bytes.old }
     ensures capacity { vec_capacity bytes.new ≡ vec_capacity bytes.old }
 {
-    let len = bytes.len();
-    bytes.copy_within(start..len, 0);
-    bytes.truncate(len - start);
+    let count = bytes.len() - start;
+    let (free, kept) = bytes.as_mut_slice().split_at_mut(start);
+    free[..count].copy_from_slice(kept);
+    bytes.truncate(count);
 }
 
 /// A queue that runs empty keeps no more room than this.
@@ -90,6 +92,14 @@ impl ByteQueue {
     {
         self.bytes.clear();
         self.start = 0;
+    }
+
+    /// Makes room for `additional` more bytes, so that one growth serves them all.
+    pub fn reserve(&mut self, additional: usize) -> Result<(), OutOfMemory>
+        ensures { self.new ≡ self.old }
+    {
+        self.bytes.reserve(additional)?;
+        Ok(())
     }
 
     pub fn append(&mut self, more: &[u8]) -> Result<(), OutOfMemory>

@@ -68,7 +68,7 @@ impl ByteText {
         self.bytes.as_slice()
     }
 
-    /// Makes room for so many more bytes, so that one growth serves them all.
+    /// Makes room for `additional` more bytes, so that one growth serves them all.
     pub fn reserve(&mut self, additional: usize) -> Result<(), OutOfMemory>
         ensures { self.new ≡ self.old }
     {

@@ -14,7 +14,7 @@ fn marked(out: &mut ByteText, mark: u8, text: &ByteText) -> Result<(), OutOfMemo
     out.push(b' ')
 }
 
-/// A name, behind a sign of its kind.
+/// A name, after a sign of its kind.
 fn name_onto(out: &mut ByteText, name: &ServerName) -> Result<(), OutOfMemory> {
     match name {
         ServerName::Whole(text) => marked(out, b'=', text),

@@ -9,13 +9,13 @@ use std::alloc::Global;
 use std::process::Abort;
 use std::test::Fail;
 
-/// A word, with a space behind it.
+/// A word, with a space after it.
 fn word_onto(out: &mut ByteText, word: &[u8]) -> Result<(), OutOfMemory> {
     out.extend(word)?;
     out.push(b' ')
 }
 
-/// A text with variables, each as `$`, with a space behind it.
+/// A text with variables, each as `$`, with a space after it.
 fn value_onto(out: &mut ByteText, value: &Value) -> Result<(), OutOfMemory> {
     for piece in value.pieces() {
         match piece {

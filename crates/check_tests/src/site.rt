@@ -4,7 +4,7 @@ use conf_inherit::{Purpose, build};
 use conf_text::{ConfError, parse};
 use file_type::Types;
 use ngx_pattern::CrateMaker;
-use ngx_variables::{Piece, Place, Value};
+use ngx_variables::{FileRoot, Piece, Value};
 use site_model::{RewriteStep, Site};
 use std::alloc::Global;
 use std::process::Abort;
@@ -22,15 +22,15 @@ fn value_onto(out: &mut ByteText, value: &Value) -> Result<(), OutOfMemory> {
 }
 
 /// Where the files of a level are: `TEXT`, or `TEXT<PREFIX` for an alias.
-fn place_onto(out: &mut ByteText, place: &Place) -> Result<(), OutOfMemory> {
+fn place_onto(out: &mut ByteText, place: &FileRoot) -> Result<(), OutOfMemory> {
     match place {
-        Place::Root(text) => value_onto(out, text),
-        Place::Rest { text, prefix } => {
+        FileRoot::Root(text) => value_onto(out, text),
+        FileRoot::Rest { text, prefix } => {
             value_onto(out, text)?;
             out.push(b'<')?;
             out.extend(prefix.as_slice())
         }
-        Place::Whole(text) => value_onto(out, text),
+        FileRoot::Whole(text) => value_onto(out, text),
     }
 }
 

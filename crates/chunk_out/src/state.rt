@@ -19,8 +19,10 @@ fn feed(block: &mut Vec<u8>, bytes: &[u8], out: &mut Vec<u8>, room: usize) -> us
     ensures within { result ≤ length bytes.now }
     ensures waits { vec_len block.new < 4096 }
     ensures kept { 4096 ≤ vec_capacity block.new }
-    ensures feeds { Feeds block.old.items bytes.now result block.new.items out.old.items out.new.items }
-    ensures stops { result < length bytes.now → (vec_len block.new ≡ 4095) × (vec_len out.old + room < vec_len out.new + 4104) }
+    ensures feeds { Feeds block.old.items bytes.now result block.new.items out.old.items
+        out.new.items }
+    ensures stops { result < length bytes.now
+        → (vec_len block.new ≡ 4095) × (vec_len out.old + room < vec_len out.new + 4104) }
     ensures limit { vec_len out.new ≤ vec_len out.old + room }
     ensures capacity { vec_capacity out.old ≤ vec_capacity out.new }
 {
@@ -95,7 +97,8 @@ impl ChunkState {
         ensures within { result ≤ length bytes.now }
         ensures waits { length self.new < 4096 }
         ensures feeds { Feeds self.old bytes.now result self.new out.old.items out.new.items }
-        ensures stops { result < length bytes.now → (length self.new ≡ 4095) × (vec_capacity out.old < vec_len out.new + 4104) }
+        ensures stops { result < length bytes.now
+            → (length self.new ≡ 4095) × (vec_capacity out.old < vec_len out.new + 4104) }
         ensures limit { vec_len out.new ≤ vec_capacity out.old }
         ensures capacity { vec_capacity out.old ≤ vec_capacity out.new }
     {
@@ -103,13 +106,14 @@ impl ChunkState {
         feed(&mut self.block, bytes, out, room)
     }
 
-    /// The same, where no more than so many bytes may be added to `out`.
+    /// The same, where at most `room` bytes may be added to `out`.
     pub fn feed_within(&mut self, bytes: &[u8], out: &mut Vec<u8>, room: usize) -> usize
         requires { vec_len out.old + room ≤ vec_capacity out.old }
         ensures within { result ≤ length bytes.now }
         ensures waits { length self.new < 4096 }
         ensures feeds { Feeds self.old bytes.now result self.new out.old.items out.new.items }
-        ensures stops { result < length bytes.now → (length self.new ≡ 4095) × (vec_len out.old + room < vec_len out.new + 4104) }
+        ensures stops { result < length bytes.now
+            → (length self.new ≡ 4095) × (vec_len out.old + room < vec_len out.new + 4104) }
         ensures limit { vec_len out.new ≤ vec_len out.old + room }
         ensures capacity { vec_capacity out.old ≤ vec_capacity out.new }
     {

@@ -80,7 +80,7 @@ pub fn write_rest(out: &mut Vec<u8>, rest: &[u8])
     append(out, b"\r\n");
 }
 
-/// Writes the last chunk, behind which no trailer lines stand.
+/// Writes the last chunk, after which no trailer lines come.
 pub fn write_last(out: &mut Vec<u8>)
     requires { vec_len out.old + 5 ≤ vec_capacity out.old }
     ensures items { out.new.items ≡ out.old.items ++ last_chunk }

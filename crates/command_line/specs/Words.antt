@@ -2,6 +2,8 @@
 use Rattle.std.specs.Prelude.{ℕ, ◌-◌, ◌^◌, nat_le, Bool, true, false, ◌&&◌, ◌||◌, List, [], ◌∷◌, Option, None, Some, codes, bytes_eq, if◌then◌else◌}
 use Rattle.std.specs.List.{list_all}
 use Rattle.text_words.specs.Digits.{is_decimal, value_behind}
+use Rattle.command_line.specs.declared.help.Topic.{Topic}
+use Rattle.command_line.specs.declared.help.Topic.TheVariants as topics
 use Rattle.command_line.specs.declared.words.Command.{Command}
 use Rattle.command_line.specs.declared.words.Command.TheVariants as command
 
@@ -17,11 +19,11 @@ unfoldable pub turns_of : List ℕ → Option ℕ
 turns_of word =
     if list_all is_decimal word && (nat_le 1 (value_behind 0 word) && nat_le (value_behind 0 word) most_turns) then Some (value_behind 0 word) else None
 
--- what the words ask for: what the program says of itself, its version, a configuration that is to be read, a script that is to be
+-- what the words ask for: what the program says of itself or of a command, its version, a configuration that is to be read, a script that is to be
 -- run, or a configuration that is to be served, each of the last two if need be though the site shows in which order
 -- subrequests run
 pub data Request : Type 0 where
-  Help : Request
+  Help : (topic : Topic) → Request
   Version : Request
   Check : (path : List ℕ) → Request
   Replay : (path : List ℕ) → (racy : Bool) → Request
@@ -33,7 +35,7 @@ serve_after path racy (Some turns) = Some (Serve path turns racy)
 
 -- a command as the code gives it
 abbrev pub request_of : Command → Request
-request_of command.Help = Help
+request_of (command.Help topic) = Help topic
 request_of command.Version = Version
 request_of (command.Check conf) = Check conf.now
 request_of (command.Replay script racy) = Replay script.now racy
@@ -47,18 +49,21 @@ is_version word = bytes_eq word (codes "--version") || bytes_eq word (codes "-V"
 
 -- `--help` or `--version`
 abbrev pub option_for : List ℕ → Option Request
-option_for word = if is_help word then Some Help else (if is_version word then Some Version else None)
+option_for word = if is_help word then Some (Help topics.Program) else (if is_version word then Some Version else None)
 
--- a command with a path, in whose place the help can be asked for
-abbrev pub or_help : (path : List ℕ) → Request → Request
-or_help path request = if is_help path then Help else request
+-- the help of `check`, `replay` or `serve`
+abbrev pub help_for : (command : List ℕ) → Option Request
+help_for command =
+    if bytes_eq command (codes "check") then Some (Help topics.Check)
+    else (if bytes_eq command (codes "replay") then Some (Help topics.Replay)
+    else (if bytes_eq command (codes "serve") then Some (Help topics.Serve) else None))
 
 -- `check PATH`, `replay PATH` or `serve PATH`
-abbrev pub request_for : (command path : List ℕ) → Option Request
-request_for command path =
-    if bytes_eq command (codes "check") then Some (or_help path (Check path))
-    else (if bytes_eq command (codes "replay") then Some (or_help path (Replay path false))
-    else (if bytes_eq command (codes "serve") then Some (or_help path (Serve path all_turns false)) else None))
+abbrev pub command_for : (command path : List ℕ) → Option Request
+command_for command path =
+    if bytes_eq command (codes "check") then Some (Check path)
+    else (if bytes_eq command (codes "replay") then Some (Replay path false)
+    else (if bytes_eq command (codes "serve") then Some (Serve path all_turns false) else None))
 
 -- `replay PATH --racy` or `serve PATH --racy`
 abbrev pub racy_for : (command path option : List ℕ) → Option Request
@@ -77,10 +82,10 @@ both_for command path first second third =
     if bytes_eq command (codes "serve") then (if bytes_eq first (codes "--turns") && bytes_eq third (codes "--racy") then serve_after path true (turns_of second)
     else (if bytes_eq first (codes "--racy") && bytes_eq second (codes "--turns") then serve_after path true (turns_of third) else None)) else None
 
--- a command with a path and its options
+-- a command with a path, in whose place, or after which, the help can be asked for; or a command with a path and options
 abbrev pub with_options : (command path : List ℕ) → (options : List (List ℕ)) → Option Request
-with_options command path [] = request_for command path
-with_options command path (option ∷ []) = racy_for command path option
+with_options command path [] = if is_help path then help_for command else command_for command path
+with_options command path (option ∷ []) = if is_help option then help_for command else racy_for command path option
 with_options command path (option ∷ turns ∷ []) = turns_for_path command path option turns
 with_options command path (first ∷ second ∷ third ∷ []) = both_for command path first second third
 with_options command path others = None

@@ -5,5 +5,5 @@ mod help;
 mod turns;
 mod words;
 
-pub use help::{help_text, version_text};
+pub use help::{Topic, help_text, version_text};
 pub use words::{Command, command_of};

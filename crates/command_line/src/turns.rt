@@ -7,7 +7,7 @@ use text_words::{are_decimal, value_of};
 /// No more turns can be asked for.
 const MOST_TURNS: u64 = 1000000000;
 
-/// So many turns are taken where no number is said: serving goes on.
+/// How many turns are taken where no number is said: serving goes on.
 pub const ALL_TURNS: u64 = 18446744073709551615;
 
 /// How many turns a word asks for: decimal digits, from 1 to the most.

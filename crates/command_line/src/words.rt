@@ -1,14 +1,17 @@
 // What the program's words ask for.
 ghost use Rattle.std.specs.Prelude.{◌≡◌, option_map, map, string_bytes};
-ghost use Rattle.command_line.specs.Words.{request_in, request_for, request_of, serve_after, racy_for, turns_for_path, both_for, with_options, turns_of as turns_for, is_help as asks_help, is_version as asks_version, option_for, or_help};
+ghost use Rattle.command_line.specs.Words.{request_in, request_of, serve_after, command_for, racy_for, turns_for_path, both_for, with_options, turns_of as turns_for, is_help as asks_help, is_version as asks_version, option_for, help_for};
 
+use crate::help::Topic;
 use crate::turns::{ALL_TURNS, turns_of};
 
 /// What the words ask for.
 #[derive(Clone, Copy)]
 pub enum Command<'a> {
-    /// What the program says of itself is to be printed.
-    Help,
+    /// What the program says of itself, or of a command, is to be printed.
+    Help {
+        topic: Topic,
+    },
     /// Its version is to be printed.
     Version,
     /// A configuration is to be read.
@@ -20,7 +23,7 @@ pub enum Command<'a> {
         script: &'a str,
         racy: bool,
     },
-    /// The site of a configuration is to be served, for so many turns, if need be though it shows in which order subrequests
+    /// The site of a configuration is to be served, for this many turns, if need be though it shows in which order subrequests
     /// run.
     Serve {
         conf: &'a str,
@@ -55,7 +58,9 @@ fn option_for(word: &str) -> Option<Command<'_>>
     ensures { option_map request_of result ≡ option_for word.now }
 {
     if is_help(word) {
-        Some(Command::Help)
+        Some(Command::Help {
+            topic: Topic::Program,
+        })
     } else if is_version(word) {
         Some(Command::Version)
     } else {
@@ -63,47 +68,51 @@ fn option_for(word: &str) -> Option<Command<'_>>
     }
 }
 
-// A command with a path, in whose place the help can be asked for.
-fn or_help<'a>(path: &str, command: Command<'a>) -> Command<'a>
-    ensures { request_of result ≡ or_help path.now (request_of command.entry) }
+// The help of a command.
+fn help_for<'a>(command: &str) -> Option<Command<'a>>
+    ensures { option_map request_of result ≡ help_for command.now }
 {
-    if is_help(path) {
-        Command::Help
+    if command == "check" {
+        Some(Command::Help {
+            topic: Topic::Check,
+        })
+    } else if command == "replay" {
+        Some(Command::Help {
+            topic: Topic::Replay,
+        })
+    } else if command == "serve" {
+        Some(Command::Help {
+            topic: Topic::Serve,
+        })
     } else {
-        command
+        None
     }
 }
 
 // What a command with a path alone asks for.
 #[tactic(auto, unfolding(crate::specs::Words::all_turns))]
 fn command_for<'a>(command: &str, path: &'a str) -> Option<Command<'a>>
-    ensures { option_map request_of result ≡ request_for command.now path.now }
+    ensures { option_map request_of result ≡ command_for command.now path.now }
 {
     if command == "check" {
-        Some(or_help(path, Command::Check { conf: path }))
+        Some(Command::Check { conf: path })
     } else if command == "replay" {
-        Some(or_help(
-            path,
-            Command::Replay {
-                script: path,
-                racy: false,
-            },
-        ))
+        Some(Command::Replay {
+            script: path,
+            racy: false,
+        })
     } else if command == "serve" {
-        Some(or_help(
-            path,
-            Command::Serve {
-                conf: path,
-                turns: ALL_TURNS,
-                racy: false,
-            },
-        ))
+        Some(Command::Serve {
+            conf: path,
+            turns: ALL_TURNS,
+            racy: false,
+        })
     } else {
         None
     }
 }
 
-// What a command with a path and one option asks for.
+// What a command with a path and `--racy` asks for.
 #[tactic(auto, unfolding(crate::specs::Words::all_turns))]
 fn racy_for<'a>(command: &str, path: &'a str, option: &str) -> Option<Command<'a>>
     ensures { option_map request_of result ≡ racy_for command.now path.now option.now }
@@ -165,14 +174,26 @@ fn both_for<'a>(
     }
 }
 
-// What a command with a path and options asks for.
+// What a command with a path and options asks for: in place of the path, or after it, the help can be asked for.
 fn with_options<'a>(command: &str, path: &'a str, options: &[String]) -> Option<Command<'a>>
     ensures { option_map request_of result
         ≡ with_options command.now path.now (map string_bytes options.now) }
 {
     match options {
-        [] => command_for(command, path),
-        [option] => racy_for(command, path, option.as_str()),
+        [] => {
+            if is_help(path) {
+                help_for(command)
+            } else {
+                command_for(command, path)
+            }
+        }
+        [option] => {
+            if is_help(option.as_str()) {
+                help_for(command)
+            } else {
+                racy_for(command, path, option.as_str())
+            }
+        }
         [option, turns] => turns_for_path(command, path, option.as_str(), turns.as_str()),
         [first, second, third] => both_for(
             command,

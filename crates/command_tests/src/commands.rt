@@ -102,7 +102,7 @@ fn one_peer(alloc: Global) -> Result<Vec<ScriptedNotice>, Fail> {
     Ok(notices)
 }
 
-fn called(alloc: Global, words: &[&str]) -> Result<Vec<String>, Fail> {
+pub(crate) fn called(alloc: Global, words: &[&str]) -> Result<Vec<String>, Fail> {
     let mut called = Vec::new(alloc);
     for word in words {
         called.push(String::from_str(alloc, word)?)?;

@@ -76,7 +76,7 @@ pub some-by : {A B : Type 0} (r : Option A) (bs : List B) (first : A → B) (mor
 some-by None bs first more h = ap (λ bs. is_some (first_of bs)) (sym h)
 some-by (Some a) bs first more h = ap (λ bs. is_some (first_of bs)) (sym h)
 
--- what stands in `http`
+-- what is in `http`
 
 pub http-none : (top : Forest) → blocks_of (codes "http") top ≡ [] → forest_of [] ≡ http_in top
 http-none top e = forest-none ∙ ap (λ bs. body_in (first_of bs)) (sym e)

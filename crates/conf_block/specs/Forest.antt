@@ -8,12 +8,12 @@ pub data Forest : Type 0 where
   End : Forest
   Branch : Directive → (block : Forest) → (beside : Forest) → Forest
 
--- of what stands behind a directive of this depth: the directives in its block, up to the first that is no deeper
+-- of what comes after a directive of this depth: the directives in its block, up to the first that is no deeper
 unfoldable pub inside : (depth : ℕ) → Forest → Forest
 inside depth End = End
 inside depth (Branch d block beside) = if nat_lt depth d.depth then Branch d block (inside depth beside) else End
 
--- and those behind its block
+-- and those after its block
 unfoldable pub outside : (depth : ℕ) → Forest → Forest
 outside depth End = End
 outside depth (Branch d block beside) = if nat_lt depth d.depth then outside depth beside else Branch d block beside
@@ -28,7 +28,7 @@ unfoldable pub roots : Forest → List Directive
 roots End = []
 roots (Branch d block beside) = d ∷ roots beside
 
--- a first directive has the block that stands behind it in the text, and what stands behind the block is beside it
+-- a first directive has the block that comes after it in the text, and what comes after the block is beside it
 abbrev pub HasItsBlock : Type 0
 HasItsBlock = (d : Directive) (rest behind : List Directive) → rest ≡ block_of d.depth rest ++ behind
     → forest_of (d ∷ rest) ≡ Branch d (forest_of (block_of d.depth rest)) (forest_of behind)

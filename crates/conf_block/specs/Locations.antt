@@ -1,7 +1,7 @@
--- The words of `location` (nginx's core module): a text, behind a modifier or alone.
+-- The words of `location` (nginx's core module): a text, after a modifier or alone.
 use Rattle.std.specs.Prelude.{ℕ, List, [], ◌∷◌, Bool, true, false, not, ◌&&◌, ◌||◌, Option, None, Some, bytes_eq, codes, if◌then◌else◌}
-use Rattle.conf_table.specs.declared.rule.Place.{Place}
-use Rattle.conf_table.specs.declared.rule.Place.TheVariants as places
+use Rattle.conf_table.specs.declared.rule.Context.{Context}
+use Rattle.conf_table.specs.declared.rule.Context.TheVariants as places
 use Rattle.conf_table.specs.declared.role.Role.{Role}
 use Rattle.conf_table.specs.declared.role.Role.TheVariants as roles
 use Rattle.conf_block.specs.declared.role.Content.{Content}
@@ -11,7 +11,7 @@ use Rattle.conf_block.specs.declared.location.Kind.TheVariants.{Prefix, Exact, N
 use Rattle.conf_text.specs.declared.directive.Directive.{Directive}
 use Rattle.conf_block.specs.Roles.{is_named, role_of}
 
--- what a location is found by, where none like it may stand beside it in its level
+-- what a location is found by: no two locations of a level may have the same
 abbrev pub Key : Type 0
 Key = Kind × List ℕ
 
@@ -24,15 +24,15 @@ abbrev pub key_with : Option Kind → List ℕ → Option Key
 key_with None text = None
 key_with (Some kind) text = Some (kind, text)
 
--- Those with a prefix, with `^~` or without, are of one kind, those with `=` of another, and those of a name of a third; one
--- with a regular expression may stand again.
+-- Those with a prefix, with `^~` or without, are of one kind, those with `=` of another, and those of a name of a
+-- third; of those with a regular expression a level may have several that are alike.
 unfoldable pub key_of : List (List ℕ) → Option Key
 key_of [] = None
 key_of (word ∷ []) = Some (if is_named word then Named else Prefix, word)
 key_of (modifier ∷ word ∷ []) = key_with (kind_by modifier) word
 key_of (modifier ∷ word ∷ other ∷ words) = None
 
--- a word alone, or a text behind one of the modifiers
+-- a word alone, or a text after one of the modifiers
 unfoldable pub has_modifier : List (List ℕ) → Bool
 has_modifier [] = false
 has_modifier (word ∷ []) = true
@@ -51,11 +51,11 @@ is_plain [] = false
 is_plain (word ∷ []) = if is_named word then false else true
 is_plain (modifier ∷ word ∷ words) = false
 
-abbrev pub is_location : Place → Bool
+abbrev pub is_location : Context → Bool
 is_location places.Location = true
 is_location _ = false
 
--- A location that may not stand here, though others may: a location of a name in another, and any in one that is closed.
+-- A location that may not be here, though others may: a location of a name in another, and any in one that is closed.
 abbrev pub is_misplaced : Content → Role → List (List ℕ) → Bool
 is_misplaced Closed roles.Location args = true
 is_misplaced (Directives here) roles.Location args = is_location here && has_name args

@@ -1,7 +1,7 @@
 -- What a directive is by its name, and what its block holds.
 use Rattle.std.specs.Prelude.{ℕ, List, [], ◌∷◌, Bool, true, false, ◌==◌, Option, None, Some, codes, bytes_eq, if◌then◌else◌}
-use Rattle.conf_table.specs.declared.rule.Place.{Place}
-use Rattle.conf_table.specs.declared.rule.Place.TheVariants as places
+use Rattle.conf_table.specs.declared.rule.Context.{Context}
+use Rattle.conf_table.specs.declared.rule.Context.TheVariants as places
 use Rattle.conf_text.specs.declared.directive.Directive.{Directive}
 use Rattle.conf_table.specs.declared.role.Role.{Role}
 use Rattle.conf_table.specs.declared.role.Role.TheVariants as roles
@@ -23,8 +23,8 @@ role_by (Some rule) = rule.role
 unfoldable pub role_of : List ℕ → Role
 role_of name = role_by (entry_of name)
 
--- the place in the block of an `if` that stands here
-abbrev pub place_in_if : Place → Place
+-- the place in the block of an `if` that is here
+abbrev pub place_in_if : Context → Context
 place_in_if places.Top = places.ServerIf
 place_in_if places.Events = places.ServerIf
 place_in_if places.Http = places.ServerIf
@@ -39,9 +39,9 @@ is_closed [] = false
 is_closed (word ∷ []) = is_named word
 is_closed (modifier ∷ word ∷ words) = bytes_eq modifier (codes "=")
 
--- What the block of a directive that stands here holds: directives in a place of their own, or the lines of `types`. Those
+-- What the block of a directive that is here holds: directives in a place of their own, or the lines of `types`. Those
 -- that have no block leave the place as it is.
-abbrev pub content_of : Role → Place → List (List ℕ) → Content
+abbrev pub content_of : Role → Context → List (List ℕ) → Content
 content_of roles.Http here args = Directives places.Http
 content_of roles.Events here args = Directives places.Events
 content_of roles.Server here args = Directives places.Server
@@ -50,8 +50,8 @@ content_of roles.If here args = Directives (place_in_if here)
 content_of roles.Types here args = Lines
 content_of _ here args = Directives here
 
--- the place of directives that stand among these
-abbrev pub place_of : Content → Place
+-- the place of directives that are among these
+abbrev pub place_of : Content → Context
 place_of (Directives here) = here
 place_of Closed = places.Location
 place_of Lines = places.Location
@@ -62,7 +62,7 @@ are_directives (Directives here) = true
 are_directives Closed = true
 are_directives Lines = false
 
--- what the block of a directive holds that stands among these
+-- what the block of a directive holds that is among these
 unfoldable pub content_inside : Content → Directive → Content
 content_inside (Directives here) d = content_of (role_of d.name) here d.args
 content_inside Closed d = content_of (role_of d.name) places.Location d.args

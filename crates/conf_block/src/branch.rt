@@ -4,7 +4,7 @@ ghost use Rattle.conf_block.specs.Forest.{End, Branch as With, forest_of, HasIts
 
 use conf_text::{Directive, split_block};
 
-/// The first directive of a level, the directives in its block, and those behind it in the level.
+/// The first directive of a level, the directives in its block, and those after it in the level.
 #[derive(Clone, Copy)]
 pub struct Branch<'a> {
     pub directive: &'a Directive,
@@ -14,7 +14,9 @@ pub struct Branch<'a> {
 
 /// The first directive of a level, if there is one. Takes no memory.
 pub fn first_branch(level: &[Directive]) -> Option<Branch<'_>>
-    ensures forest { MatchOption result (forest_of level.now ≡ End) (λ b. forest_of level.now ≡ With b.directive.now (forest_of b.block.now) (forest_of b.beside.now)) }
+    ensures forest { MatchOption result (forest_of level.now ≡ End)
+        (λ b. forest_of level.now
+        ≡ With b.directive.now (forest_of b.block.now) (forest_of b.beside.now)) }
     ensures block { IfSome result (λ b. length b.block.now < length level.now) }
     ensures beside { IfSome result (λ b. length b.beside.now < length level.now) }
 {
@@ -31,7 +33,7 @@ pub fn first_branch(level: &[Directive]) -> Option<Branch<'_>>
     }
 }
 
-/// A directive's block is what stands behind it in the text up to the first directive that is no deeper.
+/// A directive's block is what comes after it in the text, up to the first directive that is no deeper.
 pub fn blocks_stand_behind()
     ensures { HasItsBlock }
 {}

@@ -55,7 +55,8 @@ pub fn addresses(alloc: Global, level: &[Directive]) -> Result<Listens, OutOfMem
 
 /// The addresses of a server: port 80 of every IPv4 address where it names none (nginx's documentation, `listen`).
 pub fn listens_of(alloc: Global, server: &[Directive]) -> Result<Listens, OutOfMemory>
-    ensures { IfOk result (λ listens. listens ≡ or_default (addresses (roots (forest_of server.now)))) }
+    ensures { IfOk result (λ listens.
+        listens ≡ or_default (addresses (roots (forest_of server.now)))) }
 {
     let mut listens = addresses(alloc, server)?;
     if listens.as_slice().is_empty() {

@@ -7,7 +7,7 @@ ghost use Rattle.conf_block.specs.Locations.{kind_by, key_with, key_of, has_modi
 use crate::branch::{Branch, first_branch};
 use crate::role::{Content, is_named, role_of};
 use byte_text::ByteText;
-use conf_table::{Place, Role};
+use conf_table::{Context, Role};
 use conf_text::Directive;
 
 /// What a location is like: with a prefix, exact, or of a name.
@@ -18,7 +18,7 @@ pub enum Kind {
     Named,
 }
 
-/// What a location is found by, where none like it may stand beside it in its level.
+/// What a location is found by: no two locations of a level may have the same.
 #[derive(Clone, Copy)]
 pub struct Key<'a> {
     pub kind: Kind,
@@ -46,8 +46,8 @@ fn key_with(kind: Option<Kind>, text: &[u8]) -> Option<Key<'_>>
     }
 }
 
-/// What a location of these words is found by (nginx's documentation, `location`); one with a regular expression may stand
-/// again.
+/// What a location of these words is found by (nginx's documentation, `location`). None for one with a regular
+/// expression, of which a level may have several that are alike.
 #[tactic(auto, unfolding(crate::specs::Locations::key_of))]
 pub fn key_of(words: &[ByteText]) -> Option<Key<'_>>
     ensures { option_map (λ k. (k.kind, k.text.now)) result ≡ key_of words.now }
@@ -72,7 +72,8 @@ pub fn key_of(words: &[ByteText]) -> Option<Key<'_>>
     }
 }
 
-/// Whether the words are one alone, or a text behind a modifier: `=`, `^~`, `~` or `~*` (nginx's documentation, `location`).
+/// Whether the words are one alone, or a text after a modifier: `=`, `^~`, `~` or `~*` (nginx's documentation,
+/// `location`).
 #[tactic(auto, unfolding(crate::specs::Locations::has_modifier))]
 pub fn has_modifier(words: &[ByteText]) -> bool
     ensures { result ≡ has_modifier words.now }
@@ -109,17 +110,17 @@ pub fn is_plain(words: &[ByteText]) -> bool
     }
 }
 
-fn is_location(place: Place) -> bool
+fn is_location(place: Context) -> bool
     ensures { result ≡ is_location place }
 {
     match place {
-        Place::Location => true,
+        Context::Location => true,
         _ => false,
     }
 }
 
-/// Whether a directive is a location that may not stand here, though others may: one of a name in another, or any in one with
-/// `=` or of a name.
+/// Whether a directive is a location that may not be here, though others may: one of a name in another, or any in one
+/// with `=` or of a name.
 pub fn is_misplaced(here: Content, role: Role, words: &[ByteText]) -> bool
     ensures { result ≡ is_misplaced here role words.now }
 {
@@ -197,7 +198,8 @@ fn is_found(named: bool, directive: &Directive) -> bool
 /// The first location of a level that has a name, or else that a path finds; and what is after it. Takes no memory.
 pub fn next_location(level: &[Directive], named: bool) -> Option<Branch<'_>>
     ensures forest { MatchOption result (from_first (is_found named) (forest_of level.now) ≡ End)
-        (λ b. from_first (is_found named) (forest_of level.now) ≡ With b.directive.now (forest_of b.block.now) (forest_of b.beside.now)) }
+        (λ b. from_first (is_found named) (forest_of level.now)
+        ≡ With b.directive.now (forest_of b.block.now) (forest_of b.beside.now)) }
     ensures found { IfSome result (λ b. is_found named b.directive.now ≡ true) }
     ensures block { IfSome result (λ b. length b.block.now < length level.now) }
     ensures beside { IfSome result (λ b. length b.beside.now < length level.now) }

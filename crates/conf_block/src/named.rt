@@ -6,10 +6,12 @@ ghost use Rattle.conf_block.specs.Blocks.{block_with, blocks_of, block_of, http_
 use crate::branch::{Branch, first_branch};
 use conf_text::Directive;
 
-/// The first directive of this name in a level, and what stands behind it.
+/// The first directive of this name in a level, and what comes after it.
 pub fn next_named<'a>(level: &'a [Directive], name: &[u8]) -> Option<Branch<'a>>
     ensures blocks { MatchOption result (blocks_of name.now (forest_of level.now) ≡ [])
-        (λ b. blocks_of name.now (forest_of level.now) ≡ block_with b.directive.now (forest_of b.block.now) ∷ blocks_of name.now (forest_of b.beside.now)) }
+        (λ b. blocks_of name.now (forest_of level.now)
+        ≡ block_with b.directive.now (forest_of b.block.now)
+        ∷ blocks_of name.now (forest_of b.beside.now)) }
     ensures beside { IfSome result (λ b. length b.beside.now < length level.now) }
 {
     let mut rest = level;
@@ -22,7 +24,7 @@ pub fn next_named<'a>(level: &'a [Directive], name: &[u8]) -> Option<Branch<'a>>
     None
 }
 
-/// Whether a directive of this name stands in a level.
+/// Whether a directive of this name is in a level.
 pub fn has_named(level: &[Directive], name: &[u8]) -> bool
     ensures { result ≡ is_some (block_of name.now (forest_of level.now)) }
 {

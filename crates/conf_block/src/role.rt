@@ -3,15 +3,15 @@ ghost use Rattle.std.specs.Prelude.{◌≡◌};
 ghost use Rattle.conf_block.specs.Roles.{role_of, place_in_if, is_named, is_closed, content_of, place_of, are_directives, content_inside};
 
 use byte_text::ByteText;
-use conf_table::{Place, Role, entry};
+use conf_table::{Context, Role, entry};
 use conf_text::Directive;
 
 /// What a block holds.
 #[derive(Clone, Copy)]
 pub enum Content {
-    /// Directives that stand in this place.
-    Directives(Place),
-    /// Directives of a location in which no location may stand.
+    /// Directives that are in this place.
+    Directives(Context),
+    /// Directives of a location in which no location may be.
     Closed,
     /// The lines of `types`.
     Lines,
@@ -28,14 +28,14 @@ pub fn role_of(name: &[u8]) -> Role
     }
 }
 
-fn place_in_if(here: Place) -> Place
+fn place_in_if(here: Context) -> Context
     ensures { result ≡ place_in_if here }
 {
     match here {
-        Place::Location => Place::LocationIf,
-        Place::LocationIf => Place::LocationIf,
-        Place::Top | Place::Events | Place::Http | Place::Server | Place::ServerIf => {
-            Place::ServerIf
+        Context::Location => Context::LocationIf,
+        Context::LocationIf => Context::LocationIf,
+        Context::Top | Context::Events | Context::Http | Context::Server | Context::ServerIf => {
+            Context::ServerIf
         }
     }
 }
@@ -61,19 +61,19 @@ fn is_closed(words: &[ByteText]) -> bool
     }
 }
 
-/// What the block of a directive that stands here holds.
-fn content_of(role: Role, here: Place, words: &[ByteText]) -> Content
+/// What the block of a directive that is here holds.
+fn content_of(role: Role, here: Context, words: &[ByteText]) -> Content
     ensures { result ≡ content_of role here words.now }
 {
     match role {
-        Role::Http => Content::Directives(Place::Http),
-        Role::Events => Content::Directives(Place::Events),
-        Role::Server => Content::Directives(Place::Server),
+        Role::Http => Content::Directives(Context::Http),
+        Role::Events => Content::Directives(Context::Events),
+        Role::Server => Content::Directives(Context::Server),
         Role::Location => {
             if is_closed(words) {
                 Content::Closed
             } else {
-                Content::Directives(Place::Location)
+                Content::Directives(Context::Location)
             }
         }
         Role::If => Content::Directives(place_in_if(here)),
@@ -82,13 +82,13 @@ fn content_of(role: Role, here: Place, words: &[ByteText]) -> Content
     }
 }
 
-/// The place of directives that stand among these.
-pub fn place_of(here: Content) -> Place
+/// The place of directives that are among these.
+pub fn place_of(here: Content) -> Context
     ensures { result ≡ place_of here }
 {
     match here {
         Content::Directives(place) => place,
-        Content::Closed | Content::Lines => Place::Location,
+        Content::Closed | Content::Lines => Context::Location,
     }
 }
 
@@ -102,7 +102,7 @@ pub fn are_directives(here: Content) -> bool
     }
 }
 
-/// What the block of a directive holds that stands among these: directives, or lines of `types`.
+/// What the block of a directive holds that is among these: directives, or lines of `types`.
 #[tactic(auto, unfolding(crate::specs::Roles::content_inside))]
 pub fn content_inside(here: Content, directive: &Directive) -> Content
     ensures { result ≡ content_inside here directive.now }
@@ -111,7 +111,7 @@ pub fn content_inside(here: Content, directive: &Directive) -> Content
     let words = directive.args.as_slice();
     match here {
         Content::Directives(place) => content_of(role, place, words),
-        Content::Closed => content_of(role, Place::Location, words),
+        Content::Closed => content_of(role, Context::Location, words),
         Content::Lines => Content::Lines,
     }
 }

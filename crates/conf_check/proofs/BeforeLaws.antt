@@ -36,7 +36,7 @@ or_nothing false t e = sym (ap (λ t. t || false) e)
 true_is_not_false : true ≡ false → ⊥
 true_is_not_false e = cc
 
--- a name of which one alone may stand is none of which several may
+-- a name of which one alone may be there is none of which several may
 other_name : (name other : List ℕ) → stands_once (entry_of other) ≡ true → stands_once (entry_of name) ≡ false → bytes_eq name other ≡ false
 other_name name other one several =
     elim (bytes_eq name other) as (λ t. bytes_eq name other ≡ t → t ≡ false) [
@@ -98,7 +98,7 @@ remembers-add names names' addrs addrs' locations locations' d earlier n a l r =
       ∙ ap (λ xs. list_any (same_key kind text) xs) (sym (keys-append earlier (d ∷ [])));
 }
 
--- these two stand once
+-- these two may be there once
 pub root-once : stands_once (entry_of (codes "root")) ≡ true
 unfolding entry_of rule_in rows same_text
 root-once = refl

@@ -84,7 +84,7 @@ Ends = Addr → Bool
 abbrev Names : Type 0
 Names = List ℕ → Bool
 
--- what is asked for behind a directive that has no fault of its own, and behind one whose patterns have none
+-- what is asked for after a directive that has no fault of its own, and after one whose patterns have none
 abbrev after : (known : Names) (marked : Ends) (here : Content) (earlier : List Directive) (d : Directive) (block beside : Forest) → Result Ends ConfFault
 after known marked here earlier d block beside =
     checked known (with_end (default_by here d) marked) (content_inside here d) [] block >>= (λ inner. checked known inner here (earlier ++ d ∷ []) beside)
@@ -122,7 +122,7 @@ standing-end known first marked here names addrs locations rest level s e = sym 
 abbrev pub IsOwn : (known : Names) (marked : Ends) (here : Content) (names : List (List ℕ)) (addrs : BTreeSet Key) (locations : LocationSet) (d : Directive) → Option FaultKind → Type 0
 IsOwn known marked here names addrs locations d kind = (earlier : List Directive) → Remembers names addrs locations earlier → kind ≡ fault_in known marked here earlier d
 
--- a directive stands first of those that are left, with this fault of its own
+-- a directive is the first of those that are left, with this fault of its own
 pub record At (known : Names) (first marked : Ends) (here : Content) (names : List (List ℕ)) (addrs : BTreeSet Key) (locations : LocationSet) (d : Directive) (kind : Option FaultKind) (block beside rest level : List Directive) : Type 0 where
   pub standing : Standing known first marked here names addrs locations rest level
   pub forest : forest_of rest ≡ Branch d (forest_of block) (forest_of beside)

@@ -5,7 +5,7 @@ use Rattle.conf_text.specs.declared.fault.ConfFault.{ConfFault}
 use Rattle.conf_check.specs.declared.error.ReadError.{ReadError}
 use Rattle.conf_check.specs.declared.error.ReadError.TheVariants as reads
 use Rattle.http_types.specs.declared.words.Addr.{Addr}
-use Rattle.conf_table.specs.declared.rule.Place.TheVariants as places
+use Rattle.conf_table.specs.declared.rule.Context.TheVariants as places
 use Rattle.conf_block.specs.declared.role.Content.TheVariants.{Directives}
 use Rattle.conf_block.specs.Forest.{Forest, forest_of}
 use Rattle.conf_block.specs.Blocks.{http_in}

@@ -57,7 +57,7 @@ next-word xs i x h e = drop-cons xs i x h ∙ ap (λ y. y ∷ drop (suc i) xs) (
 pub no-words : {A : Type 0} (xs : List A) (i : ℕ) → length xs ≤ i → drop i xs ≡ []
 no-words xs i h = drop_of_length-le xs h
 
--- a directive that stands among lines, and one that stands among directives
+-- a directive that is among lines, and one that is among directives
 
 pub flaw-elsewhere : (known : List ℕ → Bool) (here : Content) (d : Directive) (before : ℕ) → are_directives here ≡ false → IsFlaw before before (faulty d (pattern_fault known here d)) (Ok tt)
 unfolding pattern_fault faulty

@@ -27,13 +27,13 @@ StillServed here rest level = served here (forest_of rest) ≡ served here (fore
 pub still-end : (here : Content) (rest level : List Directive) → StillServed here rest level → forest_of rest ≡ End → served here (forest_of level) ≡ sound
 still-end here rest level same e = sym same ∙ ap (served here) e ∙ served-none here
 
--- a directive stands first of those that are left, and is refused so
+-- a directive is the first of those that are left, and is refused so
 pub record At (here : Content) (d : Directive) (kind : Option FaultKind) (block beside rest level : List Directive) : Type 0 where
   pub same : StillServed here rest level
   pub forest : forest_of rest ≡ Branch d (forest_of block) (forest_of beside)
   pub own : kind ≡ refusal (is_served here d)
 
--- what is asked for behind a directive that is served
+-- what is asked for after a directive that is served
 abbrev behind : (here : Content) (d : Directive) (block beside : List Directive) → Result (Unit {0}) ConfFault
 behind here d block beside = served (content_inside here d) (forest_of block) >> served here (forest_of beside)
 

@@ -1,4 +1,4 @@
--- What is kept of the directives that stand before one in its level.
+-- What is kept of the directives before one in its level.
 use Rattle.std.specs.Prelude.{◌≡◌, ℕ, List, [], ◌∷◌, ◌++◌, Bool, true, false, not, Option, None, Some, bytes_eq}
 use Rattle.std.specs.List.{list_any}
 use Rattle.std.specs.BTreeSet.{BTreeSet}
@@ -15,18 +15,18 @@ use Rattle.conf_check.specs.Keys.{same_key, keys_of}
 use Rattle.conf_check.specs.LocationSet.{has_location}
 use Rattle.conf_check.specs.Faults.{is_named}
 
--- one alone of such a directive may stand in a level
+-- a level may have one alone of such a directive
 abbrev pub stands_once : Option DirectiveRule → Bool
 stands_once None = false
 stands_once (Some rule) = not rule.many
 
--- a name behind the others, where it is kept
+-- a name after the others, where it is kept
 abbrev pub with_name : Bool → List (List ℕ) → List ℕ → List (List ℕ)
 with_name true names name = names ++ name ∷ []
 with_name false names name = names
 
--- These names tell which directives that stand once are there, these are the addresses that are listened on, and these are
--- what the locations are found by.
+-- These names tell which of the directives are there that may be there once alone, these are the addresses that are
+-- listened on, and these are what the locations are found by.
 pub record Remembers (names : List (List ℕ)) (addrs : BTreeSet Key) (locations : LocationSet) (earlier : List Directive) : Type 0 where
   pub once : (name : List ℕ) → stands_once (entry_of name) ≡ true → list_any (λ n. bytes_eq n name) names ≡ is_named name earlier
   pub listens : (addr : Addr) → has_end addrs addr ≡ list_any (λ a. same_addr a addr) (listens_of earlier)

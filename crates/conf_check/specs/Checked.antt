@@ -24,7 +24,7 @@ is_type_line d = elim d.args [ [] ↦ false | word ∷ words ↦ if d.block then
 abbrev pub line_fault : Directive → Option FaultKind
 line_fault d = if is_type_line d then None else Some Count
 
--- what is wrong with a directive alone that stands here, behind these of its level
+-- what is wrong with a directive alone that is here, after these of its level
 unfoldable pub fault_in : (known : List ℕ → Bool) → (marked : Addr → Bool) → Content → (earlier : List Directive) → Directive → Option FaultKind
 fault_in known marked (Directives here) earlier d = own_fault known marked (Directives here) earlier d
 fault_in known marked Closed earlier d = own_fault known marked Closed earlier d
@@ -38,9 +38,9 @@ default_with _ d = None
 abbrev pub default_by : Content → Directive → Option Addr
 default_by here d = if are_directives here then default_with (role_of d.name) d else None
 
--- The directives of a level that stands here, behind these of the same level, and those in their blocks, in text order: each
--- has no fault of its own, and then none of its patterns. `marked` are the addresses that have a default server before, and what is answered are those
--- that have one then.
+-- The directives of a level that is here, after these of the same level, and those in their blocks, in text order: each
+-- has no fault of its own, and then none of its patterns. `marked` are the addresses that have a default server before,
+-- and what is answered are those that have one then.
 unfoldable pub checked : (known : List ℕ → Bool) → (marked : Addr → Bool) → Content → (earlier : List Directive) → Forest → Result (Addr → Bool) ConfFault
 checked known marked here earlier End = Ok marked
 checked known marked here earlier (Branch d block beside) = do

@@ -3,7 +3,7 @@ use Rattle.std.specs.Prelude.{List, [], false, None, is_some, Result, Ok, Err, c
 use Rattle.conf_text.specs.declared.directive.Directive.{Directive}
 use Rattle.conf_text.specs.declared.fault.FaultKind.TheVariants.{NoServer}
 use Rattle.conf_text.specs.declared.fault.ConfFault.{ConfFault}
-use Rattle.conf_table.specs.declared.rule.Place.TheVariants as places
+use Rattle.conf_table.specs.declared.rule.Context.TheVariants as places
 use Rattle.conf_block.specs.declared.role.Content.TheVariants.{Directives}
 use Rattle.conf_block.specs.Forest.{Forest, forest_of}
 use Rattle.conf_block.specs.Blocks.{block_of, http_in}

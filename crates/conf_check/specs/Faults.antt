@@ -79,7 +79,7 @@ abbrev pub set_fault : (known : List ℕ → Bool) → List (List ℕ) → Optio
 set_fault known [] = Some BadValue
 set_fault known (word ∷ words) = named_fault known (variable_in word) words
 
--- What is wrong with the values of a directive that stands behind these of its level, where these names are those of the
+-- What is wrong with the values of a directive that comes after these of its level, where these names are those of the
 -- variables that are set, and these addresses have a default server.
 abbrev pub value_fault : (known : List ℕ → Bool) → (marked : Addr → Bool) → Role → (earlier : List Directive) → Directive → Option FaultKind
 value_fault known marked roles.Listen earlier d = listen_fault marked (listened_by d.args) (listens_of earlier) d.args
@@ -93,7 +93,7 @@ value_fault known marked roles.Set earlier d = set_fault known d.args
 value_fault known marked roles.If earlier d = unless (is_some (condition_of known d.args))
 value_fault known marked _ earlier d = None
 
--- `root` and `alias` don't stand beside each other
+-- `root` and `alias` may not be beside each other
 abbrev pub is_beside : Role → (earlier : List Directive) → Bool
 is_beside roles.Root earlier = is_named (codes "alias") earlier
 is_beside roles.Alias earlier = is_named (codes "root") earlier
@@ -107,7 +107,7 @@ rule_fault known marked (Some rule) here earlier d =
     else (if (not rule.many && is_named d.name earlier) || is_beside (role_of d.name) earlier then Some Duplicate
     else value_fault known marked (role_of d.name) earlier d))
 
--- What is wrong with a directive that stands here, behind these of its level: an unknown name, a place where it may not
--- stand, a wrong number of words or a block, a second of its name where one alone may stand, a wrong value.
+-- What is wrong with a directive that is here, after these of its level: an unknown name, a place where it may not be,
+-- a wrong number of words or a block, a second of its name where one alone may be, a wrong value.
 unfoldable pub own_fault : (known : List ℕ → Bool) → (marked : Addr → Bool) → Content → (earlier : List Directive) → Directive → Option FaultKind
 own_fault known marked here earlier d = rule_fault known marked (entry_of d.name) here earlier d

@@ -16,7 +16,7 @@ abbrev pub set_with : Role → Directive → Option (List ℕ)
 set_with roles.Set d = if d.block then None else first_variable d.args
 set_with _ d = None
 
--- the variable that a directive sets that stands among these
+-- the variable that a directive sets that is among these
 abbrev pub set_by : Content → Directive → Option (List ℕ)
 set_by here d = if are_directives here then set_with (role_of d.name) d else None
 
@@ -25,7 +25,7 @@ abbrev pub is_it : Option (List ℕ) → List ℕ → Bool
 is_it None name = false
 is_it (Some other) name = bytes_eq name other
 
--- one of the directives sets the variable, wherever it stands
+-- one of the directives sets the variable, wherever it is
 unfoldable pub is_set_in : Content → Forest → List ℕ → Bool
 is_set_in here End name = false
 is_set_in here (Branch d block beside) name =

@@ -69,7 +69,7 @@ patterns_with known _ d = reading_patterns (reading_by known d.name d.args)
 abbrev pub bad_among : List Pattern → Option FaultKind
 bad_among patterns = if list_any is_bad patterns then Some kinds.Pattern else None
 
--- what is wrong with the patterns of a directive that stands here
+-- what is wrong with the patterns of a directive that is here
 unfoldable pub pattern_fault : (known : List ℕ → Bool) → Content → Directive → Option FaultKind
 pattern_fault known here d =
     if are_directives here then bad_among (patterns_with known (role_of d.name) d) else None

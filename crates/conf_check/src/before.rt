@@ -1,4 +1,4 @@
-// The directives that stand before one in its level, as far as its faults ask for them.
+// The directives before one in its level, as far as its faults ask for them.
 ghost use Rattle.std.specs.Prelude.{◌≡◌, ℕ, List, [], ◌++◌, ◌∷◌, ◌||◌, false, OnOk, bytes_eq, map, option_map};
 ghost use Rattle.std.specs.List.{list_any};
 ghost use Rattle.conf_text.specs.declared.directive.Directive.{Directive as Line};
@@ -21,8 +21,8 @@ use conf_text::Directive;
 use http_types::Addr;
 use std::alloc::Global;
 
-/// The names of the directives of which one alone may stand in a level, the addresses that are listened on, and what the
-/// locations are found by.
+/// What is known of the directives before one in its level: the names of those of which a level may have one alone, the
+/// addresses that are listened on, and what the locations are found by.
 #[derive(Drop)]
 pub struct Before<'a> {
     pub names: Vec<&'a [u8]>,
@@ -30,7 +30,7 @@ pub struct Before<'a> {
     pub locations: LocationSet,
 }
 
-/// Whether one alone of the directives of this name may stand in a level.
+/// Whether a level may have one directive alone of this name.
 fn stands_once(name: &[u8]) -> bool
     ensures { result ≡ stands_once (entry_of name.now) }
 {
@@ -40,7 +40,7 @@ fn stands_once(name: &[u8]) -> bool
     }
 }
 
-/// Keeps the name if one alone of its directives may stand in a level.
+/// Keeps the name if a level may have one of its directives alone.
 fn add_name<'a>(names: &mut Vec<&'a [u8]>, name: &'a [u8]) -> Result<(), OutOfMemory>
     ensures { OnOk result (map (λ n. n.now) names.new.items
         ≡ with_name (stands_once (entry_of name.now)) (map (λ n. n.now) names.old.items) name.now) }
@@ -76,7 +76,7 @@ fn add_location(locations: &mut LocationSet, key: Option<Key<'_>>) -> Result<(),
 }
 
 impl<'a> Before<'a> {
-    /// Nothing stands before the first of a level. Takes no memory.
+    /// Nothing is before the first of a level. Takes no memory.
     pub fn new(alloc: Global) -> Self
         ensures names { result.names.items ≡ [] }
         ensures addrs { (q : End) → has_end result.addrs.keys q ≡ false }
@@ -114,7 +114,7 @@ impl<'a> Before<'a> {
         self.locations.has(key.kind, key.text)
     }
 
-    /// The directive stands before the next.
+    /// The directive is before the next.
     pub fn add(&mut self, directive: &'a Directive) -> Result<(), OutOfMemory>
         ensures { OnOk result ((earlier : List Line) →
             Remembers (map (λ n. n.now) self.old.names.items) self.old.addrs.keys

@@ -102,8 +102,7 @@ fn is_counted(rule: &DirectiveRule, directive: &Directive) -> bool
     rule.least as usize <= count && within(count, rule.greatest) && rule.block == directive.block
 }
 
-/// Whether an address stands in the level before, or has a default server before and is to have
-/// another.
+/// Whether an address is in the level before, or has a default server before and is to have another.
 fn is_taken(marked: &Ends, before: &Before<'_>, addr: Addr, words: &[ByteText]) -> bool
     ensures { (earlier : List End) → ((addr : End) → has_end before.now.addrs.keys addr
         ≡ list_any (λ a. same_addr a addr) earlier) →
@@ -287,7 +286,7 @@ fn value_fault(
     }
 }
 
-/// Whether `root` and `alias` would stand beside each other.
+/// Whether `root` and `alias` would be beside each other.
 fn is_beside(role: Role, before: &Before<'_>) -> bool
     ensures { (earlier : List Line) →
         Remembers (map (λ n. n.now) before.now.names.items) before.now.addrs.keys
@@ -301,7 +300,7 @@ fn is_beside(role: Role, before: &Before<'_>) -> bool
     }
 }
 
-/// Whether another of its name, or one that doesn't stand beside it, stands before.
+/// Whether another of its name is before it, or one that may not be beside it.
 fn is_again(rule: &DirectiveRule, before: &Before<'_>, name: &[u8]) -> bool
     requires { entry_of name.now ≡ Some rule.now }
     ensures { (earlier : List Line) →
@@ -344,7 +343,7 @@ fn rule_fault(
     }
 }
 
-/// What is wrong with a directive that stands here, behind these of its level.
+/// What is wrong with a directive that is here, after these of its level.
 #[tactic(auto, unfolding(crate::specs::Faults::own_fault))]
 pub fn own_fault(
     alloc: Global,

@@ -14,13 +14,13 @@ use crate::names::add_names;
 use crate::served::check_served;
 use byte_text::OutOfMemory;
 use conf_block::{Content, has_named, http_in};
-use conf_table::Place;
+use conf_table::Context;
 use conf_text::{ConfError, ConfFault, Directive, FaultKind};
 use conf_values::TextSet;
 use ngx_pattern::PatternMaker;
 use std::alloc::Global;
 
-/// A server stands in `http`.
+/// Checks that `http` has a server.
 fn some_server(http: &[Directive]) -> Result<(), ReadError>
     ensures { ReadsAlone (λ x. x) result (some_server (forest_of http.now)) }
 {
@@ -38,12 +38,12 @@ fn some_server(http: &[Directive]) -> Result<(), ReadError>
 /// The names of the variables that some directive sets.
 pub fn names_in(alloc: Global, directives: &[Directive]) -> Result<TextSet, OutOfMemory>
     ensures { IfOk result (λ names. holds names.keys
-        ≡ is_set_in (Content.Directives Place.Top) (forest_of directives.now)) }
+        ≡ is_set_in (Content.Directives Context.Top) (forest_of directives.now)) }
 {
     let mut names = TextSet::new(alloc);
     add_names(
         alloc,
-        Content::Directives(Place::Top),
+        Content::Directives(Context::Top),
         directives,
         &mut names,
     )?;
@@ -66,7 +66,7 @@ fn check_all<M: PatternMaker>(
         maker,
         &known,
         &mut marked,
-        Content::Directives(Place::Top),
+        Content::Directives(Context::Top),
         directives,
     )
 }
@@ -82,7 +82,7 @@ fn check_all<M: PatternMaker>(
 pub fn check_effects(alloc: Global, directives: &[Directive]) -> Result<(), ConfError>
     ensures { Gives (λ x. x) result (all_served (forest_of directives.now)) }
 {
-    check_served(alloc, Content::Directives(Place::Top), directives)
+    check_served(alloc, Content::Directives(Context::Top), directives)
 }
 
 /// Looks for the first fault of a configuration, whose files are put in their places (nginx's documentation, "Core
@@ -90,10 +90,10 @@ pub fn check_effects(alloc: Global, directives: &[Directive]) -> Result<(), Conf
 ///
 /// # Errors
 ///
-/// `Fault` for the first fault in the order of the text, where at one directive come an unknown name, a place where it
-/// may not stand, a wrong number of words or a block, a second one where one alone may stand, a wrong value, and a pattern
-/// that is none; then `NoServer`, at the beginning of the main file. `TooBig` for a pattern that the maker refused, where there
-/// was no fault before it. And `OutOfMemory`.
+/// `Fault` for the first fault in the order of the text. At one directive the order is: an unknown name, a place where
+/// it may not be, a wrong number of words or a block, a second one where one alone may be, a wrong value, and a pattern
+/// that is none. Then `NoServer`, at the beginning of the main file. `TooBig` for a pattern that the maker refused,
+/// where there was no fault before it. And `OutOfMemory`.
 pub fn check<M: PatternMaker>(
     alloc: Global,
     maker: &mut M,

@@ -34,7 +34,7 @@ fn line_fault(line: &Directive) -> Option<FaultKind>
     }
 }
 
-/// What is wrong with a directive alone that stands here, behind these of its level.
+/// What is wrong with a directive alone that is here, after these of its level.
 #[tactic(auto, unfolding(crate::specs::Checked::fault_in))]
 fn fault_in(
     alloc: Global,
@@ -84,8 +84,8 @@ fn default_by(here: Content, directive: &Directive) -> Option<Addr>
     }
 }
 
-/// The directives of a level that stands here, and those in their blocks, with their patterns; `marked` are the addresses that
-/// have a default server.
+/// Checks the directives of a level that is here, and those in their blocks, with their patterns; `marked` are the
+/// addresses that have a default server.
 pub fn check_level<M: PatternMaker>(
     alloc: Global,
     maker: &mut M,

@@ -1,4 +1,4 @@
-// The locations that stand before one in its level.
+// The locations before one in its level.
 ghost use Rattle.std.specs.Prelude.{◌≡◌, ℕ, List, ◌||◌, false, OnOk};
 
 use byte_text::OutOfMemory;

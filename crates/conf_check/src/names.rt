@@ -39,7 +39,7 @@ fn set_with(
     }
 }
 
-/// The variable that a directive sets that stands among these.
+/// The variable that a directive sets that is among these.
 fn set_by(
     alloc: Global,
     here: Content,

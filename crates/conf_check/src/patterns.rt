@@ -39,7 +39,7 @@ pub fn regex_case(words: &[ByteText]) -> Option<bool>
     }
 }
 
-/// The regular expression of a name of a server, if it is one: what is behind its `~`.
+/// The regular expression of a name of a server, if it is one: what comes after its `~`.
 pub fn name_pattern(word: &[u8]) -> Option<&[u8]>
     ensures { option_map (λ t. t.now) result ≡ name_pattern word.now }
 {
@@ -244,7 +244,7 @@ fn error_of(alloc: Global, directive: &Directive, flaw: Option<Flaw>) -> Result<
     }
 }
 
-/// Each pattern of a directive that stands here has an expression.
+/// Checks that each pattern of a directive that is here has an expression.
 pub fn check_patterns<M: PatternMaker>(
     alloc: Global,
     maker: &mut M,

@@ -39,7 +39,7 @@ fn is_featured(name: &[u8]) -> bool
     }
 }
 
-/// Whether a directive that stands here is served.
+/// Whether a directive that is here is served.
 fn is_served(here: Content, directive: &Directive) -> bool
     ensures { result ≡ is_served here directive.now }
 {
@@ -58,7 +58,7 @@ fn refusal(served: bool) -> Option<FaultKind>
     }
 }
 
-/// The directives of a level that stands here, and those in their blocks, are served.
+/// Checks that the directives of a level that is here, and those in their blocks, are served.
 pub fn check_served(alloc: Global, here: Content, level: &[Directive]) -> Result<(), ConfError>
     ensures { Gives (λ x. x) result (served here (forest_of level.now)) }
 {

@@ -19,7 +19,7 @@ stop_same (stop.Fault fault) o p ps is h = is ∙ h
 stop_same (stop.Failed fault) o p ps is h = tt
 stop_same stop.OutOfMemory o p ps is h = tt
 
--- a stop behind directives
+-- a stop after directives
 pub stop_onto : (e : Stop) (lines : List Directive) (depth : ℕ) (o : Outcome) (ps : List (List ℕ)) → StopsAs e o ps → StopsAs e (onto lines depth o) ps
 stop_onto (stop.Fault fault) lines depth o ps h = ap (onto lines depth) h
 stop_onto (stop.Failed fault) lines depth o ps h = tt

@@ -13,7 +13,7 @@ use Rattle.conf_include.specs.Expansion.{Spot, Tally, tally, Faulty, ◌>>=◌, 
 use Rattle.conf_include.specs.Steps.{StopsAs, Answers, IsLenOf, AreBytesOf, AreShallow}
 use Rattle.conf_include.proofs.AnswerLaws.{stop_bind, stop_same}
 
--- what stands where a stat tells a file
+-- what is where a stat tells a file
 pub file_node : (item : Item) (len date : ℕ) → File len date ≡ node_of item → (bytes : List ℕ) × (day : ℕ) × (item ≡ AFile bytes day) × (len ≡ length bytes)
 file_node (AFile bytes day) len date is = (bytes, day, refl, same is)
   where

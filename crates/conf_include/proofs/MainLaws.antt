@@ -58,7 +58,7 @@ main_opened tree names main lines inner ps size now bytes paths none is h k =
     (after_text tree main ps size bytes paths none h ∙ ap (λ r. r >>= λ lines. Ok (lines, tally ps (length bytes))) k)
     ∙ ap (λ n. put_lines tree names main 8 inner (tally ps n)) (sym is))
 
--- directives behind none, in no block
+-- directives after none, in no block
 onto_none : (o : Outcome) → onto [] 0 o ≡ o
 onto_none (Ok x) = ap (λ l. Ok (l, x.1)) (deeper_none x.0)
 onto_none (Err e) = refl

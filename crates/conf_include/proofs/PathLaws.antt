@@ -1,4 +1,4 @@
--- Where a path's last slash stands.
+-- Where a path's last slash is.
 use Rattle.std.proofs.Common.{◌≡◌, ℕ, suc, ◌+◌, ◌<◌, Bool, true, false, cond, eqb, List, [], ◌∷◌, ◌++◌, length, get_or, take, refl, ap, sym, ◌∙◌, arith, add-one}
 use Rattle.std.proofs.lemmas.List.{take_more, length-take-le}
 use Rattle.conf_include.specs.Paths.{end_behind, slash_end}

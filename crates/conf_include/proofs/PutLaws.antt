@@ -17,7 +17,7 @@ pub deeper_none : (xs : List Directive) → deeper 0 xs ≡ xs
 deeper_none [] = refl
 deeper_none (x ∷ xs) = rw (deeper_none xs, zero-add x.depth) refl
 
--- what follows the first, behind its directives
+-- what follows the first, after its directives
 abbrev rest_of : {A : Type 0} → (A → Tally → Outcome) → List A → List Directive × Tally → Outcome
 rest_of put xs first = put_all put xs first.1 >>= λ rest. Ok (first.0 ++ rest.0, rest.1)
 

@@ -34,9 +34,9 @@ pub record IsInclude (tree : Tree) (names : Names) (main at : List ℕ) (d : Dir
   pub among : IsIn tree d.file at d
   pub says : include_word d ≡ Some word
 
--- What is told where the files fail, and the path of the file in which that stands. The main file is asked for at its own
--- line 1. At an include's line its files are asked for, or the names of its mask's folder. The word of what is told is the
--- path that was asked for; of a folder, the mask's.
+-- What is told where the files fail, and the path of the file that it is told of. The main file is asked for at its own
+-- line 1. At an include's line its files are asked for, or the names of its mask's folder. The word of what is told is
+-- the path that was asked for; of a folder, the mask's.
 pub data IsAskedAt (tree : Tree) (names : Names) (main : List ℕ) (fault : ConfFault)
     (at : List ℕ) : Type 0 where
   ForMain : fault ≡ fault_about ReadFault (spot 0 1) main → at ≡ main →

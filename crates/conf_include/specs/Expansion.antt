@@ -33,7 +33,7 @@ abbrev pub ◌>>=◌ : {A B E : Type 0} → Result A E → (A → Result B E) �
 (Ok x) >>= f = f x
 (Err e) >>= f = Err e
 
--- where an include stands: the number of its file, and its line
+-- where an include is: the number of its file, and its line
 pub record Spot : Type 0 where
   pub file : ℕ
   pub line : ℕ
@@ -54,7 +54,7 @@ most_files = 256
 unfoldable pub most_deep : ℕ
 most_deep = 8
 
--- the text of a file, which stands there and fits
+-- the text of a file, which is there and fits
 abbrev pub text_in : Item → Spot → List ℕ → Tally → Faulty (List ℕ)
 text_in (AFile bytes date) at path t =
     if nat_le (t.size + length bytes) most_bytes then Ok bytes else Err (fault_about TooLarge at path, t.paths)
@@ -87,7 +87,7 @@ paths_named names path =
     if is_mask path then map (λ name. front_of path ++ name) (filter (matches (last_of path)) (names (folder_of path)))
     else path ∷ []
 
--- directives within so many more blocks
+-- directives within `depth` more blocks
 abbrev pub deepened : ℕ → Directive → Directive
 deepened depth d = record d { depth = depth + d.depth }
 
@@ -129,7 +129,7 @@ open_file tree at path t = do
   lines ← directives_in number bytes (t.paths ++ path ∷ [])
   Ok (lines, tally (t.paths ++ path ∷ []) (t.size + length bytes))
 
--- A file at the place of an include, where so many includes may still enclose each other: its directives, with each
+-- A file at the place of an include, where this many includes may still enclose each other: its directives, with each
 -- include replaced by its files. It is read whole before its includes are.
 unfoldable pub put_file : Tree → Names → (main : List ℕ) → ℕ → Spot → List ℕ → Tally → Outcome
 put_file tree names main zero at path t = Err (fault_about TooDeep at path, t.paths)
@@ -137,11 +137,11 @@ put_file tree names main (suc left) at path t = do
   opened ← open_file tree at path t
   put_all (put_line (put_file tree names main left) (named_by names main)) opened.0 opened.1
 
--- directives with each include replaced by its files, where so many includes may still enclose each other
+-- directives with each include replaced by its files, where `left` includes may still enclose each other
 abbrev pub put_lines : Tree → Names → (main : List ℕ) → ℕ → List Directive → Tally → Outcome
 put_lines tree names main left = put_all (put_line (put_file tree names main left) (named_by names main))
 
--- the main file, by its directives: its number is 0, and a fault of the file itself stands at its own first line
+-- the main file, by its directives: its number is 0, and a fault of the file itself is at its own first line
 unfoldable pub open_main : Tree → (main : List ℕ) → Outcome
 open_main tree main = do
   bytes ← text_in (tree main) (spot 0 1) main (tally (main ∷ []) 0)

@@ -14,7 +14,7 @@ is_of number d = d.file == number
 abbrev pub is_plain : Directive → Bool
 is_plain d = is_none (include_word d)
 
--- The file of a number stands whole in an expansion: its own directives, without its includes, in their order, each within
+-- The file of a number is whole in an expansion: its own directives, without its includes, in their order, each within
 -- as many blocks more as its include.
 pub record StandsWhole (tree : Tree) (paths : List (List ℕ)) (lines : List Directive) (number : ℕ) : Type 0 where
   pub bytes : List ℕ

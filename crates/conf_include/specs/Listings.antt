@@ -10,7 +10,7 @@ use Rattle.file_tree.specs.Tree.{Tree, AFolder, IsChild}
 abbrev pub byte_order : List ℕ → List ℕ → Ordering
 byte_order = slice_cmp nat_cmp
 
--- the names of a folder, each once, in byte order; where no folder stands there are none
+-- the names of a folder, each once, in byte order; where there is no folder there are none
 pub record IsListing (tree : Tree) (folder : List ℕ) (listed : List (List ℕ)) : Type 0 where
   pub order : IsStrictlySortedBy byte_order listed
   pub names : tree folder ≡ AFolder → (name : List ℕ) → Contains listed name ↔ IsChild tree folder name

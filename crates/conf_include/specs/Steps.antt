@@ -66,12 +66,12 @@ AreBytesOf item len (Err (stop.Fault fault)) = ⊥
 AreBytesOf item len (Err (stop.Failed fault)) = Unit {0}
 AreBytesOf item len (Err stop.OutOfMemory) = Unit {0}
 
--- one include more encloses those behind it
+-- one include more encloses those after it
 abbrev pub one_less : ℕ → Spot → List ℕ → List (List ℕ) → Faulty ℕ
 one_less zero at path paths = Err (fault_about TooDeep at path, paths)
 one_less (suc left) at path paths = Ok left
 
--- no directive stands within more blocks than one text may nest
+-- no directive is within more blocks than one text may nest
 abbrev pub AreShallow : List Directive → Type 0
 AreShallow lines = AllByRecursion (λ d. d.depth ≤ 32) lines
 
@@ -89,7 +89,7 @@ OnFailed (Err (stop.Fault fault)) P = Unit {0}
 OnFailed (Err (stop.Failed fault)) P = P fault
 OnFailed (Err stop.OutOfMemory) P = Unit {0}
 
--- it is about this path, and stands there
+-- it is about this path, and is there
 abbrev pub FailsAbout : {X : Type 0} → Spot → List ℕ → Result X Stop → Type 0
 FailsAbout at path result = OnFailed result (λ fault. fault ≡ fault_about ReadFault at path)
 
@@ -107,7 +107,7 @@ pub record IsRead (tree : Tree) (names : Names) (main : List ℕ) (paths : List 
   pub part : IsPart tree names main d.file (slice_index_or paths d.file [])
   pub among : IsIn tree d.file (slice_index_or paths d.file []) d
 
--- a path that an include of such a file names, and where that include stands
+-- a path that an include of such a file names, and where that include is
 pub record IsNamed (tree : Tree) (names : Names) (main : List ℕ) (paths : List (List ℕ)) (at : Spot) (path : List ℕ) : Type 0 where
   pub line : Directive
   pub word : List ℕ
@@ -123,12 +123,12 @@ IsLonger old new = (more : List (List ℕ)) × (new ≡ old ++ more)
 abbrev pub tally_of : Reading → Tally
 tally_of r = tally r.paths r.size
 
--- directives within so many blocks behind others
+-- directives within `depth` blocks after others
 abbrev pub onto : List Directive → ℕ → Outcome → Outcome
 onto lines depth (Ok x) = Ok (lines ++ deeper depth x.0, x.1)
 onto lines depth (Err e) = Err e
 
--- What was put behind the directives is what a tree and its names make of it, where the files tell that tree.
+-- What was put after the directives is what a tree and its names make of it, where the files tell that tree.
 abbrev pub Puts : (Tree → Names → Outcome) → ℕ → FilesSeen → ℕ → Reading → Reading → Result (Unit {0}) Stop → Type 0
 Puts what of t depth old new result =
     (tree : Tree) (names : Names) → IsTold of tree t → IsNaming tree names

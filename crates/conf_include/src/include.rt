@@ -49,7 +49,8 @@ fn include_word(line: &Directive) -> Option<&ByteText>
 
 /// The directives of a file of this number.
 pub fn directives_in(alloc: Global, number: u32, text: &[u8]) -> Result<Directives, Stop>
-    ensures lines { (paths : List (List ℕ)) → Answers (λ lines. lines) result (directives_in number text.now paths) paths }
+    ensures lines { (paths : List (List ℕ))
+        → Answers (λ lines. lines) result (directives_in number text.now paths) paths }
     ensures shallow { IfOk result AreShallow }
     ensures cause { (before now : ℕ) → IsCaused result before now }
     ensures never { NeverFails result }
@@ -61,9 +62,10 @@ pub fn directives_in(alloc: Global, number: u32, text: &[u8]) -> Result<Directiv
     }
 }
 
-/// How many includes may enclose each other behind one more.
+/// How many includes may enclose each other after one more.
 fn one_less(alloc: Global, left: u32, at: Spot, path: &[u8]) -> Result<u32, Stop>
-    ensures left { (paths : List (List ℕ)) → Answers (λ n. n) result (one_less left (spot at.file at.line) path.now paths) paths }
+    ensures left { (paths : List (List ℕ))
+        → Answers (λ n. n) result (one_less left (spot at.file at.line) path.now paths) paths }
     ensures less { IfOk result (λ n. n + 1 ≡ left) }
     ensures cause { (before now : ℕ) → IsCaused result before now }
     ensures never { NeverFails result }
@@ -77,7 +79,8 @@ fn one_less(alloc: Global, left: u32, at: Spot, path: &[u8]) -> Result<u32, Stop
 /// The number of the file that is read next.
 #[tactic(auto, unfolding(crate::specs::Expansion::next_number, crate::specs::Expansion::most_files))]
 fn next_number(alloc: Global, at: Spot, path: &[u8], paths: &ByteTexts) -> Result<u32, Stop>
-    ensures number { Answers (λ n. n) result (next_number (spot at.file at.line) path.now paths.now) paths.now }
+    ensures number { Answers (λ n. n) result
+        (next_number (spot at.file at.line) path.now paths.now) paths.now }
     ensures cause { (before now : ℕ) → IsCaused result before now }
     ensures never { NeverFails result }
 {
@@ -103,7 +106,9 @@ impl Reading {
         requires known { setting.now.tree ≤ (F.seen files.old).newest }
         ensures later { Later (F.seen files.old) (F.seen files.new) }
         ensures cause { IsCaused result (F.seen files.old).faults (F.seen files.new).faults }
-        ensures opens { (tree : Tree) → IsTold setting.now.tree tree (F.seen files.new) → Answers (λ lines. (lines, tally_of self.new)) result (open_file tree (spot at.file at.line) path (tally_of self.old)) self.new.paths }
+        ensures opens { (tree : Tree) → IsTold setting.now.tree tree (F.seen files.new)
+            → Answers (λ lines. (lines, tally_of self.new)) result
+            (open_file tree (spot at.file at.line) path (tally_of self.old)) self.new.paths }
         ensures place { FailsAbout (spot at.file at.line) path result }
         ensures paths { OnFailed result (λ fault. self.new.paths ≡ self.old.paths) }
         ensures grows { IfOk result (λ lines. IsLonger self.old.paths self.new.paths) }
@@ -124,7 +129,7 @@ impl Reading {
         directives_in(setting.alloc, number, text.as_slice())
     }
 
-    /// Puts a file at the place of an include, within so many blocks.
+    /// Puts a file at the place of an include, which `depth` blocks enclose.
     #[cycle(include)]
     fn put_file<F: Files>(
         &mut self,
@@ -137,11 +142,16 @@ impl Reading {
     ) -> Result<(), Stop>
         requires known { setting.now.tree ≤ (F.seen files.old).newest }
         requires room { depth + 33 * left < 2 ^ 32 }
-        requires named { WhereTold setting.now.tree (F.seen files.old) (λ tree names. IsNamed tree names setting.now.main.now self.old.paths (spot at.file at.line) path) }
+        requires named { WhereTold setting.now.tree (F.seen files.old)
+            (λ tree names. IsNamed tree names setting.now.main.now self.old.paths
+            (spot at.file at.line) path) }
         ensures later { Later (F.seen files.old) (F.seen files.new) }
         ensures cause { IsCaused result (F.seen files.old).faults (F.seen files.new).faults }
-        ensures exact { Puts (λ tree names. put_file tree names setting.now.main.now left (spot at.file at.line) path (tally_of self.old)) setting.now.tree (F.seen files.new) depth self.old self.new result }
-        ensures place { FailsWhere setting.now.tree setting.now.main.now (F.seen files.new) self.new result }
+        ensures exact { Puts (λ tree names. put_file tree names setting.now.main.now left
+            (spot at.file at.line) path (tally_of self.old))
+            setting.now.tree (F.seen files.new) depth self.old self.new result }
+        ensures place { FailsWhere setting.now.tree setting.now.main.now
+            (F.seen files.new) self.new result }
         ensures grows { IfOk result (λ _. IsLonger self.old.paths self.new.paths) }
     {
         let left = one_less(setting.alloc, left, at, path.as_slice())?;
@@ -163,11 +173,18 @@ impl Reading {
     ) -> Result<(), Stop>
         requires known { setting.now.tree ≤ (F.seen files.old).newest }
         requires room { depth + 33 * left < 2 ^ 32 }
-        requires named { WhereTold setting.now.tree (F.seen files.old) (λ tree names. AllByRecursion (IsNamed tree names setting.now.main.now self.old.paths (spot at.file at.line)) paths) }
+        requires named { WhereTold setting.now.tree (F.seen files.old)
+            (λ tree names. AllByRecursion
+            (IsNamed tree names setting.now.main.now self.old.paths (spot at.file at.line))
+            paths) }
         ensures later { Later (F.seen files.old) (F.seen files.new) }
         ensures cause { IsCaused result (F.seen files.old).faults (F.seen files.new).faults }
-        ensures exact { Puts (λ tree names. put_all (put_file tree names setting.now.main.now left (spot at.file at.line)) paths (tally_of self.old)) setting.now.tree (F.seen files.new) depth self.old self.new result }
-        ensures place { FailsWhere setting.now.tree setting.now.main.now (F.seen files.new) self.new result }
+        ensures exact { Puts (λ tree names. put_all
+            (put_file tree names setting.now.main.now left (spot at.file at.line)) paths
+            (tally_of self.old))
+            setting.now.tree (F.seen files.new) depth self.old self.new result }
+        ensures place { FailsWhere setting.now.tree setting.now.main.now
+            (F.seen files.new) self.new result }
         ensures grows { IfOk result (λ _. IsLonger self.old.paths self.new.paths) }
     {
         for path in paths.into_vec() {
@@ -176,7 +193,7 @@ impl Reading {
         Ok(())
     }
 
-    /// Puts a directive, within so many blocks, or the files of an include in its place.
+    /// Puts a directive, which `depth` blocks enclose, or the files of an include in its place.
     #[cycle(include)]
     fn put_line<F: Files>(
         &mut self,
@@ -189,11 +206,15 @@ impl Reading {
         requires known { setting.now.tree ≤ (F.seen files.old).newest }
         requires room { depth + 32 + 33 * left < 2 ^ 32 }
         requires shallow { line.depth ≤ 32 }
-        requires read { WhereTold setting.now.tree (F.seen files.old) (λ tree names. IsRead tree names setting.now.main.now self.old.paths line) }
+        requires read { WhereTold setting.now.tree (F.seen files.old)
+            (λ tree names. IsRead tree names setting.now.main.now self.old.paths line) }
         ensures later { Later (F.seen files.old) (F.seen files.new) }
         ensures cause { IsCaused result (F.seen files.old).faults (F.seen files.new).faults }
-        ensures exact { Puts (λ tree names. put_line (put_file tree names setting.now.main.now left) (named_by names setting.now.main.now) line (tally_of self.old)) setting.now.tree (F.seen files.new) depth self.old self.new result }
-        ensures place { FailsWhere setting.now.tree setting.now.main.now (F.seen files.new) self.new result }
+        ensures exact { Puts (λ tree names. put_line (put_file tree names setting.now.main.now left)
+            (named_by names setting.now.main.now) line (tally_of self.old))
+            setting.now.tree (F.seen files.new) depth self.old self.new result }
+        ensures place { FailsWhere setting.now.tree setting.now.main.now
+            (F.seen files.new) self.new result }
         ensures grows { IfOk result (λ _. IsLonger self.old.paths self.new.paths) }
     {
         let depth = depth + line.depth;
@@ -215,7 +236,8 @@ impl Reading {
         }
     }
 
-    /// Puts directives, within so many blocks, each include replaced by its files. So many includes may enclose each other.
+    /// Puts directives, which `depth` blocks enclose, each include replaced by its files. At most `left` includes
+    /// enclose each other.
     #[cycle(include)]
     pub fn put_lines<F: Files>(
         &mut self,
@@ -228,11 +250,16 @@ impl Reading {
         requires known { setting.now.tree ≤ (F.seen files.old).newest }
         requires room { depth + 32 + 33 * left < 2 ^ 32 }
         requires shallow { AreShallow lines }
-        requires read { WhereTold setting.now.tree (F.seen files.old) (λ tree names. AllByRecursion (IsRead tree names setting.now.main.now self.old.paths) lines) }
+        requires read { WhereTold setting.now.tree (F.seen files.old)
+            (λ tree names. AllByRecursion
+            (IsRead tree names setting.now.main.now self.old.paths) lines) }
         ensures later { Later (F.seen files.old) (F.seen files.new) }
         ensures cause { IsCaused result (F.seen files.old).faults (F.seen files.new).faults }
-        ensures exact { Puts (λ tree names. put_lines tree names setting.now.main.now left lines (tally_of self.old)) setting.now.tree (F.seen files.new) depth self.old self.new result }
-        ensures place { FailsWhere setting.now.tree setting.now.main.now (F.seen files.new) self.new result }
+        ensures exact { Puts (λ tree names. put_lines tree names setting.now.main.now left lines
+            (tally_of self.old))
+            setting.now.tree (F.seen files.new) depth self.old self.new result }
+        ensures place { FailsWhere setting.now.tree setting.now.main.now
+            (F.seen files.new) self.new result }
         ensures grows { IfOk result (λ _. IsLonger self.old.paths self.new.paths) }
     {
         for line in lines.into_vec() {

@@ -19,8 +19,10 @@ use std::alloc::Global;
 
 /// Names in byte order, each once.
 fn in_order(alloc: Global, found: &[ByteText]) -> Result<Vec<&[u8]>, OutOfMemory>
-    ensures order { IfOk result (λ names. IsStrictlySortedBy byte_order (map (λ n. n.now) names.items)) }
-    ensures names { IfOk result (λ names. (name : List ℕ) → Contains (map (λ n. n.now) names.items) name ↔ Contains found.now name) }
+    ensures order { IfOk result (λ names. IsStrictlySortedBy byte_order
+        (map (λ n. n.now) names.items)) }
+    ensures names { IfOk result (λ names. (name : List ℕ)
+        → Contains (map (λ n. n.now) names.items) name ↔ Contains found.now name) }
 {
     let mut names = Vec::with_capacity(alloc, found.len())?;
     for name in found {
@@ -33,7 +35,8 @@ fn in_order(alloc: Global, found: &[ByteText]) -> Result<Vec<&[u8]>, OutOfMemory
 
 /// The paths of those names of a folder that a mask matches.
 fn masked(alloc: Global, path: &[u8], names: &[&[u8]]) -> Result<ByteTexts, OutOfMemory>
-    ensures { IfOk result (λ paths. paths ≡ map (λ name. front_of path.now ++ name) (filter (matches (last_of path.now)) (map (λ n. n.now) names.now))) }
+    ensures { IfOk result (λ paths. paths ≡ map (λ name. front_of path.now ++ name)
+        (filter (matches (last_of path.now)) (map (λ n. n.now) names.now))) }
 {
     let (front, mask) = parts_of(path);
     let mut paths = ByteTexts::new(alloc);
@@ -47,7 +50,7 @@ fn masked(alloc: Global, path: &[u8], names: &[&[u8]]) -> Result<ByteTexts, OutO
     Ok(paths)
 }
 
-/// The names of a folder; none where no folder stands there.
+/// The names of a folder; none where there is no folder.
 fn names_of<F: Files>(
     alloc: Global,
     files: &mut F,
@@ -57,7 +60,8 @@ fn names_of<F: Files>(
     ensures later { Later (F.seen files.old) (F.seen files.new) }
     ensures cause { IsCaused result (F.seen files.old).faults (F.seen files.new).faults }
     ensures place { FailsAbout (spot at.file at.line) path.now result }
-    ensures names { (of : ℕ) (tree : Tree) → of ≤ (F.seen files.old).newest → IsTold of tree (F.seen files.new) → NamesFound tree (folder_of path.now) result }
+    ensures names { (of : ℕ) (tree : Tree) → of ≤ (F.seen files.old).newest
+        → IsTold of tree (F.seen files.new) → NamesFound tree (folder_of path.now) result }
 {
     let mut names = ByteTexts::new(alloc);
     match files.list(folder_of(path), &mut names) {
@@ -84,7 +88,9 @@ fn paths_matched<F: Files>(
     ensures later { Later (F.seen files.old) (F.seen files.new) }
     ensures cause { IsCaused result (F.seen files.old).faults (F.seen files.new).faults }
     ensures place { FailsAbout (spot at.file at.line) path.now result }
-    ensures paths { (of : ℕ) (tree : Tree) (names : Names) → of ≤ (F.seen files.old).newest → IsTold of tree (F.seen files.new) → IsNaming tree names → AreNamed (paths_named names path.now) result }
+    ensures paths { (of : ℕ) (tree : Tree) (names : Names) → of ≤ (F.seen files.old).newest
+        → IsTold of tree (F.seen files.new) → IsNaming tree names
+        → AreNamed (paths_named names path.now) result }
 {
     let found = names_of(alloc, files, path, at)?;
     let names = in_order(alloc, found.as_slice())?;
@@ -102,7 +108,9 @@ pub fn paths_named<F: Files>(
     ensures cause { IsCaused result (F.seen files.old).faults (F.seen files.new).faults }
     ensures place { FailsAbout (spot at.file at.line) path result }
     ensures mask { OnFailed result (λ fault. is_mask path ≡ true) }
-    ensures paths { (of : ℕ) (tree : Tree) (names : Names) → of ≤ (F.seen files.old).newest → IsTold of tree (F.seen files.new) → IsNaming tree names → AreNamed (paths_named names path) result }
+    ensures paths { (of : ℕ) (tree : Tree) (names : Names) → of ≤ (F.seen files.old).newest
+        → IsTold of tree (F.seen files.new) → IsNaming tree names
+        → AreNamed (paths_named names path) result }
 {
     if is_mask(path.as_slice()) {
         return paths_matched(alloc, files, path.as_slice(), at);

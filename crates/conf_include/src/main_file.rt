@@ -65,8 +65,10 @@ fn read_main<F: Files>(
     requires lines { reading.old.lines ≡ [] }
     ensures later { Later (F.seen files.old) (F.seen files.new) }
     ensures cause { IsCaused result (F.seen files.old).faults (F.seen files.new).faults }
-    ensures exact { Puts (λ tree names. put_main tree names setting.now.main.now) setting.now.tree (F.seen files.new) 0 reading.old reading.new result }
-    ensures place { FailsWhere setting.now.tree setting.now.main.now (F.seen files.new) reading.new result }
+    ensures exact { Puts (λ tree names. put_main tree names setting.now.main.now) setting.now.tree
+        (F.seen files.new) 0 reading.old reading.new result }
+    ensures place { FailsWhere setting.now.tree setting.now.main.now
+        (F.seen files.new) reading.new result }
 {
     let at = Spot { file: 0, line: 1 };
     let text = text_of(
@@ -106,18 +108,25 @@ fn path_at(alloc: Global, paths: ByteTexts, number: u32) -> ByteText
 ///
 /// # Errors
 ///
-/// `Fault` for the first fault, in the order of reading: a file is read whole before its includes are. A fault of a file
-/// that an include names stands at the include, and one of the main file at its own line 1; its word is the file's path.
-/// `Failed` only where the files failed in this call: it stands at the include that names what they were asked for, or at the
-/// main file's own line 1, and its word is the path that they were asked for, or the include's mask. `OutOfMemory`.
+/// `Fault` for the first fault, in the order of reading: a file is read whole before its includes are. A fault of a
+/// file that an include names is at the include, and one of the main file at its own line 1; its word is the file's
+/// path. `Failed` only where the files failed in this call: it is at the include that names what they were asked for,
+/// or at the main file's own line 1, and its word is the path that they were asked for, or the include's mask.
+/// `OutOfMemory`.
 ///
 /// The number of the newest tree is asked for once, first.
 pub fn expand<F: Files>(alloc: Global, files: &mut F, path: &[u8]) -> Result<Expanded, ExpandError>
-    ensures exact { (F.seen files.old).tells ≡ true → (F.seen files.new).newest ≡ (F.seen files.old).newest → (names : Names) → IsNaming ((F.seen files.old).trees (F.seen files.old).newest) names → Expands (IsAskedAt ((F.seen files.old).trees (F.seen files.old).newest) names path.now) result (expansion ((F.seen files.old).trees (F.seen files.old).newest) names path.now) }
+    ensures exact { (F.seen files.old).tells ≡ true
+        → (F.seen files.new).newest ≡ (F.seen files.old).newest → (names : Names)
+        → IsNaming ((F.seen files.old).trees (F.seen files.old).newest) names
+        → Expands (IsAskedAt ((F.seen files.old).trees (F.seen files.old).newest) names path.now)
+        result (expansion ((F.seen files.old).trees (F.seen files.old).newest) names path.now) }
     ensures cause { FailsIf result (F.seen files.old).faults (F.seen files.new).faults }
     ensures tells { (F.seen files.new).tells ≡ (F.seen files.old).tells }
-    ensures versions { Adds (F.seen files.old).newest (F.seen files.old).versions (F.seen files.new).versions }
-    ensures grow { Grow (F.seen files.old).newest (F.seen files.new).newest (F.seen files.old).trees (F.seen files.new).trees }
+    ensures versions { Adds (F.seen files.old).newest (F.seen files.old).versions
+        (F.seen files.new).versions }
+    ensures grow { Grow (F.seen files.old).newest (F.seen files.new).newest
+        (F.seen files.old).trees (F.seen files.new).trees }
     ensures later { (F.seen files.old).faults ≤ (F.seen files.new).faults }
 {
     let tree = files.version();

@@ -23,7 +23,8 @@ fn put_star(row: &mut [bool])
 /// The same with another byte before it.
 fn put_byte(row: &mut [bool], byte: u8, name: &[u8])
     requires { length row.old ≡ length name.now + 1 }
-    ensures { (mask : List ℕ) → IsRow mask name.now row.old → (byte ≡ 42 → ⊥) → IsRow (byte ∷ mask) name.now row.new }
+    ensures { (mask : List ℕ) → IsRow mask name.now row.old → (byte ≡ 42 → ⊥)
+        → IsRow (byte ∷ mask) name.now row.new }
 {
     for (i, other) in name.iter().enumerate() {
         row[i] = (byte == b'?' || byte == *other) && row[i + 1];

@@ -15,7 +15,7 @@ use std::alloc::Global;
 /// The most bytes of text that a configuration has in all.
 const MOST_BYTES: u64 = 1048576;
 
-/// How many bytes a file has that is to be read behind so many others.
+/// How many bytes a file has that is to be read after `size` bytes of others.
 fn len_of<F: Files>(
     alloc: Global,
     files: &mut F,
@@ -28,7 +28,8 @@ fn len_of<F: Files>(
     ensures later { Later (F.seen files.old) (F.seen files.new) }
     ensures cause { IsCaused result (F.seen files.old).faults (F.seen files.new).faults }
     ensures place { FailsAbout (spot at.file at.line) path.now result }
-    ensures len { (tree : Tree) (paths : List (List ℕ)) → IsTold of tree (F.seen files.new) → IsLenOf (tree path.now) (spot at.file at.line) path.now (tally paths size) result }
+    ensures len { (tree : Tree) (paths : List (List ℕ)) → IsTold of tree (F.seen files.new)
+        → IsLenOf (tree path.now) (spot at.file at.line) path.now (tally paths size) result }
     ensures fits { IfOk result (λ len. len + size ≤ 1048576) }
 {
     match files.stat(path, of) {
@@ -46,7 +47,7 @@ fn len_of<F: Files>(
     }
 }
 
-/// So many bytes from the beginning of a file.
+/// The first `len` bytes of a file.
 fn bytes_of<F: Files>(
     alloc: Global,
     files: &mut F,
@@ -59,7 +60,8 @@ fn bytes_of<F: Files>(
     ensures later { Later (F.seen files.old) (F.seen files.new) }
     ensures cause { IsCaused result (F.seen files.old).faults (F.seen files.new).faults }
     ensures place { FailsAbout (spot at.file at.line) path.now result }
-    ensures bytes { (tree : Tree) → IsTold of tree (F.seen files.new) → AreBytesOf (tree path.now) len result }
+    ensures bytes { (tree : Tree) → IsTold of tree (F.seen files.new)
+        → AreBytesOf (tree path.now) len result }
     ensures count { IfOk result (λ t. length t ≡ len) }
 {
     let mut text = ByteText::new(alloc);
@@ -75,7 +77,7 @@ fn bytes_of<F: Files>(
     }
 }
 
-/// The text of a file, where so many bytes were read before it.
+/// The text of a file, where `size` bytes were read before it.
 pub fn text_of<F: Files>(
     alloc: Global,
     files: &mut F,
@@ -88,7 +90,9 @@ pub fn text_of<F: Files>(
     ensures later { Later (F.seen files.old) (F.seen files.new) }
     ensures cause { IsCaused result (F.seen files.old).faults (F.seen files.new).faults }
     ensures place { FailsAbout (spot at.file at.line) path.now result }
-    ensures text { (tree : Tree) (paths : List (List ℕ)) → IsTold of tree (F.seen files.new) → Answers (λ t. t) result (text_in (tree path.now) (spot at.file at.line) path.now (tally paths size)) paths }
+    ensures text { (tree : Tree) (paths : List (List ℕ)) → IsTold of tree (F.seen files.new)
+        → Answers (λ t. t) result (text_in (tree path.now) (spot at.file at.line) path.now
+        (tally paths size)) paths }
     ensures fits { IfOk result (λ t. size + length t ≤ 1048576) }
 {
     let len = len_of(alloc, files, of, at, path, size)?;

@@ -5,7 +5,7 @@ ghost use Rattle.conf_include.specs.Paths.{slash_end, front_of, last_of, begins_
 use byte_text::{ByteText, OutOfMemory};
 use std::alloc::Global;
 
-/// How many bytes of a path stand up to its last slash, with it.
+/// How many bytes of a path come up to its last slash, with it.
 fn slash_end(path: &[u8]) -> usize
     ensures end { result ≡ slash_end path.now }
     ensures within { result ≤ length path.now }
@@ -19,7 +19,7 @@ fn slash_end(path: &[u8]) -> usize
     end
 }
 
-/// Parts a path behind its last slash: what stands up to it, and the last component.
+/// Parts a path after its last slash: what comes up to it, and the last component.
 pub fn parts_of(path: &[u8]) -> (&[u8], &[u8])
     ensures front { result.0.now ≡ front_of path.now }
     ensures last { result.1.now ≡ last_of path.now }

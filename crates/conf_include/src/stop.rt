@@ -25,7 +25,7 @@ impl From<OutOfMemory> for Stop {
     }
 }
 
-/// Where an include stands: the number of its file, and its line.
+/// Where an include is: the number of its file, and its line.
 #[derive(Clone, Copy)]
 pub struct Spot {
     pub file: u32,

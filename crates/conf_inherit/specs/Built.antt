@@ -16,7 +16,7 @@ use Rattle.conf_check.specs.Gives.{◌>>◌, sound}
 use Rattle.conf_check.specs.Faultless.{faultless, all_served}
 use Rattle.conf_check.specs.Names.{is_set_in}
 use Rattle.conf_check.specs.Patterns.{regex_case}
-use Rattle.conf_table.specs.declared.rule.Place.TheVariants as places
+use Rattle.conf_table.specs.declared.rule.Context.TheVariants as places
 use Rattle.conf_block.specs.declared.role.Content.TheVariants.{Directives}
 use Rattle.conf_lists.specs.Hosts.{names_in, or_empty, first_shown, marked_in}
 use Rattle.conf_inherit.specs.Values.{Values, defaults, word_in, stated, over, level_of, server_level}

@@ -1,7 +1,7 @@
 -- Laws of what holds in a level.
 use Rattle.std.specs.Prelude.{◌≡◌, ℕ, true, List, [], ◌∷◌, ◌++◌, Option, None, Some}
 use Rattle.file_type.specs.declared.types.TypeEntry.{TypeEntry}
-use Rattle.ngx_variables.specs.declared.request.Place.{Place}
+use Rattle.ngx_variables.specs.declared.request.FileRoot.{FileRoot}
 use Rattle.conf_text.specs.declared.directive.Directive.{Directive}
 use Rattle.conf_values.specs.declared.settings.Settings.{Settings}
 use Rattle.conf_lists.specs.Lists.{Lists, no_lists}
@@ -19,7 +19,7 @@ pub record ListsHold (own now : Lists) : Type 0 where
 
 -- A value that a block states holds in it, whatever holds around it: for each of the values.
 pub record StatedHolds (own : Stated) (outer : Values) : Type 0 where
-  pub place : (place : Place) → own.place ≡ Some place → (over own outer).place ≡ place
+  pub place : (place : FileRoot) → own.place ≡ Some place → (over own outer).place ≡ place
   pub entries : (entries : List TypeEntry) → own.entries ≡ Some entries →
       (over own outer).types.entries ≡ entries
   pub default_type : (kind : List ℕ) → own.default_type ≡ Some kind →

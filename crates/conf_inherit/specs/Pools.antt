@@ -1,8 +1,8 @@
 -- How levels and lists are kept under numbers while a site is built.
 use Rattle.std.specs.Prelude.{◌≡◌, ℕ, ◌+◌, ◌≤◌, Bool, true, false, List, [], ◌∷◌, ◌++◌, map, Option, None, Some, option_map, unwrap_or, codes, slice_get, length}
 use Rattle.file_type.specs.declared.types.TypeEntry.{TypeEntry}
-use Rattle.ngx_variables.specs.declared.request.Place.{Place}
-use Rattle.ngx_variables.specs.declared.request.Place.TheVariants as places
+use Rattle.ngx_variables.specs.declared.request.FileRoot.{FileRoot}
+use Rattle.ngx_variables.specs.declared.request.FileRoot.TheVariants as places
 use Rattle.site_model.specs.declared.program.RewriteStep.{RewriteStep}
 use Rattle.site_model.specs.declared.site.Level.{Level}
 use Rattle.conf_inherit.specs.declared.site.Built.{Built}
@@ -41,7 +41,7 @@ use Rattle.conf_block.specs.Forest.{Forest}
 use Rattle.conf_inherit.specs.Programs.{AllAt}
 use Rattle.conf_inherit.specs.Values.{Values, default_entries, all_entries, values_within}
 
-abbrev pub place_by : PlaceText → Place
+abbrev pub place_by : PlaceText → FileRoot
 place_by (Root text) = places.Root (pieces_of text.now)
 place_by (Rest text prefix) = places.Rest (pieces_of text.now) prefix.now
 place_by (Whole text) = places.Whole (pieces_of text.now)

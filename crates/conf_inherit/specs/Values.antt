@@ -3,8 +3,8 @@ use Rattle.std.specs.Prelude.{ℕ, Bool, true, false, ◌||◌, List, [], ◌∷
 use Rattle.std.specs.Option.{option_and_then}
 use Rattle.file_type.specs.Types.{TypeList}
 use Rattle.file_type.specs.declared.types.TypeEntry.{TypeEntry}
-use Rattle.ngx_variables.specs.declared.request.Place.{Place}
-use Rattle.ngx_variables.specs.declared.request.Place.TheVariants.{Root, Rest, Whole}
+use Rattle.ngx_variables.specs.declared.request.FileRoot.{FileRoot}
+use Rattle.ngx_variables.specs.declared.request.FileRoot.TheVariants.{Root, Rest, Whole}
 use Rattle.site_views.specs.Values.{Values as AllValues, Tries, MediaTypes}
 use Rattle.site_views.specs.Views.{LevelView}
 use Rattle.site_whole.specs.Whole.{default_index, no_media}
@@ -32,7 +32,7 @@ word_in name level = option_and_then (λ b. first_word b.head.args) (block_of na
 
 -- the values that hold in a level, and are inherited
 pub record Values : Type 0 where
-  pub place : Place
+  pub place : FileRoot
   pub types : TypeList
   pub settings : Settings
   pub lists : Lists
@@ -45,7 +45,7 @@ pub record Values : Type 0 where
 
 -- what a block states: each of these, or not; and what its directives make of the settings around it
 pub record Stated : Type 0 where
-  pub place : Option Place
+  pub place : Option FileRoot
   pub entries : Option (List TypeEntry)
   pub default_type : Option (List ℕ)
   pub settings : Settings → Settings
@@ -80,12 +80,12 @@ either (Some a) other = Some a
 either None other = other
 
 -- `alias` of a location that takes this prefix off a path, or that is the whole path
-abbrev pub alias_place : (prefix : Option (List ℕ)) → List ℕ → Place
+abbrev pub alias_place : (prefix : Option (List ℕ)) → List ℕ → FileRoot
 alias_place None text = Whole (pieces_of text)
 alias_place (Some prefix) text = Rest (pieces_of text) prefix
 
 -- `root`, or `alias`
-abbrev pub place_in : (prefix : Option (List ℕ)) → Forest → Option Place
+abbrev pub place_in : (prefix : Option (List ℕ)) → Forest → Option FileRoot
 place_in prefix level =
     either (option_map (λ text. Root (pieces_of text)) (word_in (codes "root") level))
     (option_map (alias_place prefix) (word_in (codes "alias") level))

@@ -13,7 +13,7 @@ use conf_lists::tries_of;
 use conf_table::Role;
 use conf_text::Directive;
 use conf_values::{Settings, value_of};
-use ngx_variables::Place;
+use ngx_variables::FileRoot;
 use site_model::{Level, Program, Tries};
 use std::alloc::Global;
 
@@ -286,16 +286,16 @@ pub fn stated_over<'a>(
     }
 }
 
-fn place_of(alloc: Global, place: PlaceText<'_>) -> Result<Place, OutOfMemory>
+fn place_of(alloc: Global, place: PlaceText<'_>) -> Result<FileRoot, OutOfMemory>
     ensures { IfOk result (λ p. p ≡ place_by place.entry) }
 {
     match place {
-        PlaceText::Root(text) => Ok(Place::Root(value_of(alloc, text)?)),
-        PlaceText::Rest { text, prefix } => Ok(Place::Rest {
+        PlaceText::Root(text) => Ok(FileRoot::Root(value_of(alloc, text)?)),
+        PlaceText::Rest { text, prefix } => Ok(FileRoot::Rest {
             text: value_of(alloc, text)?,
             prefix: ByteText::from_slice(alloc, prefix)?,
         }),
-        PlaceText::Whole(text) => Ok(Place::Whole(value_of(alloc, text)?)),
+        PlaceText::Whole(text) => Ok(FileRoot::Whole(value_of(alloc, text)?)),
     }
 }
 

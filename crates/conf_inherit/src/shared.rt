@@ -17,7 +17,7 @@ use site_model::{
 };
 use std::alloc::Global;
 
-/// The number that the next of so many gets.
+/// The number that the next one gets after this many.
 pub fn next_number(count: usize) -> Result<u32, OutOfMemory>
     ensures { IfOk result (λ n. n ≡ count) }
 {

@@ -280,41 +280,46 @@ fn depth_inside(depth: u32) -> Result<u32, OutOfMemory>
     }
 }
 
+/// What holds around locations: the values there, and the depth of the locations.
+#[derive(Clone, Copy)]
+struct Around<'a> {
+    values: Inherited<'a>,
+    depth: u32,
+}
+
 /// Adds the locations of a level that paths find, each with those in it after it.
 fn add_locations<'a, M: PatternMaker>(
     alloc: Global,
     maker: &mut M,
     known: &TextSet,
     pool: &mut Pool,
-    outer: Inherited<'a>,
-    depth: u32,
+    around: Around<'a>,
     level: &'a [Directive],
     locations: &mut Vec<Location>,
 ) -> Result<(), OutOfMemory>
-    requires { Fits pool.old.shelf outer }
-    ensures { IfOk result (λ u. Added
-        (values_by outer.entry) depth pool.old.levels.items pool.new.levels.items pool.old.shelf
+    requires { Fits pool.old.shelf around.values }
+    ensures { IfOk result (λ u. let outer = values_by around.entry.values in Added
+        outer around.entry.depth pool.old.levels.items pool.new.levels.items pool.old.shelf
         pool.new.shelf
         locations.old.items locations.new.items NoMore
-        (locations_meant (holds known.now.keys) (values_by outer.entry) (forest_of level.now))) }
+        (locations_meant (holds known.now.keys) outer (forest_of level.now))) }
 {
+    let Around {
+        values: outer,
+        depth,
+    } = around;
     let mut rest = level;
     while let Some(branch) = next_location(rest, false) {
         let prefix = alias_prefix(branch.directive.args.as_slice());
         let values = pool.inner(alloc, prefix, branch.block, outer)?;
         let location = location_of(alloc, maker, known, pool, values, depth, branch)?;
         locations.push(location)?;
-        let inside = depth_inside(depth)?;
-        add_locations(
-            alloc,
-            maker,
-            known,
-            pool,
+        let deeper = depth_inside(depth)?;
+        let inside = Around {
             values,
-            inside,
-            branch.block,
-            locations,
-        )?;
+            depth: deeper,
+        };
+        add_locations(alloc, maker, known, pool, inside, branch.block, locations)?;
         rest = branch.beside;
     }
     Ok(())
@@ -390,7 +395,11 @@ fn locations_in<'a, M: PatternMaker>(
     ensures shelf { IfOk result (λ ls. KeepsAll pool.old.shelf pool.new.shelf) }
 {
     let mut locations = Vec::new(alloc);
-    add_locations(alloc, maker, known, pool, outer, 0, server, &mut locations)?;
+    let around = Around {
+        values: outer,
+        depth: 0,
+    };
+    add_locations(alloc, maker, known, pool, around, server, &mut locations)?;
     Ok(locations)
 }
 
@@ -468,7 +477,7 @@ fn servers_of<'a, M: PatternMaker>(
     Ok(servers)
 }
 
-/// The site of these directives, which stand in `http`.
+/// The site of these directives, which are those in `http`.
 #[tactic(auto, unfolding(crate::specs::Built::site_of))]
 fn site_of<M: PatternMaker>(
     alloc: Global,

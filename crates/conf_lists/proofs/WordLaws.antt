@@ -1,4 +1,4 @@
--- Lists of words, and what is pushed behind others.
+-- Lists of words, and what is pushed after others.
 use Rattle.std.proofs.Common.{◌≡◌, ℕ, List, [], ◌∷◌, ◌++◌, map, Option, None, Some, option_map, length, refl, sym, ap, ◌∙◌}
 use Rattle.std.proofs.lemmas.List.{map_push}
 use Rattle.conf_text.specs.declared.directive.Directive.{Directive}

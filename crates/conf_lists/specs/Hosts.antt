@@ -20,7 +20,7 @@ plain_name text =
     else (if ends_with nat_eq text (codes ".*") then Beginning (take (length text - 1) text)
     else (if begins_with 46 text then WithSubdomains text else Whole text))
 
--- A word of `server_name`: a pattern behind a `~`, in which letters match in either case, or a name.
+-- A word of `server_name`: a pattern after a `~`, in which letters match in either case, or a name.
 unfoldable pub name_of : List ℕ → ServerName
 name_of word = if begins_with 126 word then Like (record { text = drop 1 word; nocase = true }) else plain_name (lowercase word)
 

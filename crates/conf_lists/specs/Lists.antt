@@ -42,7 +42,7 @@ lists_seen l = record {
   addition_types = media_seen l.addition_types;
 }
 
--- the words of a directive of a list behind those before it
+-- the words of a directive of a list after those before it
 abbrev pub with_listing : Listing → List (List ℕ) → Lists → Lists
 with_listing listings.Index words l = record l { index = l.index ++ map index_name words }
 with_listing listings.ErrorPage words l = record l { pages = l.pages ++ one (page_of words) }
@@ -63,7 +63,7 @@ with_role (roles.Listing listing) d l = with_listing listing d.args l
 with_role roles.Set d l = with_set d l
 with_role _ d l = l
 
--- the lists of a level with these directives, behind these
+-- the lists of a level with these directives, after these
 unfoldable pub lists_in : List Directive → Lists → Lists
 lists_in [] l = l
 lists_in (d ∷ ds) l = lists_in ds (with_role (role_of d.name) d l)

@@ -27,7 +27,7 @@ use race_places::{Conflict, LineList, placed};
 use site_model::{Server, Site};
 use std::alloc::Global;
 
-/// The block of the first server of a level, and what is behind it.
+/// The block of the first server of a level, and what is after it.
 #[tactic(auto, unfolding(conf_block::specs::Forest::forest_of, conf_block::specs::Blocks::blocks_of))]
 fn next_server(level: &[Directive]) -> (&[Directive], &[Directive])
     ensures first { first_body (blocks_of (codes "server") (forest_of level.now))
@@ -58,26 +58,38 @@ fn around_servers(alloc: Global, http: &[Directive]) -> Result<Around, OutOfMemo
     Ok(Around { lists, lines })
 }
 
-/// The variables that are named in a server with this block.
+/// A server of a site, its number among the site's servers, from 1 on, and the block that describes it.
+#[derive(Clone, Copy)]
+struct Described<'a> {
+    server: &'a Server,
+    number: usize,
+    block: &'a [Directive],
+}
+
+/// The variables that are named in a server.
 fn races_in(
     alloc: Global,
     known: &TextSet,
     around: &Around,
     site: &Site,
     first: &FirstLists,
-    server: &Server,
-    number: usize,
-    block: &[Directive],
+    described: Described<'_>,
 ) -> Result<Vec<Conflict>, OutOfMemory>
     requires { AreFirst site.now first.now }
     ensures { IfOk result (λ conflicts. (outer : Outer)
         → Means around.now.lists.items around.now.lines outer
         → (files : ℕ → List ℕ) (patterns : List Pattern)
-        → AreConflicts number (server_whole patterns site.now server.now)
-        (server_sources files (server_whole patterns site.now server.now)
-        (server_origins (holds known.now.keys) outer (forest_of block.now)))
+        → let server = described.entry.server.now in
+        AreConflicts described.entry.number (server_whole patterns site.now server)
+        (server_sources files (server_whole patterns site.now server)
+        (server_origins (holds known.now.keys) outer (forest_of described.entry.block.now)))
         (map (conflict_seen files) conflicts.items)) }
 {
+    let Described {
+        server,
+        number,
+        block,
+    } = described;
     let named = named_in(alloc, site, first, server, number)?;
     if named.is_empty() {
         return Ok(Vec::new(alloc));
@@ -110,7 +122,12 @@ fn races_of(
     for server in &site.servers {
         number += 1;
         let (block, beside) = next_server(rest);
-        let mut here = races_in(alloc, known, around, site, &first, server, number, block)?;
+        let described = Described {
+            server,
+            number,
+            block,
+        };
+        let mut here = races_in(alloc, known, around, site, &first, described)?;
         conflicts.append(&mut here)?;
         rest = beside;
     }

@@ -6,7 +6,7 @@ use byte_text::OutOfMemory;
 use conf_text::Directive;
 use std::alloc::Global;
 
-/// The run of a directive of this file behind one of the last run, which is of the last file; where that is another file, the
+/// The run of a directive of this file after one of the last run, which is of the last file; where that is another file, the
 /// next run begins, and its file is added.
 fn run_of(files: &mut Vec<u32>, run: u32, last: u32, file: u32) -> Result<u32, OutOfMemory>
     ensures run { IfOk result (λ r. r ≡ (if file == last then run else suc run)) }
@@ -23,7 +23,7 @@ fn run_of(files: &mut Vec<u32>, run: u32, last: u32, file: u32) -> Result<u32, O
     }
 }
 
-/// Puts the number of its run in place of each directive's file: a run is of directives of one file, one behind another in
+/// Puts the number of its run in place of each directive's file: a run is of directives of one file, one after another in
 /// the text. The files of the runs.
 pub fn number_runs(alloc: Global, directives: &mut Vec<Directive>) -> Result<Vec<u32>, OutOfMemory>
     ensures files { IfOk result (λ files. files.items ≡ run_files directives.old.items) }

@@ -67,7 +67,7 @@ module _ {X : Type 0} (key : X → List ℕ) (value : X → DirectiveRule) where
   ascends [] = true
   ascends (x ∷ xs) = ascends_from x xs
 
-  -- and so less than all names behind it
+  -- and so less than all names after it
   below-all : (x : X) (ys : List X) → ascends_from x ys ≡ true → (k : ℕ) (d : X) → k < length ys → name_cmp (key x) (key (get_or ys k d)) ≡ Less
   unfolding ascends_from
   below-all x [] e k d h = absurd (omega arith)
@@ -88,7 +88,7 @@ module _ {X : Type 0} (key : X → List ℕ) (value : X → DirectiveRule) where
       let step : suc k + 1 ≡ suc (k + 1) = omega arith in
       ap (λ i. is_lt (name_cmp (key (get_or (x ∷ xs) i d)) (key (get_or xs k d)))) step ∙ sorted-ascends xs (ascends-tail x xs e) k d (omega arith) (omega arith)
 
-  -- what a name that stands at a place is answered by
+  -- what a name that is at a place is answered by
   pub rule_in-found : (xs : List X) (name : List ℕ) → ascends xs ≡ true → (at : ℕ) (d : X) → at < length xs → key (get_or xs at d) ≡ name
       → rule_in (map (λ x. (key x, value x)) xs) name ≡ Some (value (get_or xs at d))
   unfolding rule_in ascends
@@ -101,7 +101,7 @@ module _ {X : Type 0} (key : X → List ℕ) (value : X → DirectiveRule) where
         | false ↦ λ t. rule_in-found xs name (ascends-tail x xs e) at d (omega arith) f
       ] refl
 
-  -- and one that stands at none
+  -- and one that is at none
   pub rule_in-missing : (xs : List X) (name : List ℕ) → ((k : ℕ) (d : X) → k < length xs → key (get_or xs k d) ≡ name → ⊥) → rule_in (map (λ x. (key x, value x)) xs) name ≡ None
   unfolding rule_in
   rule_in-missing [] name f = refl

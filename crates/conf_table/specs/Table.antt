@@ -1,7 +1,7 @@
 -- The directives and their rules.
 use Rattle.std.specs.Prelude.{ℕ, Bool, true, false, ◌||◌, List, [], ◌∷◌, Option, None, Some, nat_eq, codes, if◌then◌else◌}
 use Rattle.std.specs.List.{starts_with}
-use Rattle.conf_table.specs.declared.rule.Places.{Places}
+use Rattle.conf_table.specs.declared.rule.Contexts.{Contexts}
 use Rattle.conf_table.specs.declared.rule.Feature.{Feature}
 use Rattle.conf_table.specs.declared.rule.Feature.TheVariants.{Core, Matching, Rewriting, Content, Access, Includes, Addition, Deadlines}
 use Rattle.conf_table.specs.declared.role.Role.{Role}
@@ -13,62 +13,62 @@ use Rattle.conf_table.specs.declared.role.Time.TheVariants as times
 use Rattle.conf_table.specs.declared.rule.DirectiveRule.{DirectiveRule}
 
 -- at the top alone
-abbrev pub top : Places
+abbrev pub top : Contexts
 top = record { top = true; events = false; http = false; server = false; location = false; server_if = false; location_if = false }
 
 -- in `http`
-abbrev pub http : Places
+abbrev pub http : Contexts
 http = record { top = false; events = false; http = true; server = false; location = false; server_if = false; location_if = false }
 
 -- in a server or a location
-abbrev pub server_location : Places
+abbrev pub server_location : Contexts
 server_location = record { top = false; events = false; http = false; server = true; location = true; server_if = false; location_if = false }
 
 -- in `http`, a server or a location
-abbrev pub http_server_location : Places
+abbrev pub http_server_location : Contexts
 http_server_location = record { top = false; events = false; http = true; server = true; location = true; server_if = false; location_if = false }
 
 -- in a server
-abbrev pub server : Places
+abbrev pub server : Contexts
 server = record { top = false; events = false; http = false; server = true; location = false; server_if = false; location_if = false }
 
 -- in `http`, a server, a location or an `if` of one
-abbrev pub http_server_location_if : Places
+abbrev pub http_server_location_if : Contexts
 http_server_location_if = record { top = false; events = false; http = true; server = true; location = true; server_if = false; location_if = true }
 
 -- in a location
-abbrev pub location : Places
+abbrev pub location : Contexts
 location = record { top = false; events = false; http = false; server = false; location = true; server_if = false; location_if = false }
 
 -- in `http` or a server
-abbrev pub http_server : Places
+abbrev pub http_server : Contexts
 http_server = record { top = false; events = false; http = true; server = true; location = false; server_if = false; location_if = false }
 
 -- in a server, a location or an `if` of either
-abbrev pub server_location_ifs : Places
+abbrev pub server_location_ifs : Contexts
 server_location_ifs = record { top = false; events = false; http = false; server = true; location = true; server_if = true; location_if = true }
 
 -- in any place
-abbrev pub anywhere : Places
+abbrev pub anywhere : Contexts
 anywhere = record { top = true; events = true; http = true; server = true; location = true; server_if = true; location_if = true }
 
--- a directive that stands once in a level, with so many words, and at most so many
-abbrev pub once : Places → ℕ → Option ℕ → Feature → Role → DirectiveRule
+-- a directive that may be once in a level, with `least` words at least, and at most `greatest` if there is a bound
+abbrev pub once : Contexts → ℕ → Option ℕ → Feature → Role → DirectiveRule
 once places least greatest feature role =
     record { places = places; least = least; greatest = greatest; block = false; many = false; ignored = false; served_by = feature; role = role }
 
--- one that may stand several times
-abbrev pub many : Places → ℕ → Option ℕ → Feature → Role → DirectiveRule
+-- one that may be several times
+abbrev pub many : Contexts → ℕ → Option ℕ → Feature → Role → DirectiveRule
 many places least greatest feature role =
     record { places = places; least = least; greatest = greatest; block = false; many = true; ignored = false; served_by = feature; role = role }
 
--- one with a block, which stands once
-abbrev pub one_block : Places → ℕ → Option ℕ → Feature → Role → DirectiveRule
+-- one with a block, which may be once
+abbrev pub one_block : Contexts → ℕ → Option ℕ → Feature → Role → DirectiveRule
 one_block places least greatest feature role =
     record { places = places; least = least; greatest = greatest; block = true; many = false; ignored = false; served_by = feature; role = role }
 
 -- one with a block, of which there may be several
-abbrev pub blocks : Places → ℕ → Option ℕ → Feature → Role → DirectiveRule
+abbrev pub blocks : Contexts → ℕ → Option ℕ → Feature → Role → DirectiveRule
 blocks places least greatest feature role =
     record { places = places; least = least; greatest = greatest; block = true; many = true; ignored = false; served_by = feature; role = role }
 

@@ -4,9 +4,9 @@ ghost use Rattle.conf_table.specs.Rules.{has_place};
 
 use crate::role::Role;
 
-/// A place in which directives stand.
+/// A place in which directives are.
 #[derive(Clone, Copy, Debug, PartialEq, Eq)]
-pub enum Place {
+pub enum Context {
     /// At the top of the configuration, outside each block.
     Top,
     /// In `events`.
@@ -25,7 +25,7 @@ pub enum Place {
 
 /// A set of places.
 #[derive(Clone, Copy, Debug, PartialEq, Eq)]
-pub struct Places {
+pub struct Contexts {
     pub top: bool,
     pub events: bool,
     pub http: bool,
@@ -35,19 +35,19 @@ pub struct Places {
     pub location_if: bool,
 }
 
-impl Places {
+impl Contexts {
     /// Whether the place is in the set.
-    pub fn contains(self, place: Place) -> bool
+    pub fn contains(self, place: Context) -> bool
         ensures { result ≡ has_place self place }
     {
         match place {
-            Place::Top => self.top,
-            Place::Events => self.events,
-            Place::Http => self.http,
-            Place::Server => self.server,
-            Place::Location => self.location,
-            Place::ServerIf => self.server_if,
-            Place::LocationIf => self.location_if,
+            Context::Top => self.top,
+            Context::Events => self.events,
+            Context::Http => self.http,
+            Context::Server => self.server,
+            Context::Location => self.location,
+            Context::ServerIf => self.server_if,
+            Context::LocationIf => self.location_if,
         }
     }
 }
@@ -74,18 +74,18 @@ pub enum Feature {
     Deadlines,
 }
 
-/// What holds of a directive: where it may stand, how many words may follow its name, and whether it has a block and
-/// may stand several times in one level.
+/// What holds of a directive: where it may be, how many words may follow its name, and whether it has a block and may
+/// be several times in one level.
 #[derive(Clone, Copy, Debug, PartialEq, Eq)]
 pub struct DirectiveRule {
-    pub places: Places,
-    /// The least number of words behind the name.
+    pub places: Contexts,
+    /// The least number of words after the name.
     pub least: u32,
-    /// The greatest number of words behind the name, if there is a bound.
+    /// The greatest number of words after the name, if there is a bound.
     pub greatest: Option<u32>,
-    /// Whether a block is due, and else none may stand.
+    /// Whether it has a block; else it may have none.
     pub block: bool,
-    /// Whether it may stand several times in one level.
+    /// Whether it may be several times in one level.
     pub many: bool,
     /// Whether it is accepted and has no effect.
     pub ignored: bool,

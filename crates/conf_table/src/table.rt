@@ -8,7 +8,7 @@ ghost use Rattle.std.specs.Option.{option_copied};
 ghost use Rattle.conf_table.specs.Table.{rows, in_family, entry_of};
 
 use crate::role::{Listing, Role, Setting, Switch, Time};
-use crate::rule::{DirectiveRule, Feature, Places};
+use crate::rule::{Contexts, DirectiveRule, Feature};
 use std::cmp::Ordering;
 
 /// A directive's name and its rule.
@@ -18,7 +18,7 @@ struct Row {
     rule: DirectiveRule,
 }
 
-const TOP: Places = Places {
+const TOP: Contexts = Contexts {
     top: true,
     events: false,
     http: false,
@@ -28,7 +28,7 @@ const TOP: Places = Places {
     location_if: false,
 };
 
-const HTTP: Places = Places {
+const HTTP: Contexts = Contexts {
     top: false,
     events: false,
     http: true,
@@ -38,7 +38,7 @@ const HTTP: Places = Places {
     location_if: false,
 };
 
-const SERVER_LOCATION: Places = Places {
+const SERVER_LOCATION: Contexts = Contexts {
     top: false,
     events: false,
     http: false,
@@ -48,7 +48,7 @@ const SERVER_LOCATION: Places = Places {
     location_if: false,
 };
 
-const HTTP_SERVER_LOCATION: Places = Places {
+const HTTP_SERVER_LOCATION: Contexts = Contexts {
     top: false,
     events: false,
     http: true,
@@ -58,7 +58,7 @@ const HTTP_SERVER_LOCATION: Places = Places {
     location_if: false,
 };
 
-const SERVER: Places = Places {
+const SERVER: Contexts = Contexts {
     top: false,
     events: false,
     http: false,
@@ -68,7 +68,7 @@ const SERVER: Places = Places {
     location_if: false,
 };
 
-const HTTP_SERVER_LOCATION_IF: Places = Places {
+const HTTP_SERVER_LOCATION_IF: Contexts = Contexts {
     top: false,
     events: false,
     http: true,
@@ -78,7 +78,7 @@ const HTTP_SERVER_LOCATION_IF: Places = Places {
     location_if: true,
 };
 
-const LOCATION: Places = Places {
+const LOCATION: Contexts = Contexts {
     top: false,
     events: false,
     http: false,
@@ -88,7 +88,7 @@ const LOCATION: Places = Places {
     location_if: false,
 };
 
-const HTTP_SERVER: Places = Places {
+const HTTP_SERVER: Contexts = Contexts {
     top: false,
     events: false,
     http: true,
@@ -98,7 +98,7 @@ const HTTP_SERVER: Places = Places {
     location_if: false,
 };
 
-const SERVER_LOCATION_IFS: Places = Places {
+const SERVER_LOCATION_IFS: Contexts = Contexts {
     top: false,
     events: false,
     http: false,
@@ -108,7 +108,7 @@ const SERVER_LOCATION_IFS: Places = Places {
     location_if: true,
 };
 
-const ANYWHERE: Places = Places {
+const ANYWHERE: Contexts = Contexts {
     top: true,
     events: true,
     http: true,
@@ -137,21 +137,21 @@ macro_rules! row {
     };
 }
 
-// A directive without a block that stands once in a level.
+// A directive without a block that may be once in a level.
 macro_rules! once {
     ($name:expr, $places:expr, $least:expr, $greatest:expr, $feature:ident, $role:expr) => {
         row!($name, $places, $least, $greatest, false, false, false, $feature, $role)
     };
 }
 
-// One without a block that may stand several times.
+// One without a block that may be several times.
 macro_rules! many {
     ($name:expr, $places:expr, $least:expr, $greatest:expr, $feature:ident, $role:expr) => {
         row!($name, $places, $least, $greatest, false, true, false, $feature, $role)
     };
 }
 
-// One with a block that stands once.
+// One with a block that may be once.
 macro_rules! one_block {
     ($name:expr, $places:expr, $least:expr, $greatest:expr, $feature:ident, $role:expr) => {
         row!($name, $places, $least, $greatest, true, false, false, $feature, $role)
@@ -530,10 +530,14 @@ fn table() -> &'static [Row]
 
 /// The place of a name in rows that are in the order of their names, by bisection.
 fn search(rows: &[Row], name: &[u8]) -> Option<usize>
-    requires { IsNonDecreasingBy (λ row. ordering_index (slice_cmp nat_cmp row.name.now name.now)) rows.now }
+    requires { IsNonDecreasingBy
+        (λ row. ordering_index (slice_cmp nat_cmp row.name.now name.now)) rows.now }
     ensures bound { IfSome result (λ at. at < length rows.now) }
-    ensures found { IfSome result (HoldsAt (λ row. slice_cmp nat_cmp row.name.now name.now ≡ Ordering.Equal) rows.now) }
-    ensures missing { IfNone result (AllWithin (λ row. slice_cmp nat_cmp row.name.now name.now ≢ Ordering.Equal) rows.now 0 (length rows.now)) }
+    ensures found { IfSome result (HoldsAt
+        (λ row. slice_cmp nat_cmp row.name.now name.now ≡ Ordering.Equal) rows.now) }
+    ensures missing { IfNone result
+        (AllWithin (λ row. slice_cmp nat_cmp row.name.now name.now ≢ Ordering.Equal) rows.now
+        0 (length rows.now)) }
 {
     let mut low = 0;
     let mut high = rows.len();

@@ -1,19 +1,19 @@
-use conf_table::{Place, entry};
+use conf_table::{Context, entry};
 use std::process::Abort;
 use std::test::Fail;
 
 /// The places by their letters: the top, `events`, `http`, a server, a location, an `if` of a server, one of a location.
-const PLACES: [(u8, Place); 7] = [
-    (b'T', Place::Top),
-    (b'E', Place::Events),
-    (b'H', Place::Http),
-    (b'S', Place::Server),
-    (b'L', Place::Location),
-    (b'I', Place::ServerIf),
-    (b'F', Place::LocationIf),
+const PLACES: [(u8, Context); 7] = [
+    (b'T', Context::Top),
+    (b'E', Context::Events),
+    (b'H', Context::Http),
+    (b'S', Context::Server),
+    (b'L', Context::Location),
+    (b'I', Context::ServerIf),
+    (b'F', Context::LocationIf),
 ];
 
-/// Each directive may be in these places, and takes so many words.
+/// Each directive may be in the places of these letters, and takes `least` to `greatest` words.
 fn all_have_places(
     rt: &impl Abort,
     cases: &[(&[u8], &[u8], u32, Option<u32>)],

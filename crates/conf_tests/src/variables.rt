@@ -1,7 +1,7 @@
 use byte_text::{ByteText, OutOfMemory};
 use http_types::{Addr, Method, Version};
 use ngx_variables::{
-    Groups, LocalDate, Main, Place, Request, Role, Value, ValueFault, VarTable, is_builtin,
+    FileRoot, Groups, LocalDate, Main, Request, Role, Value, ValueFault, VarTable, is_builtin,
 };
 use req_head::{HeadFields, HeadStep, read_head};
 use std::alloc::Global;
@@ -85,9 +85,9 @@ fn write_request(request: &mut Request) -> Result<(), OutOfMemory> {
 }
 
 /// The place of an alias, copied once.
-fn alias(alloc: Global) -> Result<Place, Fail> {
+fn alias(alloc: Global) -> Result<FileRoot, Fail> {
     let text = Value::compile(alloc, b"docs/$v/")?;
-    let place = Place::Rest {
+    let place = FileRoot::Rest {
         text,
         prefix: ByteText::from_slice(alloc, b"/i/")?,
     };

@@ -47,7 +47,7 @@ quoted-printed (b ∷ bs) room line rest f more h e m =
           ∙ ap (Whole (b ∷ bs)) (omega arith)
     ] refl
 
--- the line behind bytes
+-- the line after bytes
 pub lines_behind : ℕ → List ℕ → ℕ
 lines_behind line [] = line
 lines_behind line (b ∷ bs) = lines_behind (line_behind line b) bs
@@ -74,7 +74,7 @@ tokens-printed word line rest f more h e m =
     tokens-quote line (escaped_text word ++ 34 ∷ rest) word (1 + (length (escaped_text word) + 1)) (ap (in_front [] 1) (quoted-printed word 4096 line rest f more h e m))
     ∙ ap (λ ts. token.Word line word ∷ ts) (ap (λ n. tokens n line (escaped_text word ++ 34 ∷ rest)) size ∙ ap (tokens (length (escaped_text word ++ 34 ∷ [])) line) text ∙ tokens-passed (escaped_text word ++ 34 ∷ []) line rest)
 
--- what stands before a sign
+-- what comes before a sign
 
 tokens-space : (line : ℕ) (bs : List ℕ) → tokens 0 line (32 ∷ bs) ≡ tokens 0 line bs
 unfolding tokens
@@ -108,14 +108,14 @@ unfolding led stated
 led-stated line name other [] sign at more = refl
 led-stated line name other (word ∷ words) sign at more = refl
 
--- where words and their sign are read: a line, the sign's line, and the line behind it
+-- where words and their sign are read: a line, the sign's line, and the line after it
 record Placed (words : List (List ℕ)) (block : Bool) (all : List Statement) (rest : List ℕ) : Type 0 where
   head : ℕ
   at : ℕ
   behind : ℕ
   same : all ≡ stated head words (sign_by block) at ∷ statements (tokens 0 behind rest)
 
--- a byte that stands right behind a word in a list of words
+-- a byte that comes right after a word in a list of words
 words-first : (words : List (List ℕ)) (block : Bool) (rest : List ℕ) → (f : ℕ) × (more : List ℕ) × (print_words words (mark_of block ∷ rest) ≡ f ∷ more) × (may_follow f ≡ true)
 unfolding print_words
 words-first [] block rest = (mark_of block, rest, refl, mark-follows block)
@@ -216,7 +216,7 @@ unfolding sign_by
 led-by file depth line name args true at ss h = led-open file depth line name args at (Led line name args Open at ∷ ss) ss (omega arith) refl
 led-by file depth line name args false at ss h = led-semicolon file depth line name args at (Led line name args Semicolon at ∷ ss) ss refl
 
--- a statement of a printed directive, in front of what is read behind it
+-- a statement of a printed directive, in front of what is read after it
 same-led : (file : ℕ) (d : Directive) (line at : ℕ) (ss : List Statement) (more : List Directive) → depth_behind d ≤ 32 → Same (directives file (depth_behind d) ss) more
     → Same (directives file d.depth (Led line d.name d.args (sign_by d.block) at ∷ ss)) (d ∷ more)
 same-led file d line at ss more h s =

@@ -87,7 +87,7 @@ pub led-wrong : (file depth line : ℕ) (name : List ℕ) (args : List (List ℕ
 unfolding directives
 led-wrong file depth line name args at kind all more e = ap (directives file depth) e
 
--- directives in front of those behind them
+-- directives in front of those after them
 abbrev pub with_all : List Directive → Result (List Directive) ConfFault → Result (List Directive) ConfFault
 with_all ds (Ok more) = Ok (ds ++ more)
 with_all ds (Err fault) = Err fault
@@ -96,7 +96,7 @@ with_all-with_first : (ds : List Directive) (d : Directive) (r : Result (List Di
 with_all-with_first ds d (Ok more) = ap Ok (sym (append_assoc ds (d ∷ []) more))
 with_all-with_first ds d (Err fault) = refl
 
--- these directives were read, up to this place within so many blocks
+-- these directives were read, up to this place within this many blocks
 pub record Parsed (file : ℕ) (text : List ℕ) (ds : List Directive) (depth line : ℕ) (rest : List ℕ) : Type 0 where
   pub same : reading file text ≡ with_all ds (directives file depth (statements (tokens 0 line rest)))
   pub deep : depth ≤ 32

@@ -31,7 +31,7 @@ pub record Under (word rest_word : Word) (text : List ℕ) (line : ℕ) (rest : 
   pub passed : Passed line rest line' rest'
   pub room : length text ≤ 4096
 
--- some more bytes of the word, from so many of the text
+-- some more bytes of the word, from this many of the text
 pub under-more : (word rest_word next_word : Word) (text bytes : List ℕ) (size : ℕ) (line : ℕ) (rest : List ℕ) (line' : ℕ) (rest' : List ℕ) (line'' : ℕ) (rest'' : List ℕ)
     → Under word rest_word text line rest line' rest' → rest_word ≡ in_front bytes size next_word → length rest' ≡ size + length rest'' → length bytes ≤ 4096 - length text → Passed line rest line'' rest''
     → Under word next_word (text ++ bytes) line rest line'' rest''
@@ -239,7 +239,7 @@ pub closed-wrong : (line : ℕ) (after : List ℕ) (b : ℕ) (more : List ℕ) �
 closed-wrong line after b more e f =
     ap (λ r. closed line (pieces r)) e ∙ closed-first line b more ∙ ap (λ t. if t then Whole [] 1 else Faulty BadQuote line) f
 
--- a word ends at its quote as that quote says, which stands right behind what was read
+-- a word ends at its quote as that quote says, which comes right after what was read
 pub quoted-closes_there : (word : Word) (quote room : ℕ) (text : List ℕ) (line : ℕ) (rest : List ℕ) (line' : ℕ) (rest' : List ℕ) (b : ℕ) (after : List ℕ) (fault : Option FaultKind)
     → Under word (quoted quote room line' (pieces rest')) text line rest line' rest' → rest' ≡ b ∷ after → (b ≡ 92 → ⊥) → b ≡ quote → (b == 10) ≡ false
     → ((at : ℕ) → MatchOption fault (closed at (pieces after) ≡ Whole [] 1) (λ kind. closed at (pieces after) ≡ Faulty kind at))

@@ -8,7 +8,7 @@ use Rattle.conf_text.specs.declared.token.Sign.TheVariants.{Semicolon, Open, Clo
 use Rattle.conf_text.specs.Words.{Word, Whole, Faulty}
 use Rattle.conf_text.specs.Tokens.{tokens}
 
--- the second place stands in the text behind the first: passing the bytes between them leads there
+-- the second place is in the text after the first: passing the bytes between them leads there
 pub record Passed (line : ℕ) (rest : List ℕ) (line' : ℕ) (rest' : List ℕ) : Type 0 where
   pub within : length rest' ≤ length rest
   pub lines : line' + length rest' ≤ line + length rest
@@ -19,7 +19,7 @@ abbrev pub ReadsWord : Word → Option FaultKind → List ℕ → (line : ℕ) (
 ReadsWord word None text line rest line' rest' = (word ≡ Whole text (length rest - length rest')) × Passed line rest line' rest'
 ReadsWord word (Some kind) text line rest line' rest' = word ≡ Faulty kind line'
 
--- the first fact where the text goes on behind the sign, and the second where it ends there
+-- the first fact where the text goes on after the sign, and the second where it ends there
 abbrev pub BySign : Sign → Type 0 → Type 0 → Type 0
 BySign Semicolon P Q = P
 BySign Open P Q = P
@@ -32,7 +32,7 @@ pub record Nearer (line : ℕ) (rest : List ℕ) (line' : ℕ) (rest' : List ℕ
   pub shorter : length rest' < length rest
   pub lines : line' + length rest' ≤ line + length rest
 
--- a token was read, up to the second place; behind the last token stands none
+-- a token was read, up to the second place; after the last token there is none
 abbrev pub ReadsToken : Token → (line : ℕ) (rest : List ℕ) (line' : ℕ) (rest' : List ℕ) → Type 0
 ReadsToken (token.Word at text) line rest line' rest' = (tokens 0 line rest ≡ token.Word at text ∷ tokens 0 line' rest') × Nearer line rest line' rest'
 ReadsToken (token.Mark at sign) line rest line' rest' = BySign sign

@@ -20,7 +20,7 @@ unfoldable pub print_words : List (List ℕ) → List ℕ → List ℕ
 print_words [] rest = rest
 print_words (word ∷ words) rest = 32 ∷ print_word word (print_words words rest)
 
--- the ends of so many blocks, each on a line of its own
+-- the ends of this many blocks, each on a line of its own
 unfoldable pub print_ends : ℕ → List ℕ → List ℕ
 print_ends zero rest = rest
 print_ends (suc n) rest = 125 ∷ 10 ∷ print_ends n rest
@@ -29,7 +29,7 @@ print_ends (suc n) rest = 125 ∷ 10 ∷ print_ends n rest
 abbrev pub mark_of : Bool → ℕ
 mark_of block = if block then 123 else 59
 
--- directives, the first within so many blocks at most: the blocks that it does not stand in are ended before it
+-- directives, the first within `depth` blocks at most: the blocks that it is not in are ended before it
 unfoldable pub print : (depth : ℕ) → List Directive → List ℕ
 print depth [] = print_ends depth []
 print depth (d ∷ more) =
@@ -44,7 +44,7 @@ abbrev pub AllFit : List Directive → Type 0
 AllFit [] = ⊤
 AllFit (d ∷ more) = (length d.name ≤ 4096) × WordsFit d.args × AllFit more
 
--- a directive apart from where it stands
+-- a directive apart from where it is
 abbrev pub without_place : Directive → Directive
 without_place d = record d { file = 0; line = 0 }
 

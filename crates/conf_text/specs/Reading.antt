@@ -16,13 +16,13 @@ use Rattle.conf_text.specs.Statements.{statements}
 abbrev pub fault_at : (file line : ℕ) → FaultKind → ConfFault
 fault_at file line kind = record { kind = kind; file = file; line = line; word = None }
 
--- a directive in front of those that stand behind it
+-- a directive in front of those that come after it
 abbrev pub with_first : Directive → Result (List Directive) ConfFault → Result (List Directive) ConfFault
 with_first d (Ok more) = Ok (d ∷ more)
 with_first d (Err fault) = Err fault
 
--- The directives of statements within so many blocks, or the first fault. Words and `;` are a directive; words and `{`
--- are one whose block holds what stands up to its `}`. Blocks nest at most 32 deep.
+-- The directives of statements within `depth` blocks, or the first fault. Words and `;` are a directive; words and `{`
+-- are one whose block holds what comes up to its `}`. Blocks nest at most 32 deep.
 unfoldable pub directives : (file depth : ℕ) → List Statement → Result (List Directive) ConfFault
 directives file depth [] = Ok []
 directives file depth (Led line name args Semicolon at ∷ more) =
@@ -51,12 +51,12 @@ abbrev pub OnFault : ConfError → (ConfFault → Type 0) → Type 0
 OnFault (error.Fault fault) P = P fault
 OnFault error.OutOfMemory P = ⊤
 
--- how many blocks enclose what stands right behind a directive, or right behind the `{` that it ends with
+-- how many blocks enclose what comes right after a directive, or right after the `{` that it ends with
 abbrev pub depth_behind : Directive → ℕ
 depth_behind d = if d.block then d.depth + 1 else d.depth
 
--- directives whose depths are those of blocks, the first at most this deep: each stands in the block before it, beside
--- it, or further out
+-- directives whose depths are those of blocks, the first at most this deep: each is in the block before it, beside it,
+-- or further out
 abbrev pub IsNested : ℕ → List Directive → Type 0
 IsNested depth [] = ⊤
 IsNested depth (d ∷ more) = (d.depth ≤ depth) × (depth_behind d ≤ 32) × IsNested (depth_behind d) more

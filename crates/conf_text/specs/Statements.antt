@@ -1,4 +1,4 @@
--- Tokens as statements: words and the sign behind them.
+-- Tokens as statements: words and the sign after them.
 use Rattle.std.specs.Prelude.{◌≡◌, ℕ, List, [], ◌∷◌, ◌++◌}
 use Rattle.conf_text.specs.declared.token.Token.{Token}
 use Rattle.conf_text.specs.declared.token.Token.TheVariants as token
@@ -8,7 +8,7 @@ use Rattle.conf_text.specs.declared.statement.Statement.TheVariants.{Bare, Led}
 use Rattle.conf_text.specs.Tokens.{tokens}
 use Rattle.conf_text.specs.Places.{BySign, Nearer}
 
--- a word on a line, and some words behind it, in front of the first statement
+-- a word on a line, and some words after it, in front of the first statement
 unfoldable pub led : (line : ℕ) → (name : List ℕ) → (args : List (List ℕ)) → List Statement → List Statement
 led line name args [] = []
 led line name args (Bare sign at ∷ more) = Led line name args sign at ∷ more
@@ -25,7 +25,7 @@ abbrev pub sign_of : Statement → Sign
 sign_of (Bare sign at) = sign
 sign_of (Led line name args sign at) = sign
 
--- a statement was read, up to the second place; behind the last statement stands none
+-- a statement was read, up to the second place; after the last statement there is none
 abbrev pub ReadsStatement : Statement → List Statement → (line : ℕ) (rest : List ℕ) (line' : ℕ) (rest' : List ℕ) → Type 0
 ReadsStatement s all line rest line' rest' = BySign (sign_of s)
     ((all ≡ s ∷ statements (tokens 0 line' rest')) × Nearer line rest line' rest')

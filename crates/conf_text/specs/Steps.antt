@@ -9,11 +9,11 @@ use Rattle.conf_text.specs.Places.{Nearer}
 use Rattle.conf_text.specs.Statements.{statements}
 use Rattle.conf_text.specs.Reading.{directives, with_first, fault_at}
 
--- how many blocks enclose what stands behind a directive
+-- how many blocks enclose what comes after a directive
 abbrev pub depth_after : Directive → ℕ → ℕ
 depth_after d depth = if d.block then depth + 1 else depth
 
--- the first of the statements makes this step, and the others stand behind the second place
+-- the first of the statements makes this step, and the others come after the second place
 abbrev pub Steps : Step → (file depth : ℕ) → List Statement → (line : ℕ) (rest : List ℕ) (line' : ℕ) (rest' : List ℕ) → Type 0
 Steps (Keep d) file depth all line rest line' rest' =
     (directives file depth all ≡ with_first d (directives file (depth_after d depth) (statements (tokens 0 line' rest'))))

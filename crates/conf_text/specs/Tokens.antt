@@ -15,13 +15,13 @@ word_at line b bs =
     if is_quote b then in_front [] 1 (quoted b 4096 line (pieces bs))
     else plain false 4096 line (pieces (b ∷ bs))
 
--- how many bytes a comment has behind its `#`: those before the line feed
+-- how many bytes a comment has after its `#`: those before the line feed
 unfoldable pub comment : List ℕ → ℕ
 comment [] = 0
 comment (b ∷ bs) = if b == 10 then 0 else suc (comment bs)
 
--- The tokens of a text from a line on, behind the first `passed` bytes. A token may begin anywhere behind the token
--- before; white space and comments stand between.
+-- The tokens of a text from a line on, after the first `passed` bytes. A token may begin anywhere after the token
+-- before; white space and comments may be between them.
 unfoldable pub tokens : (passed line : ℕ) → List ℕ → List Token
 tokens passed line [] = token.Mark line End ∷ []
 tokens (suc passed) line (b ∷ bs) = tokens passed (line_behind line b) bs

@@ -7,7 +7,7 @@ use Rattle.conf_text.specs.declared.fault.FaultKind.TheVariants.{UnexpectedEnd, 
 abbrev pub is_space : ℕ → Bool
 is_space b = (b == 32) || ((b == 9) || ((b == 13) || (b == 10)))
 
--- the line behind a byte
+-- the line after a byte
 abbrev pub line_behind : ℕ → ℕ → ℕ
 line_behind line b = if b == 10 then line + 1 else line
 
@@ -40,7 +40,7 @@ pub data Word : Type 0 where
   Whole : (bytes : List ℕ) → (size : ℕ) → Word
   Faulty : FaultKind → (line : ℕ) → Word
 
--- bytes that a piece of so many bytes stands for, in front of the rest of their word
+-- bytes that a piece stands for, with how many bytes of the text it takes, in front of the rest of their word
 abbrev pub in_front : List ℕ → ℕ → Word → Word
 in_front bytes size (Whole more n) = Whole (bytes ++ more) (size + n)
 in_front bytes size (Faulty kind line) = Faulty kind line
@@ -50,11 +50,11 @@ abbrev pub fitted : (room line : ℕ) → List ℕ → ℕ → Word → Word
 fitted room line bytes size more =
     if nat_le (length bytes) room then in_front bytes size more else Faulty TokenTooLong line
 
--- with this byte an unquoted word ends: white space, `;`, and `{` that isn't right behind `$`
+-- with this byte an unquoted word ends: white space, `;`, and `{` that isn't right after `$`
 abbrev pub ends : (dollar : Bool) → ℕ → Bool
 ends dollar b = is_space b || ((b == 59) || ((b == 123) && not dollar))
 
--- the rest of an unquoted word, which may have so many bytes more
+-- the rest of an unquoted word, which may have `room` bytes more
 unfoldable pub plain : (dollar : Bool) → (room line : ℕ) → List Piece → Word
 plain dollar room line [] = Faulty UnexpectedEnd line
 plain dollar room line (Cut ∷ ps) = Faulty UnexpectedEnd line
@@ -63,7 +63,7 @@ plain dollar room line (Pair c ∷ ps) =
 plain dollar room line (Byte b ∷ ps) =
     if ends dollar b then Whole [] 0 else fitted room line (b ∷ []) 1 (plain (b == 36) (room - 1) line ps)
 
--- behind a quoted word stands white space, `;`, `{` or `)`
+-- after a quoted word comes white space, `;`, `{` or `)`
 abbrev pub may_follow : ℕ → Bool
 may_follow b = is_space b || ((b == 59) || ((b == 123) || (b == 41)))
 

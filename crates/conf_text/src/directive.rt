@@ -6,8 +6,8 @@ use byte_text::{ByteText, ByteTexts, OutOfMemory};
 use std::alloc::Global;
 use std::marker::Model;
 
-/// A directive: its name, its parameters, the file and the line where its name stands, how many blocks enclose it in
-/// its file, and whether it opens a block.
+/// A directive: its name, its parameters, the file and the line where its name is, how many blocks enclose it in its
+/// file, and whether it opens a block.
 #[derive(Clone, Debug, Drop)]
 pub struct Directive {
     pub name: ByteText,
@@ -18,7 +18,7 @@ pub struct Directive {
     pub block: bool,
 }
 
-/// Directives in text order: the block of one stands right behind it, one deeper. Contracts see the list.
+/// Directives in text order: the block of one comes right after it, one deeper. Contracts see the list.
 #[derive(Clone, Debug, Drop)]
 pub struct Directives {
     lines: Vec<Directive>,
@@ -84,15 +84,14 @@ impl Directives {
     }
 }
 
-/// How many of the directives that stand behind one of this depth are in its block.
+/// How many of the directives after one of this depth are in its block.
 fn block_len(depth: u32, rest: &[Directive]) -> usize
     ensures { result ≡ length (block_of depth rest.now) }
 {
     rest.iter().take_while(|d| d.depth > depth).count()
 }
 
-/// Parts the directives that stand behind one of this depth: those in its block, and those behind the block. Takes no
-/// memory.
+/// Parts the directives after one of this depth: those in its block, and those after the block. Takes no memory.
 pub fn split_block(depth: u32, rest: &[Directive]) -> (&[Directive], &[Directive])
     ensures block { result.0.now ≡ block_of depth rest.now }
     ensures whole { rest.now ≡ result.0.now ++ result.1.now }

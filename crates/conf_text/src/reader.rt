@@ -9,7 +9,7 @@ use crate::directive::{Directive, Directives};
 use crate::fault::{ConfError, ConfFault, FaultKind};
 use crate::statement::{Statement, read_statement};
 use crate::token::Sign;
-use crate::word::Place;
+use crate::word::Cursor;
 use byte_text::ByteText;
 use std::alloc::Global;
 
@@ -25,10 +25,12 @@ enum Step {
     Stop(FaultKind, u64),
 }
 
-/// What a statement does within so many blocks.
+/// What a statement does that `depth` blocks enclose.
 fn step_of(file: u32, depth: u32, statement: Statement) -> Step
     requires { depth ≤ 32 }
-    ensures { (all : List Statement) (line : ℕ) (rest : List ℕ) (line' : ℕ) (rest' : List ℕ) → ReadsStatement statement all line rest line' rest' → Steps result file depth all line rest line' rest' }
+    ensures { (all : List Statement) (line : ℕ) (rest : List ℕ) (line' : ℕ) (rest' : List ℕ)
+        → ReadsStatement statement all line rest line' rest'
+        → Steps result file depth all line rest line' rest' }
 {
     match statement {
         Statement::Bare { sign, at } => match sign {
@@ -100,7 +102,7 @@ pub fn parse(alloc: Global, file: u32, bytes: &[u8]) -> Result<Directives, ConfE
     ensures fault { IfErr result (λ e. OnFault e (λ fault. reading file bytes.now ≡ Err fault)) }
     ensures nested { IfOk result (IsNested 0) }
 {
-    let mut place = Place {
+    let mut place = Cursor {
         rest: bytes,
         line: 1,
     };

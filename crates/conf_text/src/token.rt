@@ -5,7 +5,7 @@ ghost use Rattle.conf_text.specs.Tokens.{tokens, comment, is_quote, word_at};
 ghost use Rattle.conf_text.specs.Places.{ReadsWord, ReadsToken};
 
 use crate::fault::FaultKind;
-use crate::word::{Place, first_of, is_space, line_after, read_plain, read_quoted};
+use crate::word::{Cursor, first_of, is_space, line_after, read_plain, read_quoted};
 use byte_text::{ByteText, OutOfMemory};
 use std::alloc::Global;
 
@@ -19,7 +19,7 @@ pub enum Sign {
     Wrong(FaultKind),
 }
 
-/// A word or a sign, with the line on which it begins; a fault stands on the line where it shows.
+/// A word or a sign, with the line on which it begins; a fault is on the line where it shows.
 #[derive(Drop)]
 pub enum Token {
     Word { line: u64, text: ByteText },
@@ -27,8 +27,9 @@ pub enum Token {
 }
 
 /// Passes the rest of a comment, up to its line feed.
-fn pass_comment(place: &mut Place)
-    ensures same { tokens (comment place.old.rest.now) place.old.line place.old.rest.now ≡ tokens 0 place.new.line place.new.rest.now }
+fn pass_comment(place: &mut Cursor)
+    ensures same { tokens (comment place.old.rest.now) place.old.line place.old.rest.now
+        ≡ tokens 0 place.new.line place.new.rest.now }
     ensures within { length place.new.rest.now ≤ length place.old.rest.now }
     ensures line { place.new.line ≡ place.old.line }
 {
@@ -50,12 +51,14 @@ fn begins_quoted(byte: u8) -> bool
 fn read_word<'a>(
     first: u8,
     after: &'a [u8],
-    place: &mut Place<'a>,
+    place: &mut Cursor<'a>,
     word: &mut ByteText,
 ) -> Result<Option<FaultKind>, OutOfMemory>
     requires here { place.old.rest.now ≡ first ∷ after.now }
     requires room { place.old.line + length place.old.rest.now < 2 ^ 64 }
-    ensures { IfOk result (λ fault. ReadsWord (word_at place.old.line first after.now) fault word.new place.old.line place.old.rest.now place.new.line place.new.rest.now) }
+    ensures { IfOk result (λ fault.
+        ReadsWord (word_at place.old.line first after.now) fault word.new
+        place.old.line place.old.rest.now place.new.line place.new.rest.now) }
 {
     word.clear();
     if begins_quoted(first) {
@@ -73,7 +76,7 @@ fn word_token<'a>(
     alloc: Global,
     first: u8,
     after: &'a [u8],
-    place: &mut Place<'a>,
+    place: &mut Cursor<'a>,
     word: &mut ByteText,
 ) -> Result<Token, OutOfMemory>
     requires here { place.old.rest.now ≡ first ∷ after.now }
@@ -83,7 +86,8 @@ fn word_token<'a>(
     requires semicolon { first ≢ 59 }
     requires open { first ≢ 123 }
     requires close { first ≢ 125 }
-    ensures { IfOk result (λ token. ReadsToken token place.old.line place.old.rest.now place.new.line place.new.rest.now) }
+    ensures { IfOk result (λ token.
+        ReadsToken token place.old.line place.old.rest.now place.new.line place.new.rest.now) }
 {
     let line = place.line;
     match read_word(first, after, place, word)? {
@@ -101,11 +105,12 @@ fn word_token<'a>(
 /// Reads the next token, with `word` as its scratch paper.
 pub fn read_token(
     alloc: Global,
-    place: &mut Place,
+    place: &mut Cursor,
     word: &mut ByteText,
 ) -> Result<Token, OutOfMemory>
     requires room { place.old.line + length place.old.rest.now < 2 ^ 64 }
-    ensures { IfOk result (λ token. ReadsToken token place.old.line place.old.rest.now place.new.line place.new.rest.now) }
+    ensures { IfOk result (λ token.
+        ReadsToken token place.old.line place.old.rest.now place.new.line place.new.rest.now) }
 {
     while let Some((first, after)) = first_of(place.rest) {
         if is_space(first) {

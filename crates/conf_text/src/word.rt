@@ -12,7 +12,7 @@ const LIMIT: usize = 4096;
 
 /// A place in a text: the bytes from there on, and its line, from 1.
 #[derive(Drop)]
-pub struct Place<'a> {
+pub struct Cursor<'a> {
     pub rest: &'a [u8],
     pub line: u64,
 }
@@ -24,7 +24,7 @@ pub fn is_space(byte: u8) -> bool
     byte == b' ' || byte == b'\t' || byte == b'\r' || byte == b'\n'
 }
 
-/// The first byte, and the bytes behind it.
+/// The first byte, and the bytes after it.
 pub fn first_of(bytes: &[u8]) -> Option<(u8, &[u8])>
     ensures { MatchOption result (bytes.now ≡ []) (λ p. bytes.now ≡ p.0 ∷ p.1.now) }
 {
@@ -34,7 +34,7 @@ pub fn first_of(bytes: &[u8]) -> Option<(u8, &[u8])>
     }
 }
 
-/// The line behind a byte.
+/// The line after a byte.
 pub fn line_after(line: u64, byte: u8) -> u64
     requires { line + 1 < 2 ^ 64 }
     ensures value { result ≡ line_behind line byte }
@@ -43,14 +43,14 @@ pub fn line_after(line: u64, byte: u8) -> u64
     if byte == b'\n' { line + 1 } else { line }
 }
 
-/// Whether an unquoted word ends before this byte, where `dollar` says that a `$` stands right before it.
+/// Whether an unquoted word ends before this byte, where `dollar` says that a `$` comes right before it.
 fn ends_word(byte: u8, dollar: bool) -> bool
     ensures { result ≡ ends dollar byte }
 {
     is_space(byte) || byte == b';' || (byte == b'{' && !dollar)
 }
 
-/// Whether this byte may stand right behind a quoted word.
+/// Whether this byte may come right after a quoted word.
 fn follows_quote(byte: u8) -> bool
     ensures { result ≡ may_follow byte }
 {
@@ -72,7 +72,8 @@ fn put(word: &mut ByteText, byte: u8) -> Result<bool, OutOfMemory>
 /// Puts what a backslash and this byte stand for at the end of a word, if there is room for it.
 #[tactic(auto, unfolding(crate::specs::Words::escape))]
 fn put_escape(word: &mut ByteText, byte: u8) -> Result<bool, OutOfMemory>
-    ensures fits { IfOk result (λ fits. fits ≡ nat_le (length (escape byte)) (4096 - length word.old)) }
+    ensures fits { IfOk result (λ fits. fits
+        ≡ nat_le (length (escape byte)) (4096 - length word.old)) }
     ensures kept { IfOk result (λ fits. OnTrue fits (word.new ≡ word.old ++ escape byte)) }
 {
     match byte {
@@ -92,10 +93,12 @@ fn put_escape(word: &mut ByteText, byte: u8) -> Result<bool, OutOfMemory>
 }
 
 /// Reads the rest of an unquoted word, at the end of a word that is still empty.
-pub fn read_plain(place: &mut Place, word: &mut ByteText) -> Result<Option<FaultKind>, OutOfMemory>
+pub fn read_plain(place: &mut Cursor, word: &mut ByteText) -> Result<Option<FaultKind>, OutOfMemory>
     requires room { place.old.line + length place.old.rest.now < 2 ^ 64 }
     requires empty { word.old ≡ [] }
-    ensures { IfOk result (λ fault. ReadsWord (plain false 4096 place.old.line (pieces place.old.rest.now)) fault word.new place.old.line place.old.rest.now place.new.line place.new.rest.now) }
+    ensures { IfOk result (λ fault.
+        ReadsWord (plain false 4096 place.old.line (pieces place.old.rest.now)) fault word.new
+        place.old.line place.old.rest.now place.new.line place.new.rest.now) }
 {
     let mut dollar = false;
     while let Some((first, after)) = first_of(place.rest) {
@@ -123,9 +126,10 @@ pub fn read_plain(place: &mut Place, word: &mut ByteText) -> Result<Option<Fault
     Ok(Some(FaultKind::UnexpectedEnd))
 }
 
-/// What is wrong behind the quote that ends a word, if anything is.
+/// What is wrong after the quote that ends a word, if anything is.
 fn wrong_behind_quote(after: &[u8]) -> Option<FaultKind>
-    ensures { (line : ℕ) → MatchOption result (closed line (pieces after.now) ≡ Whole [] 1) (λ kind. closed line (pieces after.now) ≡ Faulty kind line) }
+    ensures { (line : ℕ) → MatchOption result (closed line (pieces after.now) ≡ Whole [] 1)
+        (λ kind. closed line (pieces after.now) ≡ Faulty kind line) }
 {
     match first_of(after) {
         None => Some(FaultKind::UnexpectedEnd),
@@ -143,13 +147,15 @@ fn wrong_behind_quote(after: &[u8]) -> Option<FaultKind>
 /// that is still empty.
 pub fn read_quoted(
     quote: u8,
-    place: &mut Place,
+    place: &mut Cursor,
     word: &mut ByteText,
 ) -> Result<Option<FaultKind>, OutOfMemory>
     requires room { place.old.line + length place.old.rest.now < 2 ^ 64 }
     requires quote { quote ≢ 10 }
     requires empty { word.old ≡ [] }
-    ensures { IfOk result (λ fault. ReadsWord (quoted quote 4096 place.old.line (pieces place.old.rest.now)) fault word.new place.old.line place.old.rest.now place.new.line place.new.rest.now) }
+    ensures { IfOk result (λ fault.
+        ReadsWord (quoted quote 4096 place.old.line (pieces place.old.rest.now)) fault word.new
+        place.old.line place.old.rest.now place.new.line place.new.rest.now) }
 {
     while let Some((first, after)) = first_of(place.rest) {
         if first == b'\\' {

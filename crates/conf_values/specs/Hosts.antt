@@ -3,7 +3,7 @@ use Rattle.std.specs.Prelude.{ℕ, ◌-◌, List, [], length, take, drop, ◌==�
 use Rattle.std.specs.List.{starts_with, ends_with, list_any}
 use Rattle.conf_values.specs.Words.{begins_with}
 
--- the name without its `*.`, `.*` or `.`; a name has one star at most, and no point with a star behind it
+-- the name without its `*.`, `.*` or `.`; a name has one star at most, and no point with a star after it
 abbrev pub front_body : List ℕ → Option (List ℕ)
 front_body text = if begins_with 46 text then None else Some text
 

@@ -40,7 +40,7 @@ abbrev pub listened_by : List (List ℕ) → Option Addr
 listened_by [] = None
 listened_by (word ∷ words) = listened word
 
--- behind the address `default_server` may stand, and nothing else
+-- after the address `default_server` may come, and nothing else
 unfoldable pub is_default : List ℕ → Bool
 is_default word = bytes_eq word (codes "default_server")
 

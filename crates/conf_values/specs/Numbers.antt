@@ -35,12 +35,13 @@ unit_of word =
 unfoldable pub digits_before : List ℕ → ℕ
 digits_before text = prefix_len is_decimal text
 
--- so many units, where these are at most this number
+-- `count` units, where these are at most this number
 abbrev pub in_units : (most count : ℕ) → (unit : Option ℕ) → Option ℕ
 in_units most count None = None
 in_units most count (Some unit) = if nat_le (count * unit) most then Some (count * unit) else None
 
--- A time in milliseconds, at most 2^40 seconds: digits, and behind them its unit (nginx's documentation, "Configuration file measurement units").
+-- A time in milliseconds, at most 2^40 seconds: digits, and after them its unit (nginx's documentation, "Configuration
+-- file measurement units").
 unfoldable pub time_of : List ℕ → Option ℕ
 time_of text =
     if digits_before text == 0 then None
@@ -55,7 +56,7 @@ bytes_of word =
     else (if bytes_eq word (codes "g") || bytes_eq word (codes "G") then Some 1073741824
     else None)))
 
--- A size in bytes, at most this one: digits, and behind them its unit (the same page).
+-- A size in bytes, at most this one: digits, and after them its unit (the same page).
 unfoldable pub size_to : (most : ℕ) → List ℕ → Option ℕ
 size_to most text =
     if digits_before text == 0 then None

@@ -37,7 +37,7 @@ form_of (word ∷ []) = if is_url word then Later else form_with (code_of word)
 form_of (code ∷ text ∷ []) = form_with (code_of code)
 form_of (code ∷ text ∷ other ∷ words) = Wrong
 
--- the text behind the code
+-- the text after the code
 abbrev pub text_of : List (List ℕ) → Option (List ℕ)
 text_of [] = None
 text_of (code ∷ []) = None
@@ -48,7 +48,7 @@ return_by Wrong words = None
 return_by Later words = None
 return_by (Answer code) words = Some (record { code = code; text = option_map pieces_of (text_of words) })
 
--- the texts of a `return` are such whose variables are known: that behind the code, or the address to redirect to
+-- the texts of a `return` are such whose variables are known: that after the code, or the address to redirect to
 unfoldable pub has_texts : (List ℕ → Bool) → List (List ℕ) → Bool
 has_texts known [] = false
 has_texts known (word ∷ []) = if is_url word then is_text known word else true

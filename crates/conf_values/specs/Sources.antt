@@ -30,7 +30,7 @@ abbrev pub network_with : IpAddr → Option ℕ → Option Source
 network_with ip None = None
 network_with ip (Some bits) = if nat_le bits (width_of ip) then Some (Network ip bits) else None
 
--- the addresses with so many first bits, at most as many as an address has
+-- the addresses whose first `bits` bits are this one's, at most as many bits as an address has
 abbrev pub network_of : Option IpAddr → Option ℕ → Option Source
 network_of None bits = None
 network_of (Some ip) bits = network_with ip bits

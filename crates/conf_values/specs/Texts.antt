@@ -18,7 +18,7 @@ abbrev pub is_known : (List ℕ → Bool) → Piece → Bool
 is_known known (Set name) = known name
 is_known known _ = true
 
--- a variable that tells where the files of a level stand
+-- a variable that tells where the files of a level are
 abbrev pub tells_folder : Variable → Bool
 tells_folder DocumentRoot = true
 tells_folder RequestFilename = true
@@ -36,6 +36,6 @@ are_known known (Err fault) = false
 unfoldable pub is_text : (List ℕ → Bool) → List ℕ → Bool
 is_text known text = are_known known (compiled text)
 
--- such a text that doesn't tell where the files of a level stand
+-- such a text that doesn't tell where the files of a level are
 unfoldable pub is_folder_text : (List ℕ → Bool) → List ℕ → Bool
 is_folder_text known text = is_text known text && not (list_any tells_place (pieces_of text))

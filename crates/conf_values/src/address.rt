@@ -96,7 +96,7 @@ fn are_default(words: &[ByteText]) -> bool
     true
 }
 
-/// Whether each word behind the address is a parameter that is known.
+/// Whether each word after the address is a parameter that is known.
 pub fn has_known_parameters(words: &[ByteText]) -> bool
     ensures { result ≡ has_known_parameters words.now }
 {

@@ -43,7 +43,7 @@ fn before_two(text: &[u8]) -> &[u8]
     &text[..text.len() - 2]
 }
 
-/// The bytes behind the first two.
+/// The bytes after the first two.
 fn behind_two(text: &[u8]) -> &[u8]
     requires { 2 ≤ length text.now }
     ensures { result.now ≡ drop 2 text.now }

@@ -87,7 +87,7 @@ pub fn form_of(words: &[ByteText]) -> Form
     }
 }
 
-/// The text behind the code, if there is one.
+/// The text after the code, if there is one.
 fn text_of(alloc: Global, words: &[ByteText]) -> Result<Option<Value>, OutOfMemory>
     ensures { IfOk result (λ text. text ≡ option_map pieces_of (text_of words.now)) }
 {

@@ -11,7 +11,7 @@ use conf_table::{Setting, Switch, Time};
 /// The values that hold in a level, each as its directive's page of nginx's reference says.
 #[derive(Clone, Copy, Debug, PartialEq, Eq)]
 pub struct Settings {
-    /// So many requests are answered on one connection (`keepalive_requests`).
+    /// How many requests are answered on one connection (`keepalive_requests`).
     pub requests: u32,
     /// How long a connection is kept open after a response, and how long a write and a head may take, in milliseconds
     /// (`keepalive_timeout`, `send_timeout`, `client_header_timeout`).

@@ -83,7 +83,7 @@ fn any_tells_place(pieces: &[Piece]) -> bool
     false
 }
 
-/// Whether it is such a text, and has no variable that tells where the files of a level stand.
+/// Whether it is such a text, and has no variable that tells where the files of a level are.
 #[tactic(auto, unfolding(crate::specs::Texts::is_folder_text))]
 pub fn is_folder_text(alloc: Global, known: &TextSet, text: &[u8]) -> Result<bool, OutOfMemory>
     ensures { IfOk result (λ r. r ≡ is_folder_text (holds known.now.keys) text.now) }

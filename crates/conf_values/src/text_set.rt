@@ -34,7 +34,8 @@ impl TextSet {
 
     /// The text is in the set from now on.
     pub fn add(&mut self, text: &[u8]) -> Result<(), OutOfMemory>
-        ensures { OnOk result ((t : List ℕ) → holds self.new.keys t ≡ (bytes_eq t text.now || holds self.old.keys t)) }
+        ensures { OnOk result ((t : List ℕ)
+            → holds self.new.keys t ≡ (bytes_eq t text.now || holds self.old.keys t)) }
     {
         let key = text.to_vec(self.alloc)?;
         let _new = self.keys.insert(key)?;

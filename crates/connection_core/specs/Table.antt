@@ -131,7 +131,7 @@ Below c ids = AllByRecursion (λ id. id < c) ids
 abbrev pub Above : ℕ → List ℕ → Type 0
 Above c ids = AllByRecursion (λ id. c < id) ids
 
--- the number stands at i
+-- the number is at place i
 pub record StandsAt (c : ℕ) (ids : List ℕ) (i : ℕ) : Type 0 where
   pub front : List ℕ
   pub back : List ℕ

@@ -13,7 +13,7 @@ use request_flow::Workspace;
 use served_site::ServedSite;
 use std::alloc::Global;
 
-/// So many connections are held at most (nginx's `worker_connections`).
+/// How many connections are held at most (nginx's `worker_connections`).
 const MOST: usize = 512;
 
 /// The connections that are held for a site, each under its number, the place of the one that had the last event, and a moment

@@ -6,3 +6,4 @@ mod page;
 mod rule;
 
 pub use page::{PageStep, page_for};
+pub use rule::Handling;

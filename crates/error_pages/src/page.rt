@@ -8,7 +8,7 @@ ghost use Rattle.request_meaning.specs.Errors.{by_rule, failed, rule_for};
 ghost use Rattle.target_text.specs.Settled.{fit, target_text};
 ghost use Rattle.error_pages.specs.Pages.{IsErrorOf, IsFor, IsInside, IsAway, page_next, too_long_next, has_no_page, IsTooLong, IsTooLongBy};
 
-use crate::rule::{may_apply, rule_for, url_code};
+use crate::rule::{Handling, may_apply, rule_for, url_code};
 use byte_text::ByteText;
 use ngx_variables::{EvalFault, Main, Request, Value, VarTable};
 use site_model::{PageRule, PageTarget, Shown};
@@ -113,10 +113,8 @@ fn page_by(
     }
 }
 
-/// Where an error with a code goes, by the rules of its level; `used` says that an error of this request was handled before,
-/// `recursive` that `recursive_error_pages` is on, and `changes` how many changes of the request are left. None where no rule
-/// names the code, the code is below 400, an error was handled and pages aren't recursive, or no change is left: the built-in
-/// page is answered then.
+/// Where an error with a code goes, by the rules of its level. None where no rule names the code, the code is below 400, an
+/// error was handled and pages aren't recursive, or no change is left: the built-in page is answered then.
 ///
 /// # Errors
 /// `TooLong` where the text of the page's path or address has more than 16384 bytes.
@@ -124,27 +122,27 @@ pub fn page_for(
     alloc: Global,
     rules: &[PageRule],
     code: u16,
-    used: bool,
-    recursive: bool,
-    changes: u8,
+    handling: Handling,
     main: &Main,
     request: &Request,
     vars: &VarTable,
 ) -> Result<Option<PageStep>, EvalFault>
-    ensures page { IfOk result (λ step. (a : Asked) (s : Standing)
-        → IsFor main.now request.now (map page_seen rules.now) used recursive a s
-        → settled (failed changes a s code) vars.now ≡ (Done (page_next a s code step), vars.now)) }
+    ensures page { IfOk result (λ step. (a : Asked) (s : Standing) → IsFor main.now request.now
+        (map page_seen rules.now) handling.used handling.recursive a s
+        → settled (failed handling.changes a s code) vars.now
+        ≡ (Done (page_next a s code step), vars.now)) }
     ensures too_long { result ≡ Err EvalFault.TooLong → (a : Asked) (s : Standing)
-        → IsFor main.now request.now (map page_seen rules.now) used recursive a s
-        → settled (failed changes a s code) vars.now ≡ (Done (too_long_next a s code), vars.now) }
-    ensures none { IfOk result (λ step.
-        is_some step ≡ not (has_no_page (map page_seen rules.now) code changes used recursive)) }
-    ensures some { result ≡ Err EvalFault.TooLong
-        → has_no_page (map page_seen rules.now) code changes used recursive ≡ false }
+        → IsFor main.now request.now (map page_seen rules.now) handling.used handling.recursive a s
+        → settled (failed handling.changes a s code) vars.now
+        ≡ (Done (too_long_next a s code), vars.now) }
+    ensures none { IfOk result (λ step. is_some step ≡ not (has_no_page (map page_seen rules.now)
+        code handling.changes handling.used handling.recursive)) }
+    ensures some { result ≡ Err EvalFault.TooLong → has_no_page (map page_seen rules.now) code
+        handling.changes handling.used handling.recursive ≡ false }
     ensures unfit { result ≡ Err EvalFault.TooLong → IsTooLongBy main.now request.now vars.now
         (rule_for (map page_seen rules.now) code) }
 {
-    if !may_apply(used, recursive, changes) {
+    if !may_apply(handling) {
         return Ok(None);
     }
     match rule_for(rules, code) {

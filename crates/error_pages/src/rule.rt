@@ -7,11 +7,22 @@ ghost use Rattle.error_pages.specs.Pages.{names_code, applies};
 
 use site_model::{PageRule, Shown};
 
+/// How far the errors of a request were handled.
+#[derive(Clone, Copy)]
+pub struct Handling {
+    /// Whether an error of this request was handled before.
+    pub used: bool,
+    /// Whether `recursive_error_pages` is on.
+    pub recursive: bool,
+    /// How many changes of the request are left.
+    pub changes: u8,
+}
+
 /// Whether an error may go to a page: while a change is left, and once for a request unless `recursive_error_pages` is on.
-pub fn may_apply(used: bool, recursive: bool, changes: u8) -> bool
-    ensures { result ≡ applies changes used recursive }
+pub fn may_apply(handling: Handling) -> bool
+    ensures { result ≡ applies handling.changes handling.used handling.recursive }
 {
-    changes != 0 && (recursive || !used)
+    handling.changes != 0 && (handling.recursive || !handling.used)
 }
 
 fn names(rule: &PageRule, code: u16) -> bool

@@ -16,7 +16,7 @@ pub data Line : Type 0 where
   Gives : (node : ℕ) → (left : ℕ) → Serving Answer → Line → Line
   -- a node that waits for the reply of a subrequest, which has its own line
   Waits : (node : ℕ) → (own : Line) → (left : ℕ) → (Reply → Serving Answer) → Line → Line
-  -- a subrequest with a stub, of which it isn't known yet which of both is put here; its own line
+  -- a subrequest with a stub, of which it isn't known yet which of the two is put here; its own line
   Stubs : (own : Line) → (stub : List ℕ) → Line → Line
 
 -- what a line comes to: the answer of its last node, its bytes, and the variables

@@ -55,7 +55,7 @@ at_last f left answer a h = record {
 -- ---- what a family comes to
 
 module _ (w : World) (tree : Tree) where
-  -- what stands first comes first
+  -- what is first in the row leaves first
   pub front_rest : (stance : ℕ → Stance) (ps : List Piece) (last : Option Answer) (vars : Vars) → (later : List ℕ) × ((items_rest w tree (row_items stance ps) last vars).body ≡ front_of ps ++ later)
   unfolding items_rest row_items front_of
   front_rest stance [] last vars = ([], refl)

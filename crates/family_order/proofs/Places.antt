@@ -59,7 +59,7 @@ bytes_first (b ∷ bytes) zs (x ∷ xs) ys i k e =
     let p = bytes_first bytes zs xs ys i k (tail_is e) in
     (p.0, ap (λ y. y ∷ xs) (sym (head_is e)) ∙ ap (λ ys. Byte b ∷ ys) p.1, p.2)
 
--- A line that has more between two parts: the lines before it and behind it.
+-- A line that has more between two parts: the lines before it and after it.
 pub record Place (line : Line) (xs : List Item) (between : Line → Line) (ys : List Item) : Type 0 where
   pub before : Line
   pub behind : Line
@@ -143,7 +143,7 @@ module _ (w : World) (tree : Tree) where
   thinks_past (Waits node own left k a) b c vars vars' t = ThereWait (thinks_past a b c vars vars' t)
   thinks_past (Stubs own stub a) b c vars vars' t = ThereStub (thinks_past a b c vars vars' t)
 
-  -- a step of a line behind another
+  -- a step of a line after another
   pub moves_past : (a b c : Line) (vars vars' : Vars) → Moves w tree b vars c vars' → Moves w tree (joined a b) vars (joined a c) vars'
   moves_past a _ _ _ _ (Quietly {line} {line'} q) = Quietly (quiet_past a line line' q)
   moves_past a _ _ _ _ (ByTable {line} {line'} {vars} {vars'} t) = ByTable (thinks_past a line line' vars vars' t)

@@ -8,7 +8,7 @@ use Rattle.postpone_filter.proofs.Places.{lawful-later, place-node, unnamed-behi
 use Rattle.family_order.specs.Items.{Stance, Item, stance_items, row_items}
 use Rattle.family_order.specs.Items.Item.{Byte}
 
--- what stands behind the bytes of a piece: the node, where it goes on
+-- what comes after the bytes of a piece: the node, where it goes on
 abbrev pub node_items : (ℕ → Stance) → Piece → List Item
 node_items stance p = if p.grows then stance_items p.node (stance p.node) else []
 
@@ -88,7 +88,7 @@ row_items-clean stance (p ∷ ps) = elim (is_over p) as (λ t. is_over p ≡ t �
   | false ↦ λ t. refl
 ] refl
 
--- A row in which a node goes on: the pieces ahead of its place, the piece right before it, and those behind.
+-- A row in which a node goes on: the pieces ahead of its place, the piece right before it, and those after.
 pub record Split (n : ℕ) (ps : List Piece) : Type 0 where
   pub ahead : List Piece
   pub at : Piece
@@ -140,7 +140,7 @@ split nodes n (p ∷ ps) l e = elim (is_place n p) as (λ t. is_place n p ≡ t 
   | false ↦ λ t. split_there n p ps t (split nodes n ps (lawful-later nodes p ps l) (open_there n p ps t e))
 ] refl
 
--- what the row has by its place: the node between what is ahead and what is behind
+-- what the row has by its place: the node between what is ahead and what is after
 abbrev pub ahead_items : (ℕ → Stance) → List Piece → Piece → List Item
 ahead_items stance ahead p = row_items stance ahead ++ map Byte p.bytes
 
@@ -158,7 +158,7 @@ split_items n stance ps s =
     ∙ ap (λ z. row_items stance s.ahead ++ z) (at_node n stance s.at s.behind s.place)
     ∙ sym (append_assoc (row_items stance s.ahead) (map Byte s.at.bytes) (stance_items n (stance n) ++ row_items stance s.behind))
 
--- and where other things stand at its place
+-- and where other things are at its place
 pub change_items : (n : ℕ) (stance now : ℕ → Stance) (ps : List Piece) (s : Split n ps) (g : Piece → List Piece) (mid : List Item)
     → ((j : ℕ) → (j == n) ≡ false → now j ≡ stance j)
     → row_items now (g s.at) ≡ map Byte s.at.bytes ++ mid

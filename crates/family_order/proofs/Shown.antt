@@ -41,7 +41,7 @@ seat f line n s h d k e =
           ∙ ap (λ t. (map Byte f.output ++ ahead_items f.stance p.ahead p.at) ++ (stance_items n t ++ row_items f.stance p.behind)) d.stands);
     }
 
--- The line where other things stand at the place of the node: it is shown by the row where the same things stand there.
+-- The line where other things are at the place of the node: it is shown by the row where the same things are there.
 seated : (f : Family) (line : Line) (n : ℕ) (s : Stance) (t : Seat f line n s) (now : ℕ → Stance) (g : Piece → List Piece) (mid : List Item) (next : Line)
     → ((j : ℕ) → (j == n) ≡ false → now j ≡ f.stance j)
     → ((p : Piece) → is_place n p ≡ true → row_items now (g p) ≡ map Byte p.bytes ++ mid)
@@ -208,7 +208,7 @@ module _ (w : World) (tree : Tree) (f : Family) (line : Line) where
       (ap (row_items (with_stance n now f.stance)) (sym (at_place-same n f.row.pieces)))
       (well-doing n now f h k')
 
-  -- there is a node behind another than the root
+  -- there is a node after another than the root
   node_behind : (n : ℕ) (s : Stance) (t : Seat f line n s) → IsWell f → n ≢ f.root → has_node t.at.behind ≡ true
   node_behind n s t h k =
       any_line t.at.behind

@@ -1,4 +1,4 @@
--- The operations of a row keep its root behind all other nodes.
+-- The operations of a row keep its root after all other nodes.
 use Rattle.std.proofs.Common.{◌≡◌, ◌≢◌, ℕ, ◌<◌, true, false, ◌&&◌, ◌==◌, List, [], ◌∷◌, ◌++◌, refl, sym, ap, ◌∙◌, arith, if◌then◌else◌}
 use Rattle.std.proofs.lemmas.Bool.{eqb-true, eq-eqb}
 use Rattle.postpone_filter.specs.Row.{Piece, Row, is_place, is_open, at_place, longer, closed, fresh, is_over, clean, shorter}
@@ -12,7 +12,7 @@ use Rattle.family_order.specs.Items.{Stance, is_shown, any_goes_on, goes_on_behi
 use Rattle.family_order.specs.Laws.{KeepsRoot, RowStaysWell}
 use Rattle.family_order.proofs.Rows.{over-parts, open_there}
 
--- where no node goes on, none goes on behind another
+-- where no node goes on, none goes on after another
 none_behind : (n : ℕ) (ps : List Piece) → any_goes_on ps ≡ false → goes_on_behind n ps ≡ false
 unfolding any_goes_on goes_on_behind
 none_behind n [] e = refl
@@ -32,7 +32,7 @@ none_open n (p ∷ ps) e = elim p.grows as (λ g. (if g then true else any_goes_
 none_changed : (n : ℕ) (g : Piece → List Piece) (ps : List Piece) → any_goes_on ps ≡ false → any_goes_on (at_place n g ps) ≡ false
 none_changed n g ps e = ap any_goes_on (sym (at_place-none n g ps (none_open n ps e))) ∙ e
 
--- a change at the place of a node, where it keeps another node behind all others
+-- a change at the place of a node, where it keeps another node after all others
 behind-change : (nodes n m : ℕ) (g : Piece → List Piece) (ps : List Piece)
     → ((p : Piece) (rest : List Piece) → IsLawful nodes (p ∷ rest) → is_place n p ≡ true → goes_on_behind m (p ∷ rest) ≡ false → goes_on_behind m (g p ++ rest) ≡ false)
     → IsLawful nodes ps → goes_on_behind m ps ≡ false → goes_on_behind m (at_place n g ps) ≡ false
@@ -133,7 +133,7 @@ begun-well root nodes h = record {
 pub stays_well : RowStaysWell
 stays_well = record { begins = begun-well; steps = step-well }
 
--- ---- the root comes behind each other node
+-- ---- the root comes after each other node
 
 other_place : (root n : ℕ) (p : Piece) → n ≢ root → is_place n p ≡ true → is_place root p ≡ false
 other_place root n p k t = elim (is_place root p) as (λ u. is_place root p ≡ u → u ≡ false) [

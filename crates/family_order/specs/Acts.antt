@@ -59,7 +59,7 @@ pub data Acts (w : World) (tree : Tree) : Family → Vars → Family → Vars �
   Ends : {f : Family} {vars : Vars} {left : ℕ} {answer : Answer} (n : ℕ) → Does f n (Going left (Done answer)) → n ≢ f.root →
       Acts w tree f vars (ending n f) vars
   -- The line of a subrequest with a stub takes a step. It is decided that its body is kept: then the row has that line in its
-  -- place. Or its nodes are over, and one of both is placed.
+  -- place. Or its nodes are over, and one of the two is placed.
   WithinStub : {f : Family} {vars vars' : Vars} {own own' : Line} {stub : List ℕ} (n : ℕ) → Does f n (Apart own stub) →
       Moves w tree own vars own' vars' → Acts w tree f vars (doing n (Apart own' stub) f) vars'
   Keeps : {f g : Family} {vars : Vars} (own : Line) (stub : List ℕ) (ahead behind : List Item) →

@@ -11,7 +11,7 @@ use Rattle.family_meaning.specs.Line
 use Rattle.family_meaning.specs.Line.{Line}
 use Rattle.family_meaning.specs.Line.Line.{Nil, Held, Gives, Waits, Stubs}
 
--- What a node of a row still does. A subrequest with a stub of which it isn't known yet which of both is put there has a line of
+-- What a node of a row still does. A subrequest with a stub of which it isn't known yet which of the two is put there has a line of
 -- its own, which has all of its subrequests too: these have places in the row, but nothing in it is theirs.
 pub data Stance : Type 0 where
   Going : (left : ℕ) → Serving Answer → Stance
@@ -78,12 +78,12 @@ unfoldable pub any_goes_on : List Piece → Bool
 any_goes_on [] = false
 any_goes_on (p ∷ ps) = if p.grows then true else any_goes_on ps
 
--- another node goes on behind this one
+-- another node goes on after this one
 unfoldable pub goes_on_behind : ℕ → List Piece → Bool
 goes_on_behind n [] = false
 goes_on_behind n (p ∷ ps) = if is_place n p then any_goes_on ps else goes_on_behind n ps
 
--- each node goes on in one place at most, and the root, which goes on, behind all others
+-- each node goes on in one place at most, and the root, which goes on, after all others
 pub record IsWellRow (root : ℕ) (row : Row) : Type 0 where
   pub lawful : IsLawful row.nodes row.pieces
   pub root_is_last : goes_on_behind root row.pieces ≡ false
@@ -99,7 +99,7 @@ pub record IsWell (f : Family) : Type 0 where
 abbrev pub with_stance : ℕ → Stance → (ℕ → Stance) → ℕ → Stance
 with_stance n s stance j = if j == n then s else stance j
 
--- how a family begins whose root has this number of so many, and a main request's
+-- how a family of `nodes` nodes begins whose root has this number; that of a main request
 abbrev pub alone : (root nodes : ℕ) → Stance → Family
 alone root nodes s = record { row = record { pieces = fresh root ∷ []; nodes = nodes }; output = []; stance = λ n. s; root = root }
 
@@ -122,7 +122,7 @@ opening n s f = record { row = with_child n f.row; output = f.output; stance = w
 abbrev pub ending : ℕ → Family → Family
 ending n f = record { row = ended n f.row; output = f.output; stance = f.stance; root = f.root }
 
--- so many of the bytes that stand first have left
+-- the first `count` of the bytes that come first have left
 abbrev pub leaving : ℕ → Family → Family
 leaving count f = record { row = used count f.row; output = f.output ++ take count (front_of f.row.pieces); stance = f.stance; root = f.root }
 

@@ -18,8 +18,8 @@ use Rattle.race_meaning.specs.Laws.{AreFit}
 use Rattle.family_order.specs.Items.{Family, Shows, begun}
 use Rattle.family_order.specs.Acts.{IsOver, Goes}
 
--- The bytes leave in the order of the response: what has left, and then what stands first, is what the body begins with; and
--- once the nodes are over, what has left and what waits is all of it.
+-- The bytes leave in the order of the response: what has left, and then what comes first, is what the body begins with;
+-- and once the nodes are over, what has left and what waits is all of it.
 pub record LeavesInOrder (w : World) (tree : Tree) (main : Main) (request : Request) (f : Family) : Type 0 where
   pub later : List ℕ
   pub begins : (main_reply w tree main request).body ≡ (f.output ++ front_of f.row.pieces) ++ later

@@ -2,7 +2,7 @@
 ghost use Rattle.family_order.specs.Laws.{RowShowsLine, RowStaysWell, RowTellsLine, ShowsTheSame};
 ghost use Rattle.family_order.specs.Whole.{OrderIsKept};
 
-/// The operations of a row keep each node in one place, and the root behind all others.
+/// The operations of a row keep each node in one place, and the root after all others.
 pub fn row_stays_well()
     ensures { RowStaysWell }
 {}
@@ -12,8 +12,8 @@ pub fn row_shows_line()
     ensures { RowShowsLine }
 {}
 
-/// What is said of nodes that don't go on, how many numbers are given, and the places of nodes that are hidden behind a stub
-/// make no difference to what a family shows.
+/// What is said of nodes that don't go on, how many numbers are given, and the places of nodes that are hidden by a
+/// stub make no difference to what a family shows.
 pub fn shows_the_same()
     ensures { ShowsTheSame }
 {}

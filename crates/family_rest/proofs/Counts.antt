@@ -100,7 +100,7 @@ module _ (w : World) (tree : Tree) where
 
   -- ---- lines one after another
 
-  -- those of a node that waits for a line which comes to this, and of the line behind it
+  -- those of a node that waits for a line which comes to this, and of the line after it
   abbrev pub heard_subs : (left : ℕ) → (Reply → Serving Answer) → Line → Left → ℕ
   heard_subs left k line r = elim r.answer [
     | None ↦ subs_left w tree line r.vars
@@ -111,7 +111,7 @@ module _ (w : World) (tree : Tree) where
   three : (a b c : ℕ) → a + (b + c) ≡ a + b + c
   three a b c = omega arith
 
-  -- behind a node that waits, and another line behind that
+  -- after a node that waits, and another line after that
   waits_joined : (left : ℕ) (k : Reply → Serving Answer) (a b : Line) → ((last : Option Answer) (vars : Vars) → subs_left w tree (joined a b) vars ≡ subs_left w tree a vars + subs_left w tree b (rest w tree a last vars).vars) →
       (answer : Option Answer) (body : List ℕ) (vars : Vars) → heard_subs left k (joined a b) (record { answer = answer; body = body; vars = vars })
       ≡ heard_subs left k a (record { answer = answer; body = body; vars = vars })
@@ -144,7 +144,7 @@ module _ (w : World) (tree : Tree) where
       ap (λ z. subs_left w tree own vars + z) (joined_subs a b r.answer r.vars)
       ∙ three (subs_left w tree own vars) (subs_left w tree a r.vars) (subs_left w tree b (rest w tree a r.answer r.vars).vars)
 
-  -- for a node that waits, what is behind it asks for as many, and so many are opened there
+  -- for a node that waits, what is after it asks for as many, and as many are opened there
   waits_subs : (left n : ℕ) (k : Reply → Serving Answer) (line other : Vars → ℕ) → ((vars : Vars) → line vars ≡ n + other vars) → (answer : Option Answer) (body : List ℕ) (vars : Vars) →
       elim answer as (λ _. ℕ) [
         | None ↦ line vars
@@ -298,7 +298,7 @@ module _ (w : World) (tree : Tree) where
       let r = rest w tree own None vars in
       ap (λ z. subs_left w tree own vars + z) (line_subs line r.vars)
 
-  -- behind others
+  -- after others
   pub subs_past : (n : ℕ) (xs ys zs : List Item) → ((vars : Vars) → items_subs ys vars ≡ n + items_subs zs vars) → (vars : Vars) → items_subs (xs ++ ys) vars ≡ n + items_subs (xs ++ zs) vars
   unfolding items_subs
   subs_past n [] ys zs e vars = e vars

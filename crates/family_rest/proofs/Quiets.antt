@@ -32,7 +32,7 @@ use Rattle.family_rest.specs.Laws.{IsQuiet, IsQuietMove, QuietIsExact}
 use Rattle.family_rest.proofs.Lines.{row_line, still_items, subs_items}
 
 module _ (w : World) (tree : Tree) where
-  -- What comes to the same, whichever answer and table are before it, where so many subrequests are opened.
+  -- What comes to the same, whichever answer and table are before it, where this many subrequests are opened.
   record SameStill (opened : ℕ) (xs ys : List Item) : Type 0 where
     left : (last : Option Answer) (vars : Vars) → items_rest w tree xs last vars ≡ items_rest w tree ys last vars
     subs : (vars : Vars) → items_subs w tree xs vars ≡ opened + items_subs w tree ys vars
@@ -40,7 +40,7 @@ module _ (w : World) (tree : Tree) where
   abbrev SameRest : List Item → List Item → Type 0
   SameRest xs ys = (last : Option Answer) (vars : Vars) → items_rest w tree xs last vars ≡ items_rest w tree ys last vars
 
-  -- so it does behind others
+  -- so it does after others
   rest_past : (xs ys zs : List Item) → SameRest ys zs → SameRest (xs ++ ys) (xs ++ zs)
   unfolding items_rest
   rest_past [] ys zs e last vars = e last vars
@@ -83,7 +83,7 @@ module _ (w : World) (tree : Tree) where
   })
 
   module _ (f : Family) (h : IsWell f) where
-    -- there is a node behind another than the root
+    -- there is a node after another than the root
     node_behind : (n : ℕ) (p : Split n f.row.pieces) → n ≢ f.root → has_node (line_of (row_items f.stance p.behind)) ≡ true
     node_behind n p k =
         any_line (line_of (row_items f.stance p.behind))
@@ -93,7 +93,7 @@ module _ (w : World) (tree : Tree) where
         (sym (ap (goes_on_behind f.root) p.whole) ∙ h.row_is.root_is_last)
         (sym (ap (is_open f.root) p.whole) ∙ h.row_is.root_goes_on))
 
-    -- a quiet step at the place of a node, by what stands there then
+    -- a quiet step at the place of a node, by what is there then
     turned : (opened n : ℕ) (s : Stance) (row : Row) (now : ℕ → Stance) (g : Piece → List Piece) (mid : List Item) (next : Line → Line) → Does f n s
         → ((j : ℕ) → (j == n) ≡ false → now j ≡ f.stance j)
         → ((p : Piece) → is_place n p ≡ true → row_items now (g p) ≡ map Byte p.bytes ++ mid)

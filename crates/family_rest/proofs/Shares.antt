@@ -80,14 +80,14 @@ module _ (s : Shared) where
     abbrev SameSubs : Line → Line → Type 0
     SameSubs line line' = (v u : Vars) → Agree s.steady s.table v → Agree s.steady s.table u → subs_left w tree line v ≡ subs_left w tree line' u
 
-    -- behind a node
+    -- after a node
     behind_same : (left : ℕ) (m : Serving Answer) (line line' : Line) → Steady s s.steady m any → SameSubs line line' → (v u : Vars) → Agree s.steady s.table v → Agree s.steady s.table u →
         act_subs w tree left m v + subs_left w tree line (run tree (Replies.reply w tree left) m v).vars ≡ act_subs w tree left m u + subs_left w tree line' (run tree (Replies.reply w tree left) m u).vars
     behind_same left m line line' h f v u l r =
         let same = node_same left m v u h l r in
         sum (act_subs w tree left m v) (act_subs w tree left m u) _ _ (node_subs left m v u h l r) (f _ _ same.left same.right)
 
-    -- behind lines for which a node waits, which come to the same
+    -- after lines for which a node waits, which come to the same
     heard_same : (left : ℕ) (k : Reply → Serving Answer) (line line' : Line) → ((reply : Reply) → Steady s s.steady (k reply) any) → SameSubs line line' →
         (a d : Option Answer) (b c : List ℕ) (v u : Vars) → a ≡ d → b ≡ c → Agree s.steady s.table v → Agree s.steady s.table u →
         heard_subs w tree left k line (record { answer = a; body = b; vars = v }) ≡ heard_subs w tree left k line' (record { answer = d; body = c; vars = u })

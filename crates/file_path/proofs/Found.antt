@@ -1,4 +1,4 @@
--- Where a file stands, by the tests that find it.
+-- Where a file is, by the tests that find it.
 use Rattle.std.proofs.Common.{◌≡◌, ℕ, ◌+◌, ◌-◌, ◌<◌, Bool, true, false, ◌||◌, eqb, List, ◌++◌, length, take, drop, refl, sym, ◌∙◌, ap, arith}
 use Rattle.std.specs.List.{list_any, position_or_len, slice_split}
 use Rattle.std.specs.Str.{IsUtf8, is_utf8}
@@ -13,14 +13,14 @@ use Rattle.memchr.specs.Find.{NoneBefore, Nowhere, Passes, is_byte}
 use Rattle.acts.specs.Vars.{Vars}
 use Rattle.ngx_variables.specs.declared.value.Piece.{Piece}
 use Rattle.ngx_variables.specs.declared.request.Main.{Main}
-use Rattle.ngx_variables.specs.declared.request.Place.{Place}
+use Rattle.ngx_variables.specs.declared.request.FileRoot.{FileRoot}
 use Rattle.ngx_variables.specs.declared.request.Request.{Request}
 use Rattle.ngx_variables.specs.Paths.{text_of, joined}
 use Rattle.ngx_variables.specs.Texts.{is_too_long, value_text}
 use Rattle.file_path.specs.Located.{is_dots, has_dots, can_stand, located, located_at}
 use Rattle.file_path.specs.Located.Located.{TooLong, NotThere, At}
 
--- the first segment, and those behind its slash
+-- the first segment, and those after its slash
 pub dots_at : (path : List ℕ) (at : ℕ) → NoneBefore (Passes (is_byte 47) path) 0 (length path) at → Passes (is_byte 47) path at → has_dots path ≡ (is_dots (take at path) || has_dots (drop (at + 1) path))
 unfolding has_dots
 dots_at path at none here =
@@ -40,7 +40,7 @@ dots_alone path none =
     ap (list_any is_dots) (slice_split_none (λ b. eqb b 47) path (All-from_get_or (λ b. eqb b 47 ≡ false) path 0 (λ i k. false_from_ne_true _ (none i (omega arith) k))))
     ∙ or_false (is_dots path)
 
--- what stands behind a text, and before it
+-- what comes after a text, and before it
 pub behind_old : (old more new slice : List ℕ) (start : ℕ) → slice ≡ new → new ≡ old ++ more → start ≡ length old → take (length slice - start) (drop start slice) ≡ more
 behind_old old more new slice start s e h =
     take_rest slice start ∙ (ap (λ l. drop start l) (s ∙ e) ∙ (ap (λ k. drop k (old ++ more)) h ∙ drop-append_seam old more))
@@ -55,7 +55,7 @@ no_text path h = elim (is_utf8 path) as (λ t. is_utf8 path ≡ t → false ≡ 
   | false ↦ λ e. refl
 ] refl
 
-module _ (place : Place) (text uri folder : List ℕ) where
+module _ (place : FileRoot) (text uri folder : List ℕ) where
   pub too_long_by : is_too_long text ≡ true → located place text uri folder ≡ TooLong
   unfolding located
   too_long_by h = cond-true _ _ _ h
@@ -68,7 +68,7 @@ module _ (place : Place) (text uri folder : List ℕ) where
   unfolding located
   not_there_by h k = cond-false _ _ _ h ∙ cond-false _ _ _ k
 
-module _ (main : Main) (request : Request) (vars : Vars) (place : Place) where
+module _ (main : Main) (request : Request) (vars : Vars) (place : FileRoot) where
   -- where the text of the place evaluates to this
   pub located_by : (pieces : List Piece) (text folder uri : List ℕ) → pieces ≡ text_of place → value_text main request vars pieces ≡ text → folder ≡ main.folder → located_at main request vars place uri ≡ located place text uri folder
   unfolding located_at

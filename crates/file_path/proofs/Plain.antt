@@ -1,4 +1,4 @@
--- At a path of plain bytes a file can stand.
+-- At a path of plain bytes a file can be.
 use Rattle.std.proofs.Common.{◌≡◌, ℕ, zero, suc, ◌+◌, ◌<◌, ◌≤◌, Bool, true, false, not, ◌&&◌, ◌||◌, cond, eqb, List, [], ◌∷◌, length, drop, get_or, add-one, refl, sym, ◌∙◌, ap, arith}
 use Rattle.std.proofs.Math.Seq.{drop-cons}
 use Rattle.std.proofs.Math.ListN.{drop_of_length-le}
@@ -8,7 +8,7 @@ use Rattle.std.proofs.lemmas.Bool.{ltb-true, false≢true}
 use Rattle.std.proofs.lemmas.Str.{IsUtf8-from_ascii, is_utf8-from_IsUtf8}
 use Rattle.file_path.specs.Located.{is_dots, has_dots, has_nul, can_stand, is_plain_behind}
 
--- each byte is plain behind the one before it
+-- each byte is plain after the one before it
 pub are_plain : ℕ → List ℕ → Bool
 are_plain before [] = true
 are_plain before (b ∷ bs) = is_plain_behind before b && are_plain b bs
@@ -31,7 +31,7 @@ no_dot_here before b s e = elim (eqb b 46) as (λ t. (t && eqb before 47) ≡ fa
   | false ↦ λ f. refl
 ] e
 
--- the parts behind the first
+-- the parts after the first
 abbrev rest_of : List (List ℕ) → List (List ℕ)
 rest_of [] = []
 rest_of (part ∷ parts) = parts
@@ -73,7 +73,7 @@ rest_onto : (b : ℕ) (parts : List (List ℕ)) → rest_of (onto_first b parts)
 rest_onto b [] = refl
 rest_onto b (part ∷ parts) = refl
 
--- no dot begins a segment behind the first, nor the first where a slash stands before it
+-- no dot begins a segment after the first, nor the first where a slash comes before it
 no_dots_in : (before : ℕ) (bs : List ℕ) → are_plain before bs ≡ true → (list_any is_dots (rest_of (slice_split (λ x. eqb x 47) bs)) ≡ false) × (eqb before 47 ≡ true → list_any is_dots (slice_split (λ x. eqb x 47) bs) ≡ false)
 no_dots_in before [] h = (refl, λ s. refl)
 no_dots_in before (b ∷ bs) h =

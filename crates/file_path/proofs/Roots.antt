@@ -1,8 +1,8 @@
 -- A path begins with its root.
 use Rattle.std.proofs.Common.{◌≡◌, ℕ, suc, ◌-◌, Bool, true, false, not, ◌&&◌, cond, List, [], ◌∷◌, ◌++◌, length, take, slice_get, eqb, refl, sym, ◌∙◌, ap, subst, append_assoc, append-nil, arith}
 use Rattle.std.proofs.lemmas.Bool.{cond-true, cond-false, false≢true}
-use Rattle.ngx_variables.specs.declared.request.Place.{Place}
-use Rattle.ngx_variables.specs.declared.request.Place.TheVariants.{Root, Rest, Whole}
+use Rattle.ngx_variables.specs.declared.request.FileRoot.{FileRoot}
+use Rattle.ngx_variables.specs.declared.request.FileRoot.TheVariants.{Root, Rest, Whole}
 use Rattle.ngx_variables.specs.Grammar.{begins_with}
 use Rattle.ngx_variables.specs.Paths.{is_slash, without_last_slash, merged, start, without_prefix, joined}
 use Rattle.ngx_variables.specs.Texts.{is_too_long}
@@ -11,7 +11,7 @@ use Rattle.file_path.specs.Located.{Located, has_dots, has_nul, can_stand, at_pa
 use Rattle.file_path.specs.Located.Located.{TooLong, NotThere, At}
 use Rattle.file_path.specs.Laws.{given, added, root_of, StaysIn, PathsStayInRoot}
 
--- a list goes on behind its front
+-- a list goes on after its front
 record IsFront (front whole : List ℕ) : Type 0 where
   rest : List ℕ
   behind : whole ≡ front ++ rest
@@ -20,7 +20,7 @@ cond_cons : (t : Bool) (b : ℕ) (xs ys : List ℕ) → cond t (b ∷ xs) (b ∷
 cond_cons true b xs ys = refl
 cond_cons false b xs ys = refl
 
--- what stands before a text of some bytes doesn't matter for its last slash
+-- what comes before a text of some bytes doesn't matter for its last slash
 last_behind : (b d : ℕ) (xs : List ℕ) → without_last_slash (b ∷ d ∷ xs) ≡ b ∷ without_last_slash (d ∷ xs)
 unfolding without_last_slash
 last_behind b d xs =
@@ -101,13 +101,13 @@ merged_front (b ∷ c ∷ bs) rest = elim (eqb b 47 && eqb c 47) as (λ t. IsFro
 ]
 
 -- the joined path is the root with what the URI adds
-joined_is : (place : Place) (text uri folder : List ℕ) → joined place text uri folder ≡ without_last_slash (merged (given place text folder ++ added place uri))
+joined_is : (place : FileRoot) (text uri folder : List ℕ) → joined place text uri folder ≡ without_last_slash (merged (given place text folder ++ added place uri))
 unfolding joined
 joined_is (Root value) text uri folder = ap (λ t. without_last_slash (merged t)) (sym (append_assoc (start folder text) (without_last_slash text) uri))
 joined_is (Rest value prefix) text uri folder = ap (λ t. without_last_slash (merged t)) (sym (append_assoc (start folder text) text (without_prefix prefix uri)))
 joined_is (Whole value) text uri folder = ap (λ t. without_last_slash (merged t)) (sym (append-nil (start folder text ++ text)))
 
--- what a path at which a file can stand lacks
+-- what a path at which a file can be lacks
 no_dots : (path : List ℕ) → can_stand path ≡ true → has_dots path ≡ false
 unfolding can_stand
 no_dots path h = elim (has_dots path) as (λ t. (not t && (not (has_nul path) && is_utf8 path)) ≡ true → t ≡ false) [
@@ -125,7 +125,7 @@ no_nul path h = elim (has_dots path) as (λ t. (not t && (not (has_nul path) && 
   ] e
 ] h
 
-stays_in : (place : Place) (text uri folder : List ℕ) → can_stand (joined place text uri folder) ≡ true → StaysIn (root_of place text folder) (joined place text uri folder)
+stays_in : (place : FileRoot) (text uri folder : List ℕ) → can_stand (joined place text uri folder) ≡ true → StaysIn (root_of place text folder) (joined place text uri folder)
 unfolding root_of
 stays_in place text uri folder h =
     let front = merged_front (given place text folder) (added place uri) in record {
@@ -153,7 +153,7 @@ at_joined p path h = elim (can_stand p) as (λ t. cond t (At p) NotThere ≡ At 
   | false ↦ λ e. absurd (false≢true (ap is_at e))
 ] h
 
-found_at : (place : Place) (text uri folder path : List ℕ) → located place text uri folder ≡ At path → (can_stand (joined place text uri folder) ≡ true) × (joined place text uri folder ≡ path)
+found_at : (place : FileRoot) (text uri folder path : List ℕ) → located place text uri folder ≡ At path → (can_stand (joined place text uri folder) ≡ true) × (joined place text uri folder ≡ path)
 unfolding located is_at
 found_at place text uri folder path h = elim (is_too_long text) as (λ t. cond t TooLong (at_path (joined place text uri folder)) ≡ At path → (can_stand (joined place text uri folder) ≡ true) × (joined place text uri folder ≡ path)) [
   | true ↦ λ e. absurd (false≢true (ap is_at e))

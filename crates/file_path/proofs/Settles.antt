@@ -1,4 +1,4 @@
--- Finding a path as acts gives where the file stands, and changes no variable.
+-- Finding a path as acts gives where the file is, and changes no variable.
 use Rattle.std.proofs.Common.{◌≡◌}
 use Rattle.acts.specs.Vars.{Vars}
 use Rattle.acts.specs.Act.{Done, settled}

@@ -4,14 +4,14 @@ ghost use Rattle.file_path.specs.Laws.{PathsStayInRoot};
 
 use ngx_variables::value_settles;
 
-/// Finding a path as acts changes no variable, and gives where the file stands.
+/// Finding a path as acts changes no variable, and gives where the file is.
 pub fn located_settles<C, R>()
     ensures { LocatedSettles C R }
 {
     value_settles::<C, R>();
 }
 
-/// What follows goes on with where the file stands, at the same variables.
+/// What follows goes on with where the file is, at the same variables.
 pub fn settles_behind_located<C, R, A>()
     ensures { SettlesBehindLocated C R A }
 {

@@ -1,4 +1,4 @@
-//! Where the files of a site stand: the path of a file, by `root` or `alias` and a path of the site
+//! Where the files of a site are: the path of a file, by `root` or `alias` and a path of the site
 //! (<https://nginx.org/en/docs/http/ngx_http_core_module.html#root>, `#alias`).
 #![tactic(auto)]
 

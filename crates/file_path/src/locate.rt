@@ -7,10 +7,10 @@ ghost use Rattle.ngx_variables.specs.Texts.{is_too_long};
 
 use byte_text::ByteText;
 use memchr::memchr;
-use ngx_variables::{EvalFault, Main, Place, Request, VarTable, joined};
+use ngx_variables::{EvalFault, FileRoot, Main, Request, VarTable, joined};
 use std::alloc::Global;
 
-/// The text of `root` or `alias` has at most so many bytes.
+/// The most bytes that the text of `root` or `alias` may have.
 const TEXT_LIMIT: usize = 16384;
 
 fn is_dots(segment: &[u8]) -> bool
@@ -62,7 +62,7 @@ fn is_plain_behind(before: u8, byte: u8) -> bool
     byte != 0 && byte < 128 && !(byte == b'.' && before == b'/')
 }
 
-/// Whether each byte is plain, so that a file can stand at the path: one pass says so of most paths.
+/// Whether each byte is plain, so that a file can be at the path: one pass says this of most paths.
 fn is_plain(path: &[u8]) -> bool
     ensures { result ≡ true → can_stand path.now ≡ true }
 {
@@ -76,7 +76,7 @@ fn is_plain(path: &[u8]) -> bool
     true
 }
 
-/// Whether a file can stand at a path: no segment leads to a folder itself or out of it, and the path is UTF-8 text
+/// Whether a file can be at a path: no segment leads to a folder itself or out of it, and the path is UTF-8 text
 /// without NUL.
 #[tactic(auto, unfolding(crate::specs::Located::can_stand))]
 fn can_stand(path: &[u8]) -> bool
@@ -85,17 +85,18 @@ fn can_stand(path: &[u8]) -> bool
     is_plain(path) || (!has_dots(path) && !has_nul(path) && is_text(path))
 }
 
-/// Writes the path behind `out`, where `text` is what the text of `root` or `alias` evaluates to.
+/// Appends the path to `out`, where `text` is what the text of `root` or `alias` evaluates to.
 pub fn path_under(
     alloc: Global,
-    place: &Place,
+    place: &FileRoot,
     text: &[u8],
     uri: &[u8],
     folder: &[u8],
     out: &mut ByteText,
 ) -> Result<bool, EvalFault>
     ensures there { result ≡ Ok true
-        → (path : List ℕ) × (located place.now text.now uri.now folder.now ≡ At path) × (out.new ≡ out.old ++ path) }
+        → (path : List ℕ) × (located place.now text.now uri.now folder.now ≡ At path)
+        × (out.new ≡ out.old ++ path) }
     ensures not_there { result ≡ Ok false
         → (located place.now text.now uri.now folder.now ≡ NotThere) × (out.new ≡ out.old) }
     ensures too_long { result ≡ Err EvalFault.TooLong
@@ -113,15 +114,15 @@ pub fn path_under(
     Ok(false)
 }
 
-/// Writes the path of the file of a path of the site behind `out`, and answers whether a file can stand there. `out` is
-/// as it was where none can.
+/// Appends the path of the file of a path of the site to `out`, and answers whether a file can be there. `out` is as it
+/// was where none can.
 ///
 /// # Errors
 /// `TooLong` where the text of `root` or `alias` has more than 16384 bytes; `out` is then as it was. After
 /// `OutOfMemory` `out` is fit to be dropped alone.
 pub fn path_of(
     alloc: Global,
-    place: &Place,
+    place: &FileRoot,
     uri: &[u8],
     main: &Main,
     request: &Request,
@@ -129,11 +130,14 @@ pub fn path_of(
     out: &mut ByteText,
 ) -> Result<bool, EvalFault>
     ensures there { result ≡ Ok true
-        → (path : List ℕ) × (located_at main.now request.now vars.now place.now uri.now ≡ At path) × (out.new ≡ out.old ++ path) }
+        → (path : List ℕ) × (located_at main.now request.now vars.now place.now uri.now ≡ At path)
+        × (out.new ≡ out.old ++ path) }
     ensures not_there { result ≡ Ok false
-        → (located_at main.now request.now vars.now place.now uri.now ≡ NotThere) × (out.new ≡ out.old) }
+        → (located_at main.now request.now vars.now place.now uri.now ≡ NotThere)
+        × (out.new ≡ out.old) }
     ensures too_long { result ≡ Err EvalFault.TooLong
-        → (located_at main.now request.now vars.now place.now uri.now ≡ TooLong) × (out.new ≡ out.old) }
+        → (located_at main.now request.now vars.now place.now uri.now ≡ TooLong)
+        × (out.new ≡ out.old) }
 {
     let folder = main.folder.as_slice();
     if let Some(text) = place.text().literal() {

@@ -4,8 +4,8 @@ ghost use Rattle.file_tree.specs.Tree.{is_fitting as fits};
 
 use byte_text::ByteText;
 
-/// What stands at a path: a file with its length in bytes and its date in seconds since 1970, a folder, a node that may
-/// not be read, or nothing.
+/// What is at a path: a file with its length in bytes and its date in seconds since 1970, a folder, a node that may not
+/// be read, or nothing.
 #[derive(Clone, Copy, Debug, PartialEq, Eq)]
 pub enum Node {
     File { len: u64, date: u64 },
@@ -18,7 +18,7 @@ pub enum Node {
 /// request's start.
 #[derive(Clone, Debug, Drop)]
 pub enum Ask {
-    /// What stands at a path.
+    /// What is at a path.
     Stat {
         path: ByteText,
         of: u64,

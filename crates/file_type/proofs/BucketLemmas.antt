@@ -11,7 +11,7 @@ use Rattle.file_type.specs.Types.{type_among}
 use Rattle.file_type.specs.Buckets.{hash_after, bucket_of, no_entry, entries_at, AreBuckets, Puts}
 use Rattle.file_type.specs.declared.types.TypeEntry.{TypeEntry}
 
--- the first n entries stand in the buckets
+-- the first n entries are in the buckets
 pub record Placed (buckets : List (List ℕ)) (entries : List TypeEntry) (n : ℕ) : Type 0 where
   pub some : 0 < length buckets
   pub places : (k : ℕ) → k < length buckets → All (λ place. place < length entries) (get_or buckets k [])

@@ -1,4 +1,4 @@
--- Where the last such byte of a text stands.
+-- Where the last such byte of a text is.
 use Rattle.std.proofs.Common.{◌≡◌, ℕ, ◌+◌, ◌-◌, ◌<◌, ◌≤◌, Bool, true, false, not, List, length, get_or, drop, sym, ap, ◌∙◌, arith}
 use Rattle.std.specs.List.{after_last, list_any, suffix_len}
 use Rattle.std.proofs.lemmas.List.{get_or_default}
@@ -8,7 +8,7 @@ use Rattle.std.proofs.lemmas.Bool.{false_from_ne_true, not_from_true, not_from_f
 use Rattle.memchr.specs.Find.{NoneAfter, Nowhere, Passes}
 use Rattle.file_type.specs.Extension.{is_byte}
 
--- what stands behind the last such byte, which stands at k
+-- what comes after the last such byte, which is at k
 behind_at : (text : List ℕ) (byte n : ℕ) → n ≤ length text → ((k : ℕ) → n ≤ k → k < length text → ¬ (is_byte byte (get_or text k 0) ≡ true)) → (0 < n → is_byte byte (get_or text (n - 1) 0) ≡ true) → drop n text ≡ after_last (is_byte byte) text
 behind_at text byte n within none last =
     let p : ℕ → Bool = is_byte byte in

@@ -9,7 +9,7 @@ unfoldable pub hash_after : ℕ → List ℕ → ℕ
 hash_after hash [] = hash
 hash_after hash (byte ∷ bytes) = hash_after ((hash * 31 % 2 ^ 32 + byte) % 2 ^ 32) bytes
 
--- the bucket of an extension, of so many
+-- the bucket of an extension, of `count` buckets
 unfoldable pub bucket_of : List ℕ → ℕ → ℕ
 bucket_of extension count = hash_after 0 (map to_ascii_lowercase extension) % count
 
@@ -27,7 +27,7 @@ pub record AreBuckets (buckets : List (List ℕ)) (entries : List TypeEntry) : T
   pub places : (k : ℕ) → k < length buckets → All (λ place. place < length entries) (slice_index_or buckets k [])
   pub finds : (before wanted : List ℕ) → type_among before (entries_at (slice_index_or buckets (bucket_of wanted (length buckets)) []) entries) wanted ≡ type_among before entries wanted
 
--- the place stands at the end of the bucket of the extension, and the other buckets are the same
+-- the place is at the end of the bucket of the extension, and the other buckets are the same
 pub record Puts (old new : List (List ℕ)) (extension : List ℕ) (place : ℕ) : Type 0 where
   pub same_count : length new ≡ length old
   pub put : slice_index_or new (bucket_of extension (length old)) [] ≡ slice_index_or old (bucket_of extension (length old)) [] ++ place ∷ []

@@ -6,10 +6,12 @@ ghost use Rattle.file_type.specs.Extension.{is_byte, extension};
 
 use memchr::memrchr;
 
-/// What stands behind the last such byte.
+/// What comes after the last such byte.
 fn behind_last(text: &[u8], byte: u8) -> Option<&[u8]>
-    ensures found { IfSome result (λ rest. (rest.now ≡ after_last (is_byte byte) text.now) × (list_any (is_byte byte) text.now ≡ true)) }
-    ensures none { IfNone result ((text.now ≡ after_last (is_byte byte) text.now) × (list_any (is_byte byte) text.now ≡ false)) }
+    ensures found { IfSome result (λ rest. (rest.now ≡ after_last (is_byte byte) text.now)
+        × (list_any (is_byte byte) text.now ≡ true)) }
+    ensures none { IfNone result ((text.now ≡ after_last (is_byte byte) text.now)
+        × (list_any (is_byte byte) text.now ≡ false)) }
 {
     match memrchr(byte, text) {
         Some(at) => Some(&text[at + 1..]),
@@ -17,7 +19,7 @@ fn behind_last(text: &[u8], byte: u8) -> Option<&[u8]>
     }
 }
 
-/// What stands behind the last `.` of the last segment of a path, which has `/` between its segments.
+/// What comes after the last `.` of the last segment of a path, which has `/` between its segments.
 pub fn extension(path: &[u8]) -> Option<&[u8]>
     ensures { option_copied result ≡ extension path.now }
 {

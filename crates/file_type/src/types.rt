@@ -80,7 +80,7 @@ impl Bucket {
     }
 }
 
-/// The bucket of an extension, of so many.
+/// The bucket of an extension, of `count` buckets.
 fn bucket_of(extension: &[u8], count: usize) -> usize
     requires { 0 < count }
     ensures value { result ≡ bucket_of extension.now count }
@@ -129,7 +129,8 @@ fn buckets_of(alloc: Global, entries: &[TypeEntry]) -> Result<Vec<Bucket>, OutOf
 
 /// The type of an entry, where it has this extension.
 fn type_at<'t>(entry: &'t TypeEntry, before: &'t [u8], wanted: &[u8]) -> &'t [u8]
-    ensures { result.now ≡ (if str_eq_ignore_ascii_case entry.now.extension wanted.now then entry.now.media_type else before.now) }
+    ensures { result.now ≡ (if str_eq_ignore_ascii_case entry.now.extension wanted.now
+        then entry.now.media_type else before.now) }
 {
     if entry.extension.as_slice().eq_ignore_ascii_case(wanted) {
         entry.media_type.as_slice()
@@ -192,7 +193,8 @@ impl Types {
         entries: Vec<TypeEntry>,
         default_type: ByteText,
     ) -> Result<Types, OutOfMemory>
-        ensures { IfOk result (λ types. types ≡ record { entries = entries.items; default_type = default_type }) }
+        ensures { IfOk result (λ types. types
+            ≡ record { entries = entries.items; default_type = default_type }) }
     {
         let table = Rc::new(alloc, Table::new(alloc, entries)?)?;
         Ok(Types {
@@ -203,7 +205,8 @@ impl Types {
 
     /// The same entries, with another type of any other file. The entries aren't copied.
     pub fn with_default(&self, default_type: ByteText) -> Result<Types, OutOfMemory>
-        ensures { IfOk result (λ types. types ≡ record { entries = self.now.entries; default_type = default_type }) }
+        ensures { IfOk result (λ types. types
+            ≡ record { entries = self.now.entries; default_type = default_type }) }
     {
         Ok(Types {
             table: again(&self.table)?,

@@ -52,10 +52,11 @@ fn promised(members: &Vec<Box<dyn BodyFilter>>)
     }
 }
 
-/// Whether a kind below 3 stands from an index on.
+/// Whether a member of the chain from the third on has a kind below 3.
 fn has_low(members: &Vec<Box<dyn BodyFilter>>) -> bool
     requires { 2 ≤ vec_len members.now }
-    ensures { result ≡ list_any (λ k. nat_lt k 3) (drop 2 (map (λ b. (member b).kind) members.now.items)) }
+    ensures { result ≡ list_any (λ k. nat_lt k 3)
+        (drop 2 (map (λ b. (member b).kind) members.now.items)) }
 {
     for i in 2..members.len() {
         if kind_of(&members[i]) < 3 {
@@ -83,9 +84,12 @@ impl Chain {
     /// Makes a chain, or hands the list back with the first fault. Takes no memory.
     pub fn new(members: Vec<Box<dyn BodyFilter>>) -> Result<Chain, RefusedChain>
         ensures made { IfOk result (λ c. c.members ≡ members) }
-        ensures fits { IfOk result (λ c. fault_of (map (λ b. (member b).kind) members.items) ≡ None) }
-        ensures lawful { IfOk result (λ c. AllByRecursion IsLawful (map (λ b. member b) members.items)) }
-        ensures refused { IfErr result (λ r. (r.members ≡ members) × (fault_of (map (λ b. (member b).kind) members.items) ≡ Some r.fault)) }
+        ensures fits { IfOk result (λ c. fault_of (map (λ b. (member b).kind) members.items)
+            ≡ None) }
+        ensures lawful { IfOk result (λ c. AllByRecursion IsLawful
+            (map (λ b. member b) members.items)) }
+        ensures refused { IfErr result (λ r. (r.members ≡ members)
+            × (fault_of (map (λ b. (member b).kind) members.items) ≡ Some r.fault)) }
     {
         promised(&members);
         match find_fault(&members) {
@@ -96,7 +100,8 @@ impl Chain {
 
     /// The state in which a document begins.
     pub fn start(&self, alloc: Global, facts: &Facts) -> Result<ChainState, OutOfMemory>
-        ensures stages { IfOk result (λ s. s.stages.items ≡ begun (map (λ b. (member b).machine facts.now) self.now.members.items)) }
+        ensures stages { IfOk result (λ s. s.stages.items
+            ≡ begun (map (λ b. (member b).machine facts.now) self.now.members.items)) }
         ensures facts { IfOk result (λ s. s.facts ≡ facts.now) }
         ensures len { IfOk result (λ s. vec_len s.stages ≡ vec_len self.now.members) }
     {
@@ -128,8 +133,13 @@ impl Chain {
         requires { vec_len state.old.stages ≡ vec_len self.now.members }
         ensures facts { OnOk result (state.new.facts ≡ state.old.facts) }
         ensures len { OnOk result (vec_len state.new.stages ≡ vec_len self.now.members) }
-        ensures state { OnOk result (state.new.stages.items ≡ (feeds_all (map (λ b. (member b).machine state.old.facts) self.now.members.items) state.old.stages.items (part_marks part)).0) }
-        ensures out { OnOk result (marks out.new.items ≡ marks out.old.items ++ (feeds_all (map (λ b. (member b).machine state.old.facts) self.now.members.items) state.old.stages.items (part_marks part)).1) }
+        ensures state { OnOk result (state.new.stages.items
+            ≡ (feeds_all (map (λ b. (member b).machine state.old.facts) self.now.members.items)
+            state.old.stages.items (part_marks part)).0) }
+        ensures out { OnOk result (marks out.new.items
+            ≡ marks out.old.items
+            ++ (feeds_all (map (λ b. (member b).machine state.old.facts) self.now.members.items)
+            state.old.stages.items (part_marks part)).1) }
     {
         let mut parts = Vec::new(alloc);
         parts.push(part)?;
@@ -137,7 +147,7 @@ impl Chain {
         append_parts(out, parts)
     }
 
-    /// Takes the end of the document, behind which its state may only be dropped.
+    /// Takes the end of the document, after which its state may only be dropped.
     pub fn end(
         &self,
         alloc: Global,
@@ -145,7 +155,10 @@ impl Chain {
         out: &mut Vec<Part>,
     ) -> Result<(), OutOfMemory>
         requires { vec_len state.old.stages ≡ vec_len self.now.members }
-        ensures { OnOk result (marks out.new.items ≡ marks out.old.items ++ still (map (λ b. (member b).machine state.old.facts) self.now.members.items) state.old.stages.items []) }
+        ensures { OnOk result (marks out.new.items
+            ≡ marks out.old.items
+            ++ still (map (λ b. (member b).machine state.old.facts) self.now.members.items)
+            state.old.stages.items []) }
     {
         let parts = pass_all_last(
             &self.members,
@@ -165,7 +178,10 @@ impl Chain {
         parts: Vec<Part>,
         out: &mut Vec<Part>,
     ) -> Result<(), OutOfMemory>
-        ensures { OnOk result (marks out.new.items ≡ marks out.old.items ++ turned (map (λ b. (member b).machine facts.now) self.now.members.items) (marks parts.items)) }
+        ensures { OnOk result (marks out.new.items
+            ≡ marks out.old.items
+            ++ turned (map (λ b. (member b).machine facts.now) self.now.members.items)
+            (marks parts.items)) }
     {
         let mut state = self.start(alloc, facts)?;
         for part in parts {

@@ -33,10 +33,13 @@ pub trait BodyFilter: Drop {
         part: Part,
         out: &mut Vec<Part>,
     ) -> Result<(), OutOfMemory>
-        ensures state { OnOk result (state.new ≡ (feeds ((member self.now).machine facts.now) state.old (part_marks part)).0) }
-        ensures out { OnOk result (marks out.new.items ≡ marks out.old.items ++ (feeds ((member self.now).machine facts.now) state.old (part_marks part)).1) };
+        ensures state { OnOk result (state.new
+            ≡ (feeds ((member self.now).machine facts.now) state.old (part_marks part)).0) }
+        ensures out { OnOk result (marks out.new.items
+            ≡ marks out.old.items
+            ++ (feeds ((member self.now).machine facts.now) state.old (part_marks part)).1) };
 
-    /// Takes the end of a body, behind which its state may only be dropped.
+    /// Takes the end of a body, after which its state may only be dropped.
     fn end(
         &self,
         facts: &Facts,
@@ -44,7 +47,8 @@ pub trait BodyFilter: Drop {
         state: &mut FilterState,
         out: &mut Vec<Part>,
     ) -> Result<(), OutOfMemory>
-        ensures { OnOk result (marks out.new.items ≡ marks out.old.items ++ ((member self.now).machine facts.now).finish state.old) };
+        ensures { OnOk result (marks out.new.items
+            ≡ marks out.old.items ++ ((member self.now).machine facts.now).finish state.old) };
 
     /// A filter keeps the laws of its kind, which a caller of a boxed one learns by this call.
     fn promise(&self)

@@ -41,8 +41,11 @@ fn feed_one(
     part: Part,
     out: &mut Vec<Part>,
 ) -> Result<(), OutOfMemory>
-    ensures state { OnOk result (state.new ≡ (feeds ((member filter.now).machine facts.now) state.old (part_marks part)).0) }
-    ensures out { OnOk result (marks out.new.items ≡ marks out.old.items ++ (feeds ((member filter.now).machine facts.now) state.old (part_marks part)).1) }
+    ensures state { OnOk result (state.new
+        ≡ (feeds ((member filter.now).machine facts.now) state.old (part_marks part)).0) }
+    ensures out { OnOk result (marks out.new.items
+        ≡ marks out.old.items
+        ++ (feeds ((member filter.now).machine facts.now) state.old (part_marks part)).1) }
 {
     filter.feed(facts, alloc, state, part, out)
 }
@@ -54,7 +57,8 @@ fn end_one(
     state: &mut FilterState,
     out: &mut Vec<Part>,
 ) -> Result<(), OutOfMemory>
-    ensures { OnOk result (marks out.new.items ≡ marks out.old.items ++ ((member filter.now).machine facts.now).finish state.old) }
+    ensures { OnOk result (marks out.new.items
+        ≡ marks out.old.items ++ ((member filter.now).machine facts.now).finish state.old) }
 {
     filter.end(facts, alloc, state, out)
 }
@@ -68,8 +72,11 @@ fn feed_all(
     parts: Vec<Part>,
     out: &mut Vec<Part>,
 ) -> Result<(), OutOfMemory>
-    ensures state { OnOk result (state.new ≡ (feeds ((member filter.now).machine facts.now) state.old (marks parts.items)).0) }
-    ensures out { OnOk result (marks out.new.items ≡ marks out.old.items ++ (feeds ((member filter.now).machine facts.now) state.old (marks parts.items)).1) }
+    ensures state { OnOk result (state.new
+        ≡ (feeds ((member filter.now).machine facts.now) state.old (marks parts.items)).0) }
+    ensures out { OnOk result (marks out.new.items
+        ≡ marks out.old.items
+        ++ (feeds ((member filter.now).machine facts.now) state.old (marks parts.items)).1) }
 {
     for part in parts {
         feed_one(filter, facts, alloc, state, part, out)?;
@@ -85,8 +92,10 @@ fn pass(
     stage: &mut Stage,
     parts: Vec<Part>,
 ) -> Result<Vec<Part>, OutOfMemory>
-    ensures stage { OnOk result (stage.new ≡ (stage_feeds ((member filter.now).machine facts.now) stage.old (marks parts.items)).0) }
-    ensures out { IfOk result (λ v. marks v.items ≡ (stage_feeds ((member filter.now).machine facts.now) stage.old (marks parts.items)).1) }
+    ensures stage { OnOk result (stage.new
+        ≡ (stage_feeds ((member filter.now).machine facts.now) stage.old (marks parts.items)).0) }
+    ensures out { IfOk result (λ v. marks v.items
+        ≡ (stage_feeds ((member filter.now).machine facts.now) stage.old (marks parts.items)).1) }
 {
     if stage.on {
         let mut next = Vec::new(alloc);
@@ -105,7 +114,8 @@ fn pass_last(
     stage: &mut Stage,
     parts: Vec<Part>,
 ) -> Result<Vec<Part>, OutOfMemory>
-    ensures { IfOk result (λ v. marks v.items ≡ stage_ends ((member filter.now).machine facts.now) stage.old (marks parts.items)) }
+    ensures { IfOk result (λ v. marks v.items
+        ≡ stage_ends ((member filter.now).machine facts.now) stage.old (marks parts.items)) }
 {
     if stage.on {
         let mut next = Vec::new(alloc);
@@ -127,8 +137,12 @@ pub fn pass_all(
 ) -> Result<Vec<Part>, OutOfMemory>
     requires { vec_len stages.old ≡ vec_len members.now }
     ensures len { OnOk result (vec_len stages.new ≡ vec_len stages.old) }
-    ensures stages { OnOk result (stages.new.items ≡ (feeds_all (map (λ b. (member b).machine facts.now) members.now.items) stages.old.items (marks first.items)).0) }
-    ensures out { IfOk result (λ v. marks v.items ≡ (feeds_all (map (λ b. (member b).machine facts.now) members.now.items) stages.old.items (marks first.items)).1) }
+    ensures stages { OnOk result (stages.new.items
+        ≡ (feeds_all (map (λ b. (member b).machine facts.now) members.now.items) stages.old.items
+        (marks first.items)).0) }
+    ensures out { IfOk result (λ v. marks v.items
+        ≡ (feeds_all (map (λ b. (member b).machine facts.now) members.now.items) stages.old.items
+        (marks first.items)).1) }
 {
     let mut parts = first;
     for i in 0..members.len() {
@@ -146,7 +160,9 @@ pub fn pass_all_last(
     first: Vec<Part>,
 ) -> Result<Vec<Part>, OutOfMemory>
     requires { vec_len stages.old ≡ vec_len members.now }
-    ensures { IfOk result (λ v. marks v.items ≡ still (map (λ b. (member b).machine facts.now) members.now.items) stages.old.items (marks first.items)) }
+    ensures { IfOk result (λ v. marks v.items
+        ≡ still (map (λ b. (member b).machine facts.now) members.now.items) stages.old.items
+        (marks first.items)) }
 {
     let mut parts = first;
     for i in 0..members.len() {

@@ -1,14 +1,15 @@
 -- What the program's words ask for, row by row.
 use Rattle.std.specs.Prelude.{◌≡◌, true, false, [], ◌∷◌, None, Some, codes, refl}
+use Rattle.command_line.specs.declared.help.Topic.TheVariants as topics
 use Rattle.command_line.specs.Words.{Help, Version, Check, Replay, Serve, request_in, turns_of, most_turns, all_turns}
 
-words-1 : request_in (codes "ngx" ∷ codes "--help" ∷ []) ≡ Some Help
+words-1 : request_in (codes "ngx" ∷ codes "--help" ∷ []) ≡ Some (Help topics.Program)
 words-1 = refl
 
 words-2 : request_in (codes "ngx" ∷ codes "-V" ∷ []) ≡ Some Version
 words-2 = refl
 
-words-3 : request_in (codes "ngx" ∷ codes "serve" ∷ codes "-h" ∷ []) ≡ Some Help
+words-3 : request_in (codes "ngx" ∷ codes "serve" ∷ codes "-h" ∷ []) ≡ Some (Help topics.Serve)
 words-3 = refl
 
 words-4 : request_in (codes "ngx" ∷ codes "check" ∷ codes "./--help" ∷ []) ≡ Some (Check (codes "./--help"))
@@ -62,3 +63,9 @@ words-17 = refl
 
 words-18 : request_in (codes "ngx" ∷ codes "replay" ∷ codes "a" ∷ codes "--racy" ∷ codes "--racy" ∷ []) ≡ None
 words-18 = refl
+
+words-19 : request_in (codes "ngx" ∷ codes "check" ∷ codes "a" ∷ codes "--help" ∷ []) ≡ Some (Help topics.Check)
+words-19 = refl
+
+words-20 : request_in (codes "ngx" ∷ codes "replay" ∷ codes "a" ∷ codes "--racy" ∷ codes "--help" ∷ []) ≡ None
+words-20 = refl

@@ -68,8 +68,8 @@ chain-6 = refl
 chain-7 : fault_of (1 ∷ 2 ∷ 9 ∷ 9 ∷ 9 ∷ 9 ∷ 9 ∷ 9 ∷ 9 ∷ 9 ∷ 9 ∷ 9 ∷ 9 ∷ 9 ∷ 9 ∷ 9 ∷ 9 ∷ []) ≡ Some TooMany
 chain-7 = refl
 
--- a body as it comes out of both filters and the later member: text as it stands, `{name}` for a command, `{}` for one that isn't well
--- formed, `[` and `]` for the places before and after it
+-- a body as it comes out of both filters and the later member: text as it is, `{name}` for a command, `{}` for one that
+-- isn't well formed, `[` and `]` for the places before and after it
 abbrev shown_part : Part → List ℕ
 shown_part (Text text) = text
 shown_part (Command name params) = codes "{" ++ name ++ codes "}"

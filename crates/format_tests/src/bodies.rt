@@ -4,7 +4,7 @@ use http_types::BodyKind;
 use std::process::Abort;
 use std::test::Fail;
 
-/// The bytes that a body used of this text, which comes in pieces of so many bytes, and the last step.
+/// The bytes that a body used of this text, which comes in pieces of `size` bytes, and the last step.
 fn in_pieces(kind: BodyKind, text: &[u8], size: usize) -> (usize, BodyStep) {
     let mut state = BodyState::new(kind);
     let mut used: usize = 0;
@@ -17,7 +17,7 @@ fn in_pieces(kind: BodyKind, text: &[u8], size: usize) -> (usize, BodyStep) {
     (used, step)
 }
 
-/// Each text uses so many bytes and ends with this step, in whatever pieces it comes.
+/// Each text uses this many bytes and ends with this step, in whatever pieces it comes.
 fn all_end(rt: &impl Abort, kind: BodyKind, cases: &[(&[u8], usize, BodyStep)]) {
     for (text, used, step) in cases {
         for size in [1, 3, 100] {
@@ -84,7 +84,7 @@ fn bodies_end_where_the_grammar_ends_them(rt: HostRuntime) {
     );
 }
 
-/// A text, so many bytes `e`, and a text.
+/// A text, `count` bytes `e`, and a text.
 fn padded(rt: &HostRuntime, front: &[u8], count: usize, back: &[u8]) -> Result<Vec<u8>, Fail> {
     let mut text = front.to_vec(rt.alloc())?;
     text.extend_from_slice(vec![in rt.alloc(); b'e'; count]?.as_slice())?;

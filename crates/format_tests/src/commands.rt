@@ -7,7 +7,7 @@ use std::alloc::Global;
 use std::process::Abort;
 use std::test::Fail;
 
-/// Parts in a row: text as it stands, `{name|parameter=value}` for a command, `{}` for a bad one.
+/// Parts in a row: text as it is, `{name|parameter=value}` for a command, `{}` for a bad one.
 fn shown(alloc: Global, parts: &[Part]) -> Result<ByteText, OutOfMemory> {
     let mut text = ByteText::new(alloc);
     for part in parts {
@@ -97,7 +97,7 @@ fn a_document_splits_alike_in_any_pieces(rt: HostRuntime) -> Result<(), Fail> {
     )
 }
 
-/// `<!--#`, so many `x`, and then these bytes.
+/// `<!--#`, `count` times `x`, and then these bytes.
 fn long_command(alloc: Global, count: usize, behind: &[u8]) -> Result<ByteText, OutOfMemory> {
     let mut text = ByteText::from_slice(alloc, b"<!--#")?;
     for _ in 0..count {

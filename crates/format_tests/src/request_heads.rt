@@ -149,7 +149,7 @@ fn a_head_has_its_parts(rt: HostRuntime) -> Result<(), Fail> {
     )
 }
 
-/// A text, and another so many times.
+/// A text, and another `count` times.
 fn repeated(alloc: Global, front: &[u8], more: &[u8], count: usize) -> Result<Vec<u8>, Fail> {
     let mut bytes = Vec::from_slice(alloc, front)?;
     for _ in 0..count {

@@ -33,7 +33,7 @@ fn put_piece(outgoing: &mut Outgoing, piece: &[u8], text: &mut Vec<u8>) -> Resul
     Ok(())
 }
 
-/// The response with this body, which comes in pieces of so many bytes and a last one that is taken whole.
+/// The response with this body, which comes in pieces of `size` bytes and a last one that is taken whole.
 fn response(
     rt: &HostRuntime,
     chunked: bool,

@@ -6,7 +6,7 @@ use file_path::path_of;
 use file_tree::Node;
 use file_type::{TypeEntry, Types, extension};
 use http_types::{Addr, Method, Version};
-use ngx_variables::{EvalFault, Groups, LocalDate, Main, Place, Request, Role, Value, VarTable};
+use ngx_variables::{EvalFault, FileRoot, Groups, LocalDate, Main, Request, Role, Value, VarTable};
 use req_head::HeadFields;
 use static_content::{Content, decide, refusal_of};
 use std::alloc::Global;
@@ -71,7 +71,7 @@ fn the_first_rule_that_matches_decides(rt: HostRuntime) -> Result<(), Fail> {
     )
 }
 
-/// Each text is a network of so many bits.
+/// Each text is a network of this many bits.
 fn all_are_networks(rt: &impl Abort, cases: &[(&[u8], u8)]) {
     for (text, expected) in cases {
         match Source::read(*text) {
@@ -220,8 +220,8 @@ fn request(alloc: Global) -> Result<Request, Fail> {
     })
 }
 
-/// The path of a file, `-` where none can stand, and `long` where the text is too long.
-fn found(alloc: Global, place: &Place, uri: &[u8]) -> Result<ByteText, Fail> {
+/// The path of a file, `-` where there can be none, and `long` where the text is too long.
+fn found(alloc: Global, place: &FileRoot, uri: &[u8]) -> Result<ByteText, Fail> {
     let main = main_request(alloc)?;
     let request = request(alloc)?;
     let mut vars = VarTable::new(alloc);
@@ -241,7 +241,7 @@ fn all_are_found(
     cases: &[(&[u8], &[u8], &[u8])],
 ) -> Result<(), Fail> {
     for (root, uri, expected) in cases {
-        let place = Place::Root(Value::compile(alloc, *root)?);
+        let place = FileRoot::Root(Value::compile(alloc, *root)?);
         assert_eq!(rt; found(alloc, &place, *uri)?.as_slice(), *expected);
     }
     Ok(())

@@ -66,13 +66,13 @@ never : {A : Type 0} (b : Option BodyState) → b ≡ None → is_some b ≡ tru
 never None e f = cc
 never (Some state) e f = cc
 
--- no more is held behind a request that was started
+-- no more is held after a request that was started
 pub ran_few : (x : Serves) (service : Service) (start : Start) (k : ℕ) (next : HeadStep) (held held' : List ℕ) (body : Option BodyState) (flow : Option Flight) (out out' : List ℕ) (closing : Bool) (log : Option Log) → length held ≤ 8192 → RanOne x service start k next held held' body flow out out' closing log → length held' ≤ 8192
 ran_few x service start k (Head head size) held held' body flow out out' closing log few r = let a = r.drops.shorter in let b = length-drop size held in omega (arith, few, a, b)
 ran_few x service start k (Bad code no_body) held held' body flow out out' closing log few r = let a = ap length r.stands in omega (arith, few, a)
 ran_few x service start k More held held' body flow out out' closing log few r = absurd r
 
--- what is held behind a request that was started
+-- what is held after a request that was started
 pub ran_drained : (x : Serves) (service : Service) (start : Start) (k : ℕ) (next : HeadStep) (held held' : List ℕ) (body : Option BodyState) (flow : Option Flight) (out out' : List ℕ) (closing : Bool) (log : Option Log) → RanOne x service start k next held held' body flow out out' closing log → is_some body ≡ true → held' ≡ []
 ran_drained x service start k (Head head size) held held' body flow out out' closing log r h = r.drops.drained h
 ran_drained x service start k (Bad code no_body) held held' body flow out out' closing log r h = never body r.bodiless h

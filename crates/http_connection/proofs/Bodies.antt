@@ -18,7 +18,7 @@ drop_twice m n xs = drop-drop n m xs
 drop_front : (m n : ℕ) (bytes more : List ℕ) → m ≤ length bytes → drop (m + n) (bytes ++ more) ≡ drop n (drop m bytes ++ more)
 drop_front m n bytes more h = sym (drop_twice m n (bytes ++ more)) ∙ ap (drop n) (drop-append-le m bytes more h)
 
--- what is answered behind a body, whose front was taken
+-- what is answered after a body, whose front was taken
 behind_front : (m : ℕ) (bytes more : List ℕ) (o : BodyOutcome) (g : List ℕ → List Answer) → m ≤ length bytes →
     after_body (behind m o) (λ n. g (drop n (bytes ++ more))) ≡ after_body o (λ n. g (drop n (drop m bytes ++ more)))
 behind_front m bytes more (Whole n) g h = ap g (drop_front m n bytes more h)
@@ -118,7 +118,7 @@ goes_on_taken old new bytes count told t h e = more_drops old new bytes count to
 pub breaks_taken : (old new : BodyState) (bytes : List ℕ) (count : ℕ) (told : BodyStep) → Takes old bytes count told new → count ≤ length bytes → told ≡ steps.Broken → Drops (rest_body old) bytes None (drop count bytes) true
 breaks_taken old new bytes count told t h e = broken_drops old new bytes count told t h (outcome_broken (rest_body old bytes) (sym e ∙ t.step))
 
--- the body behind a head, in what is held
+-- the body after a head, in what is held
 pub head_drops : (kind : BodyKind) (state : BodyState) (lent held held' : List ℕ) (size used : ℕ) (body : Option BodyState) (broken : Bool) → IsBegun kind state → lent ≡ drop size held → held' ≡ drop (size + used) held → Drops (rest_body state) lent body (drop used lent) broken →
     Drops (body_of kind) (drop size held) body held' broken
 head_drops kind state lent held held' size used body broken begun e f d =

@@ -162,7 +162,7 @@ room_some false false true held room h = cc
 room_some false true ended held room h = cc
 room_some true closing ended held room h = cc
 
--- behind a body that is dropped, and what is held behind it
+-- after a body that is dropped, and what is held after it
 absorbed : (g : List ℕ → List Answer) (body body' : Option BodyState) (held held' bytes kept more : List ℕ) (broken : Bool) → (is_some body ≡ true → held ≡ []) → (body ≡ None → (body' ≡ None) × (broken ≡ false) × (kept ≡ bytes)) → Drops (rest_of body) bytes body' kept broken →
     held' ≡ held ++ kept → past_body body (held ++ (bytes ++ more)) g ≡ cond broken then_closes (past_body body' (held' ++ more) g)
 absorbed g None body' held held' bytes kept more broken drained still d e =
@@ -174,7 +174,7 @@ absorbed g (Some state) body' held held' bytes kept more broken drained still d 
     ap (λ h. past_body (Some state) (h ++ (bytes ++ more)) g) none ∙ d.rest g more
     ∙ ap (λ k. cond broken then_closes (past_body body' (k ++ more) g)) (sym (e ∙ ap (λ h. h ++ kept) none))
 
--- whether the connection closes behind a response, where it doesn't yet
+-- whether the connection closes after a response, where it doesn't yet
 behind_kept : (r : Rest) (closing closing' : Bool) (x y : List Answer) → closing ≡ false → x ≡ cond closing' then_closes y → cond (closes_after r closing) then_closes x ≡ cond (closes_after r closing') then_closes y
 behind_kept r closing closing' x y e f = ap (λ c. cond (closes_after r c) then_closes x) e ∙ by r.stays
   where
@@ -192,7 +192,7 @@ starts_if false false (b ∷ out) body next h = cc
 starts_if false true out body next h = cc
 starts_if true closing out body next h = cc
 
--- where the response keeps the connection open, what comes is what comes behind the body; else nothing
+-- where the response keeps the connection open, what comes is what comes after the body; else nothing
 kept_or_closed : (keep broken closes : Bool) (x y : List Answer) → closes ≡ cond keep broken true → x ≡ cond broken then_closes y → cond keep x then_closes ≡ cond closes then_closes y
 kept_or_closed true broken closes x y c e = e ∙ ap (λ t. cond t then_closes y) (sym c)
 kept_or_closed false broken closes x y c e = ap (λ t. cond t then_closes y) (sym c)

@@ -131,7 +131,7 @@ idle_parts out closing body next h =
       waits = waits_by out closing body next unsent (unstarted (starts_at false closing out body next) (and_right (no_bytes (take shown_most out)) nodes both));
     }
 
--- nothing is read behind the end of the input
+-- nothing is read after the end of the input
 silent_at : (stopped closing ended : Bool) (held : List ℕ) → ended ≡ true → room_at stopped closing ended held ≡ None
 silent_at true closing ended held e = refl
 silent_at false true ended held e = refl
@@ -221,7 +221,7 @@ bounded (Some (Alone flow)) size f = few_most size (stage_bounded size flow.ask 
 bounded (Some (Page p)) size f = none_most size f.0
 
 module _ (serves : Serves) where
-  -- where no request begins there are no further responses, and the connection closes where it does so behind its last one
+  -- where no request begins there are no further responses, and the connection closes where it does so after its last one
   quiet_after : (service : Service) (journal : List Entry) (closing : Bool) (body : Option BodyState) (held : List ℕ) (next : HeadStep) (trees : Trees) (later : List Start) →
       (closing || not (starts body next)) ≡ true → next ≡ head_step held → (is_some body ≡ true → held ≡ []) → (is_some body ≡ true → rest_of body [] ≡ Short) → after_at service (rest_in serves None) journal closing body held trees [] later ≡ cond closing then_closes []
   quiet_after service journal true body held next trees later q e d u = refl
@@ -244,7 +244,7 @@ module _ (serves : Serves) where
       told ∙ append-nil (map (λ l. Some l) (logged_in journal))
       ∙ ap (map (λ l. Some l)) (sym (ap (λ x. logged_in journal ++ logs_in x) (quiet_after service journal closing body held next trees later q e d u) ∙ ap (λ x. logged_in journal ++ x) (unlogged_close closing) ∙ append-nil (logged_in journal)))
 
-  -- an idle one is to be closed exactly where its input has ended or it closes behind its last response
+  -- an idle one is to be closed exactly where its input has ended or it closes after its last response
   shut_by : (out : List ℕ) (closing ended : Bool) (body : Option BodyState) (next : HeadStep) → Idle out closing body next →
       shut_at false None closing ended out body next ≡ (ended || closing)
   shut_by (b ∷ out) closing ended body next i = absurd (let e = i.unsent in cc)
@@ -260,7 +260,7 @@ module _ (serves : Serves) where
       shut_by out closing ended body next i
       ∙ ap (λ b. ended || b) (sym (ap close_in (quiet_after service journal closing body held next trees later i.waits e d u) ∙ is_close closing))
 
-  -- one that closes before the end of its input closes behind its response, and nothing comes behind that
+  -- one that closes before the end of its input closes after its response, and nothing comes after that
   closed : (service : Service) (out : List ℕ) (journal : List Entry) (closing ended : Bool) (body : Option BodyState) (held : List ℕ) (next : HeadStep) (trees : Trees) (more : List ℕ) (later : List Start) →
       shut_at false None closing ended out body next ≡ true → ended ≡ false → bytes_at service (rest_in serves None) out journal closing body held trees more later ≡ []
   closed service [] journal true ended body held next trees more later h e = refl

@@ -47,7 +47,7 @@ abbrev pub soonest : Option ℕ → ℕ
 soonest None = 2 ^ 64 - 1
 soonest (Some due) = min due (2 ^ 64 - 1)
 
--- whatever is awaited, it is awaited no shorter than so many seconds
+-- whatever is awaited, it is awaited no shorter than this many seconds
 abbrev pub NoneShorter : (head : ℕ) → Pace → (least : ℕ) → Type 0
 NoneShorter head pace least =
     (least ≤ soonest (after 0 (seconds_in pace.send))) ×

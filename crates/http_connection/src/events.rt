@@ -10,7 +10,7 @@ use crate::journal::finish;
 use crate::open::Meeting;
 use crate::sending::{begun, sending};
 use crate::slot::{put, take};
-use crate::start::run_one;
+use crate::start::{Setting, run_one};
 use crate::times::{AT_REST, Sending, marked, paced_on};
 use byte_text::OutOfMemory;
 use file_tree::{JobAnswer, is_fitting};
@@ -100,8 +100,7 @@ impl Conn {
         if count == 0 || count > self.pending().len() {
             return StepAnswer::Skipped;
         }
-        let flight = written(self.flight.take(), &mut self.out, count);
-        put(&mut self.flight, flight);
+        written(&mut self.flight, &mut self.out, count);
         self.times.mark = moment;
         StepAnswer::Done { taken: 0 }
     }
@@ -263,15 +262,15 @@ impl Conn {
         head_stays();
         refusal_stays();
         size_fits();
+        let meeting = Meeting {
+            local: self.local,
+            peer: self.peer,
+            moment,
+            tree,
+        };
         match run_one(
             space,
-            served,
-            Meeting {
-                local: self.local,
-                peer: self.peer,
-                moment,
-                tree,
-            },
+            Setting { served, meeting },
             &mut self.held,
             &mut self.next,
             &mut self.body,

@@ -64,12 +64,18 @@ fn look_on(room: &mut HeadRoom, rest: &[u8], next: &mut HeadStep) -> Result<(), 
     Ok(())
 }
 
+// What a request starts in: the site that is served, and where and when it comes.
+#[derive(Clone, Copy)]
+pub(crate) struct Setting<'a> {
+    pub(crate) served: &'a ServedSite,
+    pub(crate) meeting: Meeting,
+}
+
 // Starts a request: what is answered at once is put after what is kept for the peer, the request is written into the journal,
 // and what is held after it is looked at. Where it asks for more subrequests than are opened, it is only written into the journal.
 pub(crate) fn run_one(
     space: &mut Workspace,
-    served: &ServedSite,
-    meeting: Meeting,
+    setting: Setting<'_>,
     held: &mut ByteQueue,
     next: &mut HeadStep,
     body: &mut Option<BodyState>,
@@ -79,36 +85,38 @@ pub(crate) fn run_one(
     requires looked { next.old ≡ head_step held.old }
     requires begins { head_begins next.old ≡ true }
     requires unsent { out.old ≡ [] }
-    ensures ran { let x : Serves = record {
+    ensures ran { let m = setting.entry.meeting in let x : Serves = record {
       patterns = space.old.patterns;
-      served = served.now;
+      served = setting.entry.served.now;
     } in
-        IfOk result (λ ran. RanTo x (service_in x meeting.local meeting.peer) (start_in meeting)
+        IfOk result (λ ran. RanTo x (service_in x m.local m.peer) (start_in m)
         (vec_len journal.old) next.old held.old held.new body.new out.old out.new ran) }
-    ensures level { let x : Serves = record {
+    ensures level { let m = setting.entry.meeting in let x : Serves = record {
       patterns = space.old.patterns;
-      served = served.now;
+      served = setting.entry.served.now;
     } in
         IfOk result (λ ran. IfOn ran (λ o. AreRaceless x → LevelFor
-        (service_in x meeting.local meeting.peer) (start_in meeting) next.old
-        (λ trees. (rest_in x o.flight trees).values) (values_at served.now o.level))) }
+        (service_in x m.local m.peer) (start_in m) next.old
+        (λ trees. (rest_in x o.flight trees).values) (values_at x.served o.level))) }
     ensures reached { let x : Serves = record {
       patterns = space.old.patterns;
-      served = served.now;
+      served = setting.entry.served.now;
     } in
         IfOk result (λ ran. IfOn ran (λ o. ReachedIn x o.flight)) }
     ensures looked { IfOk result (λ ran. IfOn ran (λ o. next.new ≡ head_step held.new)) }
     ensures journal { IfOk result (λ ran. (entry : Logged) ×
-        (start_of entry ≡ start_in meeting) ×
+        (start_of entry ≡ start_in setting.entry.meeting) ×
         (log_of entry ≡ log_ran ran) × (journal.new.items ≡ journal.old.items ++ entry ∷ [])) }
     ensures kept { OnErr result (journal.new.items ≡ journal.old.items) }
     ensures over { IfOk result (λ ran. IfOn ran (λ o. is_some o.log ≡ not (is_some o.flight))) }
     ensures fits { IfOk result (λ ran. IfOn ran (λ o. FlightFits o.flight (length out.new))) }
     ensures lowers { IfOk result (λ ran. IfOn ran (λ o. length out.new + flight_left o.flight
         (length out.new) < page_most + asking_most)) }
-    ensures asked { IfOk result (λ ran. IfOn ran (λ o. flight_tree o.flight ≤ meeting.tree)) }
+    ensures asked { IfOk result (λ ran. IfOn ran (λ o.
+        flight_tree o.flight ≤ setting.entry.meeting.tree)) }
     ensures patterns { space.new.patterns ≡ space.old.patterns }
 {
+    let Setting { served, meeting } = setting;
     match next {
         HeadStep::Head { head, size } => {
             size_fits();

@@ -59,7 +59,7 @@ month_is days h =
     (rw (days_of_months_all y) h) 12 0 1 (year_of days).1
     (omega arith) (omega arith) (omega (arith, months_none y))
 
--- the year, the month and the day of the month are a date of the calendar, with so many days before it
+-- the year, the month and the day of the month are a date of the calendar, with this many days before it
 date_is : (days : ℕ) → days < 2932897 → IsCivilDate (year_of days).0 (month_of days).0 ((month_of days).1 + 1) × (days_from_civil (year_of days).0 (month_of days).0 ((month_of days).1 + 1) ≡ days)
 date_is days h =
     let y = year_is days h in

@@ -84,6 +84,6 @@ pub shown_nothing : (secs : ℕ) (format : List ℕ) → format ≡ [] → shown
 unfolding shown_text
 shown_nothing secs format e = rw e refl
 
--- where nothing more is shown, all stands there
+-- where nothing more is shown, all is there
 pub shown_all : (secs : ℕ) (out rest : List ℕ) → shown_text secs rest ≡ [] → out ≡ out ++ shown_text secs rest
 shown_all secs out rest e = rw e (sym (append-nil out))

@@ -9,7 +9,7 @@ use Rattle.httpdate.specs.Text.{two_digits, four_digits, time_of_day, imf_fixdat
 use Rattle.http_moment.specs.Moment.{is_visible, last_second, calendar, shown_at, date_of, DateIsVisible}
 use Rattle.http_moment.proofs.CalendarLemmas.{calendar_right}
 
--- so many bytes, all of them visible
+-- this many bytes, all of them visible
 record Shows (n : ℕ) (xs : List ℕ) : Type 0 where
   seen : list_all is_visible xs ≡ true
   size : length xs ≡ n

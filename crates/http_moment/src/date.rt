@@ -24,7 +24,8 @@ pub fn date_text(secs: u64) -> [u8; 29]
 /// one of these forms; white space round the date is none of it. It takes no memory.
 pub fn read_date(bytes: &[u8]) -> Option<u64>
     ensures value { result ≡ parse_secs bytes.now }
-    ensures shown { IfSome result (λ secs. (date : Date) × IsDateText bytes.now date × (unix_secs date ≡ secs)) }
+    ensures shown { IfSome result (λ secs. (date : Date) × IsDateText bytes.now date
+        × (unix_secs date ≡ secs)) }
     ensures none { IfNone result ((date : Date) → ¬ (IsDateText bytes.now date)) }
 {
     match HttpDate::parse_ascii(bytes) {

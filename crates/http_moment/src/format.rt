@@ -37,7 +37,7 @@ pub enum Conversion {
     Percent,
 }
 
-/// The conversion that this byte behind a `%` asks for.
+/// The conversion that this byte after a `%` asks for.
 #[tactic(auto, unfolding(crate::specs::Shown::conversion_of))]
 fn read_conversion(code: u8) -> Option<Conversion>
     ensures { result ≡ conversion_of code }
@@ -221,7 +221,7 @@ fn put(secs: u64, date: &Civil, kind: Conversion, out: &mut ByteText) -> Result<
     }
 }
 
-/// The first byte, and those behind it.
+/// The first byte, and those after it.
 fn front(bytes: &[u8]) -> Option<(u8, &[u8])>
     ensures { MatchOption result (bytes.now ≡ []) (λ p. bytes.now ≡ p.0 ∷ p.1.now) }
 {
@@ -255,7 +255,7 @@ pub fn is_time_format(format: &[u8]) -> bool
 /// Appends the format with each conversion in place of its `%` and letter, at a second of UTC: those of C's strftime
 /// that SSI documents use, with English names. Past the year 9999 its last second stands for the second.
 ///
-/// It answers false exactly at a `%` that begins no conversion, and has then appended what stands before it. After want
+/// It answers false exactly at a `%` that begins no conversion, and has then appended what comes before it. After want
 /// of memory `out` has some part of the text.
 pub fn shown(format: &[u8], secs: u64, out: &mut ByteText) -> Result<bool, OutOfMemory>
     ensures known { IfOk result (λ whole. whole ≡ is_format format.now) }

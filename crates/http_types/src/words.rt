@@ -25,7 +25,7 @@ pub enum Version {
     V11,
 }
 
-/// How the body behind a request's head is framed (RFC 9112, section 6).
+/// How the body after a request's head is framed (RFC 9112, section 6).
 #[derive(Clone, Copy, Debug, PartialEq, Eq)]
 pub enum BodyKind {
     /// No body: neither Content-Length nor Transfer-Encoding, or a Content-Length of 0.

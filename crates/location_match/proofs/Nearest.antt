@@ -19,8 +19,8 @@ pub fits-refl : (a : List ℕ) → fits a a ≡ true
 fits-refl [] = refl
 fits-refl (x ∷ xs) = and_from _ _ (grind (arith, nat_tests)) (fits-refl xs)
 
--- The texts from a place on that are at most the path share so many bytes with it, those before another place that are above it
--- so many, and all of them so many.
+-- The texts from a place on that are at most the path share this many bytes with it, those before another place that
+-- are above it this many, and all of them this many.
 pub record Bounds (texts : List (List ℕ)) (path : List ℕ) (low high below above least : ℕ) : Type 0 where
   pub lower : (i : ℕ) → low ≤ i → i < length texts → is_at_most (text_at texts i) path ≡ true → below ≤ shared (text_at texts i) path
   pub upper : (i : ℕ) → i < high → is_at_most (text_at texts i) path ≡ false → above ≤ shared (text_at texts i) path

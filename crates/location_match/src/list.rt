@@ -111,7 +111,10 @@ impl Prefixes {
     /// their bytes; then, and without memory, nothing changes.
     pub fn add(&mut self, text: ByteText, location: u32) -> Result<bool, OutOfMemory>
         ensures added { IfOk result (λ added. IsTrue added → self.new
-            ≡ record { texts = self.old.texts ++ text ∷ []; locations = self.old.locations ++ location ∷ [] }) }
+            ≡ record {
+              texts = self.old.texts ++ text ∷ [];
+              locations = self.old.locations ++ location ∷ [];
+            }) }
         ensures above { IfOk result (λ added. IsTrue added → IsAboveAll self.old.texts text) }
         ensures refused { IfOk result (λ added. added ≡ false → self.new ≡ self.old) }
         ensures below { IfOk result (λ added. added ≡ false → (0 < length self.old.texts)

@@ -24,7 +24,7 @@ use Rattle.ssi_text.specs.Commands as ssi_text_commands
 use Rattle.ssi_text.specs.Split as ssi_text_split
 use Rattle.chunk_out.specs.Chunks as chunk_out_chunks
 use Rattle.postpone_filter.specs.Row as postpone_filter_row
-use Rattle.body_frame.specs.Place as body_frame_place
+use Rattle.body_frame.specs.Position as body_frame_place
 use Rattle.body_frame.specs.State as body_frame_state
 use Rattle.req_head.specs.Fields as req_head_fields
 use Rattle.req_head.specs.FirstLine as req_head_firstline

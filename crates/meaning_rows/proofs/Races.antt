@@ -9,7 +9,7 @@ use Rattle.request_meaning.specs.Serving.{Child}
 use Rattle.request_meaning.specs.Replies.{reply}
 use Rattle.request_meaning.specs.Bodies.{filtered_marks}
 use Rattle.race_meaning.specs.Laws.{is_command}
-use Rattle.ngx_variables.specs.declared.request.Place.TheVariants.{Root}
+use Rattle.ngx_variables.specs.declared.request.FileRoot.TheVariants.{Root}
 use Prim.Native.String.{String}
 use Rattle.ngx_variables.specs.declared.value.Piece.TheVariants.{Literal, Set as Variable}
 use Rattle.meaning_rows.proofs.Opened.{opened}

@@ -20,7 +20,7 @@ use Rattle.addition_filter.specs.Machine.{addition_member}
 use Rattle.ngx_variables.specs.declared.request.Main.{Main}
 use Rattle.ngx_variables.specs.declared.request.Request.{Request}
 use Rattle.ngx_variables.specs.declared.request.Role.TheVariants as role
-use Rattle.ngx_variables.specs.declared.request.Place.TheVariants.{Root}
+use Rattle.ngx_variables.specs.declared.request.FileRoot.TheVariants.{Root}
 use Rattle.ngx_variables.specs.declared.value.Piece.TheVariants.{Literal}
 use Rattle.site_views.specs.Pattern.{Pattern, Finds, Span}
 use Rattle.site_views.specs.Values.{Values, Text, MediaTypes}

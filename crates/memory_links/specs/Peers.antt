@@ -105,8 +105,8 @@ sends_in = at_id sends_of silent
 abbrev pub SendSame : (ℕ → Sends) → (ℕ → Sends) → Type 0
 SendSame old new = (c : ℕ) → new c ≡ old c
 
--- What a read takes of what a peer sends. It answers the end only behind all of it, and that there
--- is nothing yet only there or where the buffer is empty.
+-- What a read takes of what a peer sends. It answers the end only after all of it, and that there is nothing yet only
+-- there or where the buffer is empty.
 abbrev pub Gives : Input → List ℕ → Sends → Sends → Type 0
 Gives (input.Got count) buf old new = (old.coming ≡ take count buf ++ new.coming) ×
     (new.ends ≡ old.ends)

@@ -21,7 +21,7 @@ use std::alloc::Global;
 /// What the script of the links reports.
 #[derive(Drop)]
 pub enum ScriptedNotice {
-    /// A peer connects, with its two ends. It sends the input, and behind it ends, or sends no more yet. The link takes
+    /// A peer connects, with its two ends. It sends the input, and then ends, or sends no more yet. The link takes
     /// `window` bytes until it is reported writable. Its id is the next: the first is 1.
     Opened {
         local: Addr,
@@ -33,7 +33,7 @@ pub enum ScriptedNotice {
     Readable {
         id: u32,
     },
-    /// The link takes so many more bytes.
+    /// The link takes `more` more bytes.
     Writable {
         id: u32,
         more: usize,

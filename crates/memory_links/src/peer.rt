@@ -10,8 +10,8 @@ use byte_text::ByteText;
 use http_types::Addr;
 use ngx_outside::{Input, Output};
 
-// A link: its ends and how many were open when it was reported, what its peer sends and how far it was read, whether the peer then ends and whether that was read, what was
-// written and how many more bytes are taken now.
+// A link: its ends and how many were open when it was reported, what its peer sends and how far it was read, whether
+// the peer then ends and whether that was read, what was written and how many more bytes are taken now.
 #[derive(Drop)]
 pub(crate) struct Peer {
     pub(crate) local: Addr,
@@ -29,7 +29,7 @@ pub(crate) struct Peer {
     pub(crate) faults: u64,
 }
 
-// What lies behind a place.
+// What comes after the first `start` bytes.
 fn rest_of(bytes: &[u8], start: usize) -> &[u8]
     ensures { result.now ≡ drop start bytes.now }
 {
@@ -40,7 +40,7 @@ fn rest_of(bytes: &[u8], start: usize) -> &[u8]
     }
 }
 
-// What lies before a place.
+// The bytes before a place.
 fn front_of(bytes: &[u8], end: usize) -> &[u8]
     ensures { result.now ≡ take end bytes.now }
 {
@@ -69,7 +69,7 @@ impl Peer {
         front_of(self.input.as_slice(), self.start)
     }
 
-    /// Reads what is left of the input; behind it the peer ends, or sends nothing yet.
+    /// Reads what is left of the input; after it the peer ends, or sends nothing yet.
     pub(crate) fn read(&mut self, fails: bool, buf: &mut [u8]) -> Input
         ensures count { GotWithin result (length buf.new) }
         ensures told { view_of self.new ≡ after_read result buf.new (view_of self.old) }
@@ -145,7 +145,7 @@ impl Peer {
         self.due = true;
     }
 
-    /// The link takes so many more bytes.
+    /// The link takes `more` more bytes.
     pub(crate) fn widen(&mut self, more: usize)
         ensures told { view_of self.new ≡ set_full false (view_of self.old) }
         ensures sends { sends_of self.new ≡ sends_of self.old }

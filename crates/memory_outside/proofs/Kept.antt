@@ -1,8 +1,8 @@
 -- Answers that are kept.
 use Rattle.std.proofs.Common.{◌≡◌, Bool, true, false, List, [], ◌∷◌, ◌++◌, refl, sym, ap, subst, ◌∙◌}
 use Rattle.std.specs.Prelude.{ℕ, map, Option}
-use Rattle.std.proofs.lemmas.List.{map-append, append_cancel_left}
-use Rattle.ngx_outside.specs.Records.{Adds, FileAnswer, Held}
+use Rattle.std.proofs.lemmas.List.{map-append}
+use Rattle.ngx_outside.specs.Records.{Adds, FileAnswer}
 use Rattle.memory_outside.specs.declared.answers.FileTold.{FileTold}
 use Rattle.memory_outside.specs.Answered.{told_by, file_answer}
 
@@ -30,9 +30,3 @@ stopped f b old true kept e = cc
 
 pub files_stopped : (b : FileAnswer) (old : Option (List FileAnswer)) (whole : Bool) (kept : List FileTold) → whole ≡ false → Adds b old (told_by file_answer whole kept)
 files_stopped = stopped file_answer
-
--- what a read added is what was kept of it
-pub read_kept : (old new piece : List ℕ) (before after : Option (List FileAnswer)) → new ≡ old ++ piece → Adds (Held piece) before after →
-    (added : List ℕ) → new ≡ old ++ added → Adds (Held added) before after
-read_kept old new piece before after e a added h =
-    subst (λ (p : List ℕ). Adds (Held p) before after) (append_cancel_left old piece added (sym e ∙ h)) a

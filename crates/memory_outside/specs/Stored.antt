@@ -59,6 +59,10 @@ failing_of f = f.failing.items
 abbrev pub versions_of : MemoryFiles → Option (List ℕ)
 versions_of f = numbers_told f.versions
 
+-- the bytes that were read last
+abbrev pub block_of : MemoryFiles → List ℕ
+block_of f = f.block
+
 -- all that they show
 abbrev pub files_shown : MemoryFiles → FilesSeen
 files_shown f =
@@ -66,6 +70,7 @@ files_shown f =
       tells = true;
       trees = trees_of f;
       newest = newest_of f;
+      block = block_of f;
       versions = versions_of f;
       answers = file_answers_of f;
       faults = file_faults_of f;

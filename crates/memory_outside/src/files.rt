@@ -1,11 +1,11 @@
 // Files in memory.
 ghost use Rattle.std.specs.Prelude.{◌≡◌, ◌≢◌, ◌≤◌, ◌<◌, ◌+◌, ◌-◌, ◌^◌, ◌∷◌, ◌↔◌, ℕ, List, [], true, false, IsTrue, MatchOption, Some, Err, IsOk, OnOk, OnErr, IfOk, length, take, drop};
 ghost use Rattle.ngx_outside.specs.Causes.{Rose, HasCause};
-ghost use Rattle.ngx_outside.specs.Records.{Adds, ReadTold, stat_answer};
-ghost use Rattle.ngx_outside.specs.Outside.{Grow, Stats, Reads, Lists};
+ghost use Rattle.ngx_outside.specs.Records.{Adds, block_answer, stat_answer};
+ghost use Rattle.ngx_outside.specs.Outside.{Grow, Stats, Lends, Lists};
 ghost use Rattle.ngx_outside.specs.declared.files.FileFault.TheVariants.{Failed as ReadFailed};
 ghost use Rattle.file_tree.specs.Tree.{Nothing, AFile, AFolder, HoldsBytes, node_of};
-ghost use Rattle.memory_outside.specs.Stored.{item_in, item_of, is_at as is_stored_at, Replaces, trees_of, newest_of, file_faults_of, file_answers_of, failing_of, versions_of, files_shown};
+ghost use Rattle.memory_outside.specs.Stored.{item_in, item_of, is_at as is_stored_at, Replaces, trees_of, newest_of, block_of, file_faults_of, file_answers_of, failing_of, versions_of, files_shown};
 
 use crate::answers::{Answers, FileTold, tell_bytes, tell_failed, tell_node, tell_number};
 use crate::names::add_names;
@@ -55,6 +55,7 @@ pub struct MemoryFiles {
     faults: u64,
     versions: Answers<u64>,
     answers: Answers<FileTold>,
+    block: ByteText,
 }
 
 // Whether it stands at a path in the tree of a number.
@@ -188,6 +189,7 @@ impl MemoryFiles {
             faults: 0,
             versions: Answers::new(alloc),
             answers: Answers::new(alloc),
+            block: ByteText::new(alloc),
         }
     }
 
@@ -321,21 +323,18 @@ impl Files for MemoryFiles {
         Ok(node)
     }
 
-    fn read(
-        &mut self,
-        path: &[u8],
-        start: u64,
-        count: u64,
-        of: u64,
-        out: &mut ByteText,
-    ) -> Result<(), FileFault>
+    fn block(&self) -> &[u8] {
+        self.block.as_slice()
+    }
+
+    fn read_block(&mut self, path: &[u8], start: u64, count: u64, of: u64) -> Result<(), FileFault>
         ensures versions { versions_of self.new ≡ versions_of self.old }
-        ensures bytes { Reads true (trees_of self.old of) path.now start count out.old out.new
+        ensures bytes { Lends true (trees_of self.old of) path.now start count (block_of self.new)
             result }
         ensures same { trees_of self.new ≡ trees_of self.old }
         ensures version { newest_of self.new ≡ newest_of self.old }
         ensures failing { failing_of self.new ≡ failing_of self.old }
-        ensures answers { ReadTold out.old out.new result (file_answers_of self.old)
+        ensures answers { Adds (block_answer (block_of self.new) result) (file_answers_of self.old)
             (file_answers_of self.new) }
         ensures sure { failing_of self.old ≡ [] → result ≡ Err ReadFailed → (bytes : List ℕ) →
             ¬ HoldsBytes (trees_of self.old of path.now) start count bytes }
@@ -360,7 +359,8 @@ impl Files for MemoryFiles {
             tell_failed(&mut self.answers);
             return Err(FileFault::Failed);
         };
-        match out.extend(piece) {
+        self.block.clear();
+        match self.block.extend(piece) {
             Ok(()) => {
                 tell_bytes(self.alloc, &mut self.answers, piece);
                 Ok(())

@@ -1,9 +1,7 @@
 //! `ngx`: the request engine of nginx, verified.
 #![tactic(auto)]
 
-mod usage;
-
-use crate::usage::tell_usage;
+use command_usage::tell_usage;
 use ngx_cli::ngx;
 use ngx_pattern::CrateMaker;
 use socket_links::{ListenFault, SocketLinks, SystemClock};

@@ -77,7 +77,7 @@ answered sent_all shut_sent_all shut_all logged_all raceless site told v lane se
       all_logged = λ quiet i trees agree later. logged_all (fresh_course raceless site.patterns site.site s.ends.local s.ends.peer) told.trees told.newest v s.came lane.went s.tracked sound i quiet trees agree later;
     }
 
--- before a run nothing stands on any connection
+-- before a run there is nothing on any connection
 pub begins_standing : (fresh : Addr → Addr → Course) (told : Told) (s : Stage) → IsNew s → AllStanding fresh told s (λ c. [])
 begins_standing fresh told s n = λ c. Unopened (ap (λ (v : ConnView). v.held) (n.view c)) (ap (λ (l : Lane). l.ends) (n.lanes c)) (ap (λ (l : Lane). is_given l.tail) (n.lanes c)) (ap (λ (l : Lane). l.went) (n.lanes c))
     (sym (ap (λ (l : Lane). l.queue) (n.lanes c)))

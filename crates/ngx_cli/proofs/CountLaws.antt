@@ -70,7 +70,7 @@ counts_step site servers i s count own count' m all within at of is so_far =
     ∙ min_behind count (own_of s) (counted site (drop (i + 1) servers)) m
     ∙ ap (λ n. min (count + n) m) (sym (ap (λ ss. counted site ss) here ∙ first_counts site s (drop (i + 1) servers))) ∙ so_far
 
--- behind the last server
+-- after the last server
 pub counts_end : (site : Built) (servers : List Server) (i count m all : ℕ) → length servers ≤ i → count ≤ m →
     min (count + counted site (drop i servers)) m ≡ all → count ≡ all
 counts_end site servers i count m all past fits so_far =

@@ -16,9 +16,9 @@ use Rattle.report_text.specs.Faults.{conf_fault_line}
 use Rattle.site_service.specs.Serving.{Outside, Serving}
 use Rattle.ngx_cli.specs.Sites.{Describes as IsDescribed, FailsIf, Reading, AreRaceless, conflicts_of, site_at}
 use Rattle.ngx_cli.specs.Checks.{check_text}
-use Rattle.ngx_cli.specs.declared.script.Outcome.{Outcome}
-use Rattle.ngx_cli.specs.declared.script.Outcome.TheVariants as outcome
-use Rattle.ngx_cli.specs.declared.site.Found.{Found}
+use Rattle.ngx_cli.specs.declared.script.ScriptOutcome.{ScriptOutcome}
+use Rattle.ngx_cli.specs.declared.script.ScriptOutcome.TheVariants as outcome
+use Rattle.ngx_cli.specs.declared.site.ReadSite.{ReadSite}
 use Rattle.ngx_cli.specs.declared.site.SiteError.{SiteError}
 use Rattle.ngx_cli.specs.declared.site.SiteError.TheVariants as error
 use Rattle.ngx_cli.specs.declared.status.Status.{Status}
@@ -26,14 +26,14 @@ use Rattle.ngx_cli.specs.declared.status.Status.TheVariants as status
 use Rattle.ngx_cli.specs.Commands.{Output, Made, Printed, CutShort, ComesTo, Describes, Finds, Served, ServedFound, Played, Unread, IsFaultLine, OfFirst, OfFiles, OfMaker, IsCheckLine, OfSite, OfNoSite, IsRefusal, OfRaces, OfFault, FoundEnds, ReplayEnds, CheckEnds, ServeEnds, PutsText, served_status, status_of}
 
 -- a site was served
-pub served : (found : Found) (racy : Bool) (o : Outside) (out : Output) (turns : ℕ) (e : Ending) → ServedFound found racy o out turns e → (e ≡ ending.Ended → o.links'.over ≡ true) → (e ≡ ending.ListenFault → Rose o.links.faults o.links'.faults) → (e ≡ ending.NextFault → Rose o.links.faults o.links'.faults) →
+pub served : (found : ReadSite) (racy : Bool) (o : Outside) (out : Output) (turns : ℕ) (e : Ending) → ServedFound found racy o out turns e → (e ≡ ending.Ended → o.links'.over ≡ true) → (e ≡ ending.ListenFault → Rose o.links.faults o.links'.faults) → (e ≡ ending.NextFault → Rose o.links.faults o.links'.faults) →
     FoundEnds found racy o out turns (served_status e)
 served found racy o out turns ending.Ended s ends listen next = (ends refl, s)
 served found racy o out turns ending.TurnsUsed s ends listen next = s
 served found racy o out turns ending.ListenFault s ends listen next = (listen refl, inl s)
 served found racy o out turns ending.NextFault s ends listen next = (next refl, inr s)
 
-pub none_named : (found : Found) → has_items (conflicts_of found) ≡ false → conflicts_of found ≡ []
+pub none_named : (found : ReadSite) → has_items (conflicts_of found) ≡ false → conflicts_of found ≡ []
 none_named found h = empty (conflicts_of found) h
   where
     empty : {A : Type 0} (xs : List A) → has_items xs ≡ false → xs ≡ []
@@ -46,7 +46,7 @@ unnamed true named e r = cc
 unnamed false named e r = sym e
 
 -- what was found at a path came to this
-module _ (found : Found) (racy : Bool) (o : Outside) (reading : FilesSeen) (made : Made) (out : Output) (path : List ℕ) (turns : ℕ) (finds : Finds purposes.Serving o.files reading path found) where
+module _ (found : ReadSite) (racy : Bool) (o : Outside) (reading : FilesSeen) (made : Made) (out : Output) (path : List ℕ) (turns : ℕ) (finds : Finds purposes.Serving o.files reading path found) where
   abbrev pub later : Outside
   later = record o { files = reading }
 
@@ -85,7 +85,7 @@ module _ (found : Found) (racy : Bool) (o : Outside) (reading : FilesSeen) (made
 cut : (IsDue : List ℕ → Type 0) (out : Output) (text : List ℕ) → IsDue text → PutsText out text (Err status.SinkFault) → CutShort IsDue out
 cut IsDue out text due p = record { rose = p.0; text = text; due = due; front = p.1 }
 
-pub unput_found : (found : Found) (racy : Bool) (o : Outside) (out : Output) (turns : ℕ) (s : Status) → o.files' ≡ o.files → PutsText out (check_text found) (Err s) → FoundEnds found racy o out turns s
+pub unput_found : (found : ReadSite) (racy : Bool) (o : Outside) (out : Output) (turns : ℕ) (s : Status) → o.files' ≡ o.files → PutsText out (check_text found) (Err s) → FoundEnds found racy o out turns s
 unput_found found racy o out turns status.SinkFault e p = (e, cut (λ text. text ≡ check_text found) out (check_text found) refl p)
 unput_found found racy o out turns status.OutOfMemory e p = p
 unput_found found racy o out turns status.Done e p = absurd p
@@ -124,8 +124,8 @@ unput_check files files' made out path text status.ScriptFault due p = absurd p
 unput_check files files' made out path text status.TurnsUsed due p = absurd p
 unput_check files files' made out path text status.PatternFault due p = absurd p
 
-pub unput_replay : (files files' : FilesSeen) (made : Made) (out : Output) (path text : List ℕ) (racy : Bool) (o : Outcome) (s : Status) → ComesTo files made path racy o text → PutsText out text (Err s) → ReplayEnds files files' made out path racy s
-unput_replay files files' made out path text racy o status.SinkFault due p = cut (λ text. (o : Outcome) × ComesTo files made path racy o text) out text (o, due) p
+pub unput_replay : (files files' : FilesSeen) (made : Made) (out : Output) (path text : List ℕ) (racy : Bool) (o : ScriptOutcome) (s : Status) → ComesTo files made path racy o text → PutsText out text (Err s) → ReplayEnds files files' made out path racy s
+unput_replay files files' made out path text racy o status.SinkFault due p = cut (λ text. (o : ScriptOutcome) × ComesTo files made path racy o text) out text (o, due) p
 unput_replay files files' made out path text racy o status.OutOfMemory due p = p
 unput_replay files files' made out path text racy o status.Done due p = absurd p
 unput_replay files files' made out path text racy o status.Usage due p = absurd p
@@ -138,7 +138,7 @@ unput_replay files files' made out path text racy o status.TurnsUsed due p = abs
 unput_replay files files' made out path text racy o status.PatternFault due p = absurd p
 
 -- what a script came to was printed
-pub played : (files files' : FilesSeen) (made : Made) (out : Output) (path : List ℕ) (racy : Bool) (o : Outcome) → Played files made out path racy o → ReplayEnds files files' made out path racy (status_of o)
+pub played : (files files' : FilesSeen) (made : Made) (out : Output) (path : List ℕ) (racy : Bool) (o : ScriptOutcome) → Played files made out path racy o → ReplayEnds files files' made out path racy (status_of o)
 played files files' made out path racy outcome.Done p = p
 played files files' made out path racy outcome.ConfFault p = p
 played files files' made out path racy outcome.Racy p = p
@@ -155,28 +155,28 @@ pub error_described : (purpose : Purpose) (files files' : FilesSeen) (path : Lis
 error_described purpose files files' path e other is reads exact = record { reads = reads; is = subst (IsErrorOf purpose files files' path) is exact }
 
 -- a file that couldn't be read
-pub is_files_line : (purpose : Purpose) (files files' : FilesSeen) (made : Made) (path : List ℕ) (e : SiteError) (placed : PlacedFault) → e ≡ error.Failed placed → Reading files files' → IsErrorOf purpose files files' path e → FailsIf {A = Found} (Err e) files.faults files'.faults made.before made.after →
+pub is_files_line : (purpose : Purpose) (files files' : FilesSeen) (made : Made) (path : List ℕ) (e : SiteError) (placed : PlacedFault) → e ≡ error.Failed placed → Reading files files' → IsErrorOf purpose files files' path e → FailsIf {A = ReadSite} (Err e) files.faults files'.faults made.before made.after →
     IsFaultLine purpose files files' made path (ended (conf_fault_line placed.path placed.fault))
 is_files_line purpose files files' made path e placed is reads exact cause =
-    let c : FailsIf {A = Found} (Err (error.Failed placed)) files.faults files'.faults made.before made.after = subst (λ (x : SiteError). FailsIf {A = Found} (Err x) files.faults files'.faults made.before made.after) is cause in
+    let c : FailsIf {A = ReadSite} (Err (error.Failed placed)) files.faults files'.faults made.before made.after = subst (λ (x : SiteError). FailsIf {A = ReadSite} (Err x) files.faults files'.faults made.before made.after) is cause in
     OfFiles placed c.0 c.1 (error_described purpose files files' path e (error.Failed placed) is reads exact) refl
 
 -- and was printed
-pub unread_printed : (purpose : Purpose) (files files' : FilesSeen) (made : Made) (out : Output) (path : List ℕ) (e : SiteError) (placed : PlacedFault) → e ≡ error.Failed placed → Reading files files' → IsErrorOf purpose files files' path e → FailsIf {A = Found} (Err e) files.faults files'.faults made.before made.after →
+pub unread_printed : (purpose : Purpose) (files files' : FilesSeen) (made : Made) (out : Output) (path : List ℕ) (e : SiteError) (placed : PlacedFault) → e ≡ error.Failed placed → Reading files files' → IsErrorOf purpose files files' path e → FailsIf {A = ReadSite} (Err e) files.faults files'.faults made.before made.after →
     Printed out (ended (conf_fault_line placed.path placed.fault)) → Unread purpose files files' out path
 unread_printed purpose files files' made out path e placed is reads exact cause printed =
-    let c : FailsIf {A = Found} (Err (error.Failed placed)) files.faults files'.faults made.before made.after = subst (λ (x : SiteError). FailsIf {A = Found} (Err x) files.faults files'.faults made.before made.after) is cause in
+    let c : FailsIf {A = ReadSite} (Err (error.Failed placed)) files.faults files'.faults made.before made.after = subst (λ (x : SiteError). FailsIf {A = ReadSite} (Err x) files.faults files'.faults made.before made.after) is cause in
     record { placed = placed; described = error_described purpose files files' path e (error.Failed placed) is reads exact; kind = c.0; rose = c.1; printed = printed }
 
 -- a pattern that the maker refused
-pub is_maker_line : (purpose : Purpose) (files files' : FilesSeen) (made : Made) (path : List ℕ) (e : SiteError) (placed : PlacedFault) → e ≡ error.TooBig placed → FailsIf {A = Found} (Err e) files.faults files'.faults made.before made.after →
+pub is_maker_line : (purpose : Purpose) (files files' : FilesSeen) (made : Made) (path : List ℕ) (e : SiteError) (placed : PlacedFault) → e ≡ error.TooBig placed → FailsIf {A = ReadSite} (Err e) files.faults files'.faults made.before made.after →
     IsFaultLine purpose files files' made path (ended (conf_fault_line placed.path placed.fault))
 is_maker_line purpose files files' made path e placed is cause =
-    let c : FailsIf {A = Found} (Err (error.TooBig placed)) files.faults files'.faults made.before made.after = subst (λ (x : SiteError). FailsIf {A = Found} (Err x) files.faults files'.faults made.before made.after) is cause in
+    let c : FailsIf {A = ReadSite} (Err (error.TooBig placed)) files.faults files'.faults made.before made.after = subst (λ (x : SiteError). FailsIf {A = ReadSite} (Err x) files.faults files'.faults made.before made.after) is cause in
     OfMaker placed.fault placed.path c.0 c.1 refl
 
 -- what was found was printed
-pub checked : (files files' : FilesSeen) (made : Made) (out : Output) (path : List ℕ) (found : Found) (racy : Bool) → has_items (conflicts_of found) ≡ racy → Finds purposes.Reading files files' path found → Printed out (check_text found) →
+pub checked : (files files' : FilesSeen) (made : Made) (out : Output) (path : List ℕ) (found : ReadSite) (racy : Bool) → has_items (conflicts_of found) ≡ racy → Finds purposes.Reading files files' path found → Printed out (check_text found) →
     CheckEnds files files' made out path (if racy then status.Racy else status.Done)
 checked files files' made out path found true e d p = record { found = found; described = d; names = e; printed = p }
 checked files files' made out path found false e d p = record { found = found; described = d; names = e; printed = p }

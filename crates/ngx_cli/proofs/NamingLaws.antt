@@ -69,7 +69,7 @@ same_head x y xs ys f g (inl e) h = sym e
 same_head x y xs ys f g (inr a) (inl e) = e
 same_head x y xs ys f g (inr a) (inr b) = absurd (not_both x y (below x y xs f b) (below y x ys g a))
 
--- what is behind the head is among the others' rest
+-- what is after the head is among the others' rest
 behind_head : (x q : List ℕ) (xs ys : List (List ℕ)) → AllByRecursion (λ n. byte_order x n ≡ Less) xs → Among xs q → (x ≡ q) ⊎ Among ys q → Among ys q
 behind_head x q xs ys f h (inl e) = absurd (not_itself x (subst (λ (n : List ℕ). byte_order x n ≡ Less) (sym e) (below x q xs f h)))
 behind_head x q xs ys f h (inr a) = a
@@ -150,7 +150,7 @@ unordered (name ∷ names) q h = by_part (unordered names q) (put_among name (in
     by_part ih (inl e) = inl e
     by_part ih (inr g) = inr (ih g)
 
--- the names that are found in a folder are those that stand there
+-- the names that are found in a folder are those that are there
 children : (confs : List Conf) (folder : List ℕ) → conf_tree confs folder ≡ AFolder → (name : List ℕ) → Contains (names_in confs folder) name ↔ IsChild (conf_tree confs) folder name
 children confs folder is name =
     let told : Listed true (conf_tree confs) folder [] (names_in confs folder) = names_told confs folder [] (names_in confs folder) (sym (ap node_of is)) refl in
@@ -162,7 +162,7 @@ in_folder confs folder is name = (
   (λ c. contained (in_order (names_in confs folder)) name (ordered (names_in confs folder) name (among (names_in confs folder) name ((children confs folder is name).1 c)))),
 )
 
--- what stands at the folder's path decides
+-- what is at the folder's path decides
 listed : (confs : List Conf) (folder : List ℕ) (item : Item) → conf_tree confs folder ≡ item → IsListing (conf_tree confs) folder (names_at item (in_order (names_in confs folder)))
 unfolding IsStrictlySortedBy
 listed confs folder AFolder is = record { order = sorted (names_in confs folder); names = λ _. in_folder confs folder is; none = λ no. absurd (no is) }

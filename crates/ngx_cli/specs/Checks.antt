@@ -8,7 +8,7 @@ use Rattle.report_text.specs.Lines.{lines_text}
 use Rattle.report_text.specs.Counts.{counts_text}
 use Rattle.report_text.specs.Races.{Place, Race, race_line}
 use Rattle.ngx_cli.specs.Sites.{conflicts_of}
-use Rattle.ngx_cli.specs.declared.site.Found.{Found}
+use Rattle.ngx_cli.specs.declared.site.ReadSite.{ReadSite}
 
 -- how many locations paths find, with those in others
 unfoldable pub count_of : Locations → ℕ
@@ -42,6 +42,6 @@ abbrev pub conflict_line : Conflict → List ℕ
 conflict_line c = race_line (race_of c)
 
 -- the counts of a site, and a line for each of its variables that is named
-abbrev pub check_text : Found → List ℕ
+abbrev pub check_text : ReadSite → List ℕ
 check_text found =
     counts_of (site_built found.built) ++ lines_text (map conflict_line (conflicts_of found))

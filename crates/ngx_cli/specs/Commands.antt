@@ -16,9 +16,9 @@ use Rattle.conf_inherit.specs.declared.site.Purpose.{Purpose}
 use Rattle.conf_inherit.specs.declared.site.Purpose.TheVariants as purposes
 use Rattle.report_text.specs.Lines.{ended}
 use Rattle.report_text.specs.Faults.{conf_fault_line}
-use Rattle.ngx_cli.specs.declared.script.Outcome.{Outcome}
-use Rattle.ngx_cli.specs.declared.script.Outcome.TheVariants as outcome
-use Rattle.ngx_cli.specs.declared.site.Found.{Found}
+use Rattle.ngx_cli.specs.declared.script.ScriptOutcome.{ScriptOutcome}
+use Rattle.ngx_cli.specs.declared.script.ScriptOutcome.TheVariants as outcome
+use Rattle.ngx_cli.specs.declared.site.ReadSite.{ReadSite}
 use Rattle.ngx_cli.specs.declared.site.SiteError.{SiteError}
 use Rattle.ngx_cli.specs.declared.site.SiteError.TheVariants as error
 use Rattle.ngx_cli.specs.declared.status.Status.{Status}
@@ -45,7 +45,7 @@ code_of status.TurnsUsed = 9
 code_of status.PatternFault = 10
 
 -- the status of what a script came to, and of how serving ended
-abbrev pub status_of : Outcome → Status
+abbrev pub status_of : ScriptOutcome → Status
 status_of outcome.Done = status.Done
 status_of outcome.ConfFault = status.ConfFault
 status_of outcome.Racy = status.Racy
@@ -87,7 +87,7 @@ pub record CutShort (IsDue : List ℕ → Type 0) (out : Output) : Type 0 where
 
 -- The script at a path comes to this, of which this text is to be printed. A pattern is told as one that the maker refused
 -- only where its count of refusals rose.
-pub record ComesTo (files : FilesSeen) (made : Made) (path : List ℕ) (racy : Bool) (o : Outcome)
+pub record ComesTo (files : FilesSeen) (made : Made) (path : List ℕ) (racy : Bool) (o : ScriptOutcome)
     (text : List ℕ) : Type 0 where
   pub bytes : List ℕ
   pub read : files.tells ≡ true → bytes ≡ text_of (files.trees files.newest path)
@@ -96,7 +96,7 @@ pub record ComesTo (files : FilesSeen) (made : Made) (path : List ℕ) (racy : B
 
 -- and was printed
 pub record Played (files : FilesSeen) (made : Made) (out : Output) (path : List ℕ) (racy : Bool)
-    (o : Outcome) : Type 0 where
+    (o : ScriptOutcome) : Type 0 where
   pub text : List ℕ
   pub comes : ComesTo files made path racy o text
   pub printed : Printed out text
@@ -118,14 +118,14 @@ ReplayEnds files files' made out path racy status.ScriptFault = (fault : ScriptF
 ReplayEnds files files' made out path racy status.FilesFault = Rose files.faults files'.faults ×
     Printed out []
 ReplayEnds files files' made out path racy status.SinkFault = CutShort
-    (λ text. (o : Outcome) × ComesTo files made path racy o text) out
+    (λ text. (o : ScriptOutcome) × ComesTo files made path racy o text) out
 ReplayEnds files files' made out path racy status.OutOfMemory = Printed out []
 ReplayEnds files files' made out path racy s = ⊥
 
 -- The configuration at a path, read for this purpose, comes to this, as far as the files tell and
 -- their newest tree stays while it is read; where they failed, they were asked where that is told.
 pub record Describes (purpose : Purpose) (files reading : FilesSeen) (path : List ℕ)
-    (outcome : Result Found SiteError) : Type 0 where
+    (outcome : Result ReadSite SiteError) : Type 0 where
   pub reads : Reading files reading
   pub is : files.tells ≡ true → reading.newest ≡ files.newest → (names : Names) →
       IsNaming (files.trees files.newest) names →
@@ -134,7 +134,7 @@ pub record Describes (purpose : Purpose) (files reading : FilesSeen) (path : Lis
 
 -- and its site with its named variables was found
 pub record Finds (purpose : Purpose) (files reading : FilesSeen) (path : List ℕ)
-    (found : Found) : Type 0 where
+    (found : ReadSite) : Type 0 where
   pub described : Describes purpose files reading path (Ok found)
   pub raceless : conflicts_of found ≡ [] → AreRaceless found.built
 
@@ -183,14 +183,14 @@ pub record Unmade (made : Made) (out : Output) : Type 0 where
 -- whether some are is said.
 pub record Checked (files files' : FilesSeen) (out : Output) (path : List ℕ)
     (racy : Bool) : Type 0 where
-  pub found : Found
+  pub found : ReadSite
   pub described : Finds purposes.Reading files files' path found
   pub names : has_items (conflicts_of found) ≡ racy
   pub printed : Printed out (check_text found)
 
 -- what is to be printed of a check
 pub data IsCheckLine (files files' : FilesSeen) (made : Made) (path text : List ℕ) : Type 0 where
-  OfSite : (found : Found) → Finds purposes.Reading files files' path found →
+  OfSite : (found : ReadSite) → Finds purposes.Reading files files' path found →
       text ≡ check_text found → IsCheckLine files files' made path text
   OfNoSite : IsFaultLine purposes.Reading files files' made path text →
       IsCheckLine files files' made path text
@@ -215,7 +215,7 @@ CheckEnds files files' made out path s = ⊥
 -- named is so of what was served. Nothing was printed.
 pub record Served (o : Outside) (out : Output) (path : List ℕ) (turns : ℕ) (racy : Bool)
     (e : Ending) : Type 0 where
-  pub found : Found
+  pub found : ReadSite
   pub reading : FilesSeen
   pub described : Finds purposes.Serving o.files reading path found
   pub names : racy ≡ false → has_items (conflicts_of found) ≡ false
@@ -227,7 +227,7 @@ pub record Served (o : Outside) (out : Output) (path : List ℕ) (turns : ℕ) (
 -- Variables are named of the configuration at a path, which were printed as its check prints them. Nothing was asked of the
 -- links and the clock.
 pub record Unserved (o : Outside) (out : Output) (path : List ℕ) : Type 0 where
-  pub found : Found
+  pub found : ReadSite
   pub described : Finds purposes.Serving o.files o.files' path found
   pub names : has_items (conflicts_of found) ≡ true
   pub links : o.links' ≡ o.links
@@ -236,27 +236,27 @@ pub record Unserved (o : Outside) (out : Output) (path : List ℕ) : Type 0 wher
 
 -- what is to be printed where a site isn't served
 pub data IsRefusal (files files' : FilesSeen) (made : Made) (path text : List ℕ) : Type 0 where
-  OfRaces : (found : Found) → Finds purposes.Serving files files' path found →
+  OfRaces : (found : ReadSite) → Finds purposes.Serving files files' path found →
       text ≡ check_text found → IsRefusal files files' made path text
   OfFault : IsFaultLine purposes.Serving files files' made path text →
       IsRefusal files files' made path text
 
 -- What a site that was found came to, from here on: served, or refused.
-pub record ServedFound (found : Found) (racy : Bool) (o : Outside) (out : Output) (turns : ℕ)
+pub record ServedFound (found : ReadSite) (racy : Bool) (o : Outside) (out : Output) (turns : ℕ)
     (e : Ending) : Type 0 where
   pub names : racy ≡ false → has_items (conflicts_of found) ≡ false
   pub serving : Serving (not (has_items (conflicts_of found))) found.built.patterns
       found.built.site turns e o
   pub printed : Printed out []
 
-pub record RefusedFound (found : Found) (o : Outside) (out : Output) : Type 0 where
+pub record RefusedFound (found : ReadSite) (o : Outside) (out : Output) : Type 0 where
   pub names : has_items (conflicts_of found) ≡ true
   pub files : o.files' ≡ o.files
   pub links : o.links' ≡ o.links
   pub clock : o.clock' ≡ o.clock
   pub printed : Printed out (check_text found)
 
-abbrev pub FoundEnds : Found → (racy : Bool) → Outside → Output → (turns : ℕ) → Status → Type 0
+abbrev pub FoundEnds : ReadSite → (racy : Bool) → Outside → Output → (turns : ℕ) → Status → Type 0
 FoundEnds found racy o out turns status.Done = (o.links'.over ≡ true) ×
     ServedFound found racy o out turns ending.Ended
 FoundEnds found racy o out turns status.TurnsUsed =
@@ -311,7 +311,7 @@ pub record Untouched (o : Outside) : Type 0 where
 -- When each status comes, by what the words ask for. Words that are no command print nothing.
 abbrev pub Ends : Option Request → Outside → Made → Output → Status → Type 0
 Ends None o made out s = (s ≡ status.Usage) × Printed out [] × Untouched o
-Ends (Some Help) o made out s = TextEnds out help_text s × Untouched o
+Ends (Some (Help topic)) o made out s = TextEnds out (help_text topic) s × Untouched o
 Ends (Some Version) o made out s = TextEnds out version_text s × Untouched o
 Ends (Some (Check path)) o made out s = CheckEnds o.files o.files' made out path s
 Ends (Some (Replay path racy)) o made out s =

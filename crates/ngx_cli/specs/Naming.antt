@@ -7,7 +7,7 @@ use Rattle.replay_text.specs.declared.parts.Conf.{Conf}
 use Rattle.replay_confs.specs.Confs.{conf_tree, names_in}
 use Rattle.conf_include.specs.Listings.{Names, IsListing, IsNaming, byte_order}
 
--- a name before the first of others, in its place, or behind it
+-- a name before the first of others, in its place, or after it
 abbrev pub placed : Ordering → (name other : List ℕ) → (others behind : List (List ℕ)) →
     List (List ℕ)
 placed Less name other others behind = name ∷ other ∷ others

@@ -33,9 +33,9 @@ use Rattle.report_text.specs.Faults.{script_fault_line, conf_fault_line}
 use Rattle.ngx_cli.specs.Naming.{conf_names}
 use Rattle.ngx_cli.specs.Checks.{check_text}
 use Rattle.ngx_cli.specs.Sites.{Configuration, configuration_of, conflicts_of, AreRaceless, AreRacesOf, site_at}
-use Rattle.ngx_cli.specs.declared.site.Found.{Found}
-use Rattle.ngx_cli.specs.declared.script.Outcome.{Outcome}
-use Rattle.ngx_cli.specs.declared.script.Outcome.TheVariants as outcome
+use Rattle.ngx_cli.specs.declared.site.ReadSite.{ReadSite}
+use Rattle.ngx_cli.specs.declared.script.ScriptOutcome.{ScriptOutcome}
+use Rattle.ngx_cli.specs.declared.script.ScriptOutcome.TheVariants as outcome
 
 -- the path of a script's main configuration: the first one
 abbrev pub main_path : List Conf → List ℕ
@@ -49,7 +49,7 @@ Describe confs outcome =
     site_at purposes.Serving (conf_tree confs) (conf_names confs) (main_path confs) ≡ outcome
 
 -- They were read, and these are the variables that are named of them.
-pub record AreFound (confs : List Conf) (found : Found) : Type 0 where
+pub record AreFound (confs : List Conf) (found : ReadSite) : Type 0 where
   pub directives : List Directive
   pub described : Describe confs (Ok (configuration_of found directives))
   pub races : AreRacesOf found directives
@@ -61,7 +61,7 @@ pub record IsNew (s : Stage) : Type 0 where
   pub now : s.now ≡ record { moment = 0; tree = 0 }
   pub lanes : (c : ℕ) → s.lanes c ≡ empty_lane
 
--- how a connection stands at the end
+-- what a connection is at the end
 abbrev pub state_of : ConnView → ConnState
 state_of v = if is_some v.cause then Stopped else (if is_idle v then Idle else Busy)
 
@@ -161,7 +161,7 @@ pub record Ran (raceless : Bool) (site : Built) (tree : List TreeLine) (events :
 -- A run on the site that a script's configurations describe. Unless it was asked for although variables are named, none is:
 -- then what is so where none is named is so of the run.
 pub record RanOn (racy : Bool) (script : Script) (text : List ℕ) : Type 0 where
-  pub found : Found
+  pub found : ReadSite
   pub are : AreFound script.confs found
   pub names : racy ≡ false → has_items (conflicts_of found) ≡ false
   pub raceless : racy ≡ false → AreRaceless found.built
@@ -169,13 +169,13 @@ pub record RanOn (racy : Bool) (script : Script) (text : List ℕ) : Type 0 wher
 
 -- Variables are named of a script's configurations.
 pub record IsRacy (confs : List Conf) (text : List ℕ) : Type 0 where
-  pub found : Found
+  pub found : ReadSite
   pub are : AreFound confs found
   pub names : has_items (conflicts_of found) ≡ true
   pub told : text ≡ check_text found
 
 -- what a script whose configurations were read comes to
-abbrev pub RunsOn : (racy : Bool) → Script → Outcome → List ℕ → Type 0
+abbrev pub RunsOn : (racy : Bool) → Script → ScriptOutcome → List ℕ → Type 0
 RunsOn racy script outcome.Done text = RanOn racy script text
 RunsOn racy script outcome.Racy text = (racy ≡ false) × IsRacy script.confs text
 RunsOn racy script o text = ⊥
@@ -183,7 +183,7 @@ RunsOn racy script o text = ⊥
 -- What a script's bytes come to, and what is printed: the first fault of the script; the first fault of its configurations; a
 -- pattern of these that the maker refused; the variables that are named of them, unless a run was asked for all the same; or
 -- a run.
-abbrev pub Replays : (racy : Bool) → List ℕ → Outcome → List ℕ → Type 0
+abbrev pub Replays : (racy : Bool) → List ℕ → ScriptOutcome → List ℕ → Type 0
 Replays racy bytes outcome.Done text = (script : Script) × (script_of bytes ≡ Ok script) ×
     RanOn racy script text
 Replays racy bytes outcome.Racy text = (script : Script) × (script_of bytes ≡ Ok script) ×

@@ -20,7 +20,7 @@ use Rattle.conf_inherit.specs.declared.site.Built.{Built}
 use Rattle.race_meaning.specs.Named.{IsRaceless}
 use Rattle.race_meaning.specs.Conflicts.{Conflict}
 use Rattle.conf_races.specs.Races.{RacesOf, conflicts_seen}
-use Rattle.ngx_cli.specs.declared.site.Found.{Found}
+use Rattle.ngx_cli.specs.declared.site.ReadSite.{ReadSite}
 use Rattle.ngx_cli.specs.declared.site.SiteError.{SiteError}
 use Rattle.ngx_cli.specs.declared.site.SiteError.TheVariants as error
 
@@ -73,11 +73,11 @@ abbrev pub path_in : List (List ℕ) → ℕ → List ℕ
 path_in paths number = slice_index_or paths number []
 
 -- the variables that were found to be named, with the paths of their places
-abbrev pub conflicts_of : Found → List Conflict
+abbrev pub conflicts_of : ReadSite → List Conflict
 conflicts_of found = conflicts_seen (path_in found.paths) found.races
 
 -- they are those of these directives
-abbrev pub AreRacesOf : Found → List Directive → Type 0
+abbrev pub AreRacesOf : ReadSite → List Directive → Type 0
 AreRacesOf found ds = RacesOf (path_in found.paths) ds (site_built found.built).servers
     (conflicts_of found)
 
@@ -87,14 +87,14 @@ AreRaceless b = (server : ServerView) → Contains (site_built b).servers server
 
 -- ---- what was read
 
-abbrev pub configuration_of : Found → List Directive → Configuration
+abbrev pub configuration_of : ReadSite → List Directive → Configuration
 configuration_of found ds =
     record { site = site_built found.built; directives = ds; paths = found.paths }
 
 -- A site is the one that is described, with exactly the named variables of its directives, and a fault is the first one,
 -- unless the files failed, the maker refused a pattern, or memory ran out. Where the files failed, what is told is where they
 -- were asked.
-abbrev pub Describes : (asked : ConfFault → List ℕ → Type 0) → Result Found SiteError →
+abbrev pub Describes : (asked : ConfFault → List ℕ → Type 0) → Result ReadSite SiteError →
     Result Configuration (ConfFault × List ℕ) → Type 0
 Describes asked (Ok found) outcome = (ds : List Directive) ×
     (outcome ≡ Ok (configuration_of found ds)) × AreRacesOf found ds

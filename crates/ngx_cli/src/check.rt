@@ -10,7 +10,7 @@ ghost use Rattle.ngx_cli.specs.Checks.{check_text, conflict_line, counts_of, loc
 ghost use Rattle.ngx_cli.specs.Commands.{CheckEnds, Made, PutsText};
 
 use crate::command::{put_fault, put_text};
-use crate::site::{Found, SiteError, site_at};
+use crate::site::{ReadSite, SiteError, site_at};
 use crate::status::Status;
 use byte_text::{ByteText, OutOfMemory};
 use conf_inherit::{Built, Purpose};
@@ -73,7 +73,7 @@ fn races_text(
 }
 
 /// Appends what is printed of a configuration: its counts, and its variables that are named.
-pub(crate) fn found_text(found: &Found, out: &mut ByteText) -> Result<(), OutOfMemory>
+pub(crate) fn found_text(found: &ReadSite, out: &mut ByteText) -> Result<(), OutOfMemory>
     ensures { OnOk result (out.new ≡ out.old ++ check_text found.now) }
 {
     counts_line(&found.built, out)?;
@@ -88,7 +88,7 @@ pub(crate) fn found_text(found: &Found, out: &mut ByteText) -> Result<(), OutOfM
 }
 
 /// Prints the counts of a configuration, and its variables that are named.
-pub(crate) fn put_found<O: Sink>(alloc: Global, found: &Found, out: &mut O) -> Result<(), Status>
+pub(crate) fn put_found<O: Sink>(alloc: Global, found: &ReadSite, out: &mut O) -> Result<(), Status>
     ensures { PutsText (record { before = O.seen out.old; after = O.seen out.new })
         (check_text found.now) result }
 {
@@ -100,14 +100,14 @@ pub(crate) fn put_found<O: Sink>(alloc: Global, found: &Found, out: &mut O) -> R
 }
 
 /// Whether variables are named.
-pub(crate) fn is_racy(found: &Found) -> bool
+pub(crate) fn is_racy(found: &ReadSite) -> bool
     ensures { result ≡ has_items (conflicts_of found.now) }
 {
     !found.races.conflicts.is_empty()
 }
 
 /// Whether a site isn't to be run: variables are named, and it wasn't asked for all the same.
-pub(crate) fn is_refused(racy: bool, found: &Found) -> bool
+pub(crate) fn is_refused(racy: bool, found: &ReadSite) -> bool
     ensures { result ≡ (not racy && has_items (conflicts_of found.now)) }
 {
     !racy && is_racy(found)

@@ -10,7 +10,7 @@ ghost use Rattle.ngx_cli.specs.Commands.{Ends, EndsWith, FoundEnds, Made, Output
 use crate::check::{is_racy, is_refused, put_found, run_check};
 use crate::help::{put_help, put_version};
 use crate::script::{placed_fault_text, replay};
-use crate::site::{Found, SiteError, site_at};
+use crate::site::{ReadSite, SiteError, site_at};
 use crate::status::{Status, served_status, status_of};
 use crate::text::read_text;
 use byte_text::{ByteText, OutOfMemory};
@@ -19,7 +19,7 @@ use conf_include::PlacedFault;
 use conf_inherit::{Built, Purpose};
 use ngx_outside::{Clock, Failed, FileFault, Files, Links, Sink};
 use ngx_pattern::PatternMaker;
-use site_service::serve_site;
+use site_service::{CheckedSite, serve_site};
 use std::alloc::Global;
 
 /// Prints a text; where that fails, what the program ends with.
@@ -77,12 +77,20 @@ pub(crate) fn put_fault<O: Sink>(
     }
 }
 
+/// What is asked of serving: the path of the configuration, for how many turns its site is served, and whether all the same
+/// where variables can show in which order subrequests run.
+#[derive(Clone, Copy)]
+struct Asked<'a> {
+    conf: &'a [u8],
+    turns: u64,
+    racy: bool,
+}
+
 // Serves the site of a configuration, if no variable of it is named, or all the same.
 fn serve_found<F: Files, L: Links, C: Clock, O: Sink>(
     alloc: Global,
-    found: Found,
-    turns: u64,
-    racy: bool,
+    found: ReadSite,
+    asked: Asked<'_>,
     files: &mut F,
     links: &mut L,
     clock: &mut C,
@@ -90,16 +98,16 @@ fn serve_found<F: Files, L: Links, C: Clock, O: Sink>(
 ) -> Status
     requires links { AreNew (L.seen links.old) }
     requires quiet { conflicts_of found ≡ [] → AreRaceless found.built }
-    ensures { FoundEnds found racy (record {
+    ensures { FoundEnds found asked.entry.racy (record {
       files = F.seen files.old;
       files' = F.seen files.new;
       links = L.seen links.old;
       links' = L.seen links.new;
       clock = C.seen clock.old;
       clock' = C.seen clock.new;
-    }) (record { before = O.seen out.old; after = O.seen out.new }) turns result }
+    }) (record { before = O.seen out.old; after = O.seen out.new }) asked.entry.turns result }
 {
-    if is_refused(racy, &found) {
+    if is_refused(asked.racy, &found) {
         return match put_found(alloc, &found, out) {
             Ok(()) => Status::Racy,
             Err(status) => status,
@@ -107,7 +115,12 @@ fn serve_found<F: Files, L: Links, C: Clock, O: Sink>(
     }
     let raceless = !is_racy(&found);
     let Built { site, patterns } = found.built;
-    match serve_site(alloc, site, raceless, patterns, files, links, clock, turns) {
+    let checked = CheckedSite {
+        site,
+        patterns,
+        raceless,
+    };
+    match serve_site(alloc, checked, files, links, clock, asked.turns) {
         Ok(ending) => served_status(ending),
         Err(OutOfMemory) => Status::OutOfMemory,
     }
@@ -116,9 +129,7 @@ fn serve_found<F: Files, L: Links, C: Clock, O: Sink>(
 // Serves the site of a configuration.
 fn run_site<F: Files, L: Links, C: Clock, O: Sink, M: PatternMaker>(
     alloc: Global,
-    path: &[u8],
-    turns: u64,
-    racy: bool,
+    asked: Asked<'_>,
     files: &mut F,
     links: &mut L,
     clock: &mut C,
@@ -134,10 +145,11 @@ fn run_site<F: Files, L: Links, C: Clock, O: Sink, M: PatternMaker>(
       clock = C.seen clock.old;
       clock' = C.seen clock.new;
     }) (record { before = M.refusals maker.old; after = M.refusals maker.new })
-        (record { before = O.seen out.old; after = O.seen out.new }) path.now turns racy result }
+        (record { before = O.seen out.old; after = O.seen out.new })
+        asked.entry.conf.now asked.entry.turns asked.entry.racy result }
 {
-    match site_at(alloc, Purpose::Serving, files, maker, path) {
-        Ok(found) => serve_found(alloc, found, turns, racy, files, links, clock, out),
+    match site_at(alloc, Purpose::Serving, files, maker, asked.conf) {
+        Ok(found) => serve_found(alloc, found, asked, files, links, clock, out),
         Err(SiteError::Fault(placed)) => match put_fault(alloc, &placed, out) {
             Ok(()) => Status::ConfFault,
             Err(status) => status,
@@ -177,23 +189,20 @@ fn run<F: Files, L: Links, C: Clock, O: Sink, M: PatternMaker>(
 {
     match command_of(words) {
         None => Status::Usage,
-        Some(Command::Help) => put_help(out),
+        Some(Command::Help { topic }) => put_help(topic, out),
         Some(Command::Version) => put_version(out),
         Some(Command::Check { conf }) => run_check(alloc, conf.as_bytes(), files, maker, out),
         Some(Command::Replay { script, racy }) => {
             run_script(alloc, script.as_bytes(), racy, files, maker, out)
         }
-        Some(Command::Serve { conf, turns, racy }) => run_site(
-            alloc,
-            conf.as_bytes(),
-            turns,
-            racy,
-            files,
-            links,
-            clock,
-            maker,
-            out,
-        ),
+        Some(Command::Serve { conf, turns, racy }) => {
+            let asked = Asked {
+                conf: conf.as_bytes(),
+                turns,
+                racy,
+            };
+            run_site(alloc, asked, files, links, clock, maker, out)
+        }
     }
 }
 
@@ -202,7 +211,8 @@ fn run<F: Files, L: Links, C: Clock, O: Sink, M: PatternMaker>(
 ///
 /// The words are the program's name and one of these.
 ///
-/// - `--help` or `-h`, alone or in place of a command's path: what the program does, with its commands, is printed.
+/// - `--help` or `-h`: what the program does, with its commands, is printed; after a command, or after its path: what the
+///   command does, with what it takes.
 /// - `--version` or `-V`: the program's name and version are printed.
 /// - `check CONF`: the configuration is read with what it includes, and `servers N locations M` is printed, M being the
 ///   locations of all its servers, in each other or of a name too; then a line for each variable that can show in which order
@@ -211,7 +221,7 @@ fn run<F: Files, L: Links, C: Clock, O: Sink, M: PatternMaker>(
 ///   came to is printed.
 /// - `serve CONF`, or `serve CONF --turns N`: the site that the configuration describes is served on its addresses, until no
 ///   notice comes any more, or for N turns, from 1 to 1000000000. Serving prints nothing but faults.
-/// - `--racy` behind `replay SCRIPT` or `serve CONF`: all the same where variables can show in which order subrequests run.
+/// - `--racy` after `replay SCRIPT` or `serve CONF`: all the same where variables can show in which order subrequests run.
 ///   Without it, what `check` prints is printed then, and nothing is run or served.
 ///
 /// 0: done; of serving, no notice will come any more. 1: the configuration has a fault, which is printed. 2: the words are no

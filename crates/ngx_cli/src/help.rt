@@ -3,7 +3,7 @@ ghost use Rattle.command_line.specs.Help.{help_text as help, version_text as ver
 ghost use Rattle.ngx_cli.specs.Commands.{Output, TextEnds};
 
 use crate::status::Status;
-use command_line::{help_text, version_text};
+use command_line::{Topic, help_text, version_text};
 use ngx_outside::{Failed, Sink};
 
 fn put_own<O: Sink>(text: &[u8], out: &mut O) -> Status
@@ -16,11 +16,12 @@ fn put_own<O: Sink>(text: &[u8], out: &mut O) -> Status
     }
 }
 
-/// Prints the help.
-pub(crate) fn put_help<O: Sink>(out: &mut O) -> Status
-    ensures { TextEnds (record { before = O.seen out.old; after = O.seen out.new }) help result }
+/// Prints the help of the program or of a command.
+pub(crate) fn put_help<O: Sink>(topic: Topic, out: &mut O) -> Status
+    ensures { TextEnds (record { before = O.seen out.old; after = O.seen out.new }) (help topic)
+        result }
 {
-    put_own(help_text(), out)
+    put_own(help_text(topic), out)
 }
 
 /// Prints the version.

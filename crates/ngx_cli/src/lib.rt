@@ -12,6 +12,6 @@ mod text;
 
 pub use command::ngx;
 pub use laws::folders_have_their_names;
-pub use script::{Outcome, replay};
-pub use site::{Found, SiteError, site_at};
+pub use script::{ScriptOutcome, replay};
+pub use site::{ReadSite, SiteError, site_at};
 pub use status::Status;

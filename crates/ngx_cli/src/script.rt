@@ -11,7 +11,7 @@ ghost use Rattle.ngx_cli.specs.Sites.{AreRaceless, OnFault, OnRefused};
 ghost use Rattle.ngx_cli.specs.Running.{main_path as path_of_main, AreFound, Describe, report_in, Ran, RunsOn, Replays};
 
 use crate::check::{found_text, is_racy, is_refused};
-use crate::site::{Found, SiteError, site_at};
+use crate::site::{ReadSite, SiteError, site_at};
 use byte_text::{ByteText, OutOfMemory};
 use conf_include::PlacedFault;
 use conf_inherit::{Built, Purpose};
@@ -30,7 +30,7 @@ use std::alloc::Global;
 
 /// What a script came to.
 #[derive(Clone, Copy, Debug, PartialEq, Eq)]
-pub enum Outcome {
+pub enum ScriptOutcome {
     /// It was run.
     Done,
     /// Its bytes are outside its grammar.
@@ -54,11 +54,16 @@ fn main_path(confs: &[Conf]) -> &[u8]
 }
 
 // The site that a script's configurations describe.
-fn site_of<M: PatternMaker>(alloc: Global, confs: &Confs, maker: &mut M) -> Result<Found, SiteError>
+fn site_of<M: PatternMaker>(
+    alloc: Global,
+    confs: &Confs,
+    maker: &mut M,
+) -> Result<ReadSite, SiteError>
     ensures ok { IfOk result (λ found. AreFound confs.now found) }
     ensures fault { IfErr result (λ e. OnFault e
         (λ fault at. Describe confs.now (Err (fault, at)))) }
-    ensures refused { IfErr result (λ e. OnRefused e (M.refusals maker.old) (M.refusals maker.new)) }
+    ensures refused { IfErr result (λ e. OnRefused e (M.refusals maker.old)
+        (M.refusals maker.new)) }
 {
     let mut files = ConfFiles::new(alloc, confs.as_slice());
     match site_at(
@@ -165,17 +170,17 @@ pub(crate) fn placed_fault_text(placed: &PlacedFault, out: &mut ByteText) -> Res
 fn run_found(
     alloc: Global,
     racy: bool,
-    found: Found,
+    found: ReadSite,
     script: &Script,
     out: &mut ByteText,
-) -> Result<Outcome, OutOfMemory>
+) -> Result<ScriptOutcome, OutOfMemory>
     requires { AreFound script.now.confs found }
     ensures { IfOk result (λ o. (text : List ℕ) × (out.new ≡ out.old ++ text)
         × RunsOn racy script.now o text) }
 {
     if is_refused(racy, &found) {
         found_text(&found, out)?;
-        return Ok(Outcome::Racy);
+        return Ok(ScriptOutcome::Racy);
     }
     let raceless = !is_racy(&found);
     run(
@@ -186,7 +191,7 @@ fn run_found(
         script.events.as_slice(),
         out,
     )?;
-    Ok(Outcome::Done)
+    Ok(ScriptOutcome::Done)
 }
 
 /// Runs a script, and appends what is printed of it: what each connection came to, or the first fault of the script or of its
@@ -198,17 +203,17 @@ pub fn replay<M: PatternMaker>(
     racy: bool,
     maker: &mut M,
     out: &mut ByteText,
-) -> Result<Outcome, OutOfMemory>
+) -> Result<ScriptOutcome, OutOfMemory>
     ensures text { IfOk result (λ o. (text : List ℕ) × (out.new ≡ out.old ++ text) ×
         Replays racy bytes.now o text) }
-    ensures refused { result ≡ Ok Outcome.PatternFault →
+    ensures refused { result ≡ Ok ScriptOutcome.PatternFault →
         Rose (M.refusals maker.old) (M.refusals maker.new) }
 {
     let script = match read(alloc, bytes) {
         Ok(script) => script,
         Err(ScriptError::Fault(fault)) => {
             script_fault_text(fault, out)?;
-            return Ok(Outcome::ScriptFault(fault));
+            return Ok(ScriptOutcome::ScriptFault(fault));
         }
         Err(ScriptError::OutOfMemory) => return Err(OutOfMemory),
     };
@@ -216,13 +221,13 @@ pub fn replay<M: PatternMaker>(
         Ok(found) => run_found(alloc, racy, found, &script, out),
         Err(SiteError::Fault(placed)) => {
             placed_fault_text(&placed, out)?;
-            Ok(Outcome::ConfFault)
+            Ok(ScriptOutcome::ConfFault)
         }
         Err(SiteError::TooBig(placed)) => {
             placed_fault_text(&placed, out)?;
-            Ok(Outcome::PatternFault)
+            Ok(ScriptOutcome::PatternFault)
         }
-        // A script's configurations are in memory: only a read of what they don't hold fails, and what stands there is asked
+        // A script's configurations are in memory: only a read of what they don't hold fails, and what is there is asked
         // before.
         Err(SiteError::Failed(_)) => Err(OutOfMemory),
         Err(SiteError::OutOfMemory) => Err(OutOfMemory),

@@ -19,7 +19,7 @@ use std::alloc::Global;
 /// A configuration that was read: its site with the site's patterns, its variables that can show in which order subrequests
 /// run, and the paths of its files by their numbers.
 #[derive(Drop)]
-pub struct Found {
+pub struct ReadSite {
     pub built: Built,
     pub races: FoundRaces,
     pub paths: ByteTexts,
@@ -62,7 +62,7 @@ fn unread(error: ExpandError) -> SiteError
 }
 
 // A site with the variables that the race check names of it.
-fn checked(alloc: Global, built: Built, read: Expanded) -> Result<Found, SiteError>
+fn checked(alloc: Global, built: Built, read: Expanded) -> Result<ReadSite, SiteError>
     ensures site { IfOk result (λ found. found.built ≡ built) }
     ensures paths { IfOk result (λ found. found.paths ≡ read.paths) }
     ensures races { IfOk result (λ found. AreRacesOf found read.directives) }
@@ -71,7 +71,7 @@ fn checked(alloc: Global, built: Built, read: Expanded) -> Result<Found, SiteErr
 {
     let Expanded { directives, paths } = read;
     match races(alloc, &built.site, directives.into_vec()) {
-        Ok(races) => Ok(Found {
+        Ok(races) => Ok(ReadSite {
             built,
             races,
             paths,
@@ -88,7 +88,7 @@ fn site_read<F: Files, M: PatternMaker>(
     files: &mut F,
     maker: &mut M,
     path: &[u8],
-) -> Result<Found, SiteError>
+) -> Result<ReadSite, SiteError>
     ensures exact { (F.seen files.old).tells ≡ true →
         (F.seen files.new).newest ≡ (F.seen files.old).newest → (names : Names) →
         IsNaming ((F.seen files.old).trees (F.seen files.old).newest) names →
@@ -140,7 +140,7 @@ pub fn site_at<F: Files, M: PatternMaker>(
     files: &mut F,
     maker: &mut M,
     path: &[u8],
-) -> Result<Found, SiteError>
+) -> Result<ReadSite, SiteError>
     ensures exact { (F.seen files.old).tells ≡ true →
         (F.seen files.new).newest ≡ (F.seen files.old).newest → (names : Names) →
         IsNaming ((F.seen files.old).trees (F.seen files.old).newest) names →

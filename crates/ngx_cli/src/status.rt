@@ -2,7 +2,7 @@
 ghost use Rattle.std.specs.Prelude.{◌≡◌};
 ghost use Rattle.ngx_cli.specs.Commands.{status_of as status_for, served_status as served_as};
 
-use crate::script::Outcome;
+use crate::script::ScriptOutcome;
 use ready_loop::Ending;
 
 /// What the program ends with.
@@ -55,15 +55,15 @@ impl Status {
 }
 
 /// The status of what a script came to.
-pub fn status_of(outcome: Outcome) -> Status
+pub fn status_of(outcome: ScriptOutcome) -> Status
     ensures { result ≡ status_for outcome }
 {
     match outcome {
-        Outcome::Done => Status::Done,
-        Outcome::ConfFault => Status::ConfFault,
-        Outcome::Racy => Status::Racy,
-        Outcome::PatternFault => Status::PatternFault,
-        Outcome::ScriptFault(_) => Status::ScriptFault,
+        ScriptOutcome::Done => Status::Done,
+        ScriptOutcome::ConfFault => Status::ConfFault,
+        ScriptOutcome::Racy => Status::Racy,
+        ScriptOutcome::PatternFault => Status::PatternFault,
+        ScriptOutcome::ScriptFault(_) => Status::ScriptFault,
     }
 }
 

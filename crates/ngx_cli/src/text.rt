@@ -9,7 +9,7 @@ use file_tree::Node;
 use ngx_outside::{FileFault, Files};
 use std::alloc::Global;
 
-/// The text of a file of the newest tree; no bytes where nothing that can be read stands at the path.
+/// The text of a file of the newest tree; no bytes where nothing that can be read is at the path.
 pub fn read_text<F: Files>(alloc: Global, files: &mut F, path: &[u8]) -> Result<ByteText, FileFault>
     ensures text { (F.seen files.old).tells ≡ true →
         IfOk result (λ t. t ≡ text_of

@@ -130,9 +130,15 @@ abbrev pub stat_answer : {E : Type 0} → Result Node E → FileAnswer
 stat_answer (Ok node) = Stood node
 stat_answer (Err e) = Failed
 
--- a read that added bytes is told with these; one that failed, as that
+-- what a read of a file answered that lends this block
+abbrev pub block_answer : {E : Type 0} → List ℕ → Result (Unit {0}) E → FileAnswer
+block_answer block (Ok u) = Held block
+block_answer block (Err e) = Failed
+
+-- A read that added bytes is told with these. One that added none is told too: with the bytes that
+-- the files had, where there was no room for them.
 abbrev pub ReadTold : {E : Type 0} → List ℕ → List ℕ → Result (Unit {0}) E →
     Option (List FileAnswer) → Option (List FileAnswer) → Type 0
 ReadTold old new (Ok u) before after = (added : List ℕ) → new ≡ old ++ added →
     Adds (Held added) before after
-ReadTold old new (Err e) before after = Adds Failed before after
+ReadTold old new (Err e) before after = (answer : FileAnswer) × Adds answer before after

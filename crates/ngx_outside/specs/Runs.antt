@@ -2,7 +2,7 @@
 use Rattle.std.specs.Prelude.{◌≡◌, ℕ, ◌≤◌, true, false, ◌||◌, List, [], ◌++◌, map, Some}
 use Rattle.file_tree.specs.Tree.{Trees}
 use Rattle.ngx_outside.specs.Outside.{Grow}
-use Rattle.ngx_outside.specs.Views.{ConnView, Course, Start, Ground, Holds, Fresh, Went, Stopped, Log, Logged, is_live, is_idle, IsSound}
+use Rattle.ngx_outside.specs.Views.{ConnView, Course, Start, Ground, Holds, Fresh, Went, Stopped, Logged, is_live, is_idle, IsSound}
 use Rattle.ngx_outside.specs.declared.event.StopCause.{StopCause}
 
 abbrev pub IsPrefixOf : List ℕ → List ℕ → Type 0

@@ -54,12 +54,13 @@ pub record LinksSeen : Type 0 where
   pub refused : ℕ
 
 -- Files: whether they tell what is at each path, and the tree of each number; the number of the
--- newest tree; the numbers that were told as the newest, and what stats and reads answered, each
--- where that is told; and how often a call failed.
+-- newest tree; the bytes that were read last; the numbers that were told as the newest, and what
+-- stats and reads answered, each where that is told; and how often a call failed.
 pub record FilesSeen : Type 0 where
   pub tells : Bool
   pub trees : Trees
   pub newest : ℕ
+  pub block : List ℕ
   pub versions : Option (List ℕ)
   pub answers : Option (List FileAnswer)
   pub faults : ℕ

@@ -1,8 +1,8 @@
 // What reads files.
 ghost use Rattle.std.specs.Prelude.{◌≡◌, ◌≤◌};
 ghost use Rattle.ngx_outside.specs.Causes.{HasCause};
-ghost use Rattle.ngx_outside.specs.Records.{Adds, ReadTold, stat_answer};
-ghost use Rattle.ngx_outside.specs.Outside.{Grow, Stats, Reads, Lists};
+ghost use Rattle.ngx_outside.specs.Records.{Adds, ReadTold, block_answer, stat_answer};
+ghost use Rattle.ngx_outside.specs.Outside.{Grow, Stats, Lends, Reads, Lists};
 ghost use Rattle.ngx_outside.specs.Seen.{FilesSeen};
 ghost use Rattle.ngx_outside.specs.declared.sink.Failed.{Failed};
 ghost use Rattle.ngx_outside.specs.declared.files.FileFault.TheVariants.{OutOfMemory as NoMemory, Failed as ReadFailed};
@@ -72,9 +72,27 @@ pub trait Files {
             (seen self.new).trees }
         ensures cause { HasCause (seen self.old).faults (seen self.new).faults result (record {}) };
 
-    /// Adds exactly `count` bytes of a file, from `start` on, in the tree of a number. A file that doesn't hold them is a
-    /// failure. After a failure nothing is added.
-    fn read(
+    /// The block that was read last, which is lent: none before the first read, and anything after one that failed.
+    fn block(&self) -> &[u8]
+        ensures { result.now ≡ (seen self.now).block };
+
+    /// Reads exactly `count` bytes of a file, from `start` on, in the tree of a number: they are the block from now on. A file
+    /// that doesn't hold them is a failure.
+    fn read_block(&mut self, path: &[u8], start: u64, count: u64, of: u64) -> Result<(), FileFault>
+        requires { of ≤ (seen self.old).newest }
+        ensures bytes { Lends (seen self.old).tells
+            ((seen self.old).trees of) path.now start count (seen self.new).block result }
+        ensures answers { Adds (block_answer (seen self.new).block result) (seen self.old).answers
+            (seen self.new).answers }
+        ensures tells { (seen self.new).tells ≡ (seen self.old).tells }
+        ensures versions { (seen self.new).versions ≡ (seen self.old).versions }
+        ensures grow { Grow (seen self.old).newest (seen self.new).newest (seen self.old).trees
+            (seen self.new).trees }
+        ensures cause { HasCause (seen self.old).faults (seen self.new).faults result ReadFailed };
+
+    /// Adds exactly `count` bytes of a file, from `start` on, in the tree of a number, to a text. A file that doesn't hold
+    /// them is a failure. After a failure nothing is added.
+    final fn read(
         &mut self,
         path: &[u8],
         start: u64,
@@ -82,6 +100,8 @@ pub trait Files {
         of: u64,
         out: &mut ByteText,
     ) -> Result<(), FileFault>
+    where
+        Self: Sized,
         requires { of ≤ (seen self.old).newest }
         ensures bytes { Reads (seen self.old).tells
             ((seen self.old).trees of) path.now start count out.old out.new result }
@@ -91,7 +111,12 @@ pub trait Files {
         ensures versions { (seen self.new).versions ≡ (seen self.old).versions }
         ensures grow { Grow (seen self.old).newest (seen self.new).newest (seen self.old).trees
             (seen self.new).trees }
-        ensures cause { HasCause (seen self.old).faults (seen self.new).faults result ReadFailed };
+        ensures cause { HasCause (seen self.old).faults (seen self.new).faults result ReadFailed }
+    {
+        self.read_block(path, start, count, of)?;
+        out.extend(self.block())?;
+        Ok(())
+    }
 
     /// Adds the names of a folder of the newest tree, in any order. After a failure some may have been added.
     fn list(&mut self, folder: &[u8], out: &mut ByteTexts) -> Result<Listing, FileFault>

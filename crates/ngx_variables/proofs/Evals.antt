@@ -8,7 +8,7 @@ use Rattle.ngx_variables.specs.declared.value.Piece.{Piece}
 use Rattle.ngx_variables.specs.declared.value.Piece.TheVariants.{Builtin}
 use Rattle.ngx_variables.specs.declared.request.Main.{Main}
 use Rattle.ngx_variables.specs.declared.request.Request.{Request}
-use Rattle.ngx_variables.specs.declared.request.Place.{Place}
+use Rattle.ngx_variables.specs.declared.request.FileRoot.{FileRoot}
 use Rattle.ngx_variables.specs.declared.eval.FilePaths.{FilePaths}
 use Rattle.ngx_variables.specs.Texts.{piece_text, pieces_text, variable_text, is_too_long, is_path, asks_for_paths, no_paths, paths_at, place_paths, value_text}
 
@@ -69,11 +69,11 @@ module _ (main : Main) (request : Request) (vars : Vars) where
   value_unasked pieces h = same_text no_paths (place_paths main request vars request.place) pieces h
 
   -- where it has one
-  pub value_there : (place : Place) (pieces : List Piece) → request.place ≡ Some place → pieces_text (paths_at main request vars place) main request vars pieces ≡ value_text main request vars pieces
+  pub value_there : (place : FileRoot) (pieces : List Piece) → request.place ≡ Some place → pieces_text (paths_at main request vars place) main request vars pieces ≡ value_text main request vars pieces
   unfolding value_text place_paths
   value_there place pieces e = ap (λ place. pieces_text (place_paths main request vars place) main request vars pieces) (sym e)
 
-  file_is_root : (place : Place) → is_too_long (paths_at main request vars place).root ≡ true → (paths_at main request vars place).file ≡ (paths_at main request vars place).root
+  file_is_root : (place : FileRoot) → is_too_long (paths_at main request vars place).root ≡ true → (paths_at main request vars place).file ≡ (paths_at main request vars place).root
   unfolding paths_at
   file_is_root place h = cond-true _ _ _ h
 
@@ -82,7 +82,7 @@ module _ (main : Main) (request : Request) (vars : Vars) where
   longer_too_long short long within h = lt-ltb 16384 (length long) (omega (arith, ltb-true 16384 (length short) h))
 
   -- a text with a place whose own text is too long
-  pub value_too_long : (place : Place) (pieces : List Piece) → request.place ≡ Some place → asks_for_paths pieces ≡ true → is_too_long (paths_at main request vars place).root ≡ true → is_too_long (value_text main request vars pieces) ≡ true
+  pub value_too_long : (place : FileRoot) (pieces : List Piece) → request.place ≡ Some place → asks_for_paths pieces ≡ true → is_too_long (paths_at main request vars place).root ≡ true → is_too_long (value_text main request vars pieces) ≡ true
   value_too_long place pieces e asked h =
       longer_too_long (paths_at main request vars place).root (value_text main request vars pieces)
       (omega (arith, root_within (paths_at main request vars place) pieces (file_is_root place h) asked, ap length (value_there place pieces e))) h

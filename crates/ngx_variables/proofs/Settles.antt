@@ -7,7 +7,7 @@ use Rattle.ngx_variables.specs.declared.variable.Variable.TheVariants.{DocumentR
 use Rattle.ngx_variables.specs.declared.value.Piece.{Piece}
 use Rattle.ngx_variables.specs.declared.value.Piece.TheVariants.{Builtin, Set}
 use Rattle.ngx_variables.specs.declared.request.Main.{Main}
-use Rattle.ngx_variables.specs.declared.request.Place.{Place}
+use Rattle.ngx_variables.specs.declared.request.FileRoot.{FileRoot}
 use Rattle.ngx_variables.specs.declared.request.Request.{Request}
 use Rattle.ngx_variables.specs.Paths.{text_of}
 use Rattle.ngx_variables.specs.Texts.{piece_text, pieces_text, variable_text, no_paths, paths_by, paths_at, place_paths, value_text}
@@ -18,7 +18,7 @@ pub then_does : {C R A B : Type 0} (vars : Vars) (m : Act C R A) (k : A → Act 
 unfolding settled_then
 then_does vars m k a e = settles_in_turn m k vars ∙ ap (λ s. settled_then s.0 s.1 k) e
 
--- two texts, one behind the other
+-- two texts, one after the other
 pub pair_settles : {C R : Type 0} (vars : Vars) (m n : Act C R (List ℕ)) (a b : List ℕ) → settled m vars ≡ (Done a, vars) → settled n vars ≡ (Done b, vars) → settled (m >>= λ x. n >>= λ y. Done (x ++ y)) vars ≡ (Done (a ++ b), vars)
 unfolding settled
 pair_settles vars m n a b e f = then_does vars m (λ x. n >>= λ y. Done (x ++ y)) a e ∙ then_does vars n (λ y. Done (a ++ y)) b f
@@ -34,7 +34,7 @@ module _ {C R : Type 0} (main : Main) (request : Request) (vars : Vars) where
   inners_settle [] = refl
   inners_settle (p ∷ ps) = pair_settles vars (inner_piece main request p) (inner_pieces main request ps) (piece_text no_paths main request vars p) (pieces_text no_paths main request vars ps) (inner_settles p) (inners_settle ps)
 
-  paths_settle : (place : Option Place) → settled {C = C} {R = R} (file_paths main request place) vars ≡ (Done (place_paths main request vars place), vars)
+  paths_settle : (place : Option FileRoot) → settled {C = C} {R = R} (file_paths main request place) vars ≡ (Done (place_paths main request vars place), vars)
   unfolding settled file_paths place_paths paths_at
   paths_settle None = refl
   paths_settle (Some place) = then_does vars (inner_pieces main request (text_of place)) (λ text. Done (paths_by place text request.path main.folder)) (pieces_text no_paths main request vars (text_of place)) (inners_settle (text_of place))

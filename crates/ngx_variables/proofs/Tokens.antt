@@ -1,4 +1,4 @@
--- How the reading of a text goes on behind a run of literal bytes, and behind a variable.
+-- How the reading of a text goes on after a run of literal bytes, and after a variable.
 use Rattle.std.proofs.Common.{◌≡◌, ℕ, zero, suc, ◌+◌, ◌<◌, Bool, true, false, cond, not, List, [], ◌∷◌, ◌++◌, length, take, drop, get_or, ◌≢◌, eqb, Result, Ok, Err, refl, sym, ◌∙◌, ap, arith, append_assoc}
 use Rattle.std.proofs.lemmas.List.{append-nil}
 use Rattle.std.proofs.lemmas.Bool.{cond-true, cond-false, ne_eqb}
@@ -39,7 +39,7 @@ byte_more b bytes (Err fault) = refl
 one_more : (n : ℕ) → 1 + n ≡ suc n
 one_more n = omega arith
 
--- a byte, and the run behind it
+-- a byte, and the run after it
 run : (b : ℕ) (bs : List ℕ) → with_byte b (tokens_behind 0 bs) ≡ with_bytes (b ∷ take (position_or_len is_dollar bs) bs) (tokens_behind 0 (drop (position_or_len is_dollar bs) bs))
 unfolding tokens_behind
 run b [] = refl

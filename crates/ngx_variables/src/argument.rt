@@ -3,7 +3,7 @@ ghost use Rattle.std.specs.Prelude.{◌≡◌, ℕ, ◌+◌, ◌-◌, ◌<◌, �
 ghost use Rattle.std.specs.List.{slice_split};
 ghost use Rattle.ngx_variables.specs.Pairs.{is_same_name, value_in, first_value, trimmed, without_first_spaces, without_last_spaces, argument, cookie_in};
 
-/// What stands behind a name and `=` in a part that begins with them, whatever the name's case there.
+/// What comes after a name and `=` in a part that begins with them, whatever the name's case there.
 #[tactic(auto, unfolding(crate::specs::Pairs::value_in))]
 fn value_in<'a>(name: &[u8], part: &'a [u8]) -> Option<&'a [u8]>
     ensures { option_map (λ value. value.now) result ≡ value_in name.now part.now }
@@ -25,7 +25,7 @@ fn is_same_name(a: &[u8], b: &[u8]) -> bool
     a.eq_ignore_ascii_case(b)
 }
 
-/// Where a byte stands first.
+/// Where a byte is first.
 fn first_place(text: &[u8], byte: u8) -> Option<usize>
     ensures { result ≡ position (λ b. b == byte) text.now }
 {
@@ -37,7 +37,8 @@ fn part_size(text: &[u8], separator: u8) -> Option<usize>
     ensures { MatchOption result
         (slice_split (λ b. b == separator) text.now ≡ text.now ∷ [])
         (λ size. (size < length text.now)
-        × (slice_split (λ b. b == separator) text.now ≡ take size text.now ∷ slice_split (λ b. b == separator) (drop (size + 1) text.now))) }
+        × (slice_split (λ b. b == separator) text.now
+        ≡ take size text.now ∷ slice_split (λ b. b == separator) (drop (size + 1) text.now))) }
 {
     first_place(text, separator)
 }

@@ -9,7 +9,7 @@ use crate::variable::{behind, group_numbered, variable_named};
 use byte_text::{ByteText, OutOfMemory};
 use std::alloc::Global;
 
-/// A variable in the bytes behind its `$`: where its name begins and ends there, and how many bytes it takes.
+/// A variable in the bytes after its `$`: where its name begins and ends there, and how many bytes it takes.
 #[derive(Clone, Copy)]
 pub struct Reference {
     pub start: usize,
@@ -35,7 +35,7 @@ fn name_size(text: &[u8]) -> usize
     size
 }
 
-/// How many bytes stand before the first `$`.
+/// How many bytes come before the first `$`.
 fn literal_size(text: &[u8]) -> usize
     ensures value { result ≡ position_or_len (λ b. b == 36) text.now }
     ensures within { result ≤ length text.now }
@@ -55,7 +55,8 @@ fn literal_size(text: &[u8]) -> usize
 #[tactic(auto, unfolding(crate::specs::Grammar::bare_reference))]
 fn bare_reference(text: &[u8]) -> Result<Reference, ValueFault>
     ensures value { result ≡ bare_reference text.now }
-    ensures within { IfOk result (λ r. (r.start ≤ r.end) × (r.end ≤ length text.now) × (r.size ≤ length text.now)) }
+    ensures within { IfOk result (λ r. (r.start ≤ r.end) × (r.end ≤ length text.now)
+        × (r.size ≤ length text.now)) }
 {
     if let [b'1'..=b'9', ..] = text {
         return Ok(Reference {
@@ -78,7 +79,8 @@ fn bare_reference(text: &[u8]) -> Result<Reference, ValueFault>
 #[tactic(auto, unfolding(crate::specs::Grammar::braced_reference))]
 fn braced_reference(text: &[u8]) -> Result<Reference, ValueFault>
     ensures value { result ≡ braced_reference text.now }
-    ensures within { IfOk result (λ r. (r.start ≤ r.end) × (r.end ≤ length text.now + 1) × (r.size ≤ length text.now + 1)) }
+    ensures within { IfOk result (λ r. (r.start ≤ r.end) × (r.end ≤ length text.now + 1)
+        × (r.size ≤ length text.now + 1)) }
 {
     let size = name_size(text);
     if let [b'}', ..] = &text[size..] {
@@ -101,10 +103,11 @@ fn braced_reference(text: &[u8]) -> Result<Reference, ValueFault>
 /// The variable at a `$`, by what follows.
 ///
 /// # Errors
-/// `BadName` where no name stands there, `Unclosed` where a `{` is not closed.
+/// `BadName` where no name follows, `Unclosed` where a `{` is not closed.
 pub fn reference_at(text: &[u8]) -> Result<Reference, ValueFault>
     ensures value { result ≡ reference_at text.now }
-    ensures within { IfOk result (λ r. (r.start ≤ r.end) × (r.end ≤ length text.now) × (r.size ≤ length text.now)) }
+    ensures within { IfOk result (λ r. (r.start ≤ r.end) × (r.end ≤ length text.now)
+        × (r.size ≤ length text.now)) }
 {
     match text {
         [] => Err(ValueFault::BadName),
@@ -172,7 +175,7 @@ fn rest_of(text: &[u8], start: usize) -> &[u8]
     &text[start..]
 }
 
-/// The name that a reference has in the bytes behind its `$`.
+/// The name that a reference has in the bytes after its `$`.
 fn name_in(text: &[u8], reference: Reference) -> &[u8]
     requires ordered { reference.start ≤ reference.end }
     requires within { reference.end ≤ length text.now }
@@ -181,9 +184,10 @@ fn name_in(text: &[u8], reference: Reference) -> &[u8]
     &text[reference.start..reference.end]
 }
 
-/// The variable whose `$` stands before the text.
+/// The variable whose `$` comes right before the text.
 fn read_variable(alloc: Global, text: &[u8]) -> Result<Step, ValueFault>
-    ensures ok { IfOk result (λ step. compiled (36 ∷ text.now) ≡ with_pieces (step.piece ∷ []) (compiled (drop step.size text.now))) }
+    ensures ok { IfOk result (λ step. compiled (36 ∷ text.now)
+        ≡ with_pieces (step.piece ∷ []) (compiled (drop step.size text.now))) }
     ensures within { IfOk result (λ step. step.size ≤ length text.now) }
     ensures fault { IfErr result (IsFaultOf (36 ∷ text.now)) }
 {
@@ -202,7 +206,8 @@ fn read_variable(alloc: Global, text: &[u8]) -> Result<Step, ValueFault>
 /// The literal bytes with which the text begins.
 fn read_literal(alloc: Global, text: &[u8]) -> Result<Step, ValueFault>
     requires { (0 < length text.now) × (slice_index text.now 0 ≢ 36) }
-    ensures ok { IfOk result (λ step. compiled text.now ≡ with_pieces (step.piece ∷ []) (compiled (drop step.size text.now))) }
+    ensures ok { IfOk result (λ step. compiled text.now
+        ≡ with_pieces (step.piece ∷ []) (compiled (drop step.size text.now))) }
     ensures within { IfOk result (λ step. (0 < step.size) × (step.size ≤ length text.now)) }
     ensures fault { IfErr result (IsFaultOf text.now) }
 {
@@ -217,7 +222,8 @@ fn read_literal(alloc: Global, text: &[u8]) -> Result<Step, ValueFault>
 /// The first piece of a text that isn't empty.
 fn read_piece(alloc: Global, text: &[u8]) -> Result<Step, ValueFault>
     requires { 0 < length text.now }
-    ensures ok { IfOk result (λ step. compiled text.now ≡ with_pieces (step.piece ∷ []) (compiled (drop step.size text.now))) }
+    ensures ok { IfOk result (λ step. compiled text.now
+        ≡ with_pieces (step.piece ∷ []) (compiled (drop step.size text.now))) }
     ensures within { IfOk result (λ step. (0 < step.size) × (step.size ≤ length text.now)) }
     ensures fault { IfErr result (IsFaultOf text.now) }
 {
@@ -240,7 +246,7 @@ impl Value {
     /// configuration's business.
     ///
     /// # Errors
-    /// `BadName` where no name stands behind a `$` or between `${` and `}`, `Unclosed` where no `}` stands behind a
+    /// `BadName` where no name comes after a `$` or is between `${` and `}`, `Unclosed` where no `}` comes after a
     /// `${`: the first of them in the text.
     pub fn compile(alloc: Global, text: &[u8]) -> Result<Value, ValueFault>
         ensures ok { IfOk result (λ value. compiled text.now ≡ Ok value) }

@@ -32,7 +32,7 @@ impl LocalDate {
         LocalDate { moment }
     }
 
-    /// Writes the text behind `out`. After want of memory `out` has some part of it.
+    /// Appends the text to `out`. After want of memory `out` has some part of it.
     #[tactic(auto, unfolding(http_moment::specs::Shown::default_format))]
     pub fn append_to(&self, out: &mut ByteText) -> Result<(), OutOfMemory>
         ensures { OnOk result (out.new ≡ out.old ++ self.now) }

@@ -8,7 +8,7 @@ use crate::argument::argument;
 use crate::fault::EvalFault;
 use crate::field::{append_fields, cookie, first_field};
 use crate::joining::joined;
-use crate::request::{Main, Place, Request, method_name};
+use crate::request::{FileRoot, Main, Request, method_name};
 use crate::value::{Piece, Value};
 use crate::variable::Variable;
 use byte_text::{ByteText, OutOfMemory};
@@ -17,7 +17,7 @@ use std::alloc::Global;
 use std::net::IpAddr;
 use variable_table::VarTable;
 
-/// An evaluated text has at most so many bytes.
+/// The most bytes of an evaluated text.
 pub(crate) const TEXT_LIMIT: usize = 16384;
 
 /// The texts of `$document_root` and `$request_filename`.
@@ -106,7 +106,8 @@ fn append_variable(
     request: &Request,
     out: &mut ByteText,
 ) -> Result<(), OutOfMemory>
-    ensures { OnOk result (out.new ≡ out.old ++ variable_text paths.now main.now request.now variable) }
+    ensures { OnOk result (out.new
+        ≡ out.old ++ variable_text paths.now main.now request.now variable) }
 {
     match variable {
         Variable::Uri => out.extend(request.path.as_slice())?,
@@ -147,7 +148,8 @@ pub(crate) fn append_piece(
     vars: &VarTable,
     out: &mut ByteText,
 ) -> Result<(), OutOfMemory>
-    ensures { OnOk result (out.new ≡ out.old ++ piece_text paths.now main.now request.now vars.now piece.now) }
+    ensures { OnOk result (out.new
+        ≡ out.old ++ piece_text paths.now main.now request.now vars.now piece.now) }
 {
     match piece {
         Piece::Literal(bytes) => out.extend(bytes.as_slice())?,
@@ -174,8 +176,10 @@ fn append_pieces(
     vars: &VarTable,
     out: &mut ByteText,
 ) -> Result<(), EvalFault>
-    ensures ok { OnOk result (out.new ≡ out.old ++ pieces_text paths.now main.now request.now vars.now pieces.now) }
-    ensures fits { OnOk result (is_too_long (pieces_text paths.now main.now request.now vars.now pieces.now) ≡ false) }
+    ensures ok { OnOk result (out.new
+        ≡ out.old ++ pieces_text paths.now main.now request.now vars.now pieces.now) }
+    ensures fits { OnOk result (is_too_long
+        (pieces_text paths.now main.now request.now vars.now pieces.now) ≡ false) }
     ensures too_long { result ≡ Err EvalFault.TooLong
         → is_too_long (pieces_text paths.now main.now request.now vars.now pieces.now) ≡ true }
     ensures kept { result ≡ Err EvalFault.TooLong → out.new ≡ out.old }
@@ -222,7 +226,7 @@ impl FilePaths {
 #[tactic(auto, unfolding(crate::specs::Texts::paths_at))]
 fn paths_at(
     alloc: Global,
-    place: &Place,
+    place: &FileRoot,
     main: &Main,
     request: &Request,
     vars: &VarTable,
@@ -263,7 +267,8 @@ fn paths_for(
     vars: &VarTable,
 ) -> Result<FilePaths, EvalFault>
     ensures ok { IfOk result (λ paths.
-        pieces_text paths main.now request.now vars.now pieces.now ≡ value_text main.now request.now vars.now pieces.now) }
+        pieces_text paths main.now request.now vars.now pieces.now
+        ≡ value_text main.now request.now vars.now pieces.now) }
     ensures too_long { result ≡ Err EvalFault.TooLong
         → is_too_long (value_text main.now request.now vars.now pieces.now) ≡ true }
 {
@@ -280,7 +285,7 @@ fn paths_for(
 }
 
 impl Value {
-    /// Writes the text that this text with variables evaluates to behind `out`. A variable that was not set is empty.
+    /// Appends the text that this text with variables evaluates to. A variable that was not set is empty.
     ///
     /// # Errors
     /// `TooLong` where the text, or the text of `root` or `alias` that it asks for, has more than 16384 bytes; `out` is
@@ -293,8 +298,10 @@ impl Value {
         vars: &VarTable,
         out: &mut ByteText,
     ) -> Result<(), EvalFault>
-        ensures ok { OnOk result (out.new ≡ out.old ++ value_text main.now request.now vars.now self.now) }
-        ensures fits { OnOk result (is_too_long (value_text main.now request.now vars.now self.now) ≡ false) }
+        ensures ok { OnOk result (out.new
+            ≡ out.old ++ value_text main.now request.now vars.now self.now) }
+        ensures fits { OnOk result (is_too_long (value_text main.now request.now vars.now self.now)
+            ≡ false) }
         ensures too_long { result ≡ Err EvalFault.TooLong
             → is_too_long (value_text main.now request.now vars.now self.now) ≡ true }
         ensures kept { result ≡ Err EvalFault.TooLong → out.new ≡ out.old }

@@ -7,9 +7,9 @@ use std::fmt;
 /// Why a text is no text with variables.
 #[derive(Clone, Copy, Debug, PartialEq, Eq)]
 pub enum ValueFault {
-    /// Behind a `$`, or between `${` and `}`, no name stands.
+    /// After a `$`, or between `${` and `}`, there is no name.
     BadName,
-    /// Behind a `${` no `}` stands.
+    /// After a `${` there is no `}`.
     Unclosed,
     OutOfMemory,
 }

@@ -24,7 +24,8 @@ pub(crate) fn append_fields(
     name: &[u8],
     out: &mut ByteText,
 ) -> Result<(), OutOfMemory>
-    ensures { OnOk result (out.new ≡ out.old ++ joined_fields (get_all fields.now (lowercase name.now))) }
+    ensures { OnOk result (out.new
+        ≡ out.old ++ joined_fields (get_all fields.now (lowercase name.now))) }
 {
     let mut values = fields.values(name);
     if let Some(first) = values.next() {
@@ -40,7 +41,8 @@ pub(crate) fn append_fields(
 /// The value of a cookie, in the first of the fields that has it.
 #[tactic(auto, unfolding(crate::specs::Pairs::cookie))]
 pub(crate) fn cookie<'a>(fields: &'a HeadFields, name: &[u8]) -> Option<&'a [u8]>
-    ensures { option_map (λ value. value.now) result ≡ cookie name.now (get_all fields.now (codes "cookie")) }
+    ensures { option_map (λ value. value.now) result
+        ≡ cookie name.now (get_all fields.now (codes "cookie")) }
 {
     let mut values = fields.values(b"cookie");
     while let Some(field) = values.next() {

@@ -1,26 +1,26 @@
-// Where the file of a request stands.
+// Where the file of a request is.
 ghost use Rattle.std.specs.Prelude.{◌≡◌, ℕ, ◌+◌, ◌-◌, ◌<◌, ◌≤◌, List, [], ◌∷◌, ◌++◌, length, take, drop, false, IfOk, OnOk, OnErr};
 ghost use Rattle.ngx_variables.specs.Grammar.{begins_with};
 ghost use Rattle.ngx_variables.specs.Paths.{text_of, without_last_slash, merged, start, without_prefix, behind_start, joined};
 
-use crate::request::Place;
+use crate::request::FileRoot;
 use crate::value::Value;
 use byte_text::{ByteText, OutOfMemory};
 use std::alloc::Global;
 
-impl Place {
+impl FileRoot {
     /// The same place once more.
-    pub fn copy(&self, alloc: Global) -> Result<Place, OutOfMemory>
+    pub fn copy(&self, alloc: Global) -> Result<FileRoot, OutOfMemory>
         ensures { IfOk result (λ copy. copy ≡ self.now) }
     {
         match self {
-            Place::Root(text) => Ok(Place::Root(text.copy(alloc)?)),
-            Place::Rest { text, prefix } => {
+            FileRoot::Root(text) => Ok(FileRoot::Root(text.copy(alloc)?)),
+            FileRoot::Rest { text, prefix } => {
                 let text = text.copy(alloc)?;
                 let prefix = ByteText::from_slice(alloc, prefix.as_slice())?;
-                Ok(Place::Rest { text, prefix })
+                Ok(FileRoot::Rest { text, prefix })
             }
-            Place::Whole(text) => Ok(Place::Whole(text.copy(alloc)?)),
+            FileRoot::Whole(text) => Ok(FileRoot::Whole(text.copy(alloc)?)),
         }
     }
 
@@ -29,9 +29,9 @@ impl Place {
         ensures { result.now ≡ text_of self.now }
     {
         match self {
-            Place::Root(text) => text,
-            Place::Rest { text, prefix: _ } => text,
-            Place::Whole(text) => text,
+            FileRoot::Root(text) => text,
+            FileRoot::Rest { text, prefix: _ } => text,
+            FileRoot::Whole(text) => text,
         }
     }
 }
@@ -110,7 +110,7 @@ fn merge_from(alloc: Global, at: usize, out: &mut ByteText) -> Result<(), OutOfM
     Ok(())
 }
 
-/// Drops a slash that stands last, from `at` on.
+/// Drops a slash that is the last byte, from `at` on.
 fn drop_last_slash(at: usize, out: &mut ByteText)
     requires { at ≤ length out.old }
     ensures { out.new ≡ take at out.old ++ without_last_slash (drop at out.old) }
@@ -122,12 +122,12 @@ fn drop_last_slash(at: usize, out: &mut ByteText)
 /// Writes the path of a file: `text` is what the text of `root` or `alias` evaluates to, `path` the request's path, and
 /// `folder` where a relative text starts. Slashes that are neighbours are one, and a last one is dropped.
 ///
-/// Whether such a path may stand for a file, with its segments `.` and `..`, is not asked here. After want of memory
-/// `out` is fit to be dropped alone.
+/// Whether such a path may name a file, with its segments `.` and `..`, is not asked here. After want of memory `out`
+/// is fit to be dropped alone.
 #[tactic(auto, unfolding(crate::specs::Paths::joined))]
 pub fn joined(
     alloc: Global,
-    place: &Place,
+    place: &FileRoot,
     text: &[u8],
     path: &[u8],
     folder: &[u8],
@@ -156,7 +156,7 @@ fn append_start(folder: &[u8], text: &[u8], out: &mut ByteText) -> Result<(), Ou
 }
 
 fn append_behind(
-    place: &Place,
+    place: &FileRoot,
     text: &[u8],
     path: &[u8],
     out: &mut ByteText,
@@ -164,15 +164,15 @@ fn append_behind(
     ensures { OnOk result (out.new ≡ out.old ++ behind_start place.now text.now path.now) }
 {
     match place {
-        Place::Root(_) => {
+        FileRoot::Root(_) => {
             out.extend(without_last_slash(text))?;
             out.extend(path)?;
         }
-        Place::Rest { text: _, prefix } => {
+        FileRoot::Rest { text: _, prefix } => {
             out.extend(text)?;
             out.extend(without_prefix(prefix.as_slice(), path))?;
         }
-        Place::Whole(_) => out.extend(text)?,
+        FileRoot::Whole(_) => out.extend(text)?,
     }
     Ok(())
 }

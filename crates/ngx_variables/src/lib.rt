@@ -21,7 +21,7 @@ pub use date::LocalDate;
 pub use fault::{EvalFault, ValueFault};
 pub use joining::joined;
 pub use laws::{builtin_is_not_set, settles_behind_value, value_settles};
-pub use request::{Groups, Main, Place, Request, Role, method_name};
+pub use request::{FileRoot, Groups, Main, Request, Role, method_name};
 pub use value::{Piece, Value};
 pub use variable::{Variable, is_builtin};
 pub use variable_table::VarTable;

@@ -9,7 +9,7 @@ use crate::eval::{
 };
 use crate::field::{cookie, first_field};
 use crate::joining::joined;
-use crate::request::{Main, Place, Request, method_name};
+use crate::request::{FileRoot, Main, Request, method_name};
 use crate::value::Piece;
 use crate::variable::Variable;
 use byte_text::{ByteText, OutOfMemory};
@@ -97,7 +97,7 @@ fn append_all(
 #[tactic(auto, unfolding(crate::specs::Texts::is_too_long))]
 fn file_by(
     alloc: Global,
-    place: &Place,
+    place: &FileRoot,
     root: &[u8],
     path: &[u8],
     folder: &[u8],
@@ -116,7 +116,7 @@ fn file_by(
 #[tactic(auto, unfolding(crate::specs::Texts::paths_at))]
 fn whole_paths_at(
     alloc: Global,
-    place: &Place,
+    place: &FileRoot,
     main: &Main,
     request: &Request,
     vars: &VarTable,
@@ -191,8 +191,8 @@ impl Piece {
         held_piece(self, main, request, vars)
     }
 
-    /// Writes the text that the piece alone evaluates to behind `out`, however long it is. After want of memory `out` is
-    /// fit to be dropped alone.
+    /// Appends the text that the piece alone evaluates to, however long it is. After want of memory `out` is fit to be
+    /// dropped alone.
     pub fn append(
         &self,
         alloc: Global,

@@ -15,16 +15,16 @@ use std::marker::Model;
 pub enum Role {
     /// The main request itself.
     Main,
-    /// A subrequest whose body stands in its parent's.
+    /// A subrequest whose body is in its parent's.
     Content,
     /// A subrequest that is asked whether the main request is allowed.
     Auth,
 }
 
-/// Where the files of a level stand
+/// Where the files of a level are
 /// (<https://nginx.org/en/docs/http/ngx_http_core_module.html#root>, `#alias`).
 #[derive(Drop)]
-pub enum Place {
+pub enum FileRoot {
     /// `root`: the request's path follows the text.
     Root(Value),
     /// `alias` of a location with a prefix: what follows the prefix follows the text.
@@ -36,7 +36,7 @@ pub enum Place {
 /// The texts of the groups of a request's last match, the first group first. Contracts see them as a list; a group that
 /// isn't there is empty.
 ///
-/// Empty texts that stand last are counted alone, since few patterns have nine groups.
+/// Empty texts at the end are counted alone, since few patterns have nine groups.
 #[derive(Drop)]
 pub struct Groups {
     alloc: Global,
@@ -122,7 +122,7 @@ fn write_empty(
     Ok(())
 }
 
-/// What a main request and all its subrequests share. It stands once, beside the requests that refer to it.
+/// What a main request and all its subrequests share. It is there once, beside the requests that refer to it.
 #[derive(Drop)]
 pub struct Main {
     /// The request line as received: method, target and version.
@@ -159,8 +159,8 @@ pub struct Request {
     pub args: ByteText,
     /// The groups of the last match.
     pub groups: Groups,
-    /// Where the files of the request's level stand; `None` before the request has a level.
-    pub place: Option<Place>,
+    /// Where the files of the request's level are; `None` before the request has a level.
+    pub place: Option<FileRoot>,
     pub role: Role,
 }
 

@@ -146,7 +146,7 @@ pub(crate) fn group_numbered(name: &[u8]) -> Option<u8>
     }
 }
 
-/// What stands behind the beginning that a family of names shares, where something does.
+/// What comes after the beginning that a family of names shares, where something does.
 #[tactic(auto, unfolding(crate::specs::Names::behind))]
 pub(crate) fn behind<'a>(family: &[u8], name: &'a [u8]) -> Option<&'a [u8]>
     ensures { option_map (λ rest. rest.now) result ≡ behind family.now name.now }

@@ -139,7 +139,7 @@ module _ (w : World) (tree : Tree) (laws : ShowsTheSame) (at : ℕ) (f : Family)
   pub stands : (s : Stance) → Does (doing at s f) at s
   stands s = record { goes_on = goes_on; stands = ap (λ b. cond b s (f.stance at)) (eq_self at) }
 
-  -- a step after which it stands so
+  -- a step after which it is so
   pub stance_step : (count : ℕ) (s t : Stance) (vars vars' : Vars) (a : Acts w tree (doing at s f) vars (doing at t (doing at s f)) vars') → opened_by a ≡ count → Opening w tree count (doing at s f) vars (doing at t f) vars'
   stance_step count s t vars vars' a e = same_count (ap (λ k. k + 0) e ∙ no_more count) (acting a (alike (again t s) stays))
     where
@@ -268,7 +268,7 @@ module _ (w : World) (tree : Tree) (laws : ShowsTheSame) (at left : ℕ) (f : Fa
       let j = joins_under w tree (doing at after f) vars at left stub m text (well-doing at after f well refl) (stands w tree laws at f goes_on after) (keeps_under w tree text at left m good) any in
       same_count (ap (λ k. k + 0) j.1) (acting j.0 (alike (again w tree laws at (placing at text f) goes_on' (Going left m) after) stays))
 
-  -- its stub stands in the place of its body
+  -- its stub is in the place of its body
   pub decided : (stub text : List ℕ) (answer : Answer) (vars : Vars) (g : Family) → or_stub (Some stub) answer.status text ≡ stub → at ≢ f.root →
       IsAlike (ending at (placing at stub (doing at (Apart (under text (Gives at left (Done answer) Nil)) stub) f))) g →
       Opening w tree 0 (doing at (Apart (under text (Gives at left (Done answer) Nil)) stub) f) vars g vars
@@ -281,7 +281,7 @@ module _ (w : World) (tree : Tree) (laws : ShowsTheSame) (at left : ℕ) (f : Fa
 -- ---- it is in a line of its own, or of another
 
 module _ (w : World) (tree : Tree) (laws : ShowsTheSame) (h at left : ℕ) (f : Family) (goes_on : is_open h f.row.pieces ≡ true) (own : Own) (spot : Spot) (rest : Line) where
-  -- behind bytes that wait
+  -- after bytes that wait
   held : List ℕ → Serving Answer → Family
   held text m = doing h (owned own (filling (Behind text spot) (Gives at left m rest))) f
 
@@ -294,7 +294,7 @@ module _ (w : World) (tree : Tree) (laws : ShowsTheSame) (h at left : ℕ) (f : 
       (subst (λ t. Opening w tree 0 (held (text ++ b ∷ []) (Write (some ++ more) m)) vars (held t (Write more m)) vars) (append_assoc text (b ∷ []) some)
       (holds_all (text ++ b ∷ []) some more m vars))
 
-  -- its bytes come behind them, one after another
+  -- its bytes come after them, one after another
   pub holds : (text some : List ℕ) (m n : Serving Answer) (vars : Vars) → PlacesAs some m n →
       Opening w tree 0 (doing h (stance_so (Inside own (Behind text spot) rest) at left m) f) vars (doing h (stance_so (Inside own (Behind (text ++ some) spot) rest) at left n) f) vars
   unfolding held
@@ -328,7 +328,7 @@ module _ (w : World) (tree : Tree) (laws : ShowsTheSame) (h at left : ℕ) (f : 
       subst (λ n. Opening w tree 1 (doing h (owned own (filling spot (Gives at n (Call child k) rest))) f) vars (doing h (owned own (filling spot (Waits at (opened w number l child Nil) n k rest))) f) vars) (sym deep)
       (own_quiet w tree laws h f goes_on 1 own spot (Gives at (suc l) (Call child k) rest) (Waits at (opened w number l child Nil) (suc l) k rest) vars (record { quiet = LineAsks number; counts = refl }))
 
-  -- its body is kept, and stands in the place of its stub
+  -- its body is kept, and is in the place of its stub
   pub keeps_inside : (stub text : List ℕ) (answer : Answer) (vars : Vars) → text ≢ [] → IsGood answer →
       Opening w tree 0 (doing h (owned own (filling spot (Stubs (under text (Gives at left (Done answer) Nil)) stub rest))) f) vars
       (doing h (owned own (filling spot (under text (Gives at left (Done answer) rest)))) f) vars

@@ -17,8 +17,8 @@ unfoldable pub under : (bytes : List ℕ) → Line → Line
 under [] line = line
 under (b ∷ bytes) line = Held (b ∷ []) (under bytes line)
 
--- Where a line stands within others: it is a whole; or is behind bytes that wait; or is the one for whose reply a node waits, before
--- more; or that of a subrequest with a stub, before more.
+-- Where a line is within others: it is a whole; or is after bytes that wait; or is the one for whose reply a node
+-- waits, before more; or that of a subrequest with a stub, before more.
 pub data Spot : Type 0 where
   Whole : Spot
   Behind : (bytes : List ℕ) → Spot → Spot
@@ -31,8 +31,8 @@ filling (Behind bytes spot) line = filling spot (under bytes line)
 filling (For node left k rest spot) line = filling spot (Waits node line left k rest)
 filling (Stubbed stub rest spot) line = filling spot (Stubs line stub rest)
 
--- What a line of its own is for that the row doesn't show: a subrequest with a stub of which it isn't known yet whether its body is
--- shown; or a node that waits for a reply, has so many levels left, and does this then.
+-- What a line of its own is for that the row doesn't show: a subrequest with a stub of which it isn't known yet whether
+-- its body is shown; or a node that waits for a reply, has `left` levels left, and does this then.
 pub data Own : Type 0 where
   Beside : (stub : List ℕ) → Own
   Below : (left : ℕ) → (Reply → Serving Answer) → Own
@@ -42,7 +42,7 @@ abbrev pub owned : Own → Line → Stance
 owned (Beside stub) line = Apart line stub
 owned (Below left k) line = Waiting line left k
 
--- Where a node stands that goes on: in the row; or in a line of its own or of another, with more of that line behind it.
+-- Where a node is that goes on: in the row; or in a line of its own or of another, with more of that line after it.
 pub data Seat : Type 0 where
   InRow : Seat
   Inside : Own → Spot → (rest : Line) → Seat

@@ -51,13 +51,13 @@ pub data CameAs (at : ℕ) (row row' : Order) (old new : Node) : Type 0 where
       ((w : World) (patterns : List SetPattern) (site : Site) (main : Main) (text : List ℕ) → AllEnd IsGood (node_act w patterns site main old text)) →
       CameAs at row row' old new
 
--- The stub that stands in the place of its body, which is held.
+-- The stub that is in the place of its body, which is held.
 pub record IsStubOf (n : Node) (stub : List ℕ) : Type 0 where
   pub text : List ℕ
   pub place : n.place ≡ Stub stub text
   pub chosen : (w : World) (patterns : List SetPattern) (site : Site) (main : Main) (file : List ℕ) (answer : Answer) → node_act w patterns site main n file ≡ Done answer → or_stub (Some stub) answer.status text ≡ stub
 
--- It is over, and its stub stands at its place.
+-- It is over, and its stub is at its place.
 pub record DecidedAs (at : ℕ) (order order' : Order) (old new : Node) : Type 0 where
   pub stub : List ℕ
   pub is : IsStubOf old stub

@@ -79,7 +79,7 @@ pub fn comes(alloc: Global, order: &mut Order, at: u32, node: &mut Node) -> Resu
     Ok(())
 }
 
-/// The stub that stands in the place of a node that has come to its answer.
+/// The stub that takes the place of a node that has come to its answer.
 fn stub_of(node: &Node) -> Option<&[u8]>
     ensures { IfSome result (λ stub. IsStubOf node.now stub.now) }
 {
@@ -95,7 +95,7 @@ fn stub_of(node: &Node) -> Option<&[u8]>
     Some(stub.as_slice())
 }
 
-/// A node with a stub that has come to its answer is over: the stub stands at its place, whole.
+/// A node with a stub that has come to its answer is over: the whole stub is at its place.
 ///
 /// # Errors
 /// `OutOfMemory`, where the stub has no room in the order; the node is then not to go on.

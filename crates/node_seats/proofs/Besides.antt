@@ -10,7 +10,7 @@ use Rattle.node_turn.specs.declared.node.Place.TheVariants.{Row, Stub, Captured}
 use Rattle.node_line.specs.Stances.{under}
 use Rattle.node_seats.specs.Seats.{Doing, asking_line, held_text, is_captured, line_from, place_stance, put_by, row_stance, stance_in, stance_of, stub_in, waited_line}
 
--- A node and another with its number that stands so and does so.
+-- A node and another with its number that is in the same place and does the same.
 pub record IsAsMuch (d d' : Doing) (j : ℕ) (n n' : Node) : Type 0 where
   pub place : n.place ≡ n'.place
   pub parent : n.parent ≡ n'.parent
@@ -29,7 +29,8 @@ abbrev pub is_free : Option Node → Bool
 is_free None = true
 is_free (Some n) = not (is_captured n.place)
 
--- What stands at a number: nothing; a node that stands so and does so; or one whose bytes come to no other, before and then.
+-- What is at a number: nothing; a node that is in the same place and does the same; or one whose bytes come to no
+-- other, before and then.
 pub data Beside (d d' : Doing) (j : ℕ) (o o' : Option Node) : Type 0 where
   Neither : o ≡ None → o' ≡ None → Beside d d' j o o'
   Both : (n n' : Node) → o ≡ Some n → o' ≡ Some n' → IsAsMuch d d' j n n' → Beside d d' j o o'
@@ -99,7 +100,7 @@ module _ (d : Doing) (nodes : List Node) (d' : Doing) (nodes' : List Node) (besi
       ∙ ap (under (held_text n'.place)) (same_asking (line_from d nodes levels) (line_from d' nodes' levels) (same_line levels) j n n' rest e n.asks
       ∙ ap (λ a. asking_line d' nodes' (line_from d' nodes' levels) j n' a rest) e.asks)
 
-  -- what is said of a node that stands so and does so
+  -- what is said of a node that is in the same place and does the same
   pub same_stance : (levels j : ℕ) (n n' : Node) → slice_get nodes j ≡ Some n → slice_get nodes' j ≡ Some n' → IsAsMuch d d' j n n' → stance_in d nodes levels j ≡ stance_in d' nodes' levels j
   same_stance levels j n n' there then e =
       ap (stance_of d nodes levels j) there ∙ ap (place_stance d nodes levels j n) e.place ∙ at_place n'.place ∙ sym (ap (stance_of d' nodes' levels j) then)
@@ -120,7 +121,7 @@ module _ (d : Doing) (nodes : List Node) (d' : Doing) (nodes' : List Node) (besi
   pub none_stance : (levels j : ℕ) → slice_get nodes j ≡ None → slice_get nodes' j ≡ None → stance_in d nodes levels j ≡ stance_in d' nodes' levels j
   none_stance levels j there then = ap (stance_of d nodes levels j) there ∙ sym (ap (stance_of d' nodes' levels j) then)
 
-  -- where the same stands there
+  -- where the same is there
   pub still_stance : (levels j : ℕ) → slice_get nodes j ≡ slice_get nodes' j → ((n : Node) → slice_get nodes j ≡ Some n → IsAsMuch d d' j n n) → stance_in d nodes levels j ≡ stance_in d' nodes' levels j
   still_stance levels j same much = by (slice_get nodes j) refl
     where

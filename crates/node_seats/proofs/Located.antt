@@ -1,4 +1,4 @@
--- Where in a line a node stands whose bytes don't go to the row itself.
+-- Where in a line a node is whose bytes don't go to the row itself.
 use Rattle.std.proofs.Common.{◌≡◌, ℕ, zero, suc, ◌+◌, ◌==◌, ◌&&◌, ◌||◌, Bool, true, false, not, is_none, cond, List, Option, None, Some, slice_get, refl, sym, ap, ◌∙◌, arith}
 use Rattle.std.proofs.lemmas.Bool.{eqb-true}
 use Rattle.std.proofs.lemmas.Bool.Decides.{nat_tests}
@@ -39,7 +39,7 @@ pub record SameWaiting (d : Doing) (nodes : List Node) (d' : Doing) (nodes' : Li
   pub act : (j : ℕ) (n : Node) → slice_get nodes j ≡ Some n → is_none n.asks ≡ false → d'.act j n ≡ d.act j n
   pub heard : (j : ℕ) (n : Node) → slice_get nodes j ≡ Some n → is_none n.asks ≡ false → d'.heard j n ≡ d.heard j n
 
--- a node that stands where another did
+-- a node that is where another was
 pub record StandsAs (old new : Node) : Type 0 where
   pub parent : new.parent ≡ old.parent
   pub captured : is_captured new.place ≡ is_captured old.place
@@ -116,9 +116,9 @@ above_line d nodes depth spare par at p rest asks =
     ap (λ l. line_from d nodes l par p rest) (one_more depth spare)
     ∙ ap (λ a. under (held_text p.place) (asking_line d nodes (line_from d nodes (depth + spare)) par p a rest)) asks
 
--- ---- where it stands
+-- ---- where it is
 
--- A node whose bytes don't go to the row stands in the line that the node `h` has, whatever it does.
+-- A node whose bytes don't go to the row is in the line that the node `h` has, whatever it does.
 pub record Located (levels : ℕ) (d : Doing) (nodes : List Node) (up depth at : ℕ) (old : Node) : Type 0 where
   pub h : ℕ
   pub host : Node
@@ -208,7 +208,7 @@ module _ (levels : ℕ) (d : Doing) (nodes : List Node) where
       on_first j n on other e true f = same_captured nodes at j old n here e f captured
       on_first j n on other e false f = absurd (false_true (sym other ∙ path_top up nodes old.parent p j (ap is_captured row) (path_next up nodes at old p j above f on)))
 
-  -- a node that stands in a line waits for its bytes
+  -- a node that is in a line waits for its bytes
   located_next : (up depth at : ℕ) (old p : Node) → slice_get nodes at ≡ Some old → slice_get nodes old.parent ≡ Some p → p.asks ≡ Some at → is_captured old.place ≡ true → Located levels d nodes up (suc depth) old.parent p →
       Located levels d nodes (suc up) depth at old
   located_next up depth at old p here above asks captured q = by (is_capturing p.stage) refl
@@ -220,7 +220,7 @@ module _ (levels : ℕ) (d : Doing) (nodes : List Node) where
       on_next j n on other e true f = same_captured nodes at j old n here e f captured
       on_next j n on other e false f = q.path j n (path_next up nodes at old p j above f on) other e
 
-      -- what stands where the node waits
+      -- what is where the node waits
       fills : (d' : Doing) (nodes' : List Node) (rest : Line) (spot : Spot) (new : Node) → slice_get nodes' at ≡ Some new → StandsAs old new →
           filling spot (waited_line (line_from d' nodes' (depth + q.spare)) par at (slice_get nodes' at) rest)
           ≡ filling (put_spot (stub_in old.place) rest spot) (line_from d' nodes' (depth + q.spare) at new (put_rest (stub_in old.place) rest))

@@ -77,7 +77,7 @@ abbrev pub is_its : (at : ℕ) → Option Node → Bool
 is_its at None = true
 is_its at (Some n) = is_captured n.place && ((n.parent == at) && is_none n.asks)
 
--- What stands at a number that isn't the node's: the same; or nothing or a subrequest of it, before and then.
+-- What is at a number that isn't the node's: the same; or nothing or a subrequest of it, before and then.
 pub data SameOrMore (at : ℕ) (o o' : Option Node) : Type 0 where
   Same : o ≡ o' → SameOrMore at o o'
   Its : is_its at o ≡ true → is_its at o' ≡ true → SameOrMore at o o'

@@ -34,7 +34,7 @@ use Rattle.node_seats.proofs.Seated.{in_row_is}
 
 -- ---- where they are heard
 
--- another node that stands so
+-- another node that is in the same place
 pub heard_like : (levels : ℕ) (nodes : List Node) (at : ℕ) (n n' : Node) → is_captured n.place ≡ is_captured n'.place → n.parent ≡ n'.parent → is_heard levels nodes at n ≡ is_heard levels nodes at n'
 unfolding is_heard
 heard_like zero nodes at n n' e f = ap not e
@@ -103,7 +103,7 @@ module _ (d : Doing) (nodes : List Node) (d' : Doing) (nodes' : List Node) (par 
 
 -- ---- the steps
 
--- it stands in the place of its stub
+-- it is in the place of its stub
 keeps_part : (w : World) (tree : Tree) (laws : ShowsTheSame) (h at left : ℕ) (f : Family) (goes_on : is_open h f.row.pieces ≡ true) (own : Own) (spot : Spot) (rest : Line) (stub : Option (List ℕ)) (text : List ℕ) (answer : Answer) (vars : Vars) →
     (is_some stub ≡ true → (text ≢ []) × IsGood answer) →
     Opening w tree 0 (doing h (owned own (filling spot (waits_too.part stub text at left (Done answer) rest))) f) vars (doing h (owned own (filling spot (under text (Gives at left (Done answer) rest)))) f) vars
@@ -145,7 +145,7 @@ module _ (laws : ShowsTheSame) (w : World) (patterns : List SetPattern) (site : 
     alone_then : stance_in (doing_by w patterns site main texts) nodes' most_levels q.h ≡ owned q.own (filling (Behind (held_text p'.place) q.spot) (Gives par p'.left (act p') q.rest))
     alone_then = waits_too.alone_is (doing_by w patterns site main texts) nodes' (doing_by w patterns site main texts) nodes par at p' p old r most_levels up 1 q like
 
-    -- its bytes stand behind those of the node
+    -- its bytes come after those of the node
     pub leaves : is_capturing p.stage ≡ false → held_text p'.place ≡ held_text p.place ++ held_text old.place → act p' ≡ act p → Opening w tree 0 before vars after vars
     unfolding has_node
     leaves e held does =

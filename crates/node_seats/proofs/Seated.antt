@@ -54,7 +54,7 @@ unfolding line_from
 line_alone d nodes zero at n rest e = refl
 line_alone d nodes (suc levels) at n rest e = ap (λ asks. under (held_text n.place) (asking_line d nodes (line_from d nodes levels) at n asks rest)) e
 
--- what is said where it stands in a line
+-- what is said where it is in a line
 pub here_is : (levels : ℕ) (d : Doing) (nodes : List Node) (up depth at : ℕ) (old : Node) → slice_get nodes at ≡ Some old → old.asks ≡ None → (q : Located levels d nodes up (suc depth) at old) →
     stance_in d nodes levels q.h ≡ owned q.own (filling (Behind (held_text old.place) q.spot) (Gives at old.left (d.act at old) q.rest))
 here_is levels d nodes up depth at old there free q =

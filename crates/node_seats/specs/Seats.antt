@@ -1,4 +1,4 @@
--- Where the nodes of a family stand, and what is said there of each.
+-- Where the nodes of a family are, and what is said there of each.
 use Rattle.std.specs.Prelude.{ℕ, zero, suc, ◌==◌, ◌&&◌, ◌||◌, Bool, true, false, not, List, [], Option, None, Some, is_none, slice_get, if◌then◌else◌}
 use Rattle.ngx_pattern.specs.Pattern.{Pattern as SetPattern}
 use Rattle.ngx_variables.specs.declared.request.Main.{Main}
@@ -29,7 +29,7 @@ is_captured Row = false
 is_captured (Stub stub text) = false
 is_captured (Captured stub text) = true
 
--- the stub that may yet stand in the place of its body
+-- the stub that may yet come in the place of its body
 abbrev pub stub_in : Place → Option (List ℕ)
 stub_in Row = None
 stub_in (Stub stub text) = Some stub
@@ -68,14 +68,14 @@ asking_line d nodes below node n (Some child) rest =
     if is_capturing n.stage then Waits node (waited_line below node child (slice_get nodes child) Nil) n.left (d.heard node n) rest
     else waited_line below node child (slice_get nodes child) (Gives node n.left (d.act node n) rest)
 
--- The line of a node with all that comes to it, at most so many levels below, before more of another.
+-- The line of a node with all that comes to it, from at most `levels` levels below, before more of another.
 unfoldable pub line_from : Doing → List Node → (levels : ℕ) → (node : ℕ) → Node → (rest : Line) → Line
 line_from d nodes zero node n rest = under (held_text n.place) (Gives node n.left (d.act node n) rest)
 line_from d nodes (suc levels) node n rest = under (held_text n.place) (asking_line d nodes (line_from d nodes levels) node n n.asks rest)
 
 -- ---- stances
 
--- what is said of a node of the row, at most so many levels below which bytes come to it
+-- what is said of a node of the row, to which bytes come from at most `levels` levels below
 abbrev pub row_stance : Doing → List Node → (levels node : ℕ) → Node → Option ℕ → Stance
 row_stance d nodes levels node n None = Going n.left (d.act node n)
 row_stance d nodes levels node n (Some child) =
@@ -115,8 +115,8 @@ abbrev pub heard_by : (above : Node → Bool) → (child : ℕ) → Option Node 
 heard_by above child None = false
 heard_by above child (Some n) = hears child n && above n
 
--- A node, at most so many levels below, stands in the row or in a line of its own; or its bytes come to one that waits for them, and
--- stands so.
+-- A node, at most `levels` levels below the main request, is in the row or in a line of its own; or its bytes come to
+-- one that waits for them, of which the same holds.
 unfoldable pub is_heard : (levels : ℕ) → List Node → (at : ℕ) → Node → Bool
 is_heard zero nodes at n = not (is_captured n.place)
 is_heard (suc levels) nodes at n = not (is_captured n.place) || heard_by (is_heard levels nodes n.parent) at (slice_get nodes n.parent)

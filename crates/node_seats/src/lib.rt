@@ -1,5 +1,5 @@
-//! Where the nodes of a request's tree stand: in the row of their family; or in a line of their own, or of a node that waits for
-//! their bytes (<https://nginx.org/en/docs/http/ngx_http_ssi_module.html>, `set` and `stub`).
+//! Where the nodes of a request's tree are: in the row of their family; or in a line of their own, or of a node that
+//! waits for their bytes (<https://nginx.org/en/docs/http/ngx_http_ssi_module.html>, `set` and `stub`).
 #![tactic(auto)]
 
 mod seats;

@@ -1,4 +1,4 @@
-// Whether a node stands where its steps are seen.
+// Whether a node is where its steps are seen.
 ghost use Rattle.std.specs.Prelude.{◌≡◌, slice_get};
 ghost use Rattle.node_seats.specs.Seats.{hears as hearing, is_asked as asked_for, is_captured, is_heard as heard, is_seated as has_seat};
 
@@ -32,8 +32,8 @@ fn hears(node: &Node, child: u32) -> bool
     !node.over && is_asked(child, node.asks)
 }
 
-/// Whether a node with this number, which is at most so many levels below, stands in the row or in a line of its own, or its bytes
-/// come to a node that waits for them and stands so.
+/// Whether the bytes of a node with this number, which is at most `levels` levels below the main request, are seen: the
+/// node is in the row or in a line of its own, or its bytes come to a node that waits for them and whose own are seen.
 fn is_heard(nodes: &[Node], at: u32, node: &Node, levels: u32) -> bool
     ensures { result ≡ heard levels nodes.now at node.now }
 {

@@ -71,7 +71,7 @@ pub enum Stage {
 pub enum Place {
     /// To the order, at its place there.
     Row,
-    /// It isn't known yet whether its stub stands at its place or its body: these bytes of its body
+    /// It isn't known yet whether its stub is at its place or its body: these bytes of its body
     /// came so far.
     Stub {
         stub: ByteText,

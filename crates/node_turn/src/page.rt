@@ -27,7 +27,7 @@ use std::alloc::Global;
 pub(crate) enum Served {
     /// The node goes on.
     On(Stage),
-    /// The body of a subrequest stands here, and the node goes on with its page.
+    /// The body of a subrequest comes here, and the node goes on with its page.
     Opens(Child, Box<Body>),
     /// A subrequest is asked for, whose body goes into a variable.
     Asks(Child, Capture),
@@ -143,7 +143,8 @@ fn done(
     ensures { IfOk result (λ served. (g : GroundView) (p : PhasesView) (levels : ℕ)
         (patterns : List SetPattern) (path file : List ℕ) (vars : Vars) (old : Serving Answer)
         → IsSceneOf g p levels scene.now
-        → let w = world_in patterns g shipped in let answer = answer_seen g.site.now p body.value.answered in
+        → let w = world_in patterns g shipped in
+        let answer = answer_seen g.site.now p body.value.answered in
         let new = page_at w g.site.now p levels answer page.value (later body.value file) in
         Does p.main vars doing old new
         (captured_at w g.site.now p levels answer page.value (later body.value file))

@@ -137,22 +137,20 @@ fn plain(
     Ok(Stage::Places(Box::new(alloc, body)?))
 }
 
-/// A body on which filters act: a text, and then this many bytes of a file.
+/// A body on which filters act, from this source.
 fn paged(
     alloc: Global,
     scene: &Scene<'_>,
     answered: Answered,
     facts: Facts,
     ssi: Table,
-    text: ByteText,
-    left: u64,
-    unread: bool,
+    source: Source,
 ) -> Result<Stage, OutOfMemory>
     ensures asks { IfOk result (λ stage. is_asking stage ≡ false) }
     ensures acts { IfOk result (λ stage. (g : GroundView) (p : PhasesView) (levels : ℕ)
         (patterns : List SetPattern) (path file : List ℕ) → IsSceneOf g p levels scene.now
         → let w = world_in patterns g shipped in let answer = answer_seen g.site.now p answered in
-        filtered_rest w levels ssi answer facts (text ++ padded left file)
+        filtered_rest w levels ssi answer facts (source.text ++ padded source.left file)
         ≡ stage_act w patterns g.site.now p levels path stage file) }
 {
     let page = Box::new(alloc, Page::new(alloc, &facts, ssi)?)?;
@@ -160,7 +158,7 @@ fn paged(
         answered,
         bytes: ByteText::new(alloc),
         from: 0,
-        source: Source { text, left, unread },
+        source,
         page: Some(page),
     };
     Ok(Stage::Places(Box::new(alloc, body)?))
@@ -173,21 +171,23 @@ fn sent(
     answered: Answered,
     facts: Option<Facts>,
     ssi: Table,
-    text: ByteText,
-    left: u64,
-    unread: bool,
+    source: Source,
 ) -> Result<Stage, OutOfMemory>
     ensures asks { IfOk result (λ stage. is_asking stage ≡ false) }
     ensures acts { IfOk result (λ stage. (g : GroundView) (p : PhasesView) (levels : ℕ)
         (patterns : List SetPattern) (path file : List ℕ) (vars : Vars)
         → IsSceneOf g p levels scene.now
         → let w = world_in patterns g shipped in let answer = answer_seen g.site.now p answered in
-        settled (body_then w levels ssi answer (sent_as facts (text ++ padded left file))) vars
+        settled (body_then w levels ssi answer
+        (sent_as facts (source.text ++ padded source.left file))) vars
         ≡ (stage_act w patterns g.site.now p levels path stage file, vars)) }
 {
     match facts {
-        None => Ok(plain(alloc, answered, text, left, unread)?),
-        Some(facts) => Ok(paged(alloc, scene, answered, facts, ssi, text, left, unread)?),
+        None => {
+            let Source { text, left, unread } = source;
+            Ok(plain(alloc, answered, text, left, unread)?)
+        }
+        Some(facts) => Ok(paged(alloc, scene, answered, facts, ssi, source)?),
     }
 }
 
@@ -222,10 +222,21 @@ pub fn answering(
             page_text(code, &mut bytes)?;
             Ok(plain(alloc, answered, bytes, 0, false)?)
         }
-        ReplyBody::Text(text) => Ok(sent(alloc, &scene, answered, facts, ssi, text, 0, false)?),
+        ReplyBody::Text(text) => {
+            let source = Source {
+                text,
+                left: 0,
+                unread: false,
+            };
+            Ok(sent(alloc, &scene, answered, facts, ssi, source)?)
+        }
         ReplyBody::File => {
-            let none = ByteText::new(alloc);
-            Ok(sent(alloc, &scene, answered, facts, ssi, none, len, true)?)
+            let source = Source {
+                text: ByteText::new(alloc),
+                left: len,
+                unread: true,
+            };
+            Ok(sent(alloc, &scene, answered, facts, ssi, source)?)
         }
     }
 }
@@ -278,20 +289,28 @@ fn after_step(
     }
 }
 
+/// Where the phases of a node run: on the ground of its request, and with this many levels of
+/// subrequests that it may still open.
+#[derive(Clone, Copy)]
+pub(crate) struct Footing<'a> {
+    pub(crate) ground: &'a Ground<'a>,
+    pub(crate) left: u32,
+}
+
 /// Begins the phases of a node, to whose main request `main` is lent meanwhile.
 pub(crate) fn begins(
     alloc: Global,
-    ground: &Ground<'_>,
+    footing: Footing<'_>,
     patterns: &mut PatternSet,
     main: &mut Main,
     vars: &mut VarTable,
     phases: &mut Phases,
-    left: u32,
     ssi: Table,
 ) -> Result<Turned, OutOfMemory>
-    requires { IsGround ground.now }
+    requires { IsGround footing.ground.now }
     ensures turns { IfOk result (λ turned. (path text : List ℕ) →
-        let w = world_in patterns.old ground.now shipped in let site = ground.now.site.now in
+        let g = footing.entry.ground.now in let left = footing.entry.left in
+        let w = world_in patterns.old g shipped in let site = g.site.now in
         settled (stage_act w patterns.old site (lent main.old phases.old) left path
         (BeginsView ssi) text) vars.old
         ≡ (
@@ -306,6 +325,7 @@ pub(crate) fn begins(
     ensures main { IfOk result (λ turned. main.new ≡ main.old) }
     ensures kept { patterns.new ≡ patterns.old }
 {
+    let Footing { ground, left } = footing;
     lend(main, phases);
     let step = begin(alloc, ground, patterns, phases, vars)?;
     let turned = after_step(alloc, ground, phases, left, ssi, step, 0)?;
@@ -313,24 +333,31 @@ pub(crate) fn begins(
     Ok(turned)
 }
 
+/// What phases wait for, what is at the path for which they asked, and the variables with which the
+/// node's document begins.
+#[derive(Drop)]
+pub(crate) struct Told {
+    pub(crate) wait: Wait,
+    pub(crate) file: FileNode,
+    pub(crate) ssi: Table,
+}
+
 /// Goes on with the phases of a node, by what is at the path for which it asked.
 pub(crate) fn resumes(
     alloc: Global,
-    ground: &Ground<'_>,
+    footing: Footing<'_>,
     patterns: &mut PatternSet,
     main: &mut Main,
     vars: &mut VarTable,
     phases: &mut Phases,
-    left: u32,
-    wait: Wait,
-    file: FileNode,
-    ssi: Table,
+    told: Told,
 ) -> Result<Turned, OutOfMemory>
-    requires { IsGround ground.now }
+    requires { IsGround footing.ground.now }
     ensures turns { IfOk result (λ turned. (path text : List ℕ) →
-        let w = world_in patterns.old ground.now shipped in let site = ground.now.site.now in
+        let g = footing.entry.ground.now in let left = footing.entry.left in
+        let w = world_in patterns.old g shipped in let site = g.site.now in
         settled (stage_act w patterns.old site (lent main.old phases.old) left path
-        (ToldView wait file ssi) text) vars.old
+        (ToldView told.wait told.file told.ssi) text) vars.old
         ≡ (
           stage_act w patterns.old site (lent main.old phases.new) left
               (path_or turned.path path) turned.stage text,
@@ -343,6 +370,8 @@ pub(crate) fn resumes(
     ensures main { IfOk result (λ turned. main.new ≡ main.old) }
     ensures kept { patterns.new ≡ patterns.old }
 {
+    let Footing { ground, left } = footing;
+    let Told { wait, file, ssi } = told;
     lend(main, phases);
     let step = resume(alloc, ground, wait, file, patterns, phases, vars)?;
     let turned = after_step(alloc, ground, phases, left, ssi, step, len_of(file))?;

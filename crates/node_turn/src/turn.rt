@@ -22,7 +22,7 @@ ghost use Rattle.node_turn.specs.declared.node.Stage.TheVariants.{Places as Plac
 use crate::lending::lend_method;
 use crate::node::{Body, Capture, Node, Place, Stage};
 use crate::page::{Served, hears, serves};
-use crate::phase::{Turned, begins, resumes, scene_of};
+use crate::phase::{Footing, Told, Turned, begins, resumes, scene_of};
 use crate::slot::{put, take};
 use byte_text::{ByteText, OutOfMemory};
 use file_tree::Ask;
@@ -86,19 +86,21 @@ pub fn turns(
     ensures main { OnOk result (main.new ≡ main.old) }
     ensures kept { patterns.new ≡ patterns.old }
 {
-    let left = node.left;
+    let footing = Footing {
+        ground,
+        left: node.left,
+    };
     match stage_of(alloc, node) {
         Stage::Begins(ssi) => {
             let phases = &mut node.phases;
-            let turned = begins(alloc, ground, patterns, main, vars, phases, left, ssi)?;
+            let turned = begins(alloc, footing, patterns, main, vars, phases, ssi)?;
             put_turned(node, turned, of);
             Ok(())
         }
         Stage::Told { wait, file, ssi } => {
             let phases = &mut node.phases;
-            let turned = resumes(
-                alloc, ground, patterns, main, vars, phases, left, wait, file, ssi,
-            )?;
+            let told = Told { wait, file, ssi };
+            let turned = resumes(alloc, footing, patterns, main, vars, phases, told)?;
             put_turned(node, turned, of);
             Ok(())
         }
@@ -241,7 +243,7 @@ pub fn holds(alloc: Global, node: &mut Node) -> Result<(), OutOfMemory>
 pub enum Turn {
     /// It goes on, or waits for a block of its file.
     On,
-    /// The body of a subrequest stands here, and it goes on.
+    /// The body of a subrequest comes here, and it goes on.
     Opens(Child),
     /// It waits for the body of a subrequest.
     Asks(Child),

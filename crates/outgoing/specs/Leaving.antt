@@ -12,8 +12,8 @@ pub record Leaving : Type 0 where
 abbrev pub most : ℕ
 most = 65536
 
--- The rest of a body as it is written: as it is; or behind the bytes of it that wait, in chunks with
--- the last one (RFC 9112, section 7.1).
+-- The rest of a body as it is written: as it is; or after the bytes of it that wait, in chunks with the last one (RFC
+-- 9112, section 7.1).
 abbrev pub framed_as : Option (List ℕ) → List ℕ → List ℕ
 framed_as None more = more
 framed_as (Some block) more = framed (block ++ more)

@@ -11,8 +11,8 @@ use std::marker::Model;
 /// How many bytes may be pending, but for those of `put_all`.
 const MOST: usize = 65536;
 
-/// The room of the buffer. Bytes are moved down only where at least as many were written before
-/// them: so each byte is moved a bounded number of times, and the room behind them is enough.
+/// The room of the buffer. Bytes are moved down only where at least as many were written before them: so each byte is
+/// moved a bounded number of times, and the room after them is enough.
 const ROOM: usize = 131072;
 
 /// Moves the bytes from `start` on down to the beginning, where they are no more than those before

@@ -13,7 +13,8 @@ const FILE: &str = "std_outside_test/a";
 
 // The number of the newest tree, and how many bytes the file at a path has in it; none where no file is told to be there.
 fn look<F: Files>(files: &mut F, path: &str) -> (u64, Option<u64>)
-    ensures { result.0 ≤ (F.seen files.new).newest }
+    ensures known { result.0 ≤ (F.seen files.new).newest }
+    ensures rises { (F.seen files.old).newest ≤ (F.seen files.new).newest }
 {
     let newest = files.version();
     match files.stat(path.as_bytes(), newest) {
@@ -59,6 +60,28 @@ fn a_file_is_read_in_blocks_and_seen_anew_once_it_was_replaced(
     assert_eq!(rt; len, None);
     assert!(rt; files.read(FILE.as_bytes(), 0, 1, of, &mut out).is_err());
     fs::remove_dir_all(&rt, FOLDER)?;
+    Ok(())
+}
+
+// What is read between the parts of a file doesn't come among them.
+#[test]
+fn blocks_of_two_files_are_lent_in_turn(rt: HostRuntime) -> Result<(), Fail> {
+    let folder = "std_outside_blocks";
+    let _ = fs::remove_dir_all(&rt, folder);
+    fs::create_dir(&rt, folder)?;
+    fs::write(&rt, "std_outside_blocks/a", "abcdef")?;
+    fs::write(&rt, "std_outside_blocks/b", "whole text")?;
+    let mut files = HostFiles::new(rt.clone()?)?;
+    assert_eq!(rt; files.block(), b"".as_slice());
+    let (first, _) = look(&mut files, "std_outside_blocks/a");
+    files.read_block(b"std_outside_blocks/a".as_slice(), 0, 4, first)?;
+    assert_eq!(rt; files.block(), b"abcd".as_slice());
+    let (other, _) = look(&mut files, "std_outside_blocks/b");
+    files.read_block(b"std_outside_blocks/b".as_slice(), 0, 10, other)?;
+    assert_eq!(rt; files.block(), b"whole text".as_slice());
+    files.read_block(b"std_outside_blocks/a".as_slice(), 4, 2, first)?;
+    assert_eq!(rt; files.block(), b"ef".as_slice());
+    fs::remove_dir_all(&rt, folder)?;
     Ok(())
 }
 

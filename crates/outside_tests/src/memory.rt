@@ -32,6 +32,8 @@ fn files_hold_their_bytes_and_older_trees_stay(rt: HostRuntime) -> Result<(), Fa
     files.read(b"/w/a".as_slice(), 1, 3, 0, &mut out)?;
     assert!(rt; files.read(b"/w/a".as_slice(), 4, 2, 0, &mut out).is_err());
     assert_eq!(rt; out.as_slice(), b"ell".as_slice());
+    files.read_block(b"/w/a".as_slice(), 0, 2, 0)?;
+    assert_eq!(rt; files.block(), b"he".as_slice());
     let mut names = ByteTexts::new(alloc);
     assert_eq!(rt; files.list(b"/w".as_slice(), &mut names)?, Listing::Done);
     assert_eq!(rt; names.len(), 1);

@@ -6,7 +6,7 @@ use Rattle.acts.specs.Vars.{look, set}
 use Rattle.acts.specs.Act.{Done, Get}
 use Rattle.ngx_variables.specs.declared.variable.Variable.TheVariants.{DocumentRoot, RequestFilename}
 use Rattle.ngx_variables.specs.declared.request.Main.{Main}
-use Rattle.ngx_variables.specs.declared.request.Place.{Place}
+use Rattle.ngx_variables.specs.declared.request.FileRoot.{FileRoot}
 use Rattle.ngx_variables.specs.declared.request.Request.{Request}
 use Rattle.ngx_variables.specs.declared.value.Piece.{Piece}
 use Rattle.ngx_variables.specs.declared.value.Piece.TheVariants.{Literal, Group, Builtin, Argument, Field, Cookie, Set as SetPiece}
@@ -29,7 +29,7 @@ use Rattle.request_meaning.specs.Commands.Word.{Block, EndBlock, Config, Echo, I
 use Rattle.request_meaning.specs.Bodies.{text_part, bad_part, command_part, added, added_at, added_part, part}
 use Rattle.page_body.proofs.Acts.{IsAlone, alone_done, alone_get, alone_write, alone_asks, alone_inner, alone_bind, choice}
 
--- Of the subrequests that are asked for this is so, where so many levels are left.
+-- Of the subrequests that are asked for this is so, where this many levels are left.
 module _ (w : World) (P : Type 0) (levels : ℕ) (may : (n : ℕ) → levels ≡ suc n → P) where
   -- the levels that are left
   abbrev Kept : Doc → Type 0
@@ -55,7 +55,7 @@ module _ (w : World) (P : Type 0) (levels : ℕ) (may : (n : ℕ) → levels ≡
   alone_inner_pieces main request [] = alone_done
   alone_inner_pieces main request (p ∷ ps) = alone_bind (alone_inner_piece main request p) (λ a. alone_bind (alone_inner_pieces main request ps) (λ b. alone_done))
 
-  alone_file_paths : (main : Main) (request : Request) (place : Option Place) → IsAlone P (file_paths {C = Child} {R = Reply} main request place)
+  alone_file_paths : (main : Main) (request : Request) (place : Option FileRoot) → IsAlone P (file_paths {C = Child} {R = Reply} main request place)
   unfolding file_paths
   alone_file_paths main request None = alone_done
   alone_file_paths main request (Some place) = alone_bind (alone_inner_pieces main request (place_text place)) (λ a. alone_done)

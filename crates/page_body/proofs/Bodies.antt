@@ -62,7 +62,7 @@ other_first : (w : World) (answer : Answer) (doc : Doc) (p : Part) (rest : List 
 unfolding body mark
 other_first w answer doc p rest = bind_in_turn (part w doc p) (λ d. body w d rest) (λ _. Done answer)
 
--- what is done behind some reads
+-- what is done after some reads
 pub does_behind : (main : Main) (vars : Vars) (doing : Doing) (first before after : Serving Answer) (captures : List ℕ → List ℕ → Serving Answer)
     → stop_of doing ≡ None → ReadsTo Answer vars first before → Does main vars doing before after captures → Does main vars doing first after captures
 does_behind main vars Nothing first before after captures e h d = reads_on h d

@@ -64,7 +64,7 @@ unfoldable pub page_rest : World → Answer → Scene → Page → (bytes : List
 page_rest w answer scene page bytes =
     document_rest w answer (doc_seen scene page.document) (marks (waiting page)) (machines w page.facts) (stages_of page) bytes
 
--- The same behind a subrequest whose body goes into the variable of this name.
+-- The same after a subrequest whose body goes into the variable of this name.
 unfoldable pub page_captured : World → Answer → Scene → Page → (name text bytes : List ℕ) → Serving Answer
 page_captured w answer scene page name text bytes = do
   doc ← captured (doc_seen scene page.document) name text
@@ -83,8 +83,8 @@ text_then (Some text) act = Write text act
 
 -- ---- what is done
 
--- What is done stands next among the acts that were still to come, behind the variables that are read for it: the acts before
--- and after it, and those behind a body that is captured.
+-- What is done comes next among the acts that were still to come, after the variables that are read for it. Given are
+-- the acts before and after it, and those after a body that is captured.
 abbrev pub Does : Main → Vars → Doing → (before after : Serving Answer) → (captures : List ℕ → List ℕ → Serving Answer) → Type 0
 Does main vars Nothing before after captures = ReadsTo Answer vars before after
 Does main vars (Writes text) before after captures = (m : Serving Answer) × ReadsTo Answer vars before m × Writing Answer text m after

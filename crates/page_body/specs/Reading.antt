@@ -16,7 +16,7 @@ pub data Writing (A : Type 0) : List ℕ → Serving A → Serving A → Type 0 
   Whole : {text : List ℕ} {n : Serving A} → Writing A text (Write text n) n
   Piece : {piece more : List ℕ} {m n : Serving A} → Writing A more m n → Writing A (piece ++ more) (Write piece m) n
 
--- what is left behind some reads settles as all of it did
+-- what is left after some reads settles as all of it did
 abbrev pub ReadingSettles : Type 0 → Type 0
 ReadingSettles A = (m n : Serving A) (vars : Vars) → ReadsTo A vars m n → settled m vars ≡ settled n vars
 

@@ -19,7 +19,7 @@ added_stage on = record { on = on; state = record { held = []; count = 1 } }
 abbrev pub shipped_machines : Facts → List Machine
 shipped_machines facts = ssi_machine facts ∷ addition_machine facts ∷ []
 
--- what stands before and behind all, and what is held at the end
+-- what comes before and after all, and what is held at the end
 abbrev pub ahead : Bool → List Mark
 ahead on = if on then Other Before ∷ [] else []
 

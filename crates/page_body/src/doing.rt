@@ -21,7 +21,7 @@ pub enum Doing {
     Nothing,
     /// This text is written.
     Writes(ByteText),
-    /// The body of a subrequest stands here.
+    /// The body of a subrequest is here.
     Includes(Child),
     /// A subrequest is asked, and its body goes to `Page::captured` under this name.
     Captures { name: ByteText, child: Child },

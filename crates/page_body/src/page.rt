@@ -107,8 +107,8 @@ impl Page {
         Ok(())
     }
 
-    /// Takes up the next part: what is done at its place, behind which the page is then, but for a subrequest whose body is
-    /// captured, which `captured` takes up. `vars` are the variables that are set now.
+    /// Takes up the next part: what is done at its place. The page is then after that part, but for a subrequest whose
+    /// body is captured, which `captured` takes up. `vars` are the variables that are set now.
     pub fn next(
         &mut self,
         alloc: Global,

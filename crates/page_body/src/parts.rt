@@ -35,7 +35,8 @@ pub(crate) fn block_parts(
     out: &mut Vec<Part>,
 ) -> Result<(), OutOfMemory>
     ensures held { OnOk result ((facts : FactsView) → split_stage is_split split.new
-        ≡ (stage_feeds (ssi_machine facts) (split_stage is_split split.old) (map Byte block.now)).0) }
+        ≡ (stage_feeds (ssi_machine facts) (split_stage is_split split.old)
+        (map Byte block.now)).0) }
     ensures out { OnOk result ((facts : FactsView) → marks out.new.items ≡ marks out.old.items
         ++ (stage_feeds (ssi_machine facts) (split_stage is_split split.old)
         (map Byte block.now)).1) }
@@ -69,7 +70,7 @@ fn held_part(
     Ok(())
 }
 
-/// Behind all stands what is added.
+/// What is added comes after all parts.
 fn closing_part(is_added: bool, out: &mut Vec<Part>) -> Result<(), OutOfMemory>
     ensures { OnOk result (marks out.new.items ≡ marks out.old.items ++ behind is_added) }
 {
@@ -80,7 +81,7 @@ fn closing_part(is_added: bool, out: &mut Vec<Part>) -> Result<(), OutOfMemory>
     Ok(())
 }
 
-/// The parts that stand before all.
+/// The parts that come before all others.
 pub(crate) fn opening_parts(alloc: Global, is_added: bool) -> Result<Vec<Part>, OutOfMemory>
     ensures { IfOk result (λ parts. marks (reverse parts.items) ≡ ahead is_added) }
 {

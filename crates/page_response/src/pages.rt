@@ -22,9 +22,9 @@ use request_phases::Ground;
 use std::alloc::Global;
 use subrequests::{Family, Ran};
 
-/// A page of parts, whose head was put: its family; the bytes that are written next, with the
-/// framing of those that come after them; its status; how many bytes of its body have left the
-/// family; and how many more steps it may take: far more than a page can need.
+/// A page of parts, whose head was put: its family; the bytes that are written next, with the framing of those that
+/// come after them; its status; and how many bytes of its body have left the family. `steps` is how many more steps it
+/// may take: far more than a page can need.
 #[derive(Drop)]
 pub struct Pages {
     pub family: Family,
@@ -47,8 +47,8 @@ fn sum(a: u64, b: u64) -> Option<u64>
     a.checked_add(b)
 }
 
-/// Moves all bytes that wait, of an order in which no node goes on, after so many that have left
-/// it: how many these are then.
+/// Moves all bytes that wait, of an order in which no node goes on, after `sent` bytes that have left it: how many
+/// bytes have left it then.
 fn put_rest(order: &mut Order, outgoing: &mut Outgoing, sent: u64) -> Result<u64, OutOfMemory>
     ensures put { OnOk result (AreClosed order.old.pieces → (more : List ℕ) →
         to_come outgoing.new more
@@ -220,7 +220,8 @@ impl Pages {
             whole_length w patterns site trees self.old
             ≡ whole_length w patterns site trees self.new }
         ensures nodes { (w : World) (patterns : List SetPattern) (site : SiteRow) (trees : Trees) →
-            nodes_asked w patterns site trees self.old ≡ nodes_asked w patterns site trees self.new }
+            nodes_asked w patterns site trees self.old
+            ≡ nodes_asked w patterns site trees self.new }
         ensures reached { (w : World) (patterns : List SetPattern) (site : SiteRow) →
             IsReached w patterns site self.old → IsReached w patterns site self.new }
         ensures whole { IsWhole self.old.family → IsWhole self.new.family }

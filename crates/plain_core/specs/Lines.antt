@@ -7,7 +7,7 @@ unfoldable pub has_line : List ℕ → Bool
 has_line [] = false
 has_line (b ∷ bytes) = if b == 10 then true else has_line bytes
 
--- what stands behind the first line
+-- what comes after the first line
 unfoldable pub after_line : List ℕ → List ℕ
 after_line [] = []
 after_line (b ∷ bytes) = if b == 10 then bytes else after_line bytes

@@ -12,7 +12,7 @@ use std::alloc::Global;
 /// The most bytes that are taken at once.
 pub(crate) const ROOM: usize = 4096;
 
-/// For so many seconds nothing may come or go.
+/// For how many seconds nothing may come or go.
 pub(crate) const PATIENCE: u64 = 60;
 
 #[derive(Clone, Copy)]

@@ -31,7 +31,7 @@ names-same id j f (p ∷ ps) k =
       | false ↦ λ t. ap (λ z. if p.node == j then true else z) (names-same id j f ps k)
     ] refl
 
--- a change that keeps the laws where it stands
+-- a change that keeps the laws where it is made
 pub lawful-change : (n m id : ℕ) (f : Piece → List Piece) (ps : List Piece) → n ≤ m
     → ((p : Piece) (rest : List Piece) → is_place id p ≡ true → IsLawful n (p ∷ rest) → IsLawful m (f p ++ rest))
     → ((j : ℕ) → j < n → (p : Piece) (rest : List Piece) → is_place id p ≡ true → names j (f p ++ rest) ≡ names j (p ∷ rest))

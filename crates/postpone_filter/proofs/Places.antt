@@ -32,7 +32,7 @@ unnamed-bytes id (p ∷ ps) e =
       | false ↦ λ h. unnamed-bytes id ps h
     ] e
 
--- behind the place of a node stands no piece of it
+-- after the place of a node there is no piece of it
 pub unnamed-behind : (n id : ℕ) (p : Piece) (ps : List Piece) → IsLawful n (p ∷ ps) → is_place id p ≡ true → names id ps ≡ false
 unfolding IsLawful
 unnamed-behind n id p ps l e = let at = place-node id p e in ap (λ k. names k ps) (sym at.1) ∙ l.1.0 at.0

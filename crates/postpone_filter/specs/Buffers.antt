@@ -52,7 +52,7 @@ unfoldable pub names : ℕ → List Piece → Bool
 names id [] = false
 names id (p ∷ ps) = if p.node == id then true else names id ps
 
--- each piece is of one of so many nodes, and a node goes on behind the last of its pieces
+-- each piece is of one of the first `nodes` nodes, and a node goes on after the last of its pieces
 unfoldable pub IsLawful : ℕ → List Piece → Type 0
 IsLawful nodes [] = Unit {0}
 IsLawful nodes (p ∷ ps) = (p.node < nodes) × ((p.grows ≡ true → names p.node ps ≡ false) × IsLawful nodes ps)
@@ -79,7 +79,7 @@ unfoldable pub clean_parts : List Part → List Part
 clean_parts [] = []
 clean_parts (s ∷ ss) = if is_part_over s then clean_parts ss else s ∷ ss
 
--- whether the node goes on behind a part
+-- whether the node goes on after a part
 unfoldable pub has_place : ℕ → List Part → Bool
 has_place id [] = false
 has_place id (s ∷ ss) = if is_part_place id s then true else has_place id ss

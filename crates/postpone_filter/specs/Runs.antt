@@ -24,7 +24,7 @@ step (AddChild parent) row = with_child parent row
 step (End id) row = ended id row
 step (Use count) row = used count row
 
--- the row behind the calls
+-- the row after the calls
 unfoldable pub behind : List Call → Row → Row
 behind [] row = row
 behind (c ∷ cs) row = behind cs (step c row)

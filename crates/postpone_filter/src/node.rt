@@ -117,7 +117,8 @@ impl Node {
 
     /// Takes as many of the bytes as fit, and answers how many: none of them once the node has ended.
     pub fn append(&mut self, more: &[u8]) -> usize
-        ensures count { result ≡ (if self.old.goes_on then min (length more.now) (most - length self.old.held) else 0) }
+        ensures count { result ≡ (if self.old.goes_on
+            then min (length more.now) (most - length self.old.held) else 0) }
         ensures held { self.new.held ≡ self.old.held ++ take result more.now }
         ensures goes_on { self.new.goes_on ≡ self.old.goes_on }
         ensures bounded { length self.new.held ≤ most }

@@ -13,11 +13,11 @@ use std::alloc::Global;
 use std::collections::VecDeque;
 use std::marker::Model;
 
-/// The order of a response: which node's bytes leave next, and what waits behind them.
+/// The order of a response: which node's bytes leave next, and what waits after them.
 ///
-/// The main request is node 0; each subrequest is a node with the next number, and stands where its parent had come to
-/// when it was added. Contracts see the row of pieces of bytes that wait, in the order in which they leave, with the
-/// places where nodes go on (`Row`).
+/// The main request is node 0; each subrequest is a node with the next number, and its place is where its parent had
+/// come to when it was added. Contracts see the row of pieces of bytes that wait, in the order in which they leave,
+/// with the places where nodes go on (`Row`).
 ///
 /// A node's buffer has room for 32768 bytes. It is taken when the node is made, and given back as soon as the node has
 /// ended and no byte of it waits (`has_buffer`). All else that is kept is a few words for each node and for each piece.
@@ -36,9 +36,13 @@ impl Model for Order {
 
     ghost Value = { Row };
 
-    ghost view = { λ o. record { pieces = pieces_of o.parts.items o.nodes.items; nodes = length o.nodes.items } };
+    ghost view = { λ o. record {
+      pieces = pieces_of o.parts.items o.nodes.items;
+      nodes = length o.nodes.items;
+    } };
 
-    ghost invariant = { λ o. AreTied o.parts.items o.nodes.items × (starts_over (pieces_of o.parts.items o.nodes.items) ≡ false) };
+    ghost invariant = { λ o. AreTied o.parts.items o.nodes.items
+        × (starts_over (pieces_of o.parts.items o.nodes.items) ≡ false) };
 }
 
 impl Order {
@@ -62,7 +66,9 @@ impl Order {
     pub fn append(&mut self, id: u32, bytes: &[u8]) -> usize
         ensures count { result ≡ min (length bytes.now) (room id self.old.pieces) }
         ensures row { self.new ≡ appended id (take result bytes.now) self.old }
-        ensures order { (gives : ℕ → List ℕ) → filled (giving id (λ text. take result bytes.now ++ text) gives) self.old.pieces ≡ filled gives self.new.pieces }
+        ensures order { (gives : ℕ → List ℕ)
+            → filled (giving id (λ text. take result bytes.now ++ text) gives) self.old.pieces
+            ≡ filled gives self.new.pieces }
         ensures opened { (j : ℕ) → is_open j self.new.pieces ≡ is_open j self.old.pieces }
     {
         match place_of(&self.parts, self.passed, &mut self.nodes, id) {
@@ -76,8 +82,12 @@ impl Order {
         requires { is_open parent self.old.pieces ≡ true }
         ensures child { IfOk result (λ child. child ≡ self.old.nodes) }
         ensures row { OnOk result (self.new ≡ with_child parent self.old) }
-        ensures order { OnOk result ((gives : ℕ → List ℕ) → filled (giving parent (λ text. gives self.old.nodes ++ text) gives) self.old.pieces ≡ filled gives self.new.pieces) }
-        ensures opened { OnOk result ((j : ℕ) → is_open j self.new.pieces ≡ (if j == self.old.nodes then true else is_open j self.old.pieces)) }
+        ensures order { OnOk result ((gives : ℕ → List ℕ)
+            → filled (giving parent (λ text. gives self.old.nodes ++ text) gives) self.old.pieces
+            ≡ filled gives self.new.pieces) }
+        ensures opened { OnOk result ((j : ℕ)
+            → is_open j self.new.pieces
+            ≡ (if j == self.old.nodes then true else is_open j self.old.pieces)) }
         ensures err { OnErr result (self.new ≡ self.old) }
     {
         if self.nodes.len() >= u32::MAX as usize {
@@ -98,8 +108,10 @@ impl Order {
     /// The node goes on no more. Nothing changes where it has ended before.
     pub fn end(&mut self, id: u32)
         ensures row { self.new ≡ ended id self.old }
-        ensures order { (gives : ℕ → List ℕ) → filled (giving id (λ _. []) gives) self.old.pieces ≡ filled gives self.new.pieces }
-        ensures opened { (j : ℕ) → is_open j self.new.pieces ≡ (if j == id then false else is_open j self.old.pieces) }
+        ensures order { (gives : ℕ → List ℕ)
+            → filled (giving id (λ _. []) gives) self.old.pieces ≡ filled gives self.new.pieces }
+        ensures opened { (j : ℕ) → is_open j self.new.pieces
+            ≡ (if j == id then false else is_open j self.old.pieces) }
     {
         if let Some(at) = place_of(&self.parts, self.passed, &mut self.nodes, id) {
             close(&mut self.parts, &mut self.nodes, at, id);
@@ -120,7 +132,8 @@ impl Order {
     pub fn used(&mut self, count: usize)
         requires { count ≤ length (front_of self.old.pieces) }
         ensures row { self.new ≡ used count self.old }
-        ensures order { (gives : ℕ → List ℕ) → filled gives self.old.pieces ≡ take count (front_of self.old.pieces) ++ filled gives self.new.pieces }
+        ensures order { (gives : ℕ → List ℕ) → filled gives self.old.pieces
+            ≡ take count (front_of self.old.pieces) ++ filled gives self.new.pieces }
         ensures opened { (j : ℕ) → is_open j self.new.pieces ≡ is_open j self.old.pieces }
     {
         use_front(&mut self.parts, &mut self.nodes, count);
@@ -159,7 +172,8 @@ impl Order {
 
     /// Whether a buffer is kept for the node: exactly where it has not ended or bytes of it wait.
     pub fn has_buffer(&self, id: u32) -> bool
-        ensures { result ≡ is_kept (is_open id self.now.pieces) (length (bytes_of id self.now.pieces)) }
+        ensures { result ≡ is_kept (is_open id self.now.pieces)
+            (length (bytes_of id self.now.pieces)) }
     {
         match self.nodes.get(id as usize) {
             Some(node) => node.has_buffer(),

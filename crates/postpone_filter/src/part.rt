@@ -8,7 +8,7 @@ ghost use Rattle.postpone_filter.specs.Buffers.{Buffer, AreTied, pieces_of, is_p
 use crate::node::Node;
 use std::collections::VecDeque;
 
-/// How many bytes of a node come next, and whether the node goes on right behind them.
+/// How many bytes of a node come next, and whether the node goes on right after them.
 #[derive(Clone, Copy, Drop)]
 pub struct Part {
     pub node: u32,
@@ -17,7 +17,7 @@ pub struct Part {
 }
 
 impl Part {
-    /// The place of a node behind which nothing waits yet.
+    /// The place of a node after which nothing waits yet.
     pub fn fresh(node: u32) -> Part
         ensures { result ≡ part_of (fresh node) }
     {
@@ -35,10 +35,11 @@ fn is_place(part: &Part, id: u32) -> bool
     part.grows && part.node == id
 }
 
-/// The place of a node at or behind `from`.
+/// The place of a node, at `from` or later.
 fn find_from(parts: &VecDeque<Part>, from: usize, id: u32) -> Option<usize>
     ensures found { IfSome result (λ at. at < deque_len parts.now) }
-    ensures place { IfSome result (λ at. (d : Part) → is_part_place id (slice_index_or parts.now.items at d) ≡ true) }
+    ensures place { IfSome result (λ at. (d : Part)
+        → is_part_place id (slice_index_or parts.now.items at d) ≡ true) }
     ensures none { result ≡ None → from ≡ 0 → has_place id parts.now.items ≡ false }
 {
     for at in from..parts.len() {
@@ -49,10 +50,11 @@ fn find_from(parts: &VecDeque<Part>, from: usize, id: u32) -> Option<usize>
     None
 }
 
-/// The place of a node: at the hint or soon behind it as a rule, since pieces are only put in.
+/// The place of a node: at the hint or soon after it as a rule, since pieces are only put in.
 pub fn find(parts: &VecDeque<Part>, hint: usize, id: u32) -> Option<usize>
     ensures found { IfSome result (λ at. at < deque_len parts.now) }
-    ensures place { IfSome result (λ at. (d : Part) → is_part_place id (slice_index_or parts.now.items at d) ≡ true) }
+    ensures place { IfSome result (λ at. (d : Part)
+        → is_part_place id (slice_index_or parts.now.items at d) ≡ true) }
     ensures none { result ≡ None → has_place id parts.now.items ≡ false }
 {
     match find_from(parts, hint, id) {
@@ -74,8 +76,11 @@ pub fn put_bytes(
     requires place { (d : Part) → is_part_place id (slice_index_or parts.old.items at d) ≡ true }
     ensures tied { AreTied parts.new.items nodes.new.items }
     ensures nodes { length nodes.new.items ≡ length nodes.old.items }
-    ensures pieces { pieces_of parts.new.items nodes.new.items ≡ at_place id (λ p. longer (take result bytes.now) p ∷ []) (pieces_of parts.old.items nodes.old.items) }
-    ensures count { result ≡ min (length bytes.now) (room id (pieces_of parts.old.items nodes.old.items)) }
+    ensures pieces { pieces_of parts.new.items nodes.new.items
+        ≡ at_place id (λ p. longer (take result bytes.now) p ∷ [])
+        (pieces_of parts.old.items nodes.old.items) }
+    ensures count { result ≡ min (length bytes.now)
+        (room id (pieces_of parts.old.items nodes.old.items)) }
 {
     let node = &mut nodes[id as usize];
     let count = node.append(bytes);
@@ -110,7 +115,8 @@ pub fn put_child(
 )
     requires tied { AreTied parts.old.items nodes.old.items }
     requires within { at < deque_len parts.old }
-    requires place { (d : Part) → is_part_place parent (slice_index_or parts.old.items at d) ≡ true }
+    requires place { (d : Part) → is_part_place parent (slice_index_or parts.old.items at d)
+        ≡ true }
     requires parts_room { deque_len parts.old + 2 ≤ deque_capacity parts.old }
     requires node_room { vec_len nodes.old < vec_capacity nodes.old }
     requires child { child ≡ vec_len nodes.old }
@@ -118,7 +124,9 @@ pub fn put_child(
     requires goes_on { node.goes_on ≡ true }
     ensures tied { AreTied parts.new.items nodes.new.items }
     ensures nodes { length nodes.new.items ≡ length nodes.old.items + 1 }
-    ensures pieces { pieces_of parts.new.items nodes.new.items ≡ at_place parent (λ p. closed p ∷ fresh child ∷ fresh parent ∷ []) (pieces_of parts.old.items nodes.old.items) }
+    ensures pieces { pieces_of parts.new.items nodes.new.items
+        ≡ at_place parent (λ p. closed p ∷ fresh child ∷ fresh parent ∷ [])
+        (pieces_of parts.old.items nodes.old.items) }
 {
     let part = &mut parts[at];
     part.grows = false;
@@ -134,7 +142,8 @@ pub fn close(parts: &mut VecDeque<Part>, nodes: &mut Vec<Node>, at: usize, id: u
     requires place { (d : Part) → is_part_place id (slice_index_or parts.old.items at d) ≡ true }
     ensures tied { AreTied parts.new.items nodes.new.items }
     ensures nodes { length nodes.new.items ≡ length nodes.old.items }
-    ensures pieces { pieces_of parts.new.items nodes.new.items ≡ at_place id (λ p. closed p ∷ []) (pieces_of parts.old.items nodes.old.items) }
+    ensures pieces { pieces_of parts.new.items nodes.new.items
+        ≡ at_place id (λ p. closed p ∷ []) (pieces_of parts.old.items nodes.old.items) }
 {
     let part = &mut parts[at];
     part.grows = false;
@@ -159,7 +168,8 @@ pub fn use_front(parts: &mut VecDeque<Part>, nodes: &mut Vec<Node>, count: usize
     requires within { count ≤ length (front_of (pieces_of parts.old.items nodes.old.items)) }
     ensures tied { AreTied parts.new.items nodes.new.items }
     ensures nodes { length nodes.new.items ≡ length nodes.old.items }
-    ensures pieces { pieces_of parts.new.items nodes.new.items ≡ shorter count (pieces_of parts.old.items nodes.old.items) }
+    ensures pieces { pieces_of parts.new.items nodes.new.items
+        ≡ shorter count (pieces_of parts.old.items nodes.old.items) }
 {
     if parts.len() > 0 {
         let part = &mut parts[0];
@@ -206,7 +216,8 @@ pub fn place_of(
     ensures nodes { nodes.new.items ≡ nodes.old.items }
     ensures capacity { vec_capacity nodes.new ≡ vec_capacity nodes.old }
     ensures found { IfSome result (λ at. at < deque_len parts.now) }
-    ensures place { IfSome result (λ at. (d : Part) → is_part_place id (slice_index_or parts.now.items at d) ≡ true) }
+    ensures place { IfSome result (λ at. (d : Part)
+        → is_part_place id (slice_index_or parts.now.items at d) ≡ true) }
     ensures none { result ≡ None → is_open id (pieces_of parts.now.items nodes.old.items) ≡ false }
 {
     let index = id as usize;

@@ -28,10 +28,10 @@ pub struct Named {
     pub documents: bool,
 }
 
-/// What decides of each variable whether it is named: the texts that it is given, whether a subrequest for access sets it,
-/// whether the server's program begins with its `set`, whether it is read where others could have set it, whether there are
-/// documents, and which variables they see, all without a list. What the first lists of the site read and set isn't in `exposed`
-/// and `auth`: `lists` say whether they hold.
+/// What decides of each variable whether it is named: the texts that it is given, whether a subrequest for access sets
+/// it, whether the server's program begins with its `set`, and whether it is read where others could have set it. Also
+/// whether there are documents, and which variables they see: all without a list. What the first lists of the site read
+/// and set isn't in `exposed` and `auth`: `lists` say whether they hold.
 #[derive(Drop)]
 pub struct Marks {
     pub lists: LevelLists,

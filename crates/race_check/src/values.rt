@@ -13,16 +13,16 @@ use crate::listed::ListKind;
 use crate::names::NameSet;
 use crate::reads::note_text;
 use byte_text::OutOfMemory;
-use ngx_variables::{Place, Value};
+use ngx_variables::{FileRoot, Value};
 use site_model::{AuthSet, IndexName, LastTry, Level, PageRule, PageTarget, Site, Tries};
 
-pub fn place_text(place: &Place) -> &Value
+pub fn place_text(place: &FileRoot) -> &Value
     ensures { result.now ≡ text_of place.now }
 {
     match place {
-        Place::Root(text) => text,
-        Place::Rest { text, .. } => text,
-        Place::Whole(text) => text,
+        FileRoot::Root(text) => text,
+        FileRoot::Rest { text, .. } => text,
+        FileRoot::Whole(text) => text,
     }
 }
 

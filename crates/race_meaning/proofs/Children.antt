@@ -5,7 +5,7 @@ use Rattle.file_tree.specs.Tree.{Tree}
 use Rattle.acts.specs.Vars.{Vars, look}
 use Rattle.http_types.specs.declared.words.Method.{Method}
 use Rattle.ngx_variables.specs.declared.request.Main.{Main}
-use Rattle.ngx_variables.specs.declared.request.Place.{Place}
+use Rattle.ngx_variables.specs.declared.request.FileRoot.{FileRoot}
 use Rattle.ngx_variables.specs.declared.request.Role.{Role}
 use Rattle.ngx_variables.specs.declared.request.Role.TheVariants.{Content, Auth, Main as MainRole}
 use Rattle.ssi_text.specs.declared.part.Part.{Part}
@@ -155,13 +155,13 @@ module _ (w : World) where
   abbrev AsAuth : Role → Type 0
   AsAuth r = r ≡ Auth
 
-  abbrev AnyPlace : Option Place → Type 0
+  abbrev AnyPlace : Option FileRoot → Type 0
   AnyPlace o = Unit {0}
 
   abbrev AuthFit : Main → Serving (Unit {0}) → Type 0
   AuthFit main m = Obeying.From (auth_rules main) (every w.server) anything m
 
-  pub every_place : (o : Option Place) → KnownPlace (every w.server) o
+  pub every_place : (o : Option FileRoot) → KnownPlace (every w.server) o
   every_place None = tt
   every_place (Some place) = known_text (every w.server) (text_of place) (λ name e. refl)
 

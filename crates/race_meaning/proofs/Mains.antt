@@ -6,7 +6,7 @@ use Rattle.acts.specs.Vars.{Vars, look, set}
 use Rattle.acts.specs.Act.{Done, Write, ◌>>=◌}
 use Rattle.acts.proofs.ActLaws.{look_after_set}
 use Rattle.ngx_variables.specs.declared.request.Main.{Main}
-use Rattle.ngx_variables.specs.declared.request.Place.{Place}
+use Rattle.ngx_variables.specs.declared.request.FileRoot.{FileRoot}
 use Rattle.ngx_variables.specs.declared.request.Request.{Request}
 use Rattle.ngx_variables.specs.declared.request.Role.{Role}
 use Rattle.ngx_variables.specs.declared.request.Role.TheVariants.{Content, Auth, Main as MainRole}
@@ -85,7 +85,7 @@ drop_false : (a c : Bool) → a ≡ false → (a || c) ≡ true → c ≡ true
 drop_false true c q h = no_false (sym q)
 drop_false false c q h = h
 
-module _ (w : World) (V : Values → Type 0) (T : Option Place → Type 0)
+module _ (w : World) (V : Values → Type 0) (T : Option FileRoot → Type 0)
     (levels : Each (LevelFits (every w.server) (is_fixed w.server) (fixed_value w.server) V (λ m. Unit {0})) (levels_of w.server))
     (place_has : (v : Values) → V v → T (Some v.place))
     (auth_sets : (v : Values) → V v → AllAuthSets (λ name. is_fixed w.server name ≡ false) v.auth_sets)

@@ -10,7 +10,7 @@ use Rattle.ngx_variables.specs.declared.variable.Variable.TheVariants.{Uri, Docu
 use Rattle.ngx_variables.specs.declared.value.Piece.{Piece}
 use Rattle.ngx_variables.specs.declared.value.Piece.TheVariants.{Literal, Group, Builtin, Argument, Field, Cookie, Set}
 use Rattle.ngx_variables.specs.declared.request.Main.{Main}
-use Rattle.ngx_variables.specs.declared.request.Place.{Place}
+use Rattle.ngx_variables.specs.declared.request.FileRoot.{FileRoot}
 use Rattle.ngx_variables.specs.declared.request.Request.{Request}
 use Rattle.ngx_variables.specs.declared.request.Role.TheVariants.{Content, Main as MainRole}
 use Rattle.ngx_variables.specs.Paths.{text_of}
@@ -142,7 +142,7 @@ abbrev pub Known : Names → Text → Type 0
 Known known [] = Unit {0}
 Known known (p ∷ ps) = KnownPiece known p × Known known ps
 
-abbrev pub KnownPlace : Names → Option Place → Type 0
+abbrev pub KnownPlace : Names → Option FileRoot → Type 0
 KnownPlace known None = Unit {0}
 KnownPlace known (Some place) = Known known (text_of place)
 
@@ -176,7 +176,7 @@ pub more_text : (a b : Names) (text : Text) → Covers a b → Known a text → 
 more_text a b [] c h = tt
 more_text a b (p ∷ ps) c h = (more_piece a b p c h.0, more_text a b ps c h.1)
 
-pub more_place : (a b : Names) (place : Option Place) → Covers a b → KnownPlace a place → KnownPlace b place
+pub more_place : (a b : Names) (place : Option FileRoot) → Covers a b → KnownPlace a place → KnownPlace b place
 more_place a b None c h = tt
 more_place a b (Some place) c h = more_text a b (text_of place) c h
 
@@ -262,7 +262,7 @@ module _ {r : Rules} {known : Names} (main : Main) (request : Request) where
   from_inner_pieces [] h = from_done _ tt
   from_inner_pieces (p ∷ ps) h = from_bind (from_inner_piece p h.0) (λ a _. from_bind (from_inner_pieces ps h.1) (λ b _. from_done _ tt))
 
-  from_file_paths : (place : Option Place) → KnownPlace known place → From r known anything (file_paths main request place)
+  from_file_paths : (place : Option FileRoot) → KnownPlace known place → From r known anything (file_paths main request place)
   unfolding file_paths
   from_file_paths None h = from_done _ tt
   from_file_paths (Some place) h = from_bind (from_inner_pieces (text_of place) h) (λ a _. from_done _ tt)
@@ -294,6 +294,6 @@ module _ {r : Rules} {known : Names} (main : Main) (request : Request) where
   unfolding target
   from_target text h l = from_bind (from_value (cut text).path (cut_path known text h) l) (λ a _. from_bind (from_some_value (cut text).args (cut_args known text h) l) (λ b _. from_done _ tt))
 
-  pub from_located : (place : Place) (uri : List ℕ) → Known known (text_of place) → KnownPlace known request.place → From r known anything (located_act main request place uri)
+  pub from_located : (place : FileRoot) (uri : List ℕ) → Known known (text_of place) → KnownPlace known request.place → From r known anything (located_act main request place uri)
   unfolding located_act
   from_located place uri h l = from_bind (from_value (text_of place) h l) (λ a _. from_done _ tt)

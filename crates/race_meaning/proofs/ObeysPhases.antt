@@ -8,7 +8,7 @@ use Rattle.file_path.specs.Located.{Located}
 use Rattle.file_path.specs.Located.Located.{TooLong, NotThere, At}
 use Rattle.http_types.specs.declared.words.Method.{Method}
 use Rattle.ngx_variables.specs.declared.request.Main.{Main}
-use Rattle.ngx_variables.specs.declared.request.Place.{Place}
+use Rattle.ngx_variables.specs.declared.request.FileRoot.{FileRoot}
 use Rattle.ngx_variables.specs.declared.request.Request.{Request}
 use Rattle.ngx_variables.specs.declared.request.Role.{Role}
 use Rattle.ngx_variables.specs.declared.request.Role.TheVariants.{Auth}
@@ -67,9 +67,9 @@ pub record AuthFits (kept fixed : Names) (asks : Role → Bool) (v : Values) : T
 -- What is asked of a server and of the body filters: R is so of the request's role, V of the values of all levels, T of the
 -- place of files, M of the main request, and Fits of a body that is written for it.
 pub record Fit (w : World) (left : ℕ) (kept fixed : Names) (value : Main → List ℕ → Option (List ℕ)) (asks : Role → Bool)
-    (R : Role → Type 0) (V : Values → Type 0) (T : Option Place → Type 0) (M : Main → Type 0) (Fits : Main → Serving (Unit {0}) → Type 0) : Type 0 where
+    (R : Role → Type 0) (V : Values → Type 0) (T : Option FileRoot → Type 0) (M : Main → Type 0) (Fits : Main → Serving (Unit {0}) → Type 0) : Type 0 where
   pub place_has : (v : Values) → V v → T (Some v.place)
-  pub place_known : (o : Option Place) → T o → KnownPlace kept o
+  pub place_known : (o : Option FileRoot) → T o → KnownPlace kept o
   pub reads : (v : Values) → V v → (name : List ℕ) → in_values name v ≡ true → kept name ≡ true
   pub auths : (r : Role) (v : Values) → R r → V v → is_main_role r ≡ true → AuthFits kept fixed asks v
   pub page_main : (r : Role) (main : Main) (method : Method) → R r → M main → M (main_with (is_main_role r) main method)
@@ -82,7 +82,7 @@ pub record Fit (w : World) (left : ℕ) (kept fixed : Names) (value : Main → L
       Fits main (Write [] (Bodies.body w (begun main s.request s.values left ssi) (filtered_marks w (facts_of s status kind) bytes)))
 
 module _ {w : World} {left : ℕ} {kept fixed : Names} {value : Main → List ℕ → Option (List ℕ)} {asks : Role → Bool}
-    {R : Role → Type 0} {V : Values → Type 0} {T : Option Place → Type 0} {M : Main → Type 0} {Fits : Main → Serving (Unit {0}) → Type 0}
+    {R : Role → Type 0} {V : Values → Type 0} {T : Option FileRoot → Type 0} {M : Main → Type 0} {Fits : Main → Serving (Unit {0}) → Type 0}
     (fit : Fit w left kept fixed value asks R V T M Fits)
   where
     abbrev rules : Main → Rules
@@ -246,7 +246,7 @@ module _ {w : World} {left : ℕ} {kept fixed : Names} {value : Main → List �
     all_known : (text : Text) → ((name : List ℕ) → kept name ≡ true) → Known kept text
     all_known text f = known_text kept text (λ name e. f name)
 
-    all_place : (place : Option Place) → ((name : List ℕ) → kept name ≡ true) → KnownPlace kept place
+    all_place : (place : Option FileRoot) → ((name : List ℕ) → kept name ≡ true) → KnownPlace kept place
     all_place None f = tt
     all_place (Some place) f = all_known (text_of place) f
 

@@ -5,8 +5,8 @@ use Rattle.acts.specs.Act.{◌>>=◌}
 use Rattle.file_path.specs.Located.{Located, located as located_path}
 use Rattle.file_path.specs.Located.Located.{TooLong, NotThere, At}
 use Rattle.ngx_variables.specs.declared.request.Main.{Main}
-use Rattle.ngx_variables.specs.declared.request.Place.{Place}
-use Rattle.ngx_variables.specs.declared.request.Place.TheVariants.{Whole}
+use Rattle.ngx_variables.specs.declared.request.FileRoot.{FileRoot}
+use Rattle.ngx_variables.specs.declared.request.FileRoot.TheVariants.{Whole}
 use Rattle.ngx_variables.specs.declared.request.Request.{Request}
 use Rattle.ngx_variables.specs.declared.request.Role.{Role}
 use Rattle.ngx_variables.specs.Grammar.{begins_with}
@@ -158,9 +158,9 @@ later_private kept settled block d program each name = by (each name)
 
 -- R is so of the request's role, V of the values of all levels, T of the place of files, M of the main request.
 module _ (w : World) (kept fixed : Names) (value : Main → List ℕ → Option (List ℕ)) (asks : Role → Bool)
-    (R : Role → Type 0) (V : Values → Type 0) (T : Option Place → Type 0) (M : Main → Type 0)
+    (R : Role → Type 0) (V : Values → Type 0) (T : Option FileRoot → Type 0) (M : Main → Type 0)
     (place_has : (v : Values) → V v → T (Some v.place))
-    (place_known : (o : Option Place) → T o → KnownPlace kept o)
+    (place_known : (o : Option FileRoot) → T o → KnownPlace kept o)
   where
     abbrev pub rules : Main → Rules
     rules main = record { kept = kept; fixed = fixed; value = value main; main = main; asks = asks }

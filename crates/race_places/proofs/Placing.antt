@@ -109,7 +109,7 @@ module _ (files : ℕ → List ℕ) where
   cut : (items bs : List Line) (us vs : List Source) → seen files items ≡ us → seen files bs ≡ vs → seen files (items ++ bs) ≡ us ++ vs
   cut items bs us vs a b = map-append (source_at files) items bs ∙ ap (λ x. x ++ seen files bs) a ∙ ap (λ x. us ++ x) b
 
-  -- what values read, and a program behind them
+  -- what values read, and a program after them
   level_read : (name : List ℕ) (v : Values) (program : Program) (o : Origins) → seen files (value_reads name v o ++ lines_of (in_directive name) program o.program) ≡ reads_in name (sources_by files v program o)
   unfolding reads_in
   level_read name v program o =

@@ -45,9 +45,9 @@ impl LineList {
     }
 }
 
-/// Where the values that hold in a level are stated, so far as they are, in the level or around it: its place, its `try_files`,
-/// and where the directives of its program are, one by one; and of its index names, its rules of `error_page` and its
-/// `auth_request_set`s the number of their lines among some lists, none where nothing is stated.
+/// Where the values that hold in a level are stated, in the level or around it: its place and its `try_files`, and
+/// where the directives of its program are, one by one. Of its index names, its rules of `error_page` and its
+/// `auth_request_set`s it has the number of their lines among some lists. There is none of what isn't stated.
 #[derive(Drop)]
 pub struct HeldLines {
     pub place: Option<Line>,

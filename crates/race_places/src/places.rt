@@ -167,7 +167,8 @@ pub fn sets_of(
     numbers: &[u32],
     lines: &[LinedLevel],
 ) -> Result<LineIndex, OutOfMemory>
-    ensures { IfOk result (λ sets. (lists : List (List Place)) (patterns : List Pattern) (name : List ℕ)
+    ensures { IfOk result (λ sets.
+        (lists : List (List Place)) (patterns : List Pattern) (name : List ℕ)
         → at sets name ≡ all_sets name (map (level_whole patterns site.now) numbers.now)
         (map (level_by lists) lines.now)) }
 {

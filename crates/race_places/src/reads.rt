@@ -68,7 +68,8 @@ impl Reads {
         ensures there { OnOk result
             (AreThere site.now lists.now self.new.marks.items self.new.index) }
         ensures gains { OnOk result (Gains self.old.index self.new.index
-            (λ name. list_reads site.now kind name (Some values) (list_at lists.now (Some lines)))) }
+            (λ name. list_reads site.now kind name (Some values)
+            (list_at lists.now (Some lines)))) }
     {
         if is_gone(self.marks.as_slice(), lines, kind, values) {
             return Ok(());

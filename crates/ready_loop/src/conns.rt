@@ -6,15 +6,16 @@ ghost use Rattle.ready_loop.specs.Standing.{Keeps, IsMatched};
 ghost use Rattle.ready_loop.specs.Turns.{AtRest, IsHeard, IsHeardBut};
 ghost use Rattle.ready_loop.specs.Tellings.{StandBeside};
 
-use crate::drain::{Buffers, drain};
+use crate::drain::drain;
 use crate::ids::Ids;
 use byte_text::OutOfMemory;
 use ngx_outside::{EventCore, Files, Links};
 
-/// What lives as long as the loop: its buffers, and which links may be due though their connections don't read yet.
+/// What lives as long as the loop: room for what is read of a link, and which links may be due though their connections don't
+/// read yet.
 #[derive(Drop)]
 pub struct Memory {
-    pub buffers: Buffers,
+    pub input: Vec<u8>,
     pub unread: Ids,
 }
 
@@ -79,7 +80,7 @@ pub fn serve_one<E: EventCore, F: Files, L: Links>(
     ensures grown { (F.seen files.old).newest ≤ (F.seen files.new).newest }
 {
     let due = either(due, memory.unread.has(conn));
-    let still_due = drain(core, files, links, &mut memory.buffers, conn, due)?;
+    let still_due = drain(core, files, links, &mut memory.input, conn, due)?;
     remember(&mut memory.unread, conn, still_due)?;
     Ok(())
 }

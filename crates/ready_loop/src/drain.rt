@@ -9,7 +9,7 @@ ghost use Rattle.ready_loop.specs.Tellings.{StandBeside};
 
 use crate::jobs::{job_one, run_one};
 use crate::links::{close_one, read_one, write_one};
-use byte_text::{ByteText, OutOfMemory};
+use byte_text::OutOfMemory;
 use ngx_outside::{EventCore, Files, Links, Want};
 
 /// What is remembered of a link: whether it was reported readable and not read since, and whether its last write found
@@ -20,19 +20,12 @@ pub struct Readiness {
     pub full: bool,
 }
 
-/// Buffers that live as long as the loop: for what is read of a link, and for a block of a file.
-#[derive(Drop)]
-pub struct Buffers {
-    pub input: Vec<u8>,
-    pub block: ByteText,
-}
-
-// Serves a want that can be served.
+// Serves a want that can be served. What is read of a link is read into `input`.
 fn serve_want<E: EventCore, F: Files, L: Links>(
     core: &mut E,
     files: &mut F,
     links: &mut L,
-    buffers: &mut Buffers,
+    input: &mut Vec<u8>,
     conn: u32,
     want: Want,
     ready: Readiness,
@@ -59,8 +52,8 @@ fn serve_want<E: EventCore, F: Files, L: Links>(
         (ready.full ≡ true → ((L.seen links.old).link conn).full ≡ true) →
         IfOk result (λ r. r.full ≡ true → ((L.seen links.new).link conn).full ≡ true) }
     ensures falls { IfOk result (λ r. work (E.seen core.old).terms.price
-        (vec_len buffers.old.input) r.due r.full (E.seen core.new).left < work
-        (E.seen core.old).terms.price (vec_len buffers.old.input) ready.due ready.full
+        (vec_len input.old) r.due r.full (E.seen core.new).left < work
+        (E.seen core.old).terms.price (vec_len input.old) ready.due ready.full
         (E.seen core.old).left) }
     ensures beside { OnOk result ((clock : Option (List ℕ)) →
         StandBeside (E.seen core.old).events (E.seen core.new).events (L.seen links.old).answers
@@ -77,11 +70,11 @@ fn serve_want<E: EventCore, F: Files, L: Links>(
         ((L.seen links.new).listening ≡ (L.seen links.old).listening) ×
         ((F.seen files.new).tells ≡ (F.seen files.old).tells) }
     ensures grown { (F.seen files.old).newest ≤ (F.seen files.new).newest }
-    ensures size { vec_len buffers.new.input ≡ vec_len buffers.old.input }
+    ensures size { vec_len input.new ≡ vec_len input.old }
 {
     match want {
         Want::Read { conn: _, room } => {
-            read_one(core, links, buffers.input.as_mut_slice(), conn, room);
+            read_one(core, links, input.as_mut_slice(), conn, room);
             Ok(Readiness {
                 due: false,
                 full: ready.full,
@@ -92,7 +85,7 @@ fn serve_want<E: EventCore, F: Files, L: Links>(
             Ok(ready)
         }
         Want::Job { conn: _, node } => {
-            job_one(core, files, &mut buffers.block, conn, node)?;
+            job_one(core, files, conn, node)?;
             Ok(ready)
         }
         Want::Write { conn: _ } => {
@@ -109,13 +102,13 @@ fn serve_want<E: EventCore, F: Files, L: Links>(
     }
 }
 
-/// Serves the wants of a connection, and those that come of it, until none can be served. `due` says whether its link is
-/// to be read; whether it still is to be is answered.
+/// Serves the wants of a connection, and those that come of it, until none can be served. What is read of its link is read
+/// into `input`. `due` says whether its link is to be read; whether it still is to be is answered.
 pub fn drain<E: EventCore, F: Files, L: Links>(
     core: &mut E,
     files: &mut F,
     links: &mut L,
-    buffers: &mut Buffers,
+    input: &mut Vec<u8>,
     conn: u32,
     due: bool,
 ) -> Result<bool, OutOfMemory>
@@ -155,7 +148,7 @@ pub fn drain<E: EventCore, F: Files, L: Links>(
 {
     let mut ready = Readiness { due, full: false };
     while let Some(want) = core.next_want(conn, ready.due, ready.full) {
-        ready = serve_want(core, files, links, buffers, conn, want, ready)?;
+        ready = serve_want(core, files, links, input, conn, want, ready)?;
     }
     Ok(ready.due)
 }

@@ -12,7 +12,7 @@ ghost use Rattle.ngx_outside.specs.Records.{Adds, FileAnswer, LinkAnswer, Failed
 ghost use Rattle.ready_loop.specs.Tellings.{StandBeside, answer_found};
 
 use crate::events::{file_done, job_failed, ran};
-use byte_text::{ByteText, OutOfMemory};
+use byte_text::OutOfMemory;
 use file_tree::{Ask, JobAnswer, Node};
 use ngx_outside::{EventCore, FileFault, Files};
 
@@ -41,15 +41,17 @@ pub enum Found {
     Block,
 }
 
-// Asks the files; a block of a file is put in place of what was read before.
-fn find<F: Files>(files: &mut F, ask: &Ask, block: &mut ByteText) -> Result<Found, FileFault>
+// Asks the files, which lend a block of a file.
+fn find<F: Files>(files: &mut F, ask: &Ask) -> Result<Found, FileFault>
     requires { tree_of ask.now ≤ (F.seen files.old).newest }
     ensures gives { IfOk result (λ found.
-        Gives (F.seen files.old).tells (F.seen files.old).trees ask.now found block.new) }
+        Gives (F.seen files.old).tells (F.seen files.old).trees ask.now found
+        (F.seen files.new).block) }
     ensures cause { IsErrOf result ReadFailed →
         Rose (F.seen files.old).faults (F.seen files.new).faults }
     ensures answers { IfOk result (λ found.
-        Adds (answer_found found block.new) (F.seen files.old).answers (F.seen files.new).answers) }
+        Adds (answer_found found (F.seen files.new).block) (F.seen files.old).answers
+        (F.seen files.new).answers) }
     ensures failed { OnErr result (Adds FailedFile (F.seen files.old).answers
         (F.seen files.new).answers) }
     ensures grown { Grown (F.seen files.old) (F.seen files.new) }
@@ -67,8 +69,7 @@ fn find<F: Files>(files: &mut F, ask: &Ask, block: &mut ByteText) -> Result<Foun
             count,
             of,
         } => {
-            block.clear();
-            files.read(path.as_slice(), *start, *count, *of, block)?;
+            files.read_block(path.as_slice(), *start, *count, *of)?;
             Ok(Found::Block)
         }
     }
@@ -78,7 +79,6 @@ fn find<F: Files>(files: &mut F, ask: &Ask, block: &mut ByteText) -> Result<Foun
 pub fn job_one<E: EventCore, F: Files>(
     core: &mut E,
     files: &mut F,
-    block: &mut ByteText,
     conn: u32,
     node: u32,
 ) -> Result<(), OutOfMemory>
@@ -102,13 +102,13 @@ pub fn job_one<E: EventCore, F: Files>(
     let Some(ask) = core.ask(conn, node) else {
         return Ok(());
     };
-    match find(files, ask, block) {
+    match find(files, ask) {
         Ok(Found::Node(node_there)) => {
             file_done(core, conn, node, JobAnswer::Stat(node_there));
             Ok(())
         }
         Ok(Found::Block) => {
-            file_done(core, conn, node, JobAnswer::Read(block.as_slice()));
+            file_done(core, conn, node, JobAnswer::Read(files.block()));
             Ok(())
         }
         Err(FileFault::Failed) => {

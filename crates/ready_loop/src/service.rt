@@ -7,12 +7,11 @@ ghost use Rattle.ready_loop.specs.Turns.{AtRest, IsHeard, TurnsTaken, ending_of}
 ghost use Rattle.ready_loop.specs.Tellings.{StandBeside, moments_told};
 
 use crate::conns::{Memory, remember_all, serve_all};
-use crate::drain::Buffers;
 use crate::hear::Heard;
 use crate::ids::Ids;
 use crate::timed::TimedCore;
 use crate::turn::take_turn;
-use byte_text::{ByteText, OutOfMemory};
+use byte_text::OutOfMemory;
 use http_types::Addr;
 use ngx_outside::{Clock, Failed, Files, Links};
 use std::alloc::Global;
@@ -166,10 +165,7 @@ fn serve_turns<E: TimedCore, F: Files, L: Links, C: Clock>(
         ((C.seen clock.new).tells ≡ (C.seen clock.old).tells)) }
 {
     let mut memory = Memory {
-        buffers: Buffers {
-            input: Vec::from_elem(alloc, 0u8, INPUT)?,
-            block: ByteText::new(alloc),
-        },
+        input: Vec::from_elem(alloc, 0u8, INPUT)?,
         unread: Ids::new(alloc),
     };
     let mut conns = Vec::new(alloc);

@@ -54,4 +54,4 @@ faults_of f = f.faults
 
 -- all that they show: there is one tree
 abbrev pub confs_shown : ConfFiles → FilesSeen
-confs_shown f = record { tells = true; trees = trees_of f; newest = 0; versions = None; answers = None; faults = faults_of f }
+confs_shown f = record { tells = true; trees = trees_of f; newest = 0; block = f.block.now; versions = None; answers = None; faults = faults_of f }

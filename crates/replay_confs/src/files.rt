@@ -4,19 +4,20 @@ ghost use Rattle.ngx_outside.specs.Causes.{Rose};
 ghost use Rattle.replay_confs.specs.Confs.{confs_of, faults_of, confs_shown};
 
 use crate::confs::{add_names, node_at, part, text_at};
-use byte_text::{ByteText, ByteTexts};
+use byte_text::ByteTexts;
 use file_tree::Node;
 use ngx_outside::{Failed, FileFault, Files, Listing};
 use replay_text::Conf;
 use std::alloc::Global;
 
 /// The configuration files of a script: each `conf` section is a file, the folders that lead to one are there, and nothing
-/// else is. There is one version of them. Only a read of bytes that a file doesn't hold fails.
+/// else is. There is one version of them. Only a read of bytes that a file doesn't hold fails. A block is lent from its section.
 #[derive(Drop)]
 pub struct ConfFiles<'a> {
     alloc: Global,
     confs: &'a [Conf],
     faults: u64,
+    block: &'a [u8],
 }
 
 impl<'a> ConfFiles<'a> {
@@ -29,6 +30,7 @@ impl<'a> ConfFiles<'a> {
             alloc,
             confs,
             faults: 0,
+            block: b"".as_slice(),
         }
     }
 
@@ -53,13 +55,16 @@ impl<'a> Files for ConfFiles<'a> {
         Ok(node_at(self.confs, path))
     }
 
-    fn read(
+    fn block(&self) -> &[u8] {
+        self.block
+    }
+
+    fn read_block(
         &mut self,
         path: &[u8],
         start: u64,
         count: u64,
         _of: u64,
-        out: &mut ByteText,
     ) -> Result<(), FileFault> {
         let Some(bytes) = text_at(self.confs, path) else {
             self.count_fault();
@@ -69,7 +74,7 @@ impl<'a> Files for ConfFiles<'a> {
             self.count_fault();
             return Err(FileFault::Failed);
         };
-        out.extend(piece)?;
+        self.block = piece;
         Ok(())
     }
 

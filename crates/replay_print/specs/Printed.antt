@@ -100,7 +100,7 @@ pub record IsRaw (bytes : List ℕ) : Type 0 where
   pub whole : flat_map ended (lines_of bytes) ≡ bytes
   pub no_dot : list_any is_dot (lines_of bytes) ≡ false
 
--- configurations of different paths, behind others
+-- configurations of different paths, after others
 abbrev pub AreConfs : List Conf → List Conf → Type 0
 AreConfs before [] = Unit {0}
 AreConfs before (conf ∷ confs) = IsPath conf.path × (is_path_among before conf.path ≡ false) × IsRaw conf.bytes × AreConfs (before ++ conf ∷ []) confs

@@ -3,11 +3,11 @@ ghost use Rattle.std.specs.Prelude.{◌≡◌, ◌≢◌, ◌≤◌, ◌<◌, �
 ghost use Rattle.file_tree.specs.Tree.{tree_of};
 ghost use Rattle.file_tree.specs.declared.job.Ask.{Ask as AskOf};
 ghost use Rattle.ngx_outside.specs.Views.{ask_in};
-ghost use Rattle.memory_outside.specs.Stored.{trees_of, newest_of, failing_of};
+ghost use Rattle.memory_outside.specs.Stored.{trees_of, newest_of, block_of, failing_of};
 ghost use Rattle.replay_run.specs.Told.{Told, told_of};
 ghost use Rattle.replay_run.specs.Scene.{IsFound, AnswersJob};
 
-use byte_text::{ByteText, OutOfMemory};
+use byte_text::OutOfMemory;
 use file_tree::{Ask, JobAnswer, Node};
 use memory_outside::MemoryFiles;
 use ngx_outside::{Event, EventCore, FileFault, Files, StepAnswer};
@@ -17,17 +17,18 @@ use ngx_outside::{Event, EventCore, FileFault, Files, StepAnswer};
 pub(crate) enum Found {
     /// What stands at a path.
     Stands(Node),
-    /// The bytes of a file, which lie in the block.
+    /// The bytes of a file, which are the files' block.
     Block,
     /// No such bytes.
     Nothing,
 }
 
-// Looks a job up in the tree that it asks of. The bytes of a file are put into the block, in place of what is there.
-fn find(files: &mut MemoryFiles, ask: &Ask, block: &mut ByteText) -> Result<Found, OutOfMemory>
+// Looks a job up in the tree that it asks of. The bytes of a file are lent as the files' block.
+fn find(files: &mut MemoryFiles, ask: &Ask) -> Result<Found, OutOfMemory>
     requires known { tree_of ask.now ≤ newest_of files.old }
     requires sure { failing_of files.old ≡ [] }
-    ensures found { IfOk result (λ found. IsFound (trees_of files.old) ask.now found block.new) }
+    ensures found { IfOk result (λ found. IsFound (trees_of files.old) ask.now found
+        (block_of files.new)) }
     ensures told { told_of files.new ≡ told_of files.old }
     ensures sure { failing_of files.new ≡ [] }
 {
@@ -41,14 +42,11 @@ fn find(files: &mut MemoryFiles, ask: &Ask, block: &mut ByteText) -> Result<Foun
             start,
             count,
             of,
-        } => {
-            block.clear();
-            match files.read(path.as_slice(), *start, *count, *of, block) {
-                Ok(()) => Ok(Found::Block),
-                Err(FileFault::Failed) => Ok(Found::Nothing),
-                Err(FileFault::OutOfMemory) => Err(OutOfMemory),
-            }
-        }
+        } => match files.read_block(path.as_slice(), *start, *count, *of) {
+            Ok(()) => Ok(Found::Block),
+            Err(FileFault::Failed) => Ok(Found::Nothing),
+            Err(FileFault::OutOfMemory) => Err(OutOfMemory),
+        },
     }
 }
 
@@ -58,7 +56,7 @@ fn give_found<E: EventCore>(
     conn: u32,
     node: u32,
     found: Found,
-    block: &ByteText,
+    block: &[u8],
 ) -> StepAnswer
     ensures answers { (told : Told) (ask : AskOf) →
         ask_in ((E.seen core.old).view conn).jobs node ≡ Some ask → tree_of ask ≤ told.newest →
@@ -79,18 +77,17 @@ fn give_found<E: EventCore>(
         Found::Block => core.step(Event::FileDone {
             conn,
             node,
-            answer: JobAnswer::Read(block.as_slice()),
+            answer: JobAnswer::Read(block),
         }),
         Found::Nothing => core.step(Event::JobFailed { conn, node }),
     }
 }
 
 /// Answers a node's job from the tree that it asks of; it fails where that tree has no answer to it. Nothing happens where
-/// the node has no job. The block holds the bytes that were read last.
+/// the node has no job.
 pub(crate) fn answer_job<E: EventCore>(
     core: &mut E,
     files: &mut MemoryFiles,
-    block: &mut ByteText,
     conn: u32,
     node: u32,
 ) -> Result<StepAnswer, OutOfMemory>
@@ -108,6 +105,6 @@ pub(crate) fn answer_job<E: EventCore>(
     let Some(ask) = core.ask(conn, node) else {
         return Ok(StepAnswer::Skipped);
     };
-    let found = find(files, ask, block)?;
-    Ok(give_found(core, conn, node, found, block))
+    let found = find(files, ask)?;
+    Ok(give_found(core, conn, node, found, files.block()))
 }

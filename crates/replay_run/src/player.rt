@@ -10,7 +10,7 @@ ghost use Rattle.ngx_outside.specs.Wants.{wants_at};
 use crate::jobs::answer_job;
 use crate::serve::{end_if_due, offer, open as open_on, write as write_on};
 use crate::{InputEnd, Lane, LinkEnds};
-use byte_text::{ByteText, OutOfMemory};
+use byte_text::OutOfMemory;
 use http_types::Addr;
 use memory_outside::MemoryFiles;
 use ngx_outside::{Event, EventCore, StepAnswer, Want};
@@ -182,7 +182,6 @@ fn run<E: EventCore>(core: &mut E, conn: u32, node: u32) -> StepAnswer
 pub struct Player {
     pub(crate) alloc: Global,
     pub lanes: Vec<Lane>,
-    block: ByteText,
 }
 
 impl Player {
@@ -193,7 +192,6 @@ impl Player {
         Player {
             alloc,
             lanes: Vec::new(alloc),
-            block: ByteText::new(alloc),
         }
     }
 
@@ -337,7 +335,7 @@ impl Player {
             work (E.seen core.old).terms.price (E.seen core.new).left self.new.lanes.items < work
             (E.seen core.old).terms.price (E.seen core.old).left self.old.lanes.items) }
     {
-        let answer = answer_job(core, files, &mut self.block, conn, node)?;
+        let answer = answer_job(core, files, conn, node)?;
         Ok(answer)
     }
 

@@ -270,7 +270,7 @@ events_more k used after n m front now one line all rest total h next passed at 
     ∙ ap (with_events front) (sym (events_step used n line rest passed ∙ ap (λ r. r >>= λ one. events_of one.1 (n + 1) rest >>= λ others. Ok (one.0 ∷ others)) read))
     ∙ ap (λ ls. with_events front (events_of used n ls)) (sym h) ∙ so_far
 
--- behind raw lines there are no more lines than from them on
+-- after raw lines there are no more lines than from them on
 NoMore : ℕ → Result (List ℕ × Place) ScriptFault → Type 0
 NoMore n (Ok x) = length x.1.lines ≤ n
 NoMore n (Err f) = Unit {0}

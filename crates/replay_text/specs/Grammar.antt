@@ -31,7 +31,7 @@ place n lines = record { number = n; lines = lines }
 abbrev pub is_path_among : List Conf → List ℕ → Bool
 is_path_among confs path = list_any (λ conf. same conf.path path) confs
 
--- `conf PATH`, of a path that stands in no `conf` line before
+-- `conf PATH`, of a path that is in no `conf` line before
 unfoldable pub conf_line : List Conf → List ℕ → Result (List ℕ) FaultKind
 conf_line before line = do
   words ← words_of line
@@ -39,7 +39,7 @@ conf_line before line = do
   path ← path_line rest.1
   if is_path_among before path then Err Section else Ok path
 
--- the line `tree`, behind a `conf` section at least
+-- the line `tree`, after a `conf` section at least
 unfoldable pub tree_head : List Conf → List ℕ → Result (Option (List ℕ)) FaultKind
 tree_head [] line = Err Section
 tree_head (conf ∷ confs) line = if is_tree line then Ok None else Err Word
@@ -61,8 +61,8 @@ unfoldable pub raw_text : List (List ℕ) → List ℕ
 raw_text [] = []
 raw_text (line ∷ lines) = if is_dot line then [] else line ++ 10 ∷ raw_text lines
 
--- The `conf` sections and the line `tree` behind them: the configurations, with those before, and the place where
--- the lines of the tree begin.
+-- The `conf` sections and the line `tree` after them: the configurations, with those before, and the place where the
+-- lines of the tree begin.
 unfoldable mutual
   pub confs_of : List Conf → ℕ → List (List ℕ) → Result (List Conf × Place) ScriptFault
   confs_of before n [] = ends_at n
@@ -73,12 +73,12 @@ unfoldable mutual
         | Some path ↦ behind_dot (before ++ record { path = path; bytes = raw_text lines } ∷ []) (n + 1) lines
       ])
 
-  -- the same behind the next line `.`
+  -- the same after the next line `.`
   pub behind_dot : List Conf → ℕ → List (List ℕ) → Result (List Conf × Place) ScriptFault
   behind_dot before n [] = ends_at n
   behind_dot before n (line ∷ lines) = if is_dot line then confs_of before (n + 1) lines else behind_dot before (n + 1) lines
 
--- the lines of sections that can't stand in the tree: `conf` with more words, or `tree` or `events` alone
+-- the lines of sections that can't be in the tree: `conf` with more words, or `tree` or `events` alone
 abbrev pub is_section_in_tree : List (List ℕ) → Bool
 is_section_in_tree [] = false
 is_section_in_tree (name ∷ []) = is_tree name || is_events name
@@ -108,7 +108,7 @@ line_in_events used line =
       name ← first_word words
       event_line used (keyword_of name.0) name.1)
 
--- the lines of the tree, how many bytes their sums have, and the place behind the line `.` that ends them
+-- the lines of the tree, how many bytes their sums have, and the place after the line `.` that ends them
 unfoldable pub tree_of : ℕ → ℕ → List (List ℕ) → Result (List TreeLine × ℕ × Place) ScriptFault
 tree_of used n [] = ends_at n
 tree_of used n (line ∷ lines) =
@@ -124,7 +124,7 @@ unfoldable pub events_head : List ℕ → Result (Unit {0}) FaultKind
 events_head line =
     if is_events (front_of (pieces_of line)) then (if is_events line then Ok tt else Err Word) else Err Section
 
--- the place behind the line `events`
+-- the place after the line `events`
 unfoldable pub behind_events : ℕ → List (List ℕ) → Result Place ScriptFault
 behind_events n [] = ends_at n
 behind_events n (line ∷ lines) =

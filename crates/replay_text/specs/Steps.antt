@@ -8,7 +8,7 @@ use Rattle.replay_text.specs.declared.parts.EventLine.{EventLine}
 use Rattle.replay_text.specs.Faults.{ends_at}
 use Rattle.replay_text.specs.Grammar.{Place, place}
 
--- the raw lines up to the line `.`, and the place behind it
+-- the raw lines up to the line `.`, and the place after it
 unfoldable pub raw_at : ℕ → List (List ℕ) → Result (List ℕ × Place) ScriptFault
 raw_at n [] = ends_at n
 raw_at n (line ∷ lines) =

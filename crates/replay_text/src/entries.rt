@@ -14,7 +14,7 @@ use replay_words::{
 };
 use std::alloc::Global;
 
-/// `file PATH DATE BYTES`, behind the first word.
+/// `file PATH DATE BYTES`, after the first word.
 #[tactic(auto, unfolding(crate::specs::Entries::file_line))]
 fn file_line(alloc: Global, used: u64, words: Words<'_>) -> Result<(TreeLine, u64), LineError>
     requires { used ≤ most_bytes }
@@ -69,7 +69,7 @@ pub fn tree_line(
     }
 }
 
-/// `open CONN LOCAL PEER`, behind the first word.
+/// `open CONN LOCAL PEER`, after the first word.
 #[tactic(auto, unfolding(crate::specs::Entries::open_line))]
 fn open_line(words: Words<'_>) -> Result<EventLine, LineError>
     ensures { LineGives (λ e. e) result (open_line words.entry) }
@@ -83,7 +83,7 @@ fn open_line(words: Words<'_>) -> Result<EventLine, LineError>
     Ok(EventLine::Open { conn, local, peer })
 }
 
-/// `bytes CONN BYTES`, behind the first word.
+/// `bytes CONN BYTES`, after the first word.
 #[tactic(auto, unfolding(crate::specs::Entries::bytes_line))]
 fn bytes_line(alloc: Global, used: u64, words: Words<'_>) -> Result<(EventLine, u64), LineError>
     requires { used ≤ most_bytes }
@@ -121,7 +121,7 @@ fn some_byte(bytes: &ByteText) -> Result<(), LineError>
     }
 }
 
-/// `end CONN`, behind the first word.
+/// `end CONN`, after the first word.
 #[tactic(auto, unfolding(crate::specs::Entries::end_line))]
 fn end_line(words: Words<'_>) -> Result<EventLine, LineError>
     ensures { LineGives (λ e. e) result (end_line words.entry) }
@@ -131,7 +131,7 @@ fn end_line(words: Words<'_>) -> Result<EventLine, LineError>
     Ok(EventLine::End { conn })
 }
 
-/// `room CONN COUNT`, behind the first word.
+/// `room CONN COUNT`, after the first word.
 #[tactic(auto, unfolding(crate::specs::Entries::room_line))]
 fn room_line(words: Words<'_>) -> Result<EventLine, LineError>
     ensures { LineGives (λ e. e) result (room_line words.entry) }
@@ -173,7 +173,7 @@ fn fails_of(words: Words<'_>) -> Result<bool, LineError>
     }
 }
 
-/// `file CONN NODE` or `file CONN NODE fail`, behind the first word.
+/// `file CONN NODE` or `file CONN NODE fail`, after the first word.
 #[tactic(auto, unfolding(crate::specs::Entries::answer_line))]
 fn answer_line(words: Words<'_>) -> Result<EventLine, LineError>
     ensures { LineGives (λ e. e) result (answer_line words.entry) }
@@ -188,7 +188,7 @@ fn answer_line(words: Words<'_>) -> Result<EventLine, LineError>
     Ok(EventLine::File { conn, node })
 }
 
-/// `run CONN NODE`, behind the first word.
+/// `run CONN NODE`, after the first word.
 #[tactic(auto, unfolding(crate::specs::Entries::run_line))]
 fn run_line(words: Words<'_>) -> Result<EventLine, LineError>
     ensures { LineGives (λ e. e) result (run_line words.entry) }
@@ -199,7 +199,7 @@ fn run_line(words: Words<'_>) -> Result<EventLine, LineError>
     Ok(EventLine::Run { conn, node })
 }
 
-/// `tick SECONDS`, behind the first word.
+/// `tick SECONDS`, after the first word.
 #[tactic(auto, unfolding(crate::specs::Entries::tick_line))]
 fn tick_line(words: Words<'_>) -> Result<EventLine, LineError>
     ensures { LineGives (λ e. e) result (tick_line words.entry) }
@@ -209,7 +209,7 @@ fn tick_line(words: Words<'_>) -> Result<EventLine, LineError>
     Ok(EventLine::Tick { now })
 }
 
-/// `drain`, behind the first word.
+/// `drain`, after the first word.
 #[tactic(auto, unfolding(crate::specs::Entries::drain_line))]
 fn drain_line(words: Words<'_>) -> Result<EventLine, LineError>
     ensures { LineGives (λ e. e) result (drain_line words.entry) }
@@ -242,7 +242,7 @@ fn change_line(
     }
 }
 
-/// A change of the tree, behind the word `tree`.
+/// A change of the tree, after the word `tree`.
 #[tactic(auto, unfolding(crate::specs::Entries::tree_event))]
 fn tree_event(alloc: Global, used: u64, words: Words<'_>) -> Result<(EventLine, u64), LineError>
     requires { used ≤ most_bytes }
@@ -256,7 +256,8 @@ fn tree_event(alloc: Global, used: u64, words: Words<'_>) -> Result<(EventLine, 
 /// An event whose line has no sum.
 fn alone(used: u64, event: Result<EventLine, LineError>) -> Result<(EventLine, u64), LineError>
     requires { used ≤ most_bytes }
-    ensures value { (read : Result EventLine FaultKind) → LineGives (λ e. e) event read → LineGives (λ x. x) result (alone used read) }
+    ensures value { (read : Result EventLine FaultKind) → LineGives (λ e. e) event read
+        → LineGives (λ x. x) result (alone used read) }
     ensures within { IfOk result (λ x. x.1 ≤ most_bytes) }
 {
     let event = event?;

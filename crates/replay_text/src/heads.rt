@@ -78,7 +78,7 @@ pub fn head_of(alloc: Global, before: &[Conf], line: &[u8]) -> Result<Option<Byt
     Err(LineError::Fault(FaultKind::Section))
 }
 
-/// Whether a line of these pieces begins or ends a section, and can't stand in the tree.
+/// Whether a line of these pieces begins or ends a section, and can't be in the tree.
 fn is_section_in_tree(pieces: Words<'_>) -> bool
     ensures { result ≡ is_section_in_tree pieces.entry }
 {

@@ -43,7 +43,7 @@ pub enum EventLine {
     Bytes { conn: u32, bytes: ByteText },
     /// No more bytes come.
     End { conn: u32 },
-    /// Up to so many bytes can be sent.
+    /// Up to `count` bytes can be sent.
     Room { conn: u32, count: u64 },
     /// The node's job is answered from the tree.
     File { conn: u32, node: u32 },
@@ -51,7 +51,7 @@ pub enum EventLine {
     FileFails { conn: u32, node: u32 },
     /// The node goes on.
     Run { conn: u32, node: u32 },
-    /// The moment is now so many seconds since 1970.
+    /// The moment is now `now` seconds since 1970.
     Tick { now: u64 },
     /// The tree changes by this line.
     Tree { line: TreeLine },

@@ -38,10 +38,12 @@ impl<'a> Spot<'a> {
         self.number
     }
 
-    /// The next line and the place behind it, if there is one.
+    /// The next line and the place after it, if there is one.
     pub fn line(self) -> Option<(&'a [u8], Spot<'a>)>
-        ensures lines { MatchOption result (self.entry.lines ≡ []) (λ x. self.entry.lines ≡ x.0.now ∷ x.1.lines) }
-        ensures number { MatchOption result (self.entry.lines ≡ []) (λ x. x.1.number ≡ self.entry.number + 1) }
+        ensures lines { MatchOption result (self.entry.lines ≡ [])
+            (λ x. self.entry.lines ≡ x.0.now ∷ x.1.lines) }
+        ensures number { MatchOption result (self.entry.lines ≡ [])
+            (λ x. x.1.number ≡ self.entry.number + 1) }
     {
         match next_line(self.rest) {
             None => None,

@@ -32,7 +32,7 @@ fn ends_at(line: u64) -> ScriptError
     })
 }
 
-/// The raw lines up to the line `.`, and the place behind it.
+/// The raw lines up to the line `.`, and the place after it.
 fn raw_at<'a>(alloc: Global, spot: Spot<'a>) -> Result<(ByteText, Spot<'a>), ScriptError>
     ensures { Gives (λ x. x) result (raw_at spot.entry.number spot.entry.lines) }
 {
@@ -67,7 +67,7 @@ fn head_at(
     }
 }
 
-/// The `conf` sections and the line `tree`, and the place behind it.
+/// The `conf` sections and the line `tree`, and the place after it.
 pub fn confs_of<'a>(alloc: Global, spot: Spot<'a>) -> Result<(Confs, Spot<'a>), ScriptError>
     ensures { Gives (λ x. x) result (confs_of [] spot.entry.number spot.entry.lines) }
 {
@@ -108,7 +108,7 @@ fn tree_at(
     }
 }
 
-/// The lines of the tree, how many bytes their sums have, and the place behind the line `.`.
+/// The lines of the tree, how many bytes their sums have, and the place after the line `.`.
 pub fn tree_of<'a>(alloc: Global, spot: Spot<'a>) -> Result<(TreeLines, u64, Spot<'a>), ScriptError>
     ensures value { Gives (λ x. x) result (tree_of 0 spot.entry.number spot.entry.lines) }
     ensures within { IfOk result (λ x. x.1 ≤ most_bytes) }
@@ -145,7 +145,7 @@ fn events_at(number: u64, line: &[u8]) -> Result<(), ScriptError>
     }
 }
 
-/// The place behind the line `events`.
+/// The place after the line `events`.
 pub fn behind_events(spot: Spot<'_>) -> Result<Spot<'_>, ScriptError>
     ensures { Gives (λ x. x) result (behind_events spot.entry.number spot.entry.lines) }
 {
@@ -181,7 +181,7 @@ fn event_at(
     }
 }
 
-/// The events up to the end of the text, where the sums of the tree have so many bytes.
+/// The events up to the end of the text, where the sums of the tree have `used` bytes.
 pub fn events_of(alloc: Global, used: u64, spot: Spot<'_>) -> Result<EventLines, ScriptError>
     requires { used ≤ most_bytes }
     ensures { Gives (λ x. x) result (events_of used spot.entry.number spot.entry.lines) }

@@ -7,7 +7,7 @@ use Rattle.replay_words.specs.declared.faults.FaultKind.{FaultKind}
 use Rattle.replay_words.specs.declared.faults.FaultKind.TheVariants.{Escape}
 use Rattle.replay_words.specs.Escapes.{is_hex, unescaped, behind_percent, onto, with_byte, measured}
 
--- how many bytes stand before the first `%`
+-- how many bytes come before the first `%`
 abbrev before : List ℕ → ℕ
 before bs = position_or_len (λ b. eqb b 37) bs
 
@@ -43,7 +43,7 @@ cut_by b bs false h ih =
     let e : 1 + before bs ≡ suc (before bs) = omega arith in
     rw e (ap (with_byte b) (ih (omega arith)) ∙ with_byte-onto b _ _)
 
--- what stands before the first `%` stands for itself
+-- what comes before the first `%` stands for itself
 pub unescaped_cut : (bs : List ℕ) → before bs < length bs → unescaped bs ≡ onto (take (before bs) bs) (behind_percent (drop (suc (before bs)) bs))
 unfolding unescaped
 unescaped_cut [] h = absurd (omega arith)
@@ -54,7 +54,7 @@ unescaped_cut_at bs at e h =
     let P : ℕ → Type 0 = λ n. n < length bs → unescaped bs ≡ onto (take n bs) (behind_percent (drop (n + 1) bs)) in
     subst P (sym e) (λ k. rw add-one (unescaped_cut bs k)) h
 
--- the digits behind a `%`
+-- the digits after a `%`
 pub behind_short : (bs : List ℕ) → length bs < 2 → behind_percent bs ≡ Err Escape
 unfolding behind_percent
 behind_short [] h = refl

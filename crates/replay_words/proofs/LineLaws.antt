@@ -3,11 +3,11 @@ use Rattle.std.proofs.Common.{◌≡◌, ℕ, suc, ◌+◌, ◌<◌, Bool, true,
 use Rattle.std.specs.List.{position_or_len}
 use Rattle.replay_words.specs.Lines.{begun, lines_of, pieces_of}
 
--- how many bytes stand before the byte
+-- how many bytes come before the byte
 abbrev before : ℕ → List ℕ → ℕ
 before c bs = position_or_len (λ b. eqb b c) bs
 
--- how the pieces of a text that has a byte come from those of the text behind it
+-- how the pieces of a text that has a byte come from those of the text after it
 abbrev pub Cuts : ℕ → (List ℕ → List (List ℕ)) → Type 0
 Cuts c F = (b : ℕ) (bs : List ℕ) → F (b ∷ bs) ≡ cond (eqb b c) ([] ∷ F bs) (begun b (F bs))
 
@@ -17,7 +17,7 @@ cut_by F c b bs false h ih =
     let e : 1 + before c bs ≡ suc (before c bs) = omega arith in
     rw e (ap (begun b) (ih (omega arith)))
 
--- up to the byte stands the first piece, and behind it the others
+-- up to the byte is the first piece, and after it are the others
 pub pieces_cut : (F : List ℕ → List (List ℕ)) (c : ℕ) → Cuts c F → (bs : List ℕ) → before c bs < length bs → F bs ≡ take (before c bs) bs ∷ F (drop (suc (before c bs)) bs)
 pieces_cut F c step [] h = absurd (omega arith)
 pieces_cut F c step (b ∷ bs) h = step b bs ∙ cut_by F c b bs (eqb b c) h (pieces_cut F c step bs)
@@ -56,7 +56,7 @@ pieces_empty : pieces_of [] ≡ [] ∷ []
 unfolding pieces_of
 pieces_empty = refl
 
--- the lines of a text, up to its first line feed and behind it
+-- the lines of a text, up to its first line feed and after it
 pub lines_cut : (bs : List ℕ) (at : ℕ) → at ≡ before 10 bs → at < length bs → lines_of bs ≡ take at bs ∷ lines_of (drop (at + 1) bs)
 lines_cut bs at e h =
     let P : ℕ → Type 0 = λ n. n < length bs → lines_of bs ≡ take n bs ∷ lines_of (drop (n + 1) bs) in
@@ -71,7 +71,7 @@ pieces_cut_at bs at e h =
     let P : ℕ → Type 0 = λ n. n < length bs → pieces_of bs ≡ take n bs ∷ pieces_of (drop (n + 1) bs) in
     subst P (sym e) (λ k. rw add-one (pieces_cut pieces_of 32 pieces_step bs k)) h
 
--- the pieces of a line, up to its first space and behind it
+-- the pieces of a line, up to its first space and after it
 pub pieces_whole : (bs : List ℕ) → before 32 bs ≡ length bs → pieces_of bs ≡ bs ∷ []
 pieces_whole [] e = pieces_empty
 pieces_whole (b ∷ bs) e = pieces_step b bs ∙ whole_by pieces_of 32 b bs (eqb b 32) e (begun_whole pieces_of 32 pieces_step pieces_none b bs)

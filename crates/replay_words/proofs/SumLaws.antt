@@ -67,7 +67,7 @@ pub counts_end : (front : List Counted) (ts : List TermWords) (i : ℕ) (total :
 counts_end front ts i total le so_far =
     sym so_far ∙ ap (λ xs. with_counted front (counts_of (term_views xs))) (drop_of_length-le ts le) ∙ ap (with_counted front) counts_none ∙ ap Ok (append-nil front)
 
--- a text so many times
+-- a text this many times
 
 pub repeated-add : (m n : ℕ) (text : List ℕ) → repeated (m + n) text ≡ repeated m text ++ repeated n text
 repeated-add zero n text = ap (λ k. repeated k text) (zero-add n)
@@ -113,7 +113,7 @@ counted_len n old new text (Ok others) h =
     ap Ok (omega arith)
 counted_len n old new text (Err kind) h = refl
 
--- a term behind other bytes
+-- a term after other bytes
 
 pub term_put : (n : ℕ) (old text bytes new : List ℕ) (r : Result (List ℕ) FaultKind) → onto old r ≡ Ok bytes → new ≡ take (length old) bytes ++ repeated n (drop (length old) bytes) → onto old (times_text n r) ≡ Ok new
 term_put n old text bytes new (Ok t) h k =

@@ -9,7 +9,7 @@ use Rattle.replay_words.specs.Words.{is_plus, is_times}
 use Rattle.replay_words.specs.Sums.{Term, terms_of, behind_times, with_term}
 use Rattle.replay_words.specs.Steps.{times_at, term_at, with_terms}
 
--- a term, and the terms in the words behind it
+-- a term, and the terms in the words after it
 abbrev more : Term × Option (List (List ℕ)) → Result (List Term) FaultKind
 more (t, None) = Ok (t ∷ [])
 more (t, Some words) = with_term t (terms_of words)
@@ -52,7 +52,7 @@ terms_fail lines.OutOfMemory front words total h so_far = tt
 terms_fail (lines.Fault kind) front words total h so_far =
     sym so_far ∙ ap (with_terms front) (terms_step words ∙ ap (λ r. r >>= more) h)
 
--- the words behind a term are fewer
+-- the words after a term are fewer
 Fewer : ℕ → Result (Term × Option (List (List ℕ))) FaultKind → Type 0
 Fewer n (Ok (t, Some words)) = length words < n
 Fewer n (Ok (t, None)) = Unit {0}

@@ -19,7 +19,7 @@ end_of None port = Err Word
 end_of (Some ip) None = Err Word
 end_of (Some ip) (Some port) = Ok (record { ip = ip; port = port })
 
--- what stands behind a colon is a port
+-- what comes after a colon is a port
 abbrev pub port_behind : Option (List ℕ) → Option ℕ
 port_behind None = None
 port_behind (Some text) = port_of text
@@ -28,7 +28,7 @@ port_behind (Some text) = port_of text
 abbrev pub addr_v4 : List ℕ → Result Addr FaultKind
 addr_v4 text = end_of (ipv4_of (before_byte 58 text)) (port_behind (behind_byte 58 text))
 
--- behind the opening bracket: an IPv6 address, the closing one, a colon and a port
+-- after the opening bracket: an IPv6 address, the closing one, a colon and a port
 abbrev pub addr_v6 : List ℕ → Result Addr FaultKind
 addr_v6 text = end_of (ipv6_of (before_byte 93 text)) (port_behind (behind_colon (behind_byte 93 text)))
 

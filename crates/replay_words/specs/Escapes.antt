@@ -36,7 +36,7 @@ abbrev pub onto : List ℕ → Result (List ℕ) FaultKind → Result (List ℕ)
 onto front (Ok bs) = Ok (front ++ bs)
 onto front (Err kind) = Err kind
 
--- how many bytes were read, behind so many others
+-- how many bytes were read, after n others
 abbrev pub measured : ℕ → Result (List ℕ) FaultKind → Result ℕ FaultKind
 measured n (Ok bs) = Ok (n + length bs)
 measured n (Err kind) = Err kind

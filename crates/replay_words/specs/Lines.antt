@@ -11,12 +11,12 @@ unfoldable pub lines_of : List ℕ → List (List ℕ)
 lines_of [] = []
 lines_of (b ∷ bs) = if b == 10 then [] ∷ lines_of bs else begun b (lines_of bs)
 
--- what stands between the spaces of a line, empty texts too
+-- what is between the spaces of a line, empty texts too
 unfoldable pub pieces_of : List ℕ → List (List ℕ)
 pieces_of [] = [] ∷ []
 pieces_of (b ∷ bs) = if b == 32 then [] ∷ pieces_of bs else begun b (pieces_of bs)
 
--- the pieces behind a space, if one was there
+-- the pieces after a space, if there is one
 abbrev pub pieces_behind : Option (List ℕ) → List (List ℕ)
 pieces_behind None = []
 pieces_behind (Some text) = pieces_of text

@@ -23,7 +23,7 @@ most_id = 4294967295
 unfoldable pub most_room : ℕ
 most_room = 18446744073709551615
 
--- the greatest number of times that a term stands for
+-- the greatest number of times that a term may take its word
 unfoldable pub most_times : ℕ
 most_times = 16777216
 

@@ -7,7 +7,7 @@ use Rattle.replay_words.specs.Words.{is_plus, is_times, is_dash_alone}
 use Rattle.replay_words.specs.Numbers.{number, most_times}
 use Rattle.replay_words.specs.Escapes.{unescaped}
 
--- a term of a sum: a word, and the word of how many times it stands, if there is one
+-- a term of a sum: a word, and the word that says how many times it is taken, if there is one
 pub record Term : Type 0 where
   pub word : List ℕ
   pub times : Option (List ℕ)
@@ -46,7 +46,7 @@ unfoldable mutual
 unfoldable pub sum_of : List (List ℕ) → Result (List Term) FaultKind
 sum_of words = if is_dash_alone words then Ok [] else terms_of words
 
--- how many times a term stands
+-- how many times the word of a term is taken
 abbrev pub count_of : Option (List ℕ) → Result ℕ FaultKind
 count_of None = Ok 1
 count_of (Some times) = number most_times times
@@ -59,7 +59,7 @@ counts_of (term ∷ terms) = do
   others ← counts_of terms
   Ok (record { word = term.word; count = count } ∷ others)
 
--- a text so many times
+-- a text this many times
 abbrev pub repeated : ℕ → List ℕ → List ℕ
 repeated zero text = []
 repeated (suc n) text = text ++ repeated n text
@@ -76,7 +76,7 @@ sum_bytes (term ∷ terms) = do
 unfoldable pub most_bytes : ℕ
 most_bytes = 67108864
 
--- the bytes of a sum, where this many bytes of the script stand before it
+-- the bytes of a sum, where `used` bytes of the script come before it
 unfoldable pub bytes_within : ℕ → List Counted → Result (List ℕ) FaultKind
 bytes_within used terms = do
   bytes ← sum_bytes terms

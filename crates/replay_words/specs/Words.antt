@@ -86,7 +86,7 @@ one_word [] = Err Word
 one_word (a ∷ []) = Ok a
 one_word (a ∷ b ∷ rest) = Err Word
 
--- a word, and the words behind it
+-- a word, and the words after it
 abbrev pub first_word : List (List ℕ) → Result (List ℕ × List (List ℕ)) FaultKind
 first_word [] = Err Word
 first_word (a ∷ rest) = Ok (a, rest)

@@ -25,16 +25,19 @@ fn hex_digit(byte: u8) -> Option<u8>
 
 /// The byte of two hexadecimal digits.
 fn hex_byte(high: u8, low: u8) -> Option<u8>
-    ensures { MatchOption result ((is_hex high && is_hex low) ≡ false) (λ b. ((is_hex high && is_hex low) ≡ true) × (b ≡ 16 * digit_value high + digit_value low)) }
+    ensures { MatchOption result ((is_hex high && is_hex low) ≡ false)
+        (λ b. ((is_hex high && is_hex low) ≡ true)
+        × (b ≡ 16 * digit_value high + digit_value low)) }
 {
     let high = hex_digit(high)?;
     let low = hex_digit(low)?;
     Some(16 * high + low)
 }
 
-/// The byte that the digits behind a `%` stand for, and what stands behind them.
+/// The byte that the digits after a `%` stand for, and what comes after them.
 fn escaped_byte(text: &[u8]) -> Option<(u8, &[u8])>
-    ensures value { MatchOption result (behind_percent text.now ≡ Err FaultKind.Escape) (λ x. behind_percent text.now ≡ with_byte x.0 (unescaped x.1.now)) }
+    ensures value { MatchOption result (behind_percent text.now ≡ Err FaultKind.Escape)
+        (λ x. behind_percent text.now ≡ with_byte x.0 (unescaped x.1.now)) }
     ensures shorter { IfSome result (λ x. length x.1.now < length text.now) }
 {
     if text.len() < 2 {
@@ -46,7 +49,7 @@ fn escaped_byte(text: &[u8]) -> Option<(u8, &[u8])>
     }
 }
 
-/// Puts what a word stands for behind these bytes.
+/// Appends what a word stands for to these bytes.
 pub fn unescape_onto(out: &mut Vec<u8>, word: &[u8]) -> Result<(), LineError>
     ensures { LineGives (λ _. out.new.items) result (onto out.old.items (unescaped word.now)) }
 {

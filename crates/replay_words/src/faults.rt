@@ -14,7 +14,7 @@ pub enum FaultKind {
     Word = 2,
     /// A number is out of its range, or none.
     Number = 3,
-    /// A `%` without two hexadecimal digits behind it.
+    /// A `%` without two hexadecimal digits after it.
     Escape = 4,
 }
 

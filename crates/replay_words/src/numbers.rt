@@ -28,7 +28,8 @@ fn is_numeral(word: &[u8]) -> bool
 /// The number that a word writes, if it is one of at most this value.
 #[tactic(auto, unfolding(crate::specs::Numbers::number))]
 fn number(word: &[u8], most: u64) -> Option<u64>
-    ensures value { MatchOption result (number most word.now ≡ Err FaultKind.Number) (λ n. number most word.now ≡ Ok n) }
+    ensures value { MatchOption result (number most word.now ≡ Err FaultKind.Number)
+        (λ n. number most word.now ≡ Ok n) }
     ensures within { IfSome result (λ n. n ≤ most) }
 {
     if !is_numeral(word) {
@@ -65,7 +66,7 @@ pub fn room_of(word: &[u8]) -> Result<u64, LineError>
     }
 }
 
-/// How many times a term stands.
+/// How many times the word of a term is taken.
 #[tactic(auto, unfolding(crate::specs::Numbers::most_times))]
 pub fn times_of(word: &[u8]) -> Result<u64, LineError>
     ensures value { LineGives (λ n. n) result (number most_times word.now) }

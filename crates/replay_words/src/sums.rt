@@ -16,21 +16,21 @@ use std::alloc::Global;
 
 const MOST_BYTES: u64 = 67108864;
 
-/// A term of a sum: a word, and the word of how many times it stands.
+/// A term of a sum: a word, and the word that says how many times it is taken.
 #[derive(Clone, Copy)]
 pub struct TermWords<'a> {
     pub word: &'a [u8],
     pub times: Option<&'a [u8]>,
 }
 
-/// A word, and how many times it stands.
+/// A word, and how many times it is taken.
 #[derive(Clone, Copy)]
 pub struct CountedWord<'a> {
     pub word: &'a [u8],
     pub count: u64,
 }
 
-/// The words behind a `+`, if one stands there.
+/// The words after a `+`, if the first word is one.
 fn behind_plus<'a>(words: Words<'a>) -> Result<Option<Words<'a>>, LineError>
     ensures { LineGives (λ w. w) result (behind_plus words.entry) }
 {
@@ -45,7 +45,7 @@ fn behind_plus<'a>(words: Words<'a>) -> Result<Option<Words<'a>>, LineError>
     }
 }
 
-/// A term whose number is due, and the words behind the `+` behind it.
+/// A term whose number is due, and the words after the `+` that follows it.
 fn times_at<'a>(
     word: &'a [u8],
     words: Words<'a>,
@@ -61,7 +61,7 @@ fn times_at<'a>(
     Ok((term, behind))
 }
 
-/// The first term, and the words behind the `+` behind it.
+/// The first term, and the words after the `+` that follows it.
 fn term_at<'a>(words: Words<'a>) -> Result<(TermWords<'a>, Option<Words<'a>>), LineError>
     ensures { LineGives (λ x. (term_view x.0, x.1)) result (term_at words.entry) }
 {
@@ -107,7 +107,7 @@ pub fn sum_of<'a>(alloc: Global, words: Words<'a>) -> Result<Vec<TermWords<'a>>,
     terms_of(alloc, words)
 }
 
-/// How many times a term stands.
+/// How many times the word of a term is taken.
 #[tactic(auto, unfolding(crate::specs::Numbers::most_times))]
 fn count_of(times: Option<&[u8]>) -> Result<u64, LineError>
     ensures value { LineGives (λ n. n) result (count_of (option_map (λ w. w.now) times.entry)) }
@@ -137,7 +137,7 @@ pub fn counts_of<'a>(
     Ok(counted)
 }
 
-/// Puts the bytes from a place to the end there so many times.
+/// Leaves the bytes from `start` on there `count` times, in place of once.
 fn repeat_from(out: &mut Vec<u8>, start: usize, count: u64) -> Result<(), LineError>
     requires { start ≤ vec_len out.old }
     ensures { RepeatsFrom start count out.old.items result out.new.items }
@@ -156,9 +156,10 @@ fn repeat_from(out: &mut Vec<u8>, start: usize, count: u64) -> Result<(), LineEr
     Ok(())
 }
 
-/// Puts what a word stands for so many times behind these bytes.
+/// Appends what a word stands for to these bytes, `count` times.
 fn term_onto(out: &mut Vec<u8>, word: &[u8], count: u64) -> Result<(), LineError>
-    ensures { LineGives (λ _. out.new.items) result (onto out.old.items (times_text count (unescaped word.now))) }
+    ensures { LineGives (λ _. out.new.items) result
+        (onto out.old.items (times_text count (unescaped word.now))) }
 {
     let start = out.len();
     unescape_onto(out, word)?;
@@ -166,9 +167,10 @@ fn term_onto(out: &mut Vec<u8>, word: &[u8], count: u64) -> Result<(), LineError
     Ok(())
 }
 
-/// Puts the bytes of a sum behind these bytes.
+/// Appends the bytes of a sum to these bytes.
 fn sum_onto(out: &mut Vec<u8>, terms: &[CountedWord<'_>]) -> Result<(), LineError>
-    ensures { LineGives (λ _. out.new.items) result (onto out.old.items (sum_bytes (counted_views terms.now))) }
+    ensures { LineGives (λ _. out.new.items) result
+        (onto out.old.items (sum_bytes (counted_views terms.now))) }
 {
     for term in terms {
         term_onto(out, term.word, term.count)?;
@@ -188,7 +190,7 @@ fn sum_len(terms: &[CountedWord<'_>]) -> Result<u64, LineError>
     Ok(total)
 }
 
-/// The bytes of a sum, where so many bytes of the script stand before it.
+/// The bytes of a sum, where `used` bytes of the script come before it.
 #[tactic(auto, unfolding(crate::specs::Sums::bytes_within, crate::specs::Sums::most_bytes))]
 pub fn bytes_within(
     alloc: Global,

@@ -40,9 +40,10 @@ impl<'a> Model for Words<'a> {
     ghost view = { λ w. pieces_behind (option_map (λ r. r.now) w.rest) };
 }
 
-/// The text up to a space, and what stands behind the space, if there is one.
+/// The text up to a space, and what comes after the space, if there is one.
 fn cut(text: &[u8]) -> (&[u8], Option<&[u8]>)
-    ensures pieces { pieces_of text.now ≡ result.0.now ∷ pieces_behind (option_map (λ r. r.now) result.1) }
+    ensures pieces { pieces_of text.now
+        ≡ result.0.now ∷ pieces_behind (option_map (λ r. r.now) result.1) }
     ensures shorter { IfSome result.1 (λ r. length r.now < length text.now) }
 {
     let at = length_before(text, b' ');
@@ -91,7 +92,7 @@ fn has_words(line: &[u8]) -> bool
     }
 }
 
-/// What stands between the spaces of a line, empty texts too.
+/// What is between the spaces of a line, empty texts too.
 pub fn pieces_of(line: &[u8]) -> Words<'_>
     ensures { result ≡ pieces_of line.now }
 {
@@ -109,7 +110,7 @@ pub fn words_of(line: &[u8]) -> Result<Words<'_>, LineError>
     Ok(Words { rest: Some(line) })
 }
 
-/// A word, and the words behind it.
+/// A word, and the words after it.
 pub fn first_word<'a>(words: Words<'a>) -> Result<(&'a [u8], Words<'a>), LineError>
     ensures { LineGives (λ x. (x.0.now, x.1)) result (first_word words.entry) }
 {
@@ -122,7 +123,7 @@ pub fn first_word<'a>(words: Words<'a>) -> Result<(&'a [u8], Words<'a>), LineErr
     }
 }
 
-/// A word and the words behind it, if there is one.
+/// A word and the words after it, if there is one.
 pub fn next_word<'a>(words: Words<'a>) -> Option<(&'a [u8], Words<'a>)>
     ensures { MatchOption result (words.entry ≡ []) (λ x. words.entry ≡ x.0.now ∷ x.1) }
 {

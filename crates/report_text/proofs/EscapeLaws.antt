@@ -40,7 +40,7 @@ plain_more bs i d inside plain so_far =
     ∙ ap (λ t. take i bs ++ t) (ap escaped (drop_more bs i d inside) ∙ escaped_plain (get_or bs i d) (drop (i + 1) bs) plain)
     ∙ sym (ap (λ t. t ++ escaped (drop (i + 1) bs)) (take_more bs i d inside) ∙ append_assoc (take i bs) (get_or bs i d ∷ []) (escaped (drop (i + 1) bs)))
 
--- the byte behind the plain ones
+-- the byte after the plain ones
 next_of : (rest others : List ℕ) (n b : ℕ) → b ∷ others ≡ drop n rest → (n < length rest → is_plain (get_or rest n 0) ≡ false) → is_plain b ≡ false
 next_of rest others n b behind next =
     let len : length rest - n ≡ length (b ∷ others) = sym (length-drop n rest) ∙ ap length (sym behind) in
@@ -48,11 +48,11 @@ next_of rest others n b behind next =
     let here : get_or rest n 0 ≡ b = ap (λ k. get_or rest k 0) (let e : n ≡ n + 0 = omega arith in e) ∙ sym (get_or-drop n rest 0 0) ∙ ap (λ t. get_or t 0 0) (sym behind) in
     sym (ap is_plain here) ∙ next inside
 
--- what stands behind the first byte
+-- what comes after the first byte
 others_of : (b : ℕ) (bs : List ℕ) → take (length (b ∷ bs) - 1) (drop 1 (b ∷ bs)) ≡ bs
 others_of b bs = take_all (length (b ∷ bs) - 1) bs (omega arith)
 
--- a run of plain bytes, and the byte behind it
+-- a run of plain bytes, and the byte after it
 pub run_more : (out plain more rest behind : List ℕ) (n : ℕ) → escaped rest ≡ take n rest ++ escaped (drop n rest) → (n < length rest → is_plain (get_or rest n 0) ≡ false) → plain ≡ out ++ take n rest → behind ≡ drop n rest → 1 ≤ length behind → more ≡ plain ++ percent_encode_byte (get_or behind 0 0) → more ++ escaped (take (length behind - 1) (drop 1 behind)) ≡ out ++ escaped rest
 run_more out plain more rest [] n found next is behind some e = absurd (omega arith)
 run_more out plain more rest (b ∷ others) n found next is behind some e =

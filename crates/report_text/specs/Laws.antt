@@ -18,11 +18,11 @@ BytesReadBack =
     (bytes : List ℕ) → AreBytes bytes
     → (list_all is_printable (escaped bytes) ≡ true) × (unescaped (escaped bytes) ≡ Ok bytes)
 
--- what stands behind `sent ` in a line that begins so
+-- what comes after `sent ` in a line that begins so
 unfoldable pub behind_sent : List ℕ → Option (List ℕ)
 behind_sent line = if starts_with nat_eq line (codes "sent ") then Some (drop 5 line) else None
 
--- the bytes that the word behind `sent ` stands for: none for `-`
+-- the bytes that the word after `sent ` stands for: none for `-`
 unfoldable pub bytes_of : List ℕ → Result (List ℕ) FaultKind
 bytes_of word = if is_dash word then Ok [] else unescaped word
 

@@ -9,7 +9,7 @@ use Rattle.report_text.specs.declared.report.ConnReport.{ConnReport}
 use Rattle.report_text.specs.Escapes.{escaped}
 use Rattle.report_text.specs.Lines.{ended, lines_text}
 
--- what is told of a connection, without where it lies in memory
+-- what is told of a connection, wherever its bytes are in memory
 pub record Report : Type 0 where
   pub conn : ℕ
   pub state : ConnState

@@ -17,7 +17,8 @@ fn is_plain(byte: u8) -> bool
 fn plain_len(bytes: &[u8]) -> usize
     ensures within { result ≤ length bytes.now }
     ensures plain { escaped bytes.now ≡ take result bytes.now ++ escaped (drop result bytes.now) }
-    ensures next { result < length bytes.now → has_plain_form (slice_index bytes.now result) ≡ false }
+    ensures next { result < length bytes.now
+        → has_plain_form (slice_index bytes.now result) ≡ false }
 {
     for (i, byte) in bytes.iter().enumerate() {
         if !is_plain(*byte) {

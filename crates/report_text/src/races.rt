@@ -73,11 +73,11 @@ fn put_documents(documents: bool, out: &mut ByteText) -> Result<(), OutOfMemory>
     }
 }
 
-/// Appends the line of a variable that the race check names: `race SERVER $NAME set PLACES read PLACES`, where a place is
-/// `FILE:LINE`, and `documents` stands last where documents read it. The `file` of a line is the number of a run of directives:
-/// `files` are the numbers of the runs' files, and `paths` those files' paths, whose
-/// bytes are printed as those that were sent on a connection are ([`conn_text`](crate::conn_text)). After want of memory
-/// `out` holds some part of the line.
+/// Appends the line of a variable that the race check names: `race SERVER $NAME set PLACES read PLACES`, where a place
+/// is `FILE:LINE`, and `documents` comes last where documents read it. The `file` of a line is the number of a run of
+/// directives: `files` are the numbers of the runs' files, and `paths` those files' paths, whose bytes are printed as
+/// those that were sent on a connection are ([`conn_text`](crate::conn_text)). After want of memory `out` holds some
+/// part of the line.
 #[tactic(auto, unfolding(crate::specs::Races::race_line, crate::specs::Lines::ended, crate::specs::Report::spaced))]
 pub fn race_text(
     report: &RaceReport<'_>,
@@ -85,7 +85,8 @@ pub fn race_text(
     paths: &[ByteText],
     out: &mut ByteText,
 ) -> Result<(), OutOfMemory>
-    ensures { OnOk result (out.new ≡ out.old ++ ended (race_line (race_of files.now paths.now report.now))) }
+    ensures { OnOk result (out.new
+        ≡ out.old ++ ended (race_line (race_of files.now paths.now report.now))) }
 {
     out.extend(b"race")?;
     put_number(report.server, out)?;

@@ -48,11 +48,15 @@ fn most_bytes(report: &ConnReport<'_>) -> usize {
         .saturating_add(escaped_len(report.sent))
 }
 
-/// Appends the lines of a connection: `conn NUMBER STATE NEXT CAUSE`, where STATE is `stopped`, `idle` or `busy`, NEXT is
-/// `close` or `keep`, and CAUSE is `-` where there is none; then `log MOMENT TREE STATUS LENGTH` for each request, the
-/// last two `-` where it isn't over; then `sent` and the bytes, with `%` and two upper-case hexadecimal digits for each
-/// control byte, for `%`, and for each byte from 0x7F on, or `-` where there are none. Each line ends with LF. `out` grows
-/// once at most. After want of memory it holds some part of the text.
+/// Appends the lines of a connection.
+///
+/// - `conn NUMBER STATE NEXT CAUSE`: STATE is `stopped`, `idle` or `busy`, NEXT is `close` or `keep`, and CAUSE is `-`
+///   where there is none.
+/// - `log MOMENT TREE STATUS LENGTH` for each request; the last two are `-` where it isn't over.
+/// - `sent` and the bytes, or `-` where there are none. Each control byte, `%` and each byte from 0x7F on is `%` and
+///   two upper-case hexadecimal digits.
+///
+/// Each line ends with LF. `out` grows once at most. After want of memory it holds some part of the text.
 pub fn conn_text(report: &ConnReport<'_>, out: &mut ByteText) -> Result<(), OutOfMemory>
     ensures { OnOk result (out.new ≡ out.old ++ conn_text (report_of report.now)) }
 {
@@ -76,8 +80,9 @@ fn put_refused(refused: u64, out: &mut ByteText) -> Result<(), OutOfMemory>
     Ok(())
 }
 
-/// Appends the line at the end of a run: `skipped N` with how many lines of the script made no step, and `refused M`
-/// behind it where so many were refused for want of memory. After want of memory `out` holds some part of the line.
+/// Appends the line at the end of a run: `skipped N` with how many lines of the script made no step, and then `refused
+/// M` where M of them, one or more, were refused for want of memory. After want of memory `out` holds some part of the
+/// line.
 #[tactic(auto, unfolding(crate::specs::Report::end_text, crate::specs::Report::end_line, crate::specs::Lines::ended))]
 pub fn end_text(skipped: u64, refused: u64, out: &mut ByteText) -> Result<(), OutOfMemory>
     ensures { OnOk result (out.new ≡ out.old ++ end_text skipped refused) }

@@ -80,7 +80,7 @@ end_nowhere_after xs none = sym (whole_lines-none xs (after_passes xs 0 none))
 pub front_passes : (p : ℕ → Bool) (xs : List ℕ) (i : ℕ) → i < length xs → p (get_or xs i 0) ≡ true → list_all p (drop (i + 1) xs) ≡ true → list_all p (drop i xs) ≡ true
 front_passes p xs i h here rest = ap (list_all p) (drop_more xs i 0 h) ∙ and_from (p (get_or xs i 0)) (list_all p (drop (i + 1) xs)) here rest
 
--- ---- bytes behind which no line ends
+-- ---- bytes after which no line ends
 
 none_ends : (bytes : List ℕ) → list_any (λ b. eqb b 10) bytes ≡ false → list_all is_no_lf bytes ≡ true
 none_ends [] h = refl

@@ -72,7 +72,7 @@ front_at true b bytes tail ls e h = (tail, let q : b ≡ 10 = grind (arith, nat_
 front_at false b bytes tail [] e h = (b ∷ bytes, refl)
 front_at false b bytes tail (l ∷ ls) e h = (tail, ap (λ z. b ∷ z) h ∙ sym (ap (λ z. z ++ tail) (print-with_byte b l ls)))
 
--- the lines stand at the front
+-- the lines are at the front
 pub lines-front : (bytes : List ℕ) → (rest : List ℕ) × (bytes ≡ flat_map print_line (lines bytes) ++ rest)
 lines-front [] = ([], sym (ap (λ z. flat_map print_line z ++ []) lines-nil))
 lines-front (b ∷ bytes) =
@@ -123,7 +123,7 @@ lines-none (b ∷ bytes) h =
     let p = and_parts (is_no_lf b) (list_all is_no_lf bytes) h in
     lines-cons_at false b bytes (no_lf b p.0) ∙ ap (λ z. with_first_byte b z) (lines-none bytes p.1)
 
--- bytes behind which no line ends leave the lines as they are
+-- bytes after which no line ends leave the lines as they are
 pub lines-append_none : (xs ys : List ℕ) → list_all is_no_lf ys ≡ true → lines (xs ++ ys) ≡ lines xs
 lines-append_none [] ys h = lines-none ys h ∙ sym lines-nil
 lines-append_none (x ∷ xs) ys h =

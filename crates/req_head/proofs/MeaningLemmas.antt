@@ -61,7 +61,7 @@ RequestIs ls Short =
 head_from : (line : RequestLine) (end : LineEnd) (s : Section) → IsLine line → AllByRecursion IsField s.0 → IsRequestHead (head_with [] line end s)
 head_from line end s is all = record { method = is.method; target = is.target; target_text = is.target_text; minor = is.minor; fields = All-from_recursion IsField s.0 all }
 
--- the bytes of a line and of what stands behind it
+-- the bytes of a line and of what comes after it
 line_printed : (l : Line) (ls : List Line) (line : RequestLine) (tail : List ℕ) → l.text ≡ line_text line → flat_map print_line ls ≡ tail
     → flat_map print_line (l ∷ ls) ≡ line_text line ++ (print_end l.end ++ tail)
 line_printed l ls line tail t e =

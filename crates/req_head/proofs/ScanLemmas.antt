@@ -28,7 +28,7 @@ length-whole_lines bytes =
 whole_lines-append_none : (xs ys : List ℕ) → list_all is_no_lf ys ≡ true → whole_lines (xs ++ ys) ≡ whole_lines xs
 whole_lines-append_none xs ys h = whole_lines-is (xs ++ ys) ∙ ap (flat_map print_line) (lines-append_none xs ys h) ∙ sym (whole_lines-is xs)
 
--- so no bytes without a line feed stand at their end
+-- so no bytes without a line feed are at their end
 no_tail : (text xs ys : List ℕ) → whole_lines text ≡ text → text ≡ xs ++ ys → 0 < length ys → list_all is_no_lf ys ≡ true → ⊥
 no_tail text xs ys w e some h =
     let short : whole_lines xs ≡ xs ++ ys = sym (whole_lines-append_none xs ys h) ∙ ap whole_lines (sym e) ∙ w ∙ e in

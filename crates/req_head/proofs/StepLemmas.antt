@@ -308,7 +308,7 @@ full-decides bytes full e =
     let w : Says (looked bytes) More = subst (Says (looked bytes)) e (grammar-decides bytes) in
     omega (arith, w.2, length-looked bytes full)
 
--- ---- bytes behind which no line ends
+-- ---- bytes after which no line ends
 
 not_tested : (o : Option ℕ) (ask : Bool) (h : RequestHead) → tested ask h o ≡ More → ⊥
 not_tested None ask h e = cc

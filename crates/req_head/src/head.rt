@@ -47,7 +47,7 @@ pub enum HeadStep {
     /// No head, or one that is refused with this code.
     Bad {
         code: u16,
-        /// Whether the first line behind empty lines begins with the method HEAD, so that the response has no body.
+        /// Whether the first line after empty lines begins with the method HEAD, so that the response has no body.
         no_body: bool,
     },
 }
@@ -114,7 +114,8 @@ fn test_head(
     requires few { spans.now.headers ≤ 64 }
     requires within { IsRequestWithin text.now slots.now spans.now }
     requires of { IsRequestOf text.now slots.now spans.now }
-    ensures { IfOk result (λ step. (h : RequestHead) → IsRequestAt text.now slots.now spans.now h → step ≡ step_of seen.now (Whole h)) }
+    ensures { IfOk result (λ step. (h : RequestHead) → IsRequestAt text.now slots.now spans.now h
+        → step ≡ step_of seen.now (Whole h)) }
 {
     let target = spans.path.of(text);
     let shown = &slots[..spans.headers];
@@ -151,6 +152,25 @@ fn read_lines(room: &mut HeadRoom, bytes: &[u8]) -> Result<HeadStep, OutOfMemory
     }
 }
 
+/// Most heads are no longer than this, in bytes.
+const COMMON: usize = 2048;
+
+/// Reads a head where more bytes are held than most heads have, as where a body follows: at the front of them first, since
+/// what that decides stays as it is.
+fn read_long(room: &mut HeadRoom, bytes: &[u8]) -> Result<HeadStep, OutOfMemory>
+    requires { 2048 ≤ length bytes.now }
+    ensures { IfOk result (λ step. step ≡ head_step bytes.now) }
+{
+    match read_lines(room, &bytes[..COMMON])? {
+        HeadStep::More => {
+            let step = read_lines(room, bytes)?;
+            Ok(step)
+        }
+        HeadStep::Head { head, size } => Ok(HeadStep::Head { head, size }),
+        HeadStep::Bad { code, no_body } => Ok(HeadStep::Bad { code, no_body }),
+    }
+}
+
 /// Reads the head of a request at the front of the bytes that a connection holds, in the room of one that is over.
 ///
 /// Looks at no more than 8192 bytes, and parses only those up to the last line feed.
@@ -163,6 +183,10 @@ pub fn read_head_in(room: &mut HeadRoom, bytes: &[u8]) -> Result<HeadStep, OutOf
 {
     if bytes.is_empty() {
         return Ok(HeadStep::More);
+    }
+    if bytes.len() > COMMON {
+        let step = read_long(room, bytes)?;
+        return Ok(step);
     }
     let step = read_lines(room, bytes)?;
     Ok(step)

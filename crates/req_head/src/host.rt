@@ -11,7 +11,7 @@ use crate::room::SpareTexts;
 use byte_text::{ByteText, OutOfMemory};
 use uri_text::absolute_form;
 
-/// Where the host ends: at its last `:` if no `]` stands behind it.
+/// Where the host ends: at its last `:` if no `]` comes after it.
 fn name_end(host: &[u8]) -> usize
     ensures within { result ≤ length host.now }
     ensures value { take result host.now ≡ without_port host.now }
@@ -31,7 +31,8 @@ fn name_end(host: &[u8]) -> usize
 
 /// The value of the field Host.
 fn host_field(host: Values<'_>) -> &[u8]
-    ensures { (values : List FieldValue) → AreValues values host.entry → result.now ≡ first_value values }
+    ensures { (values : List FieldValue) → AreValues values host.entry
+        → result.now ≡ first_value values }
 {
     match host {
         Values::Nothing => &[],
@@ -42,7 +43,8 @@ fn host_field(host: Values<'_>) -> &[u8]
 
 /// The host that the target or the field names, with its port.
 fn named_host<'a>(target: &'a [u8], host: Values<'a>) -> &'a [u8]
-    ensures { (values : List FieldValue) → AreValues values host.entry → result.now ≡ named_host (absolute_of target.now) values }
+    ensures { (values : List FieldValue) → AreValues values host.entry
+        → result.now ≡ named_host (absolute_of target.now) values }
 {
     match absolute_form(target) {
         Some(form) => form.host,
@@ -65,7 +67,8 @@ pub(crate) fn host_of(
     target: &[u8],
     host: Values<'_>,
 ) -> Result<ByteText, OutOfMemory>
-    ensures { IfOk result (λ t. (values : List FieldValue) → AreValues values host.entry → t ≡ host_of target.now values) }
+    ensures { IfOk result (λ t. (values : List FieldValue) → AreValues values host.entry
+        → t ≡ host_of target.now values) }
 {
     let name = named_host(target, host);
     lower(texts, &name[..name_end(name)])

@@ -64,7 +64,8 @@ fn kind_of(name: &[u8]) -> Kind
 
 /// The values with one more.
 fn with_value<'m>(values: Values<'m>, value: &'m [u8]) -> Values<'m>
-    ensures { (old : List FieldValue) → AreValues old values.entry → AreValues (old ++ plain_value value.now ∷ []) result }
+    ensures { (old : List FieldValue) → AreValues old values.entry
+        → AreValues (old ++ plain_value value.now ∷ []) result }
 {
     match values {
         Values::Nothing => Values::One(value),
@@ -89,7 +90,8 @@ fn same_so_far(before: bool, value: &[u8], word: &[u8]) -> bool
 
 /// What is known with one more field.
 fn add_field<'m>(known: Known<'m>, name: &[u8], value: &'m [u8]) -> Known<'m>
-    ensures { (m : Entries FieldValue) → IsKnown m known.entry → IsKnown (with_field m (name.now, value.now)) result }
+    ensures { (m : Entries FieldValue) → IsKnown m known.entry
+        → IsKnown (with_field m (name.now, value.now)) result }
 {
     match kind_of(name) {
         Kind::Host => Known {

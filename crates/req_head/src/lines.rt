@@ -8,7 +8,7 @@ ghost use Rattle.req_head.specs.declared.head.HeadStep.TheVariants.{More};
 
 use memchr::memrchr;
 
-/// So many bytes of a connection's input are looked at.
+/// How many bytes of a connection's input are looked at.
 pub(crate) const LIMIT: usize = 8192;
 
 /// The bytes from a place on.
@@ -28,7 +28,7 @@ pub(crate) fn seen_of(bytes: &[u8]) -> &[u8]
     &bytes[..end]
 }
 
-/// Where the last line ends: behind the last line feed.
+/// Where the last line ends: after the last line feed.
 fn lines_end(seen: &[u8]) -> usize
     ensures within { result ≤ length seen.now }
     ensures lines { take result seen.now ≡ whole_lines seen.now }
@@ -46,12 +46,14 @@ pub(crate) fn whole_lines_of(seen: &[u8]) -> &[u8]
     &seen[..lines_end(seen)]
 }
 
-/// The bytes behind an empty line at the front.
+/// The bytes after an empty line at the front.
 #[tactic(auto, unfolding(crate::specs::FirstLine::asks_head, crate::specs::Lines::lines, crate::specs::Lines::after_empty))]
 fn after_blank(bytes: &[u8]) -> Option<&[u8]>
-    ensures same { MatchOption result (Unit {0}) (λ rest. asks_head bytes.now ≡ asks_head rest.now) }
+    ensures same { MatchOption result (Unit {0})
+        (λ rest. asks_head bytes.now ≡ asks_head rest.now) }
     ensures shorter { MatchOption result (Unit {0}) (λ rest. length rest.now < length bytes.now) }
-    ensures none { MatchOption result (asks_head bytes.now ≡ begins_with (codes "HEAD ") bytes.now) (λ rest. Unit {0}) }
+    ensures none { MatchOption result (asks_head bytes.now ≡ begins_with (codes "HEAD ") bytes.now)
+        (λ rest. Unit {0}) }
     ensures lines { MatchOption result (after_empty (lines bytes.now) ≡ lines bytes.now)
         (λ rest. after_empty (lines bytes.now) ≡ after_empty (lines rest.now)) }
 {
@@ -62,7 +64,7 @@ fn after_blank(bytes: &[u8]) -> Option<&[u8]>
     }
 }
 
-/// The bytes behind all empty lines at the front.
+/// The bytes after all empty lines at the front.
 fn after_blanks(bytes: &[u8]) -> &[u8]
     ensures ask { asks_head bytes.now ≡ begins_with (codes "HEAD ") result.now }
     ensures lines { after_empty (lines bytes.now) ≡ lines result.now }
@@ -74,7 +76,7 @@ fn after_blanks(bytes: &[u8]) -> &[u8]
     rest
 }
 
-/// Whether the first line behind empty ones begins with the method HEAD.
+/// Whether the first line after empty ones begins with the method HEAD.
 pub(crate) fn asks_head(bytes: &[u8]) -> bool
     ensures { result ≡ asks_head bytes.now }
 {
@@ -101,7 +103,8 @@ fn count_lines(bytes: &[u8]) -> usize
     count
 }
 
-/// Whether behind empty lines there is a line with more than 64 others: where they begin a head, so many fields.
+/// Whether after empty lines there are more than 65 lines: a request line and more than 64 fields, if they begin a
+/// head.
 pub(crate) fn have_too_many(seen: &[u8]) -> bool
     ensures { result ≡ have_too_many (lines seen.now) }
 {
@@ -111,11 +114,13 @@ pub(crate) fn have_too_many(seen: &[u8]) -> bool
 /// Whether bytes that came after the first `known` ones can make a difference.
 ///
 /// Where `read_head` answered `More` for the first `known` bytes, and this answers no, it would answer `More` again: no
-/// line has ended since, and fewer than 8192 bytes are held. Looks only at the bytes behind the first `known` ones.
+/// line has ended since, and fewer than 8192 bytes are held. Looks only at the bytes after the first `known` ones.
 pub fn may_decide(bytes: &[u8], known: usize) -> bool
     requires { known ≤ length bytes.now }
-    ensures exact { result ≡ (nat_le 8192 (length bytes.now) || list_any (λ b. b == 10) (drop known bytes.now)) }
-    ensures waits { result ≡ false → head_step (take known bytes.now) ≡ More → head_step bytes.now ≡ More }
+    ensures exact { result ≡ (nat_le 8192 (length bytes.now)
+        || list_any (λ b. b == 10) (drop known bytes.now)) }
+    ensures waits { result ≡ false → head_step (take known bytes.now) ≡ More
+        → head_step bytes.now ≡ More }
 {
     bytes.len() >= LIMIT || rest_of(bytes, known).contains(&b'\n')
 }

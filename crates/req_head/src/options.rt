@@ -42,9 +42,10 @@ fn is_option(text: &[u8], word: &[u8]) -> bool
     is_word_first(skip_white(text), word)
 }
 
-/// The bytes before the first comma, and those behind it.
+/// The bytes before the first comma, and those after it.
 fn cut(bytes: &[u8]) -> Option<(&[u8], &[u8])>
-    ensures cut { MatchOption result (cut_at 44 bytes.now ≡ None) (λ p. cut_at 44 bytes.now ≡ Some (p.0.now, p.1.now)) }
+    ensures cut { MatchOption result (cut_at 44 bytes.now ≡ None)
+        (λ p. cut_at 44 bytes.now ≡ Some (p.0.now, p.1.now)) }
     ensures shorter { MatchOption result (Unit {0}) (λ p. length p.1.now < length bytes.now) }
 {
     for (i, b) in bytes.iter().enumerate() {

@@ -34,7 +34,8 @@ fn is_length(bytes: &[u8]) -> bool
 }
 
 fn is_bad_host(host: Values<'_>, minor: u8) -> bool
-    ensures { (values : List FieldValue) → AreValues values host.entry → result ≡ host_is_bad minor values }
+    ensures { (values : List FieldValue) → AreValues values host.entry
+        → result ≡ host_is_bad minor values }
 {
     match host {
         Values::Nothing => minor == 1,
@@ -44,7 +45,8 @@ fn is_bad_host(host: Values<'_>, minor: u8) -> bool
 }
 
 fn is_bad_length(length: Values<'_>) -> bool
-    ensures { (values : List FieldValue) → AreValues values length.entry → result ≡ length_is_bad values }
+    ensures { (values : List FieldValue) → AreValues values length.entry
+        → result ≡ length_is_bad values }
 {
     match length {
         Values::Nothing => false,
@@ -54,7 +56,8 @@ fn is_bad_length(length: Values<'_>) -> bool
 }
 
 fn is_other_coding(coding: Values<'_>) -> bool
-    ensures { (values : List FieldValue) → AreValues values coding.entry → result ≡ coding_is_other values }
+    ensures { (values : List FieldValue) → AreValues values coding.entry
+        → result ≡ coding_is_other values }
 {
     match coding {
         Values::Nothing => false,
@@ -75,7 +78,8 @@ fn are_there(found: Values<'_>) -> bool
 
 /// Whether there is a Transfer-Encoding where there may be none: in HTTP/1.0, or beside a Content-Length.
 fn is_mixed(minor: u8, coding: Values<'_>, length: Values<'_>) -> bool
-    ensures { (codings lengths : List FieldValue) → AreValues codings coding.entry → AreValues lengths length.entry
+    ensures { (codings lengths : List FieldValue) → AreValues codings coding.entry
+        → AreValues lengths length.entry
         → result ≡ (is_there codings && (minor == 0 || is_there lengths)) }
 {
     are_there(coding) && (minor == 0 || are_there(length))
@@ -102,7 +106,8 @@ fn first_fault(host: bool, mixed: bool, coding: bool, length: bool, target: bool
 
 /// The code of the first test that a head with these parts fails.
 pub(crate) fn find_fault(minor: u8, target: &[u8], known: Known<'_>) -> Option<u16>
-    ensures { (fields : Entries FieldValue) → IsKnown fields known.entry → result ≡ fault_with minor target.now fields }
+    ensures { (fields : Entries FieldValue) → IsKnown fields known.entry
+        → result ≡ fault_with minor target.now fields }
 {
     let host = is_bad_host(known.host, minor);
     let mixed = is_mixed(minor, known.coding, known.length);
@@ -149,7 +154,7 @@ fn number_of(digits: &[u8]) -> u64
     number
 }
 
-/// The body of so many bytes.
+/// The body of `length` bytes.
 fn sized(length: u64) -> BodyKind
     ensures { result ≡ sized length }
 {
@@ -162,8 +167,10 @@ fn sized(length: u64) -> BodyKind
 
 /// How the body is framed that the values of Content-Length give.
 fn body_by_length(length: Values<'_>) -> BodyKind
-    requires { (values : List FieldValue) × AreValues values length × (length_is_bad values ≡ false) }
-    ensures { (values : List FieldValue) → AreValues values length.entry → result ≡ body_by_length values }
+    requires { (values : List FieldValue) × AreValues values length
+        × (length_is_bad values ≡ false) }
+    ensures { (values : List FieldValue) → AreValues values length.entry
+        → result ≡ body_by_length values }
 {
     match length {
         Values::Nothing => BodyKind::Empty,
@@ -172,11 +179,13 @@ fn body_by_length(length: Values<'_>) -> BodyKind
     }
 }
 
-/// How the body behind the head is framed.
+/// How the body after the head is framed.
 pub(crate) fn body_of(known: Known<'_>) -> BodyKind
-    requires { (fields : Entries FieldValue) × IsKnown fields known × (length_is_bad (get_all fields (codes "content-length")) ≡ false) }
+    requires { (fields : Entries FieldValue) × IsKnown fields known
+        × (length_is_bad (get_all fields (codes "content-length")) ≡ false) }
     ensures { (fields : Entries FieldValue) → IsKnown fields known.entry
-        → result ≡ body_of (get_all fields (codes "transfer-encoding")) (get_all fields (codes "content-length")) }
+        → result ≡ body_of (get_all fields (codes "transfer-encoding"))
+        (get_all fields (codes "content-length")) }
 {
     let by_length = body_by_length(known.length);
     if are_there(known.coding) {
@@ -196,7 +205,8 @@ fn persists(minor: u8, continues: bool, closes: bool, keeps_alive: bool) -> bool
 /// Whether the head alone lets the connection persist (RFC 9112, section 9.3).
 pub(crate) fn keeps(minor: u8, known: Known<'_>) -> bool
     ensures { (fields : Entries FieldValue) → IsKnown fields known.entry
-        → result ≡ keeps minor (get_all fields (codes "connection")) (get_all fields (codes "expect")) }
+        → result ≡ keeps minor (get_all fields (codes "connection"))
+        (get_all fields (codes "expect")) }
 {
     persists(minor, known.continues, known.closes, known.keeps_alive)
 }

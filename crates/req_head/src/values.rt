@@ -29,7 +29,8 @@ impl<'f, 'n> Model for FieldValues<'f, 'n> {
 
     ghost coded = { coded_list field_value_code };
 
-    ghost view = { λ v. values_named (lowercase v.name.now) (map (header_bytes v.text.now) v.spans.now) };
+    ghost view = { λ v. values_named (lowercase v.name.now)
+        (map (header_bytes v.text.now) v.spans.now) };
 
     ghost invariant = { λ v. All (IsHeaderWithin (length v.text.now)) v.spans.now };
 }
@@ -42,7 +43,7 @@ fn is_named(text: &[u8], span: Span, name: &[u8]) -> bool
     span.of(text).eq_ignore_ascii_case(name)
 }
 
-/// The value of the first field that has the name, and the fields behind it.
+/// The value of the first field that has the name, and the fields after it.
 #[tactic(auto, unfolding(crate::specs::Fields::values_named))]
 fn next_named<'f>(
     text: &'f [u8],
@@ -76,7 +77,8 @@ impl<'f, 'n> FieldValues<'f, 'n> {
         name: &'n [u8],
     ) -> FieldValues<'f, 'n>
         requires { All (IsHeaderWithin (length text.now)) spans.now }
-        ensures { result ≡ values_named (lowercase name.now) (map (header_bytes text.now) spans.now) }
+        ensures { result ≡ values_named (lowercase name.now)
+            (map (header_bytes text.now) spans.now) }
     {
         FieldValues { text, spans, name }
     }

@@ -1,4 +1,4 @@
--- Exactly so many bytes.
+-- Exactly as many bytes as are asked for.
 use Rattle.std.proofs.Common.{◌≡◌, ℕ, ◌+◌, ◌≤◌, List, [], ◌∷◌, ◌++◌, length, take, drop, refl, ap, ◌∙◌, arith, suc, zero}
 use Rattle.request_flow.specs.Padded.{padded}
 
@@ -15,7 +15,7 @@ none_dropped (suc n) = refl
 next : (m n : ℕ) → suc m + n ≡ suc (m + n)
 next m n = omega arith
 
--- so many bytes, and then so many more
+-- some bytes, and then more
 pub padded_split : (m n : ℕ) (xs : List ℕ) → padded (m + n) xs ≡ padded m xs ++ padded n (drop m xs)
 unfolding padded
 padded_split zero n xs = ap (λ k. padded k xs) (let e : 0 + n ≡ n = omega arith in e)

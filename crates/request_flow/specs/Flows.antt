@@ -97,6 +97,18 @@ may_run (Told request wait node) = true
 may_run (Reading sending left) = false
 may_run (Came sending left placed) = nat_lt placed placed_most
 
+-- a block of its file came
+abbrev pub is_sending : Stage → Bool
+is_sending (Asked request wait) = false
+is_sending (Told request wait node) = false
+is_sending (Reading sending left) = false
+is_sending (Came sending left placed) = true
+
+-- a request that goes on in its place, or is over where it is logged
+abbrev pub going_on : Flow → Option (ℕ × ℕ) → Option Flow
+going_on flow None = Some flow
+going_on flow (Some log) = None
+
 -- the jobs of a request
 abbrev pub jobs_of : Option Flow → List Job
 jobs_of None = []

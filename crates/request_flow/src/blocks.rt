@@ -1,7 +1,7 @@
 // The blocks of a file.
-ghost use Rattle.std.specs.Prelude.{◌≡◌, ◌≤◌, true};
+ghost use Rattle.std.specs.Prelude.{◌≡◌, ◌≤◌, true, false};
 ghost use Rattle.file_tree.specs.Tree.{Trees, tree_of};
-ghost use Rattle.request_flow.specs.Flows.{is_block, item_asked};
+ghost use Rattle.request_flow.specs.Flows.{is_block, is_stat, item_asked};
 
 use byte_text::ByteText;
 use file_tree::Ask;
@@ -36,6 +36,29 @@ pub(crate) fn target_of(ask: Ask) -> Target
             count: _,
             of,
         } => Target { path, of },
+    }
+}
+
+/// Asks for the next block of a file of which this many bytes are left, in place of the last one.
+#[tactic(auto, unfolding(crate::specs::Flows::block_most))]
+pub(crate) fn to_next_block(ask: &mut Ask, len: u64, left: u64)
+    requires within { left ≤ len }
+    requires block { is_stat ask.old ≡ false }
+    ensures block { is_block len left ask.new ≡ true }
+    ensures item { (trees : Trees) → item_asked trees ask.new ≡ item_asked trees ask.old }
+    ensures tree { tree_of ask.new ≡ tree_of ask.old }
+{
+    match ask {
+        Ask::Read {
+            path: _,
+            start,
+            count,
+            of: _,
+        } => {
+            *start = len - left;
+            *count = left.min(BLOCK);
+        }
+        Ask::Stat { path: _, of: _ } => unreachable!(),
     }
 }
 

@@ -237,32 +237,29 @@ pub fn shown_by(stage: &Stage) -> usize
     }
 }
 
-/// Where this many of the placed bytes were written.
-fn stage_after(stage: Stage, count: usize) -> Stage
-    requires { count ≤ shown_at stage }
-    ensures { result ≡ stage_written stage count }
-{
-    match stage {
-        Stage::Came {
-            sending,
-            left,
-            placed,
-        } => Stage::Came {
-            sending,
-            left,
-            placed: placed - count,
-        },
-        other => other,
-    }
-}
-
 /// The first of the bytes for the peer were written, of those that are placed.
-pub fn wrote(flow: Flow, count: usize) -> Flow
-    requires { count ≤ shown_at flow.stage }
-    ensures { result ≡ record { ask = flow.ask; stage = stage_written flow.stage count } }
+pub fn wrote(flow: &mut Flow, count: usize)
+    requires { count ≤ shown_at flow.old.stage }
+    ensures { flow.new ≡ record flow.old { stage = stage_written flow.old.stage count } }
 {
-    Flow {
-        ask: flow.ask,
-        stage: stage_after(flow.stage, count),
+    match &mut flow.stage {
+        Stage::Asked {
+            request: _,
+            wait: _,
+        } => {}
+        Stage::Told {
+            request: _,
+            wait: _,
+            node: _,
+        } => {}
+        Stage::Reading {
+            sending: _,
+            left: _,
+        } => {}
+        Stage::Came {
+            sending: _,
+            left: _,
+            placed,
+        } => *placed -= count,
     }
 }

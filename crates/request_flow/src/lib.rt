@@ -17,5 +17,5 @@ pub use flow::{
 pub use page::{PageHead, PageStart, Went};
 pub use reply::{Workspace, put_refusal};
 pub use request_opening::Opening;
-pub use run::{answered, run_on};
+pub use run::{answered, is_sending, run_on, sends_on};
 pub use steps::{FileAt, Known, start};

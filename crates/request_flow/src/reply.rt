@@ -133,17 +133,36 @@ fn content_unless(no_body: bool, page: &[u8]) -> &[u8]
     page
 }
 
-/// Puts a head and a body after what is kept for the peer, as far as there is room for both.
-fn put_parts(out: &mut ByteQueue, head: &[u8], body: &[u8]) -> Result<(), OutOfMemory>
+/// Puts a head and a body after what is kept for the peer, as far as there is room for both, and room for what follows.
+fn put_parts(out: &mut ByteQueue, head: &[u8], body: &[u8], room: usize) -> Result<(), OutOfMemory>
     ensures put { OnOk result (out.new ≡ out.old ++ (head.now ++ body.now)) }
     ensures fits { OnOk result (length out.new ≤ length out.old + 65536) }
 {
     if head.len() > OUTGOING || body.len() > OUTGOING - head.len() {
         return Err(OutOfMemory);
     }
+    out.reserve(room)?;
     out.append(head)?;
     out.append(body)?;
     Ok(())
+}
+
+/// A head takes no more bytes as a rule.
+const HEAD: usize = 512;
+
+/// How much room is made for a response at once, for its head and what follows of a file, so that the queue grows once; none for
+/// a small one, which has room where small ones went out before.
+fn room_for(body: &Body, no_body: bool, length: Option<u64>) -> usize {
+    let length = match body {
+        Body::File => length.unwrap_or(0),
+        Body::Nothing => 0,
+        Body::Page(_) => 0,
+        Body::Text(_) => 0,
+    };
+    if no_body || length <= HEAD as u64 {
+        return 0;
+    }
+    HEAD + length.min(OUTGOING as u64) as usize
 }
 
 /// Puts the head of a response, and its body where that isn't a file, after what is kept for the
@@ -188,7 +207,8 @@ pub(crate) fn put_reply(
         chunked: false,
         keep,
     };
-    put_parts(out, space.heads.text_of_kind(&head, kind)?, bytes)?;
+    let room = room_for(&body, terms.no_body, length);
+    put_parts(out, space.heads.text_of_kind(&head, kind)?, bytes, room)?;
     Ok(size)
 }
 
@@ -259,6 +279,7 @@ pub fn put_refusal(
         out,
         space.heads.text_of_kind(&head, Some(b"text/html"))?,
         body,
+        0,
     )?;
     Ok(body.len() as u64)
 }

@@ -6,13 +6,13 @@ ghost use Rattle.site_model.specs.declared.site.Site.{Site as SiteRow};
 ghost use Rattle.request_meaning.specs.Laws.{shipped};
 ghost use Rattle.request_meaning.specs.Serving.{World};
 ghost use Rattle.request_phases.specs.Rounds.{IsGround, world_in};
-ghost use Rattle.request_flow.specs.Flows.{waits as waits_for, may_run as can_run, stage_fits, flow_rest, flow_fits, flow_left, stage_left, flow_most, tree_asked, heard_flow, file_length, stage_server, stage_length, IsServedBy};
+ghost use Rattle.request_flow.specs.Flows.{waits as waits_for, may_run as can_run, is_sending as sends, going_on, stage_fits, flow_rest, flow_fits, flow_left, stage_left, flow_most, tree_asked, heard_flow, file_length, stage_server, stage_length, IsServedBy};
 ghost use Rattle.request_flow.specs.Rests.{Follows};
 ghost use Rattle.request_flow.specs.Pages.{GoesTo, IfOn, IfPage, IsServed, IsTold, closing_of, tree_of_went};
 ghost use Rattle.request_flow.specs.Reached.{FlowReached, WentReached};
 ghost use Rattle.request_flow.specs.declared.flow.Stage.TheVariants.{Came as AtCame};
 
-use crate::blocks::{Sending, next_block};
+use crate::blocks::{Sending, next_block, to_next_block};
 use crate::flow::{Flow, InPhases, Onward, Stage};
 use crate::page::Went;
 use crate::reply::Workspace;
@@ -162,6 +162,83 @@ fn run_came(
         log: None,
         level: None,
     }
+}
+
+/// Whether a block of its file came.
+pub fn is_sending(flow: &Flow) -> bool
+    ensures { result ≡ sends flow.now.stage }
+{
+    match &flow.stage {
+        Stage::Asked {
+            request: _,
+            wait: _,
+        } => false,
+        Stage::Told {
+            request: _,
+            wait: _,
+            node: _,
+        } => false,
+        Stage::Reading {
+            sending: _,
+            left: _,
+        } => false,
+        Stage::Came {
+            sending: _,
+            left: _,
+            placed: _,
+        } => true,
+    }
+}
+
+/// A block of the file of a request came: as many of its bytes are placed as there is room for. Once
+/// all are, the next block is asked, in its place; or the file is sent: its status and its length,
+/// and the request is not to go on.
+#[tactic(auto, unfolding(crate::specs::Flows::placed_most))]
+pub fn sends_on(flow: &mut Flow, size: usize) -> Option<(u16, u64)>
+    requires fits { flow_fits (Some flow.old) size ≡ true }
+    requires sends { sends flow.old.stage ≡ true }
+    requires runs { can_run flow.old.stage ≡ true }
+    ensures goes { (w : World) (patterns : List SetPattern) (site : SiteRow) (trees : Trees)
+        (out : List ℕ) (closing : Bool) → Follows site
+        (flow_rest w patterns site (Some flow.old) trees)
+        (flow_rest w patterns site (going_on flow.new result) trees) out out closing closing
+        result None }
+    ensures fits { flow_fits (going_on flow.new result) size ≡ true }
+    ensures lowers { flow_left (going_on flow.new result) size
+        < flow_left (Some flow.old) size }
+    ensures by { (server length : ℕ) → IsServedBy server length (going_on flow.new result) }
+    ensures asked { tree_asked (going_on flow.new result) ≤ tree_of flow.old.ask }
+    ensures reached { (w : World) (patterns : List SetPattern) (site : SiteRow) →
+        FlowReached w patterns site (going_on flow.new result) }
+{
+    let Stage::Came {
+        sending,
+        left,
+        placed,
+    } = &flow.stage
+    else {
+        unreachable!();
+    };
+    let (sending, left, placed) = (*sending, *left, *placed);
+    let room = PLACED - placed;
+    let placed = placed + (size - placed).min(room);
+    if placed < size {
+        put(
+            &mut flow.stage,
+            Stage::Came {
+                sending,
+                left,
+                placed,
+            },
+        );
+        return None;
+    }
+    if left == 0 {
+        return Some((sending.status, sending.len));
+    }
+    to_next_block(&mut flow.ask, sending.len, left);
+    put(&mut flow.stage, Stage::Reading { sending, left });
+    None
 }
 
 /// Runs a request on, to its next job or its end, or to its page.

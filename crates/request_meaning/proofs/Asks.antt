@@ -6,7 +6,7 @@ use Rattle.ngx_variables.specs.declared.variable.Variable.TheVariants.{DocumentR
 use Rattle.ngx_variables.specs.declared.value.Piece.{Piece}
 use Rattle.ngx_variables.specs.declared.value.Piece.TheVariants.{Builtin, Set}
 use Rattle.ngx_variables.specs.declared.request.Main.{Main}
-use Rattle.ngx_variables.specs.declared.request.Place.{Place}
+use Rattle.ngx_variables.specs.declared.request.FileRoot.{FileRoot}
 use Rattle.ngx_variables.specs.declared.request.Request.{Request}
 use Rattle.ngx_variables.specs.Paths.{text_of}
 use Rattle.ngx_variables.specs.Acts.{inner_piece, inner_pieces, file_paths, piece, value}
@@ -74,7 +74,7 @@ module _ {P : Child → Type 0} (main : Main) (request : Request) where
   only_inner_pieces [] = only_done _ tt
   only_inner_pieces (p ∷ ps) = only_bind (only_inner_piece p) (λ a _. only_bind (only_inner_pieces ps) (λ b _. only_done _ tt))
 
-  only_file_paths : (place : Option Place) → Only P anything (file_paths main request place)
+  only_file_paths : (place : Option FileRoot) → Only P anything (file_paths main request place)
   unfolding file_paths
   only_file_paths None = only_done _ tt
   only_file_paths (Some place) = only_bind (only_inner_pieces (text_of place)) (λ a _. only_done _ tt)
@@ -103,6 +103,6 @@ module _ {P : Child → Type 0} (main : Main) (request : Request) where
   unfolding fit_value
   only_fit_value text = only_bind (only_value text) (λ a _. only_done _ tt)
 
-  pub only_located : (place : Place) (uri : List ℕ) → Only P anything (located_act main request place uri)
+  pub only_located : (place : FileRoot) (uri : List ℕ) → Only P anything (located_act main request place uri)
   unfolding located_act
   only_located place uri = only_bind (only_value (text_of place)) (λ a _. only_done _ tt)

@@ -8,7 +8,7 @@ use Rattle.file_path.specs.Located.Located.{TooLong, NotThere, At}
 use Rattle.ngx_variables.specs.declared.request.Main.{Main}
 use Rattle.ngx_variables.specs.declared.request.Request.{Request}
 use Rattle.ngx_variables.specs.declared.request.Role.{Role}
-use Rattle.ngx_variables.specs.declared.request.Place.TheVariants.{Whole}
+use Rattle.ngx_variables.specs.declared.request.FileRoot.TheVariants.{Whole}
 use Rattle.ngx_variables.specs.Grammar.{begins_with}
 use Rattle.file_path.specs.Located.{located as located_path}
 use Rattle.static_content.specs.Content.{refusal_of}

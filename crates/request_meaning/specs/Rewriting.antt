@@ -4,7 +4,7 @@ use Rattle.acts.specs.Act.{Done, Stat, ◌>>=◌, ◌>>◌}
 use Rattle.file_tree.specs.Tree.{Item, AFile, AFolder, ALocked, Nothing}
 use Rattle.ngx_variables.specs.declared.request.Main.{Main}
 use Rattle.ngx_variables.specs.declared.request.Request.{Request}
-use Rattle.ngx_variables.specs.declared.request.Place.TheVariants.{Whole}
+use Rattle.ngx_variables.specs.declared.request.FileRoot.TheVariants.{Whole}
 use Rattle.ngx_variables.specs.Grammar.{begins_with}
 use Rattle.ngx_variables.specs.Acts.{value}
 use Rattle.file_path.specs.Located.{Located, located}

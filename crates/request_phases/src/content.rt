@@ -18,7 +18,7 @@ ghost use Rattle.request_phases.specs.Turns.{Reaches};
 
 use crate::ground::Ground;
 use crate::lists::index_at;
-use crate::state::{Decision, Reached, Wait};
+use crate::state::{Decision, Reached, Search, Wait};
 use byte_text::{ByteText, OutOfMemory};
 use file_path::path_of;
 use file_tree::Node;
@@ -29,7 +29,7 @@ use site_model::{Site, Tries};
 use static_content::{Content, decide, refusal_of};
 use std::alloc::Global;
 use target_text::item_settles;
-use try_index::{IndexState, IndexStep, TryState, TryStep};
+use try_index::{IndexState, IndexStep, Scene, TryState, TryStep};
 use uri_text::escaped;
 
 fn is_redirect(code: u16) -> bool
@@ -185,7 +185,13 @@ pub(crate) fn index(
     let mut state = state;
     let level = ground.site.level(at.level);
     let names = index_at(ground.site, ground.index, level.index);
-    match state.next(alloc, answer, names, &level.place, main, &at.request, vars) {
+    let scene = Scene {
+        place: &level.place,
+        main,
+        request: &at.request,
+        vars,
+    };
+    match state.next(alloc, answer, names, &scene) {
         Ok(IndexStep::Probe(path)) => Ok(Reached::Waits {
             wait: Wait::Index(state),
             path,
@@ -237,23 +243,28 @@ pub(crate) fn try_names(
     alloc: Global,
     ground: &Ground<'_>,
     tries: &Tries,
-    state: TryState,
-    answer: Option<Node>,
+    search: Search,
     main: &Main,
     at: &mut Progress,
     vars: &VarTable,
 ) -> Result<Reached, OutOfMemory>
     requires ground { IsGround ground.now }
     requires stated { (raw_level ground.now.site.now at.old.level).tries ≡ Some tries.now }
-    ensures { IfOk result (λ reached. (item : Item) → node_of item ≡ unwrap_or answer Missing
+    ensures { IfOk result (λ reached. (item : Item) → node_of item ≡ unwrap_or search.answer Missing
         → (patterns : List SetPattern) (bytes : List ℕ) → Reaches patterns ground.now main.now
         (λ w a. try_told a.main (standing_seen ground.now.site.now at.old) (tries_seen tries.now)
-        state item)
+        search.state item)
         vars.now bytes at.new reached vars.now) }
 {
-    let mut state = state;
+    let Search { mut state, answer } = search;
     let place = &ground.site.level(at.level).place;
-    match state.next(alloc, answer, tries, place, main, &at.request, vars) {
+    let scene = Scene {
+        place,
+        main,
+        request: &at.request,
+        vars,
+    };
+    match state.next(alloc, answer, tries, &scene) {
         Ok(TryStep::Probe(path)) => Ok(Reached::Waits {
             wait: Wait::Try(state),
             path,
@@ -288,6 +299,12 @@ pub(crate) fn precontent(
 {
     match &ground.site.level(at.level).tries {
         None => Ok(content(alloc, ground, main, at, vars)?),
-        Some(tries) => Ok(try_names(alloc, ground, tries, TryState::new(), None, main, at, vars)?),
+        Some(tries) => {
+            let search = Search {
+                state: TryState::new(),
+                answer: None,
+            };
+            Ok(try_names(alloc, ground, tries, search, main, at, vars)?)
+        }
     }
 }

@@ -14,7 +14,7 @@ use crate::ground::Ground;
 use crate::lists::pages_at;
 use crate::state::{Decision, From, Handled, Outcome, Phases};
 use byte_text::{ByteText, OutOfMemory};
-use error_pages::{PageStep, page_for};
+use error_pages::{Handling, PageStep, page_for};
 use http_types::Method;
 use ngx_variables::{EvalFault, Role, VarTable};
 use site_model::Shown;
@@ -127,13 +127,16 @@ fn fail(
     let level = ground.site.level(phases.at.level);
     let rules = pages_at(ground.site, level.pages);
     let used = phases.error.is_some();
+    let handling = Handling {
+        used,
+        recursive: level.recursive,
+        changes: phases.changes,
+    };
     let page = page_for(
         alloc,
         rules,
         code,
-        used,
-        level.recursive,
-        phases.changes,
+        handling,
         &phases.main,
         &phases.at.request,
         vars,

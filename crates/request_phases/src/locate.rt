@@ -26,14 +26,14 @@ ghost use Rattle.request_phases.specs.Turns.{Begins, Reaches};
 use crate::access::access;
 use crate::content::{content, index, on_node, try_names};
 use crate::ground::Ground;
-use crate::state::{Decision, From, Reached, Wait};
+use crate::state::{Decision, From, Ran, Reached, Wait};
 use byte_text::{ByteText, OutOfMemory};
 use file_tree::Node;
 use location_search::FoundLocation;
 use ngx_pattern::{PatternSet, Spans};
 use ngx_variables::{Main, Role, VarTable};
 use pattern_search::groups_of;
-use rewrite_code::{Ending, Progress, RunStep, run};
+use rewrite_code::{Ending, Progress, RunStep, Setting, run};
 use site_model::{Level, Site};
 use std::alloc::Global;
 
@@ -91,8 +91,7 @@ fn decision_of(alloc: Global, ending: Ending, at_server: bool) -> Option<Decisio
 pub(crate) fn after_location(
     alloc: Global,
     ground: &Ground<'_>,
-    level: u32,
-    step: RunStep,
+    ran: Ran,
     main: &Main,
     at: &mut Progress,
     vars: &VarTable,
@@ -100,9 +99,10 @@ pub(crate) fn after_location(
     requires { IsGround ground.now }
     ensures { IfOk result (λ reached. (patterns : List SetPattern) (bytes : List ℕ)
         → Reaches patterns ground.now main.now
-        (λ w a. ran_in w a patterns ground.now.site.now level at.old step false)
+        (λ w a. ran_in w a patterns ground.now.site.now ran.level at.old ran.step false)
         vars.now bytes at.new reached vars.now) }
 {
+    let Ran { level, step } = ran;
     match step {
         RunStep::Test { path, at: place } => Ok(Reached::Waits {
             wait: Wait::Test {
@@ -142,14 +142,20 @@ fn run_location(
     ensures kept { patterns.new ≡ patterns.old }
 {
     let program = &ground.site.level(level).program;
-    let step = run(alloc, ground.site, program, patterns, main, at, vars)?;
-    Ok(after_location(alloc, ground, level, step, main, at, vars)?)
+    let setting = Setting {
+        alloc,
+        site: ground.site,
+        main,
+    };
+    let step = run(&setting, program, patterns, at, vars)?;
+    Ok(after_location(alloc, ground, Ran { level, step }, main, at, vars)?)
 }
 
 /// Why a level turns a request away: it is asked from inside alone (`internal`), or the request's body is longer than it
 /// allows (`client_max_body_size`).
 fn refusal(level: &Level, length: u64, at: &Progress) -> Option<u16>
-    ensures { (w : World) (values : Values) → w.length ≡ length → values.internal ≡ level.now.internal
+    ensures { (w : World) (values : Values) → w.length ≡ length
+        → values.internal ≡ level.now.internal
         → values.body_most ≡ level.now.body_most
         → result ≡ refused_in w values at.now.request at.now.inside }
 {
@@ -266,8 +272,7 @@ pub(crate) fn find_config(
 pub(crate) fn after_server(
     alloc: Global,
     ground: &Ground<'_>,
-    level: u32,
-    step: RunStep,
+    ran: Ran,
     patterns: &mut PatternSet,
     main: &Main,
     at: &mut Progress,
@@ -276,10 +281,11 @@ pub(crate) fn after_server(
     requires { IsGround ground.now }
     ensures does { IfOk result (λ reached. (bytes : List ℕ)
         → Reaches patterns.old ground.now main.now
-        (λ w a. ran_in w a patterns.old ground.now.site.now level at.old step true)
+        (λ w a. ran_in w a patterns.old ground.now.site.now ran.level at.old ran.step true)
         vars.old bytes at.new reached vars.new) }
     ensures kept { patterns.new ≡ patterns.old }
 {
+    let Ran { level, step } = ran;
     match step {
         RunStep::Test { path, at: place } => Ok(Reached::Waits {
             wait: Wait::Test {
@@ -314,8 +320,13 @@ fn run_server(
 {
     let level = ground.server.level;
     let program = &ground.site.level(level).program;
-    let step = run(alloc, ground.site, program, patterns, main, at, vars)?;
-    Ok(after_server(alloc, ground, level, step, patterns, main, at, vars)?)
+    let setting = Setting {
+        alloc,
+        site: ground.site,
+        main,
+    };
+    let step = run(&setting, program, patterns, at, vars)?;
+    Ok(after_server(alloc, ground, Ran { level, step }, patterns, main, at, vars)?)
 }
 
 /// A location `@name`; a name that no location has is an error of the level that it was asked from.

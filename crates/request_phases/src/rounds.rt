@@ -16,12 +16,12 @@ use crate::content::{content, index, on_node, try_names};
 use crate::decide::{Next, last_of, next_of};
 use crate::ground::Ground;
 use crate::locate::{after_location, after_server, round};
-use crate::state::{Decision, From, Phases, Reached, Step, Wait};
+use crate::state::{Decision, From, Phases, Ran, Reached, Search, Step, Wait};
 use byte_text::OutOfMemory;
 use file_tree::Node;
 use ngx_pattern::PatternSet;
 use ngx_variables::{Main, VarTable};
-use rewrite_code::{Progress, resume as resume_program};
+use rewrite_code::{Progress, Setting, resume as resume_program};
 use std::alloc::Global;
 use try_index::TryState;
 
@@ -56,7 +56,13 @@ fn tried(
         vars.now bytes at.new reached vars.now) }
 {
     match &ground.site.level(at.level).tries {
-        Some(tries) => Ok(try_names(alloc, ground, tries, state, Some(node), main, at, vars)?),
+        Some(tries) => {
+            let search = Search {
+                state,
+                answer: Some(node),
+            };
+            Ok(try_names(alloc, ground, tries, search, main, at, vars)?)
+        }
         None => Ok(content(alloc, ground, main, at, vars)?),
     }
 }
@@ -88,11 +94,20 @@ fn told(
         } => {
             let site = ground.site;
             let program = &site.level(level).program;
-            let step = resume_program(alloc, site, program, patterns, main, at, vars, place, node)?;
+            let setting = Setting { alloc, site, main };
+            let step = resume_program(&setting, program, patterns, at, vars, place, node)?;
             if at_server {
-                return Ok(after_server(alloc, ground, level, step, patterns, main, at, vars)?);
+                return Ok(after_server(
+                    alloc,
+                    ground,
+                    Ran { level, step },
+                    patterns,
+                    main,
+                    at,
+                    vars,
+                )?);
             }
-            Ok(after_location(alloc, ground, level, step, main, at, vars)?)
+            Ok(after_location(alloc, ground, Ran { level, step }, main, at, vars)?)
         }
         Wait::Try(state) => Ok(tried(alloc, ground, state, node, main, at, vars)?),
         Wait::Index(state) => Ok(index(alloc, ground, state, Some(node), main, at, vars)?),
@@ -113,7 +128,8 @@ fn settle(
     requires { IsGround ground.now }
     ensures does { IfOk result (λ step. (bytes : List ℕ)
         → Steps patterns.old ground.now (λ w. rounds_rest w phases.old.changes (asked_in phases.old)
-        (reached_in w patterns.old ground.now.site.now (asked_in phases.old) bytes phases.old.at reached))
+        (reached_in w patterns.old ground.now.site.now (asked_in phases.old) bytes phases.old.at
+        reached))
         vars.old bytes phases.new step vars.new) }
     ensures main { IfOk result (λ step. IsOfMain phases.old.main phases.new.main) }
     ensures kept { patterns.new ≡ patterns.old }

@@ -1,7 +1,8 @@
 // A request in its phases.
 use byte_text::ByteText;
+use file_tree::Node;
 use ngx_variables::{Main, Role};
-use rewrite_code::Progress;
+use rewrite_code::{Progress, RunStep};
 use site_model::Shown;
 use try_index::{IndexState, TryState};
 
@@ -20,7 +21,7 @@ pub struct Phases {
     pub main: Main,
     /// The request as it is now, and the level that holds for it.
     pub at: Progress,
-    /// So many changes are left, after which one more is an error.
+    /// How many changes are left; one more after these is an error.
     pub changes: u8,
     pub error: Option<Handled>,
     /// Whether an error was met that closes the connection after the response.
@@ -46,6 +47,20 @@ pub enum Wait {
     Folder,
     /// The request's own file.
     File,
+}
+
+/// How far the program of the level with this number came.
+#[derive(Drop)]
+pub(crate) struct Ran {
+    pub level: u32,
+    pub step: RunStep,
+}
+
+/// A search of the names of `try_files`, and what is at the path that it asked for last, where that was told.
+#[derive(Drop)]
+pub(crate) struct Search {
+    pub state: TryState,
+    pub answer: Option<Node>,
 }
 
 /// Where the phases begin: at the server's program, at the search of a location, or at a location `@name`.

@@ -27,7 +27,7 @@ pub struct ReplyHead {
     pub location: Option<ByteText>,
     /// Whether content of unknown length is sent in chunks.
     pub chunked: bool,
-    /// Whether the connection stays open behind the response.
+    /// Whether the connection stays open after the response.
     pub keep: bool,
 }
 
@@ -44,7 +44,8 @@ fn is_bodiless(status: u16) -> bool
 
 #[tactic(auto, unfolding(crate::specs::Head::type_fields, crate::specs::Head::field_lines, crate::specs::Head::optional))]
 fn put_type_of(head: &ReplyHead, kind: Option<&[u8]>, out: &mut ByteText) -> Result<(), OutOfMemory>
-    ensures { OnOk result (out.new ≡ out.old ++ field_lines (type_fields (of_kind head.now kind.entry))) }
+    ensures { OnOk result (out.new
+        ≡ out.old ++ field_lines (type_fields (of_kind head.now kind.entry))) }
 {
     if is_bodiless(head.status) {
         return Ok(());

@@ -2,7 +2,7 @@
 ghost use Rattle.resp_head.specs.Laws.{HeadIsWhole, HeadReadsBack};
 
 /// No content of a [`ReplyHead`](crate::ReplyHead) splits its response (CWE-113): the head's text has no CR or LF but
-/// those that end its lines and the empty line behind them.
+/// those that end its lines and the empty line after them.
 pub fn head_is_whole()
     ensures { HeadIsWhole }
 {}

@@ -34,7 +34,8 @@ pub fn put_status_line(status: u16, out: &mut ByteText) -> Result<(), OutOfMemor
 /// Server and Date.
 #[tactic(auto, unfolding(crate::specs::Head::field_line, crate::specs::Head::server_field, crate::specs::Head::date_field, crate::specs::Head::crlf))]
 pub fn put_date(date: &[u8; 29], out: &mut ByteText) -> Result<(), OutOfMemory>
-    ensures { OnOk result (out.new ≡ out.old ++ field_line server_field ++ field_line (date_field date.now)) }
+    ensures { OnOk result (out.new
+        ≡ out.old ++ field_line server_field ++ field_line (date_field date.now)) }
 {
     out.extend(b"Server: nginx\r\nDate: ")?;
     out.extend(date)?;

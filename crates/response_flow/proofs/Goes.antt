@@ -104,7 +104,7 @@ pub lower : (ran : Ran) (size : Onward → ℕ) (a b : ℕ) → a ≤ b → IfOn
 lower (runs.On o) size a b h l = omega (arith, h, l)
 lower runs.TooMany size a b h l = tt
 
--- the flight that stands in a place, and the page in it
+-- the flight that is in a place, and the page in it
 abbrev pub flight_in : Option Flight → Flight → Flight
 flight_in None f = f
 flight_in (Some g) f = g

@@ -70,7 +70,7 @@ stage_falls flow n size some within shown fits = by flow.stage shown fits
         let p = shown_placed n placed h in
         omega (arith, some, within, p)
 
--- it stands so beside fewer bytes
+-- it is so beside fewer bytes
 stage_stands : (flow : Flow) (n size : ℕ) → 0 < n → n ≤ size → n ≤ shown_by flow.stage → stage_fits flow.ask flow.stage size ≡ true → stage_fits flow.ask (stage_written flow.stage n) (size - n) ≡ true
 stage_stands flow n size some within shown fits = by flow.stage shown fits
   where

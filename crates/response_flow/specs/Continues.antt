@@ -40,7 +40,7 @@ abbrev pub IfOn : Ran → (Onward → Type 0) → Type 0
 IfOn (On o) P = P o
 IfOn TooMany P = Unit {0}
 
--- what ran in its place, with the flight that stands there then
+-- what ran in its place, with the flight that is there then
 abbrev pub ran_in : Option Flight → Passed → Ran
 ran_in flight (passes.On closing log level) = On (record { flight = flight; closing = closing; log = log; level = level })
 ran_in flight passes.TooMany = TooMany

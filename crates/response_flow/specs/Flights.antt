@@ -14,7 +14,7 @@ use Rattle.subrequests.specs.Moved.{IsWhole}
 use Rattle.subrequests.specs.Wants as family
 use Rattle.page_response.specs.Pages.{IsReached, bytes_left, nodes_asked, pages_left, whole_length}
 use Rattle.page_response.specs.declared.pages.Pages.{Pages}
-use Rattle.request_flow.specs.Flows.{IsServedBy, flow_fits, flow_left, flow_rest, may_run, shown_by, shown_most, stage_length, stage_server, tree_asked, jobs_of as flow_jobs}
+use Rattle.request_flow.specs.Flows.{IsServedBy, flow_fits, flow_left, flow_rest, is_sending, may_run, shown_by, shown_most, stage_length, stage_server, tree_asked, jobs_of as flow_jobs}
 use Rattle.request_flow.specs.Reached.{FlowReached}
 use Rattle.request_flow.specs.Rests.{Rest, no_rest}
 use Rattle.response_flow.specs.declared.flight.Flight.{Flight}
@@ -97,6 +97,12 @@ ready_by (Page p) = page_ready p.pages.value
 abbrev pub ready_of : Option Flight → List ℕ
 ready_of None = []
 ready_of (Some flight) = ready_by flight
+
+-- a block of the file of a request alone came
+abbrev pub sends_alone : Option Flight → Bool
+sends_alone None = false
+sends_alone (Some (Alone flow)) = is_sending flow.stage
+sends_alone (Some (Page p)) = false
 
 -- ---- what fits
 

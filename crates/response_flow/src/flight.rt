@@ -42,8 +42,8 @@ pub enum Ran {
     TooMany,
 }
 
-/// What became of a request that ran in its place, where how it goes on stands: whether the
-/// connection closes after it, what is logged, and the number of the level that answers.
+/// What became of a request that ran in its place, where it is kept how it goes on: whether the connection closes after
+/// it, what is logged, and the number of the level that answers.
 #[derive(Drop)]
 pub enum Passed {
     On {

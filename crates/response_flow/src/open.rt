@@ -26,7 +26,8 @@ struct Source {
 }
 
 fn source_of(alloc: Global, known: Known) -> Source
-    ensures text { (trees : Trees) → text_of (item_asked trees result.ask) ≡ known_text known trees }
+    ensures text { (trees : Trees)
+        → text_of (item_asked trees result.ask) ≡ known_text known trees }
     ensures tree { result.tree ≡ known_tree known }
 {
     match known {

@@ -29,7 +29,7 @@ ghost use Rattle.response_flow.specs.declared.flight.PageFlow.{PageFlow as PageF
 ghost use Rattle.request_phases.specs.declared.ground.Ground.{Ground as GroundView};
 ghost use Rattle.page_response.specs.Ran.{RunsTo};
 ghost use Rattle.response_flow.specs.declared.flight.Flight.TheVariants.{Alone as AloneFlight, Page as PageFlight};
-ghost use Rattle.response_flow.specs.Flights.{FlightFits, FlightReached, FlightServedBy, flight_left, flight_length, flight_rest, flight_server, flight_tree, most_kept, page_left, page_most, ready_of};
+ghost use Rattle.response_flow.specs.Flights.{FlightFits, FlightReached, FlightServedBy, flight_left, flight_length, flight_rest, flight_server, flight_tree, most_kept, page_left, page_most, ready_of, sends_alone};
 
 use crate::flight::{Flight, Onward, PageFlow, Passed, Ran};
 use crate::open::opened;
@@ -38,8 +38,8 @@ use byte_text::{ByteQueue, OutOfMemory};
 use family_rest::row_tells_still;
 use page_response::Pages;
 use request_flow::{
-    Flow, Onward as FlowOnward, Opening, PageStart, Went, Workspace, run_on as flow_run_on,
-    start as flow_start,
+    Flow, Onward as FlowOnward, Opening, PageStart, Went, Workspace, is_sending as is_flow_sending,
+    run_on as flow_run_on, sends_on, start as flow_start,
 };
 use request_phases::Ground;
 use subrequests::Ran as FamilyRan;
@@ -66,7 +66,8 @@ fn alone(onward: FlowOnward) -> Onward
     ensures reached { (w : World) (patterns : List SetPattern) (site : SiteRow) →
         FlowReached w patterns site onward.flow → FlightReached w patterns site result.flight }
     ensures fits { (size : ℕ) → flow_fits onward.flow size ≡ true → FlightFits result.flight size }
-    ensures left { (size : ℕ) → flight_left result.flight size ≤ page_most + flow_left onward.flow size }
+    ensures left { (size : ℕ) → flight_left result.flight size
+        ≤ page_most + flow_left onward.flow size }
     ensures by { (server length : ℕ) → IsServedBy server length onward.flow
         → FlightServedBy server length result.flight }
     ensures tree { flight_tree result.flight ≡ tree_asked onward.flow }
@@ -98,7 +99,8 @@ fn ends(
     requires unsent { out.old ≡ [] }
     ensures ends { (w : World) (patterns : List SetPattern) (site : SiteRow) (trees : Trees)
         (before : Rest) (from : List ℕ) (first : Bool) → IsAllOver w patterns site trees pages
-        → Continues site before (page_left w patterns site trees pages) from [] first closing None level
+        → Continues site before (page_left w patterns site trees pages)
+        from [] first closing None level
         → IfOk result (λ o. Continues site before (flight_rest w patterns site o.flight trees)
         from out.new first o.closing o.log o.level) }
     ensures over { IfOk result (λ o. (o.flight ≡ None) × (is_some o.log ≡ true)) }
@@ -402,8 +404,55 @@ fn page_ends(
     }
 }
 
-/// Runs a node of the request in flight on, as `run_on` does, with the flight in its place: a page
-/// isn't moved.
+/// Whether a block of the file of a request alone came.
+fn is_sending(flight: &Option<Flight>) -> bool
+    ensures { result ≡ sends_alone flight.now }
+{
+    match flight {
+        Some(Flight::Alone(flow)) => is_flow_sending(flow),
+        Some(Flight::Page(_)) => false,
+        None => false,
+    }
+}
+
+/// A block of the file of a request alone came: it goes on in its place.
+fn sends(flight: &mut Option<Flight>, size: usize, closing: bool) -> Passed
+    requires fits { FlightFits flight.old size }
+    requires sends { sends_alone flight.old ≡ true }
+    requires runs { (at : ℕ) × (is_among at (ready_of flight.old) ≡ true) }
+    ensures runs { (w : World) (patterns : List SetPattern) (site : SiteRow) (trees : Trees)
+        (out : List ℕ) → RunsOn w patterns site trees
+        (flight_rest w patterns site flight.old trees) out out closing
+        (ran_in flight.new result) }
+    ensures reached { (w : World) (patterns : List SetPattern) (site : SiteRow) →
+        IfOn (ran_in flight.new result) (λ o. FlightReached w patterns site o.flight) }
+    ensures over { IfOn (ran_in flight.new result) (λ o. is_some o.log ≡ not (is_some o.flight)) }
+    ensures fits { IfOn (ran_in flight.new result) (λ o. FlightFits o.flight size) }
+    ensures lowers { IfOn (ran_in flight.new result) (λ o.
+        size + flight_left o.flight size < size + flight_left flight.old size) }
+    ensures by { (server length : ℕ) → IfOn (ran_in flight.new result) (λ o.
+        FlightServedBy server length o.flight) }
+    ensures asked { IfOn (ran_in flight.new result) (λ o.
+        flight_tree o.flight ≤ flight_tree flight.old) }
+    ensures closes { IfOn (ran_in flight.new result) (λ o. closing ≡ true → o.closing ≡ true) }
+{
+    let log = match flight {
+        Some(Flight::Alone(flow)) => sends_on(flow, size),
+        Some(Flight::Page(_)) => unreachable!(),
+        None => unreachable!(),
+    };
+    if log.is_some() {
+        put(flight, None);
+    }
+    Passed::On {
+        closing,
+        log,
+        level: None,
+    }
+}
+
+/// Runs a node of the request in flight on, as `run_on` does, with the flight in its place: neither a
+/// page nor a file that is sent is moved.
 ///
 /// # Errors
 /// `OutOfMemory`; the request is then not to be answered.
@@ -447,6 +496,9 @@ pub fn run_in_place(
         closing ≡ true → o.closing ≡ true)) }
     ensures kept { space.new.patterns ≡ space.old.patterns }
 {
+    if is_sending(flight) {
+        return Ok(sends(flight, out.len(), closing));
+    }
     let over = match flight {
         Some(Flight::Page(page)) => page_passes(space, ground, &mut *page.pages, at)?,
         Some(Flight::Alone(_)) => {

@@ -168,64 +168,52 @@ pub fn is_ready(flight: &Option<Flight>, at: u32) -> bool
 }
 
 /// The first of the pending bytes of a page were written. It takes no memory.
-fn page_written(page: PageFlow, count: usize) -> PageFlow
+fn page_written(page: &mut PageFlow, count: usize)
     requires some { 0 < count }
-    requires count { count ≤ length page.pages.value.outgoing.pending }
-    requires bounded { length page.pages.value.outgoing.pending ≤ most }
+    requires count { count ≤ length page.old.pages.value.outgoing.pending }
+    requires bounded { length page.old.pages.value.outgoing.pending ≤ most }
     ensures rest { (w : World) (patterns : List SetPattern) (site : SiteRow) (trees : Trees) →
-        page_left w patterns site trees page.pages.value ≡ with_bytes
-        (take count page.pages.value.outgoing.pending)
-        (page_left w patterns site trees result.pages.value) }
+        page_left w patterns site trees page.old.pages.value ≡ with_bytes
+        (take count page.old.pages.value.outgoing.pending)
+        (page_left w patterns site trees page.new.pages.value) }
     ensures reached { (w : World) (patterns : List SetPattern) (site : SiteRow) →
-        IsReached w patterns site page.pages.value → IsReached w patterns site result.pages.value }
-    ensures whole { IsWhole page.pages.value.family → IsWhole result.pages.value.family }
-    ensures bounded { length result.pages.value.outgoing.pending ≤ most }
-    ensures lowers { pages_left result.pages.value < pages_left page.pages.value }
-    ensures by { (result.server ≡ page.server) × (result.length ≡ page.length) }
-    ensures tree { result.pages.value.family.tree ≡ page.pages.value.family.tree }
+        IsReached w patterns site page.old.pages.value
+        → IsReached w patterns site page.new.pages.value }
+    ensures whole { IsWhole page.old.pages.value.family → IsWhole page.new.pages.value.family }
+    ensures bounded { length page.new.pages.value.outgoing.pending ≤ most }
+    ensures lowers { pages_left page.new.pages.value < pages_left page.old.pages.value }
+    ensures by { (page.new.server ≡ page.old.server) × (page.new.length ≡ page.old.length) }
+    ensures tree { page.new.pages.value.family.tree ≡ page.old.pages.value.family.tree }
 {
-    let PageFlow {
-        pages,
-        server,
-        length,
-    } = page;
-    let mut pages = pages;
-    let inside = &mut *pages;
+    let inside = &mut *page.pages;
     inside.written(count);
-    PageFlow {
-        pages,
-        server,
-        length,
-    }
 }
 
-/// The first of the pending bytes were written. It takes no memory.
-pub fn written(flight: Option<Flight>, out: &mut ByteQueue, count: usize) -> Option<Flight>
+/// The first of the pending bytes were written, with the flight in its place. It takes no memory.
+pub fn written(flight: &mut Option<Flight>, out: &mut ByteQueue, count: usize)
     requires some { 0 < count }
-    requires count { count ≤ length (pending_of flight out.old) }
-    requires fits { FlightFits flight (length out.old) }
+    requires count { count ≤ length (pending_of flight.old out.old) }
+    requires fits { FlightFits flight.old (length out.old) }
     ensures writes { (w : World) (patterns : List SetPattern) (site : SiteRow) (trees : Trees) →
-        Writes (flight_rest w patterns site flight trees) (flight_rest w patterns site result trees)
-        out.old out.new (take count (pending_of flight out.old)) }
+        Writes (flight_rest w patterns site flight.old trees)
+        (flight_rest w patterns site flight.new trees)
+        out.old out.new (take count (pending_of flight.old out.old)) }
     ensures reached { (w : World) (patterns : List SetPattern) (site : SiteRow) →
-        FlightReached w patterns site flight → FlightReached w patterns site result }
-    ensures fits { FlightFits result (length out.new) }
-    ensures lowers { length out.new + flight_left result (length out.new)
-        < length out.old + flight_left flight (length out.old) }
-    ensures by { (server length : ℕ) → FlightServedBy server length flight
-        → FlightServedBy server length result }
-    ensures tree { flight_tree result ≡ flight_tree flight }
-    ensures kind { is_some result ≡ is_some flight }
+        FlightReached w patterns site flight.old → FlightReached w patterns site flight.new }
+    ensures fits { FlightFits flight.new (length out.new) }
+    ensures lowers { length out.new + flight_left flight.new (length out.new)
+        < length out.old + flight_left flight.old (length out.old) }
+    ensures by { (server length : ℕ) → FlightServedBy server length flight.old
+        → FlightServedBy server length flight.new }
+    ensures tree { flight_tree flight.new ≡ flight_tree flight.old }
+    ensures kind { is_some flight.new ≡ is_some flight.old }
 {
     match flight {
-        None => {
-            out.used(count);
-            None
-        }
+        None => out.used(count),
         Some(Flight::Alone(flow)) => {
             out.used(count);
-            Some(Flight::Alone(wrote(flow, count)))
+            wrote(flow, count);
         }
-        Some(Flight::Page(page)) => Some(Flight::Page(page_written(page, count))),
+        Some(Flight::Page(page)) => page_written(page, count),
     }
 }

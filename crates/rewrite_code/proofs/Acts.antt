@@ -9,7 +9,7 @@ use Rattle.file_path.specs.Located.Located.{TooLong, NotThere, At}
 use Rattle.ngx_pattern.specs.Pattern as of_set
 use Rattle.ngx_variables.specs.declared.request.Main.{Main}
 use Rattle.ngx_variables.specs.declared.request.Request.{Request}
-use Rattle.ngx_variables.specs.declared.request.Place.TheVariants.{Whole}
+use Rattle.ngx_variables.specs.declared.request.FileRoot.TheVariants.{Whole}
 use Rattle.ngx_variables.specs.Texts.{value_text}
 use Rattle.ngx_variables.specs.Acts.{value}
 use Rattle.rewrite_code.proofs.Values.{settles_behind_value}

@@ -7,7 +7,7 @@ use Rattle.ngx_variables.specs.declared.variable.Variable.TheVariants.{DocumentR
 use Rattle.ngx_variables.specs.declared.value.Piece.{Piece}
 use Rattle.ngx_variables.specs.declared.value.Piece.TheVariants.{Builtin, Set}
 use Rattle.ngx_variables.specs.declared.request.Main.{Main}
-use Rattle.ngx_variables.specs.declared.request.Place.{Place}
+use Rattle.ngx_variables.specs.declared.request.FileRoot.{FileRoot}
 use Rattle.ngx_variables.specs.declared.request.Request.{Request}
 use Rattle.ngx_variables.specs.Paths.{text_of}
 use Rattle.ngx_variables.specs.Texts.{piece_text, pieces_text, variable_text, no_paths, paths_by, paths_at, place_paths, value_text}
@@ -33,7 +33,7 @@ module _ {C R : Type 0} (main : Main) (request : Request) (vars : Vars) where
   inners_settle [] = refl
   inners_settle (p ∷ ps) = pair_settles (inner_piece main request p) (inner_pieces main request ps) (piece_text no_paths main request vars p) (pieces_text no_paths main request vars ps) (inner_settles p) (inners_settle ps)
 
-  paths_settle : (place : Option Place) → settled {C = C} {R = R} (file_paths main request place) vars ≡ (Done (place_paths main request vars place), vars)
+  paths_settle : (place : Option FileRoot) → settled {C = C} {R = R} (file_paths main request place) vars ≡ (Done (place_paths main request vars place), vars)
   unfolding settled file_paths place_paths paths_at
   paths_settle None = refl
   paths_settle (Some place) = then_does (inner_pieces main request (text_of place)) (λ text. Done (paths_by place text request.path main.folder)) (pieces_text no_paths main request vars (text_of place)) (inners_settle (text_of place))

@@ -10,7 +10,7 @@ use Rattle.ngx_pattern.specs.Pattern.{Pattern as SetPattern}
 use Rattle.ngx_variables.specs.declared.value.Piece.{Piece}
 use Rattle.ngx_variables.specs.declared.request.Main.{Main}
 use Rattle.ngx_variables.specs.declared.request.Request.{Request}
-use Rattle.ngx_variables.specs.declared.request.Place.TheVariants.{Whole}
+use Rattle.ngx_variables.specs.declared.request.FileRoot.TheVariants.{Whole}
 use Rattle.ngx_variables.specs.Texts.{value_text}
 use Rattle.site_model.specs.declared.program.Test.{Test as CodeTest}
 use Rattle.site_model.specs.declared.program.Test.TheVariants as tests

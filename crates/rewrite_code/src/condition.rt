@@ -2,7 +2,7 @@
 ghost use Rattle.std.specs.Prelude.{◌≡◌, ℕ, ◌+◌, ◌<◌, ◌≤◌, Bool, true, false, List, [], ◌∷◌, ◌++◌, length, None, Some, option_map, IfOk};
 ghost use Rattle.file_tree.specs.Tree.{Item, node_of};
 ghost use Rattle.file_path.specs.Located.{located};
-ghost use Rattle.ngx_variables.specs.declared.request.Place.TheVariants.{Whole};
+ghost use Rattle.ngx_variables.specs.declared.request.FileRoot.TheVariants.{Whole};
 ghost use Rattle.ngx_variables.specs.Texts.{value_text};
 ghost use Rattle.site_views.specs.Pattern.{Pattern};
 ghost use Rattle.site_whole.specs.Whole.{test_seen};
@@ -20,7 +20,7 @@ use byte_text::{ByteText, OutOfMemory};
 use file_path::path_under;
 use file_tree::Node;
 use ngx_pattern::PatternSet;
-use ngx_variables::{EvalFault, Groups, Main, Piece, Place, Request, Value, VarTable};
+use ngx_variables::{EvalFault, FileRoot, Groups, Main, Piece, Request, Value, VarTable};
 use site_model::{FileTest, Test};
 use std::alloc::Global;
 
@@ -106,9 +106,10 @@ fn find(
 
 /// Where a file test looks, by its text.
 fn look(alloc: Global, text: &[u8], folder: &[u8]) -> Result<Condition, OutOfMemory>
-    ensures { IfOk result (λ c. condition_seen c ≡ looks_at (located (Whole []) text.now [] folder.now)) }
+    ensures { IfOk result (λ c. condition_seen c
+        ≡ looks_at (located (Whole []) text.now [] folder.now)) }
 {
-    let place = Place::Whole(Value::from_pieces(Vec::new(alloc)));
+    let place = FileRoot::Whole(Value::from_pieces(Vec::new(alloc)));
     let mut path = ByteText::new(alloc);
     match path_under(alloc, &place, text, &[], folder, &mut path) {
         Ok(true) => Ok(Condition::Asks(path)),

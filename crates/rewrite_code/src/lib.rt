@@ -12,5 +12,5 @@ mod target;
 mod text;
 mod turn;
 
-pub use place::{Ending, Progress, RunStep};
+pub use place::{Ending, Progress, RunStep, Setting};
 pub use program::{resume, run};

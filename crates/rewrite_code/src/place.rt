@@ -1,6 +1,16 @@
 // Where a request is within its rewrite programs.
 use byte_text::ByteText;
-use ngx_variables::Request;
+use ngx_variables::{Main, Request};
+use site_model::Site;
+use std::alloc::Global;
+
+/// What stays while a program runs: the allocator, the site, and the main request.
+#[derive(Clone, Copy)]
+pub struct Setting<'a> {
+    pub alloc: Global,
+    pub site: &'a Site,
+    pub main: &'a Main,
+}
 
 /// Where a request is as its programs run.
 #[derive(Drop)]

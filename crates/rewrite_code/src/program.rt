@@ -12,15 +12,14 @@ ghost use Rattle.rewrite_code.specs.Runs.{program_of, resumed, still, ComesTo};
 ghost use Rattle.rewrite_code.specs.Steps.{ahead, next_made, LeadsOn};
 ghost use Rattle.rewrite_code.specs.declared.program.Next.TheVariants.{At};
 
-use crate::place::{Ending, Progress, RunStep};
+use crate::place::{Ending, Progress, RunStep, Setting};
 use crate::quick::at_once;
 use crate::step::{Done, Move, step, tell};
 use byte_text::OutOfMemory;
 use file_tree::Node;
 use ngx_pattern::PatternSet;
-use ngx_variables::{Main, VarTable};
-use site_model::{Program, RewriteStep, Site};
-use std::alloc::Global;
+use ngx_variables::VarTable;
+use site_model::{Program, RewriteStep};
 
 /// Whether the run of `set`s that begins a program goes on past a directive.
 fn stays_leading(leading: bool, directive: &RewriteStep) -> bool
@@ -46,7 +45,7 @@ fn stays_leading(leading: bool, directive: &RewriteStep) -> bool
     }
 }
 
-/// The same past a directive that skipped so many others.
+/// The same, where the directive skips the next `skip` ones.
 fn leads_on(skip: u32, leading: bool, directive: &RewriteStep) -> bool
     ensures { (ps : List Pattern) (site : SiteRow) → result
         ≡ ((skip == 0) && stays_first leading (step_seen ps site directive.now)) }
@@ -54,10 +53,17 @@ fn leads_on(skip: u32, leading: bool, directive: &RewriteStep) -> bool
     skip == 0 && stays_leading(leading, directive)
 }
 
+/// A place in a program; `leading` where nothing but `set`s comes before it.
+#[derive(Clone, Copy)]
+struct Spot {
+    at: usize,
+    leading: bool,
+}
+
 /// Where a program goes on.
 #[derive(Drop)]
 pub enum Next {
-    /// At this place; `leading` where nothing but `set`s stands before it.
+    /// At this place; `leading` where nothing but `set`s comes before it.
     At { at: usize, leading: bool },
     /// Nowhere, for now.
     Answered(RunStep),
@@ -81,30 +87,27 @@ fn next_after(made: Move, directive: &RewriteStep, at: usize, leading: bool) -> 
 
 /// Does the directive at a place.
 fn advance(
-    alloc: Global,
-    site: &Site,
+    setting: &Setting<'_>,
     program: &[RewriteStep],
     directive: &RewriteStep,
     patterns: &mut PatternSet,
-    main: &Main,
     progress: &mut Progress,
     vars: &mut VarTable,
-    at: usize,
-    leading: bool,
+    spot: Spot,
 ) -> Result<Next, OutOfMemory>
-    requires bound { at < 2 ^ 63 }
-    requires there { at < length program.now }
-    requires item { directive.now ≡ slice_index_or program.now at directive.now }
+    requires bound { spot.at < 2 ^ 63 }
+    requires there { spot.at < length program.now }
+    requires item { directive.now ≡ slice_index_or program.now spot.at directive.now }
     ensures does { IfOk result (λ next. (w : World)
-        → let whole = program_of patterns.old site.now program.now in
-        ahead (finding w) main.now site.now whole progress.new vars.new next
-        ≡ ahead (finding w) main.now site.now whole progress.old vars.old (At at leading)) }
+        → let site = setting.now.site.now in let main = setting.now.main.now in
+        let whole = program_of patterns.old site program.now in
+        ahead (finding w) main site whole progress.new vars.new next
+        ≡ ahead (finding w) main site whole progress.old vars.old (At spot.at spot.leading)) }
     ensures kept { patterns.new ≡ patterns.old }
-    ensures further { IfOk result (LeadsOn at) }
+    ensures further { IfOk result (LeadsOn spot.at) }
 {
-    let done = step(
-        alloc, site, directive, leading, patterns, main, progress, vars,
-    )?;
+    let Spot { at, leading } = spot;
+    let done = step(setting, directive, leading, patterns, progress, vars)?;
     match done {
         Done::Moved(made) => Ok(next_after(made, directive, at, leading)),
         Done::Asks(path) => Ok(Next::Answered(RunStep::Test { path, at })),
@@ -113,21 +116,20 @@ fn advance(
 
 /// Works a program off from a place on.
 fn run_from(
-    alloc: Global,
-    site: &Site,
+    setting: &Setting<'_>,
     program: &[RewriteStep],
     patterns: &mut PatternSet,
-    main: &Main,
     progress: &mut Progress,
     vars: &mut VarTable,
     at: usize,
     leading: bool,
 ) -> Result<RunStep, OutOfMemory>
     ensures does { IfOk result (λ step. (w : World)
-        → let whole = program_of patterns.old site.now program.now in
-        ComesTo (rewritten (finding w) main.now leading 0 (drop at whole)
-        (progress_seen site.now progress.old)) vars.old
-        (still (finding w) main.now site.now whole progress.new step) vars.new) }
+        → let site = setting.now.site.now in let main = setting.now.main.now in
+        let whole = program_of patterns.old site program.now in
+        ComesTo (rewritten (finding w) main leading 0 (drop at whole)
+        (progress_seen site progress.old)) vars.old
+        (still (finding w) main site whole progress.new step) vars.new) }
     ensures kept { patterns.new ≡ patterns.old }
 {
     let mut at = at;
@@ -136,16 +138,16 @@ fn run_from(
         match program.get(at) {
             None => return Ok(RunStep::Ended(Ending::End)),
             Some(directive) => {
-                let done = at_once(directive, main, progress, vars)?;
+                let done = at_once(directive, setting.main, progress, vars)?;
                 match done {
                     Some(skip) => {
                         leading = leads_on(skip, leading, directive);
                         at = at + 1 + skip as usize;
                     }
                     None => {
+                        let spot = Spot { at, leading };
                         let next = advance(
-                            alloc, site, program, directive, patterns, main, progress, vars, at,
-                            leading,
+                            setting, program, directive, patterns, progress, vars, spot,
                         )?;
                         match next {
                             Next::Answered(step) => return Ok(step),
@@ -176,23 +178,22 @@ fn run_from(
 /// `OutOfMemory`; `progress` and `vars` are then fit to be dropped alone. A text that is too long is no error here: the
 /// program ends with `Failed`.
 pub fn run(
-    alloc: Global,
-    site: &Site,
+    setting: &Setting<'_>,
     program: &Program,
     patterns: &mut PatternSet,
-    main: &Main,
     progress: &mut Progress,
     vars: &mut VarTable,
 ) -> Result<RunStep, OutOfMemory>
     ensures does { IfOk result (λ step. (w : World)
-        → let whole = program_of patterns.old site.now program.now in
-        ComesTo (program_run (finding w) main.now whole (standing_seen site.now progress.old))
-        vars.old (still (finding w) main.now site.now whole progress.new step) vars.new) }
+        → let site = setting.now.site.now in let main = setting.now.main.now in
+        let whole = program_of patterns.old site program.now in
+        ComesTo (program_run (finding w) main whole (standing_seen site progress.old))
+        vars.old (still (finding w) main site whole progress.new step) vars.new) }
     ensures kept { patterns.new ≡ patterns.old }
 {
     progress.seeks = false;
     let steps = program.as_slice();
-    let step = run_from(alloc, site, steps, patterns, main, progress, vars, 0, true)?;
+    let step = run_from(setting, steps, patterns, progress, vars, 0, true)?;
     Ok(step)
 }
 
@@ -202,35 +203,32 @@ pub fn run(
 /// # Errors
 /// As `run`.
 pub fn resume(
-    alloc: Global,
-    site: &Site,
+    setting: &Setting<'_>,
     program: &Program,
     patterns: &mut PatternSet,
-    main: &Main,
     progress: &mut Progress,
     vars: &mut VarTable,
     at: usize,
     node: Node,
 ) -> Result<RunStep, OutOfMemory>
     ensures does { IfOk result (λ step. (w : World) (item : Item) → node_of item ≡ node
-        → let whole = program_of patterns.old site.now program.now in
-        ComesTo (resumed (finding w) main.now (drop at whole)
-        (progress_seen site.now progress.old) item) vars.old
-        (still (finding w) main.now site.now whole progress.new step) vars.new) }
+        → let site = setting.now.site.now in let main = setting.now.main.now in
+        let whole = program_of patterns.old site program.now in
+        ComesTo (resumed (finding w) main (drop at whole)
+        (progress_seen site progress.old) item) vars.old
+        (still (finding w) main site whole progress.new step) vars.new) }
     ensures kept { patterns.new ≡ patterns.old }
 {
     let steps = program.as_slice();
     match steps.get(at) {
         None => Ok(RunStep::Ended(Ending::End)),
         Some(directive) => {
-            let made = tell(alloc, site, directive, node, progress)?;
+            let made = tell(setting.alloc, setting.site, directive, node, progress)?;
             match made {
                 Move::Stop(ending) => Ok(RunStep::Ended(ending)),
                 Move::On { skip } => {
                     let next = at + 1 + skip as usize;
-                    let step = run_from(
-                        alloc, site, steps, patterns, main, progress, vars, next, false,
-                    )?;
+                    let step = run_from(setting, steps, patterns, progress, vars, next, false)?;
                     Ok(step)
                 }
             }

@@ -23,7 +23,7 @@ ghost use Rattle.rewrite_code.specs.Moves.{move_seen, done_seen, values_at, set_
 
 use crate::condition::{Condition, check, passes_test};
 use crate::groups::find_groups;
-use crate::place::{Ending, Progress};
+use crate::place::{Ending, Progress, Setting};
 use crate::target::aim_of;
 use crate::text::{fit_text, fitted};
 use crate::turn::turn;
@@ -34,7 +34,7 @@ use ngx_variables::{Groups, Main, Request, Value, VarTable};
 use site_model::{Flag, RewriteStep, Site, Test};
 use std::alloc::Global;
 
-/// What a directive makes of a program: it goes on past so many more directives, or ends.
+/// What a directive makes of a program: it goes on past the next `skip` directives, or ends.
 #[derive(Drop)]
 pub enum Move {
     On { skip: u32 },
@@ -123,25 +123,32 @@ fn enter(
     Ok(())
 }
 
+/// The block of an `if`: whether it is gone into where the test fails, how many directives it has, and its level, if it has
+/// one.
+#[derive(Clone, Copy)]
+struct Block {
+    negated: bool,
+    size: u32,
+    level: Option<u32>,
+}
+
 /// Goes into the block of an `if`, or past it: past how many directives.
 fn branch(
     alloc: Global,
     site: &Site,
     holds: bool,
-    negated: bool,
-    block: u32,
-    level: Option<u32>,
+    block: Block,
     progress: &mut Progress,
 ) -> Result<u32, OutOfMemory>
     ensures { IfOk result (λ skip.
-        if_step negated block (values_at site.now level) (progress_seen site.now progress.old)
-        (meaning.says holds)
+        if_step block.negated block.size (values_at site.now block.level)
+        (progress_seen site.now progress.old) (meaning.says holds)
         ≡ Goes skip (progress_seen site.now progress.new)) }
 {
-    if holds == negated {
-        return Ok(block);
+    if holds == block.negated {
+        return Ok(block.size);
     }
-    enter(alloc, site, level, progress)?;
+    enter(alloc, site, block.level, progress)?;
     Ok(0)
 }
 
@@ -157,29 +164,27 @@ fn take_groups(groups: Option<Groups>, progress: &mut Progress)
 
 /// `if`.
 fn decide(
-    alloc: Global,
-    site: &Site,
+    setting: &Setting<'_>,
     test: &Test,
-    negated: bool,
-    block: u32,
-    level: Option<u32>,
+    block: Block,
     patterns: &mut PatternSet,
-    main: &Main,
     progress: &mut Progress,
     vars: &VarTable,
 ) -> Result<Done, OutOfMemory>
     ensures does { IfOk result (λ done.
         let seen = test_seen (patterns_seen patterns.old) test.now in
-        let values = values_at site.now level in
-        if_made seen negated block values (progress_seen site.now progress.old)
-        (checked patterns.old main.now progress.old.request vars.now test.now)
-        ≡ done_seen site.now progress.new (If seen negated block values) done) }
+        let site = setting.now.site.now in
+        let values = values_at site block.level in
+        if_made seen block.negated block.size values (progress_seen site progress.old)
+        (checked patterns.old setting.now.main.now progress.old.request vars.now test.now)
+        ≡ done_seen site progress.new (If seen block.negated block.size values) done) }
     ensures kept { patterns.new ≡ patterns.old }
 {
-    match check(alloc, test, patterns, main, &progress.request, vars)? {
+    let alloc = setting.alloc;
+    match check(alloc, test, patterns, setting.main, &progress.request, vars)? {
         Condition::Says { holds, groups } => {
             take_groups(groups, progress);
-            let skip = branch(alloc, site, holds, negated, block, level, progress)?;
+            let skip = branch(alloc, setting.site, holds, block, progress)?;
             Ok(Done::Moved(Move::On { skip }))
         }
         Condition::Unfit => Ok(Done::Moved(Move::Stop(Ending::Failed { leading: false }))),
@@ -222,55 +227,62 @@ fn give_back(
     }
 }
 
-/// `rewrite`.
-fn rewrite(
-    alloc: Global,
-    pattern: u32,
-    to: &Value,
+/// Where a `rewrite` leads: the text of its target, whether that is a URL, and its flag.
+#[derive(Clone, Copy)]
+struct Way<'a> {
+    to: &'a Value,
     is_url: bool,
     flag: Flag,
+}
+
+/// `rewrite`.
+fn rewrite(
+    setting: &Setting<'_>,
+    pattern: u32,
+    way: &Way<'_>,
     patterns: &mut PatternSet,
-    main: &Main,
     progress: &mut Progress,
     vars: &VarTable,
 ) -> Result<Move, OutOfMemory>
     ensures does { IfOk result (λ move. (site : SiteRow)
-        → rewrite_made main.now vars.now to.now is_url (flag_seen flag)
-        (progress_seen site progress.old)
+        → rewrite_made setting.now.main.now vars.now way.now.to.now way.now.is_url
+        (flag_seen way.now.flag) (progress_seen site progress.old)
         (option_map (groups_in progress.old.request.path)
         (found_at patterns.old pattern progress.old.request.path))
         ≡ move_seen site progress.new move) }
     ensures kept { patterns.new ≡ patterns.old }
 {
+    let alloc = setting.alloc;
     let path = progress.request.path.as_slice();
     let Some(groups) = find_groups(alloc, patterns, pattern, path)? else {
         return Ok(Move::On { skip: 0 });
     };
     progress.request.groups = groups;
-    match aim_of(alloc, to, main, &progress.request, vars)? {
-        Some(aim) => turn(alloc, to, is_url, flag, progress, aim),
+    match aim_of(alloc, way.to, setting.main, &progress.request, vars)? {
+        Some(aim) => turn(alloc, way.to, way.is_url, way.flag, progress, aim),
         None => Ok(Move::Stop(Ending::Failed { leading: false })),
     }
 }
 
-/// What a directive does; `leading` where nothing but `set`s stands before it in its program.
+/// What a directive does; `leading` where nothing but `set`s comes before it in its program.
 pub(crate) fn step(
-    alloc: Global,
-    site: &Site,
+    setting: &Setting<'_>,
     directive: &RewriteStep,
     leading: bool,
     patterns: &mut PatternSet,
-    main: &Main,
     progress: &mut Progress,
     vars: &mut VarTable,
 ) -> Result<Done, OutOfMemory>
     ensures does { IfOk result (λ done. (w : World)
-        → let d = step_seen (patterns_seen patterns.old) site.now directive.now in
-        settled (meaning.step (finding w) main.now leading
-        (progress_seen site.now progress.old) d) vars.old
-        ≡ (done_seen site.now progress.new d done, vars.new)) }
+        → let site = setting.now.site.now in
+        let d = step_seen (patterns_seen patterns.old) site directive.now in
+        settled (meaning.step (finding w) setting.now.main.now leading
+        (progress_seen site progress.old) d) vars.old
+        ≡ (done_seen site progress.new d done, vars.new)) }
     ensures kept { patterns.new ≡ patterns.old }
 {
+    let alloc = setting.alloc;
+    let main = setting.main;
     match directive {
         RewriteStep::Set { name, text } => {
             let made = set(alloc, name, text, leading, main, &progress.request, vars)?;
@@ -282,9 +294,12 @@ pub(crate) fn step(
             block,
             level,
         } => {
-            let made = decide(
-                alloc, site, test, *negated, *block, *level, patterns, main, progress, vars,
-            )?;
+            let block = Block {
+                negated: *negated,
+                size: *block,
+                level: *level,
+            };
+            let made = decide(setting, test, block, patterns, progress, vars)?;
             Ok(made)
         }
         RewriteStep::Rewrite {
@@ -293,9 +308,12 @@ pub(crate) fn step(
             is_url,
             flag,
         } => {
-            let made = rewrite(
-                alloc, *pattern, to, *is_url, *flag, patterns, main, progress, vars,
-            )?;
+            let way = Way {
+                to,
+                is_url: *is_url,
+                flag: *flag,
+            };
+            let made = rewrite(setting, *pattern, &way, patterns, progress, vars)?;
             Ok(Done::Moved(made))
         }
         RewriteStep::Return { code, text } => {
@@ -329,7 +347,12 @@ pub(crate) fn tell(
             level,
         } => {
             let holds = passes_test(test, node);
-            let skip = branch(alloc, site, holds, *negated, *block, *level, progress)?;
+            let block = Block {
+                negated: *negated,
+                size: *block,
+                level: *level,
+            };
+            let skip = branch(alloc, site, holds, block, progress)?;
             Ok(Move::On { skip })
         }
         RewriteStep::Set { name: _, text: _ } => Ok(Move::Stop(Ending::End)),

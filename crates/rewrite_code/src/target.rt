@@ -32,7 +32,7 @@ fn front(bytes: &[u8], size: usize) -> &[u8]
     &bytes[..size]
 }
 
-/// What stands before the first `?`, if there is one.
+/// What comes before the first `?`, if there is one.
 fn before_question(bytes: &[u8]) -> Option<&[u8]>
     ensures { option_map (λ text. text.now) result ≡ before_question bytes.now }
 {
@@ -65,7 +65,7 @@ fn has_question(pieces: &[Piece]) -> bool
     false
 }
 
-/// Writes what stands before the first literal `?`.
+/// Writes what comes before the first literal `?`.
 #[tactic(auto, using(crate::proofs::Cuts::path_more_at, crate::proofs::Cuts::path_ends_at, crate::proofs::Cuts::path_over))]
 fn append_path(
     alloc: Global,

@@ -7,7 +7,7 @@ use byte_text::{ByteText, OutOfMemory};
 use ngx_variables::{EvalFault, Main, Request, Value, VarTable};
 use std::alloc::Global;
 
-/// An evaluated text has at most so many bytes.
+/// The most bytes of an evaluated text.
 const TEXT_LIMIT: usize = 16384;
 
 #[tactic(auto, unfolding(ngx_variables::specs::Texts::is_too_long))]

@@ -111,7 +111,8 @@ pub(crate) fn turn(
     aim: Aim,
 ) -> Result<Move, OutOfMemory>
     ensures { IfOk result (λ move. (site : SiteRow)
-        → rewrite_to to.now is_url (flag_seen flag) (progress_seen site progress.old) (Some (aim_seen aim))
+        → rewrite_to to.now is_url (flag_seen flag) (progress_seen site progress.old)
+        (Some (aim_seen aim))
         ≡ move_seen site progress.new move) }
 {
     let Aim { path, args } = aim;

@@ -59,8 +59,8 @@ fn test_in<M: PatternMaker>(
     }
 }
 
-/// The directive of a program whose pattern, if it has one, is added to the set under the next number. The block of an `if` has
-/// so many directives, and in a location the level with a number.
+/// The directive of a program whose pattern, if it has one, is added to the set under the next number. The block of an
+/// `if` has `block` directives, and in a location its level has the number `level`.
 ///
 /// # Errors
 /// `Bad` where the pattern has no expression, `TooBig` where the maker refused it; the set then stays as it was.

@@ -179,8 +179,8 @@ fn make<M: PatternMaker>(
 
 /// The program of a level, with the line of each of its directives: `set`, `if`, `rewrite`, `return` and `break` in the order of
 /// the text, those in the block of an `if` right after it, with their number. The names of the variables that the
-/// configuration sets are known. Patterns are added to the set. In a location the blocks of `if`s are levels of their own, numbered from `first_block` on;
-/// elsewhere there is none.
+/// configuration sets are known. Patterns are added to the set. In a location the blocks of `if`s are levels of their
+/// own, numbered from `first_block` on; elsewhere there is none.
 ///
 /// # Errors
 /// `Fault` for the first fault in the order of the text: a value that is none, a built-in variable that is set, or a pattern that is

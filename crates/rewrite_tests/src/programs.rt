@@ -64,7 +64,7 @@ fn a_file_test_is_asked_and_told(rt: HostRuntime) -> Result<(), Fail> {
     Ok(())
 }
 
-/// `set $a` to so many bytes, after another directive if `later`; and then a program that ends in an `if`.
+/// `set $a` to `size` bytes, after another directive if `later`; and then a program that ends in an `if`.
 fn long(alloc: Global, size: usize, later: bool) -> Result<ByteText, Fail> {
     let mut bytes = ByteText::new(alloc);
     for _ in 0..size {

@@ -4,9 +4,9 @@ use file_tree::Node;
 use file_type::Types;
 use http_types::{Addr, Method, Version};
 use ngx_pattern::{CrateMaker, PatternSet};
-use ngx_variables::{Groups, LocalDate, Main, Piece, Place, Request, Role, Value, VarTable};
+use ngx_variables::{FileRoot, Groups, LocalDate, Main, Piece, Request, Role, Value, VarTable};
 use req_head::HeadFields;
-use rewrite_code::{Ending, Progress, RunStep, resume, run};
+use rewrite_code::{Ending, Progress, RunStep, Setting, resume, run};
 use site_model::{FileTest, Flag, Level, Program, RewriteStep, Site, Test};
 use std::alloc::Global;
 use std::net::{IpAddr, Ipv4Addr};
@@ -93,7 +93,7 @@ pub fn patterns(alloc: Global) -> Result<PatternSet, Fail> {
 
 fn level(alloc: Global) -> Result<Level, Fail> {
     Ok(Level {
-        place: Place::Root(Value::compile(alloc, b"/w")?),
+        place: FileRoot::Root(Value::compile(alloc, b"/w")?),
         types: 0,
         requests: 1000,
         idle: 75_000,
@@ -249,24 +249,30 @@ impl Sample {
     }
 
     fn run(&mut self) -> Result<RunStep, Fail> {
+        let setting = Setting {
+            alloc: self.alloc,
+            site: &self.site,
+            main: &self.main,
+        };
         Ok(run(
-            self.alloc,
-            &self.site,
+            &setting,
             &self.program,
             &mut self.patterns,
-            &self.main,
             &mut self.progress,
             &mut self.vars,
         )?)
     }
 
     fn resume(&mut self, at: usize, path: &[u8]) -> Result<RunStep, Fail> {
+        let setting = Setting {
+            alloc: self.alloc,
+            site: &self.site,
+            main: &self.main,
+        };
         Ok(resume(
-            self.alloc,
-            &self.site,
+            &setting,
             &self.program,
             &mut self.patterns,
-            &self.main,
             &mut self.progress,
             &mut self.vars,
             at,

@@ -35,7 +35,8 @@ pub struct ServerNames {
     pub endings_dotted: bool,
     pub beginnings_dotted: bool,
     pub ghost endings_are: { endings_dotted ≡ true → AreAll begins_with_dot (number_of endings) },
-    pub ghost beginnings_are: { beginnings_dotted ≡ true → AreAll ends_with_dot (number_of beginnings) },
+    pub ghost beginnings_are: { beginnings_dotted ≡ true
+        → AreAll ends_with_dot (number_of beginnings) },
 }
 
 impl ServerNames {

@@ -267,9 +267,10 @@ impl Servers {
     /// The number of the server, in the order of the text, that answers a host on connections to a local end; none where no
     /// server listens there. The host is in lower case and without its port. It takes no memory.
     ///
-    /// Of the servers that listen on that very address, or else on the wildcard of its port: the one with that name, the one
-    /// with the longest name `*.x`, the one with the longest name `x.*`, the one of the first pattern that matches, the
-    /// default server, or the first (<https://nginx.org/en/docs/http/server_names.html>).
+    /// It is one of the servers that listen on that very address, or else on the wildcard of its port. Of these it is
+    /// the one with that name; else the one with the longest name `*.x`; else the one with the longest name `x.*`; else
+    /// the one of the first pattern that matches; else the default server; else the first
+    /// (<https://nginx.org/en/docs/http/server_names.html>).
     pub fn choose(
         &self,
         local: Addr,

@@ -83,7 +83,7 @@ impl Program {
         }
     }
 
-    /// Adds a directive behind those that are there.
+    /// Adds a directive after those that are there.
     pub fn push(&mut self, step: RewriteStep) -> Result<(), OutOfMemory>
         ensures ok { OnOk result (self.new ≡ self.old ++ step ∷ []) }
         ensures err { OnErr result (self.new ≡ self.old) }

@@ -5,7 +5,7 @@ use crate::values::{AuthSets, IndexNames, MediaTypes, PageRules, Tries};
 use access_rules::Rule;
 use byte_text::{ByteText, ByteTexts};
 use file_type::Types;
-use ngx_variables::{Place, Value};
+use ngx_variables::{FileRoot, Value};
 
 /// The directive `return` (nginx's rewrite module): a code, and the text that is answered with it.
 #[derive(Drop)]
@@ -17,13 +17,13 @@ pub struct Return {
 /// The values that hold in a level: in a server, or in one of its locations.
 #[derive(Drop)]
 pub struct Level {
-    /// Where its files stand: `root` or `alias`.
-    pub place: Place,
+    /// Where its files are: `root` or `alias`.
+    pub place: FileRoot,
     /// The number of its media types among the site's lists (`types` and `default_type`).
     pub types: u32,
-    /// So many requests are answered on one connection (`keepalive_requests`).
+    /// How many requests are answered on one connection (`keepalive_requests`).
     pub requests: u32,
-    /// How long a connection is kept open behind a response, in milliseconds (`keepalive_timeout`); 0 closes it.
+    /// How long a connection is kept open after a response, in milliseconds (`keepalive_timeout`); 0 closes it.
     pub idle: u64,
     /// The number of its list of index names (`index`), `index.html` alone without one.
     pub index: Option<u32>,

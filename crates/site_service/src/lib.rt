@@ -4,4 +4,4 @@
 mod ends;
 mod service;
 
-pub use service::serve_site;
+pub use service::{CheckedSite, serve_site};

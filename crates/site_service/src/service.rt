@@ -14,28 +14,36 @@ use served_site::ServedSite;
 use site_model::Site;
 use std::alloc::Global;
 
-/// Serves a site over new links, on each of its addresses once, for that many turns, with the set of its patterns. `raceless`
-/// says that the race check names no variable of it: then the bytes of each connection are those of the meaning of serving.
+/// A site with the set of its patterns, after the race check.
+#[derive(Drop)]
+pub struct CheckedSite {
+    pub site: Site,
+    pub patterns: PatternSet,
+    /// The race check names no variable of it.
+    pub raceless: bool,
+}
+
+/// Serves a site over new links, on each of its addresses once, for that many turns. Where the race check names no variable of
+/// it, the bytes of each connection are those of the meaning of serving.
 pub fn serve_site<F: Files, L: Links, C: Clock>(
     alloc: Global,
-    site: Site,
-    raceless: bool,
-    patterns: PatternSet,
+    checked: CheckedSite,
     files: &mut F,
     links: &mut L,
     clock: &mut C,
     turns: u64,
 ) -> Result<Ending, OutOfMemory>
     requires links { AreNew (L.seen links.old) }
-    requires quiet { raceless ≡ true → IsRacelessSite patterns site }
-    ensures serving { IfOk result (λ e. Serving raceless patterns site turns e (record {
-      files = F.seen files.old;
-      files' = F.seen files.new;
-      links = L.seen links.old;
-      links' = L.seen links.new;
-      clock = C.seen clock.old;
-      clock' = C.seen clock.new;
-    })) }
+    requires quiet { checked.raceless ≡ true → IsRacelessSite checked.patterns checked.site }
+    ensures serving { IfOk result (λ e.
+        Serving checked.raceless checked.patterns checked.site turns e (record {
+          files = F.seen files.old;
+          files' = F.seen files.new;
+          links = L.seen links.old;
+          links' = L.seen links.new;
+          clock = C.seen clock.old;
+          clock' = C.seen clock.new;
+        })) }
     ensures grown { OnOk result ((F.seen files.old).newest ≤ (F.seen files.new).newest) }
     ensures ended { result ≡ Ok Ending.Ended → (L.seen links.new).over ≡ true }
     ensures listen_fault { result ≡ Ok Ending.ListenFault →
@@ -49,6 +57,11 @@ pub fn serve_site<F: Files, L: Links, C: Clock>(
     all_is_sent_when_idle();
     shut_is_exact();
     cores_are_sound();
+    let CheckedSite {
+        site,
+        patterns,
+        raceless,
+    } = checked;
     let addrs = addresses(alloc, site.servers.as_slice())?;
     let served = ServedSite::new(alloc, site, raceless)?;
     let mut hub = Hub::new(alloc, served, patterns);

@@ -7,7 +7,7 @@ use std::io;
 use std::net::{IpAddr, Ipv6Addr, Net, SocketAddr};
 use std::os::fd::{AsRawFd, OwnedFd};
 
-// So many connections wait to be accepted as the system allows.
+// As many connections wait to be accepted as the system allows.
 const BACKLOG: i32 = i32::MAX;
 
 // How many bytes an IPv6 address of a socket has (ipv6(7)).

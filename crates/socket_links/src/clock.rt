@@ -4,7 +4,7 @@ ghost use Rattle.std.specs.Prelude.{[], false};
 use ngx_outside::Clock;
 use std::time::{SystemTime, UNIX_EPOCH};
 
-/// The clock of the system, in whole seconds. Where it can't be read, or stands before 1970, it tells the moment before
+/// The clock of the system, in whole seconds. Where it can't be read, or is before 1970, it tells the moment before
 /// again.
 #[derive(Drop)]
 pub struct SystemClock<'a, R> {

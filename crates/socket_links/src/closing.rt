@@ -7,14 +7,15 @@ use std::io::Read;
 use std::net::Shutdown;
 use std::time::{Duration, Instant};
 
-// So many links are kept at most until their peers are done, so long, and so many bytes of each are read and dropped.
+// How many links are kept at most until their peers are done, for how many seconds, and how many bytes of each are read
+// and dropped.
 const MOST: usize = 128;
 
 const SECONDS: u64 = 5;
 
 const BYTES: usize = 4194304;
 
-// So many bytes are read at once, so often at a time.
+// How many bytes are read at once, and how often at a time.
 const PIECE: usize = 16384;
 
 const READS: u32 = 512;

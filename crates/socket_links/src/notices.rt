@@ -9,8 +9,9 @@ use mio::net::TcpListener;
 use ngx_outside::Notice;
 use std::collections::VecDeque;
 
-/// A listener, with its number and its address: whether it may have a peer, and whether its last peer couldn't be accepted,
-/// as where no descriptor is left; then it is tried again once the poll was asked, so that it takes no time till then.
+/// A listener, with its number and its address: whether it may have a peer, and whether its last peer couldn't be
+/// accepted, as where no descriptor is left. It is then tried again once the poll was asked, so that it takes no time
+/// till then.
 #[derive(Drop)]
 pub struct Listener {
     pub number: usize,

@@ -11,7 +11,7 @@ use std::{io, mem};
 /// How many slots there are.
 pub const SLOTS: u32 = 1024;
 
-/// How many links a slot has in all: so many ids end in its number.
+/// How many links a slot has in all: this many ids lead to it.
 const LINKS_OF_SLOT: u32 = 4194304;
 
 /// A link, under its id.

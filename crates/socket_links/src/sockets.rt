@@ -33,8 +33,8 @@ const NOTICES: u32 = 64;
 
 const ACCEPTS: u32 = 4;
 
-// So many bytes are written between two notices, or a few more: then the other links come first, so that one that takes all
-// that it is sent lets none wait for long.
+// How many bytes are written between two notices, or a few more: then the other links come first, so that one that
+// takes all that it is sent lets none wait for long.
 const SHARE: usize = 262144;
 
 /// Why an address isn't listened on.
@@ -209,8 +209,10 @@ impl<'a, R: Net + Ticks> SocketLinks<'a, R> {
     // The poll is made where it is first asked for.
     fn open_poll(&mut self) -> io::Result<()>
         ensures listening { self.new.listening.items ≡ self.old.listening.items }
-        ensures same { (self.new.counts.items ≡ self.old.counts.items) × (self.new.links.items ≡ self.old.links.items) }
-        ensures faults { (self.new.faults ≡ self.old.faults) × (self.new.link_faults ≡ self.old.link_faults) }
+        ensures same { (self.new.counts.items ≡ self.old.counts.items)
+            × (self.new.links.items ≡ self.old.links.items) }
+        ensures faults { (self.new.faults ≡ self.old.faults)
+            × (self.new.link_faults ≡ self.old.link_faults) }
     {
         if self.poll.is_none() {
             self.poll = Some(Poll::new(self.rt)?);
@@ -221,8 +223,10 @@ impl<'a, R: Net + Ticks> SocketLinks<'a, R> {
     // Makes a socket that listens on an address.
     fn add_listener(&mut self, addr: Addr) -> io::Result<()>
         ensures listening { self.new.listening.items ≡ self.old.listening.items }
-        ensures same { (self.new.counts.items ≡ self.old.counts.items) × (self.new.links.items ≡ self.old.links.items) }
-        ensures faults { (self.new.faults ≡ self.old.faults) × (self.new.link_faults ≡ self.old.link_faults) }
+        ensures same { (self.new.counts.items ≡ self.old.counts.items)
+            × (self.new.links.items ≡ self.old.links.items) }
+        ensures faults { (self.new.faults ≡ self.old.faults)
+            × (self.new.link_faults ≡ self.old.link_faults) }
     {
         let Some(poll) = &self.poll else {
             return Err(io::Error::from(io::ErrorKind::NotConnected));
@@ -253,8 +257,10 @@ impl<'a, R: Net + Ticks> SocketLinks<'a, R> {
     // Closes the sockets of the addresses that one on another address is to cover, which are answered.
     fn make_way(&mut self, addr: Addr) -> io::Result<Vec<Addr>>
         ensures listening { self.new.listening.items ≡ self.old.listening.items }
-        ensures same { (self.new.counts.items ≡ self.old.counts.items) × (self.new.links.items ≡ self.old.links.items) }
-        ensures faults { (self.new.faults ≡ self.old.faults) × (self.new.link_faults ≡ self.old.link_faults) }
+        ensures same { (self.new.counts.items ≡ self.old.counts.items)
+            × (self.new.links.items ≡ self.old.links.items) }
+        ensures faults { (self.new.faults ≡ self.old.faults)
+            × (self.new.link_faults ≡ self.old.link_faults) }
     {
         let mut covered = Vec::new(self.alloc);
         for listener in &self.listeners {
@@ -270,10 +276,13 @@ impl<'a, R: Net + Ticks> SocketLinks<'a, R> {
     // Listens at an address, by a socket of its own or by one that covers it. Where a new socket is to cover others, the
     // system makes it only once these are closed; if it doesn't, they are made again.
     fn bind(&mut self, addr: Addr) -> io::Result<()>
-        ensures ok { OnOk result (self.new.listening.items ≡ self.old.listening.items ++ addr ∷ []) }
+        ensures ok { OnOk result (self.new.listening.items
+            ≡ self.old.listening.items ++ addr ∷ []) }
         ensures err { OnErr result (self.new.listening.items ≡ self.old.listening.items) }
-        ensures same { (self.new.counts.items ≡ self.old.counts.items) × (self.new.links.items ≡ self.old.links.items) }
-        ensures faults { (self.new.faults ≡ self.old.faults) × (self.new.link_faults ≡ self.old.link_faults) }
+        ensures same { (self.new.counts.items ≡ self.old.counts.items)
+            × (self.new.links.items ≡ self.old.links.items) }
+        ensures faults { (self.new.faults ≡ self.old.faults)
+            × (self.new.link_faults ≡ self.old.link_faults) }
     {
         self.open_poll()?;
         if !self.is_listened_on(addr) {
@@ -290,8 +299,10 @@ impl<'a, R: Net + Ticks> SocketLinks<'a, R> {
     // Listens again on addresses whose sockets were closed, as far as the system lets it.
     fn add_again(&mut self, addrs: &[Addr])
         ensures listening { self.new.listening.items ≡ self.old.listening.items }
-        ensures same { (self.new.counts.items ≡ self.old.counts.items) × (self.new.links.items ≡ self.old.links.items) }
-        ensures faults { (self.new.faults ≡ self.old.faults) × (self.new.link_faults ≡ self.old.link_faults) }
+        ensures same { (self.new.counts.items ≡ self.old.counts.items)
+            × (self.new.links.items ≡ self.old.links.items) }
+        ensures faults { (self.new.faults ≡ self.old.faults)
+            × (self.new.link_faults ≡ self.old.link_faults) }
     {
         for addr in addrs {
             let _added = self.add_listener(*addr);
@@ -300,9 +311,11 @@ impl<'a, R: Net + Ticks> SocketLinks<'a, R> {
 
     // A link may be read or written. Where it was closed, what it was sent is dropped.
     fn take_event(&mut self, ready: Ready) -> Notice
-        ensures opens { OpensIn result self.old.counts.items self.new.counts.items self.old.links.items self.new.links.items }
+        ensures opens { OpensIn result self.old.counts.items self.new.counts.items
+            self.old.links.items self.new.links.items }
         ensures goes { GoesOn result }
-        ensures same { (self.new.listening.items ≡ self.old.listening.items) × (self.new.faults ≡ self.old.faults) × (self.new.link_faults ≡ self.old.link_faults) }
+        ensures same { (self.new.listening.items ≡ self.old.listening.items)
+            × (self.new.faults ≡ self.old.faults) × (self.new.link_faults ≡ self.old.link_faults) }
     {
         if !is_open(self.links.as_slice(), ready.id) {
             self.closing.hear(ready.id);
@@ -318,10 +331,14 @@ impl<'a, R: Net + Ticks> SocketLinks<'a, R> {
 
     // A peer of a listener that is ready.
     fn accept_some(&mut self) -> Option<Notice>
-        ensures opens { IfSome result (λ n. OpensIn n self.old.counts.items self.new.counts.items self.old.links.items self.new.links.items) }
+        ensures opens { IfSome result (λ n.
+            OpensIn n self.old.counts.items self.new.counts.items self.old.links.items
+            self.new.links.items) }
         ensures goes { IfSome result GoesOn }
-        ensures none { IfNone result ((self.new.counts.items ≡ self.old.counts.items) × (self.new.links.items ≡ self.old.links.items)) }
-        ensures same { (self.new.listening.items ≡ self.old.listening.items) × (self.new.faults ≡ self.old.faults) × (self.new.link_faults ≡ self.old.link_faults) }
+        ensures none { IfNone result ((self.new.counts.items ≡ self.old.counts.items)
+            × (self.new.links.items ≡ self.old.links.items)) }
+        ensures same { (self.new.listening.items ≡ self.old.listening.items)
+            × (self.new.faults ≡ self.old.faults) × (self.new.link_faults ≡ self.old.link_faults) }
     {
         let poll = self.poll.as_ref()?;
         let at = ready_listener(self.listeners.as_slice())?;
@@ -355,10 +372,14 @@ impl<'a, R: Net + Ticks> SocketLinks<'a, R> {
 
     // The next of what was reported before, without a call of the poll.
     fn reported(&mut self) -> Option<Notice>
-        ensures opens { IfSome result (λ n. OpensIn n self.old.counts.items self.new.counts.items self.old.links.items self.new.links.items) }
+        ensures opens { IfSome result (λ n.
+            OpensIn n self.old.counts.items self.new.counts.items self.old.links.items
+            self.new.links.items) }
         ensures goes { IfSome result GoesOn }
-        ensures none { IfNone result ((self.new.counts.items ≡ self.old.counts.items) × (self.new.links.items ≡ self.old.links.items)) }
-        ensures same { (self.new.listening.items ≡ self.old.listening.items) × (self.new.faults ≡ self.old.faults) × (self.new.link_faults ≡ self.old.link_faults) }
+        ensures none { IfNone result ((self.new.counts.items ≡ self.old.counts.items)
+            × (self.new.links.items ≡ self.old.links.items)) }
+        ensures same { (self.new.listening.items ≡ self.old.listening.items)
+            × (self.new.faults ≡ self.old.faults) × (self.new.link_faults ≡ self.old.link_faults) }
     {
         if let Some(ready) = self.batch.pop() {
             return Some(self.take_event(ready));
@@ -377,7 +398,10 @@ impl<'a, R: Net + Ticks> SocketLinks<'a, R> {
 
     // Closes the links whose peers weren't done in time.
     fn expire(&mut self)
-        ensures same { (self.new.counts.items ≡ self.old.counts.items) × (self.new.links.items ≡ self.old.links.items) × (self.new.listening.items ≡ self.old.listening.items) × (self.new.faults ≡ self.old.faults) × (self.new.link_faults ≡ self.old.link_faults) }
+        ensures same { (self.new.counts.items ≡ self.old.counts.items)
+            × (self.new.links.items ≡ self.old.links.items)
+            × (self.new.listening.items ≡ self.old.listening.items)
+            × (self.new.faults ≡ self.old.faults) × (self.new.link_faults ≡ self.old.link_faults) }
     {
         if !self.closing.is_empty() {
             if let Ok(now) = Instant::now(self.rt) {
@@ -387,7 +411,10 @@ impl<'a, R: Net + Ticks> SocketLinks<'a, R> {
     }
 
     fn ask_poll(&mut self, timeout: Duration) -> io::Result<()>
-        ensures same { (self.new.counts.items ≡ self.old.counts.items) × (self.new.links.items ≡ self.old.links.items) × (self.new.listening.items ≡ self.old.listening.items) × (self.new.faults ≡ self.old.faults) × (self.new.link_faults ≡ self.old.link_faults) }
+        ensures same { (self.new.counts.items ≡ self.old.counts.items)
+            × (self.new.links.items ≡ self.old.links.items)
+            × (self.new.listening.items ≡ self.old.listening.items)
+            × (self.new.faults ≡ self.old.faults) × (self.new.link_faults ≡ self.old.link_faults) }
     {
         self.open_poll()?;
         match &mut self.poll {
@@ -398,11 +425,13 @@ impl<'a, R: Net + Ticks> SocketLinks<'a, R> {
 
     // Asks the poll, which waits only where nothing is left to report.
     fn wait(&mut self) -> Notice
-        ensures opens { OpensIn result self.old.counts.items self.new.counts.items self.old.links.items self.new.links.items }
+        ensures opens { OpensIn result self.old.counts.items self.new.counts.items
+            self.old.links.items self.new.links.items }
         ensures over { result ≢ Notice.Ended }
         ensures cause { result ≡ Notice.Failed → Rose self.old.faults self.new.faults }
         ensures later { self.old.faults ≤ self.new.faults }
-        ensures same { (self.new.listening.items ≡ self.old.listening.items) × (self.new.link_faults ≡ self.old.link_faults) }
+        ensures same { (self.new.listening.items ≡ self.old.listening.items)
+            × (self.new.link_faults ≡ self.old.link_faults) }
     {
         self.notices = 0;
         let seconds = if self.again.is_empty()
@@ -433,7 +462,10 @@ impl<'a, R: Net + Ticks> SocketLinks<'a, R> {
     fn link_failed(&mut self)
         ensures rose { Rose self.old.link_faults self.new.link_faults }
         ensures later { self.old.link_faults ≤ self.new.link_faults }
-        ensures same { (self.new.counts.items ≡ self.old.counts.items) × (self.new.links.items ≡ self.old.links.items) × (self.new.listening.items ≡ self.old.listening.items) × (self.new.faults ≡ self.old.faults) }
+        ensures same { (self.new.counts.items ≡ self.old.counts.items)
+            × (self.new.links.items ≡ self.old.links.items)
+            × (self.new.listening.items ≡ self.old.listening.items)
+            × (self.new.faults ≡ self.old.faults) }
     {
         self.link_faults = self.link_faults.saturating_add(1);
     }

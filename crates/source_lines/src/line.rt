@@ -8,8 +8,9 @@ pub struct Line {
     pub line: u64,
 }
 
-/// Where the values of a level are stated, so far as they are, in the level or around it: its place, each of its index names, its
-/// `try_files`, each rule of `error_page`, each `auth_request_set`; and where the directives of its program are, one by one.
+/// Where the values of a level are stated, in the level or around it: its place, each of its index names, its
+/// `try_files`, each rule of `error_page`, each `auth_request_set`; and where the directives of its program are, one by
+/// one. There is none of what isn't stated.
 #[derive(Drop)]
 pub struct LevelLines {
     pub place: Option<Line>,

@@ -30,7 +30,7 @@ unfolding block_command block_closed error_text oops
 command_anyhow doc b block bytes name [] = refl
 command_anyhow doc b block bytes name (p ∷ ps) = refl
 
--- a block of so many bytes beside others of so many
+-- a block of this many bytes beside others of this many
 pub is_over : (others size : ℕ) → size ≤ 32768 → nat_lt (32768 - size) others ≡ nat_lt 32768 (others + size)
 is_over others size h = grind arith
 

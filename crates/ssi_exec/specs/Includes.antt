@@ -23,6 +23,6 @@ abbrev pub stub_in : Vars → Option (List ℕ) → Option (List ℕ)
 stub_in blocks None = None
 stub_in blocks (Some name) = look blocks name
 
--- a path behind the folder of another, where it doesn't begin with a slash
+-- a path in the folder of another, where it doesn't begin with a slash
 abbrev pub folder_path : List ℕ → List ℕ → List ℕ
 folder_path path text = if begins_with 47 text then text else folder_of path ++ text

@@ -14,7 +14,7 @@ use ssi_text::Param;
 use ssi_values::Table;
 use std::alloc::Global;
 
-/// The blocks of a document have at most so many bytes.
+/// The most bytes that the blocks of a document have together.
 const BLOCKS_LIMIT: usize = 32768;
 
 /// Whether the blocks of other names have more bytes with these than they may.
@@ -35,7 +35,7 @@ fn is_end(name: &[u8], ps: &[Param]) -> bool
     ps.is_empty() && is_word(name, b"endblock")
 }
 
-/// A block with more bytes behind its own.
+/// A block with more bytes after its own.
 fn grown(block: OpenBlock, more: &[u8]) -> Result<OpenBlock, OutOfMemory>
     ensures { IfOk result (λ b. block_seen b ≡ (block.name, block.bytes ++ more.now)) }
 {
@@ -110,7 +110,7 @@ impl Document {
         Ok(None)
     }
 
-    /// Text of the document, in whatever pieces it comes: whether it is written as it stands. In a block it is kept.
+    /// Text of the document, in whatever pieces it comes: whether it is written as it is. In a block it is kept.
     #[tactic(auto, unfolding(request_meaning::specs::Bodies::text_part))]
     pub fn text(&mut self, text: &[u8]) -> Result<bool, OutOfMemory>
         ensures part { IfOk result (λ live. (scene : SceneView)

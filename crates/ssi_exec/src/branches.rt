@@ -125,7 +125,8 @@ impl Document {
         Ok(out)
     }
 
-    /// Behind a branch that was taken the condition of an `elif` isn't read; one that can't be read leaves the `if` as it was.
+    /// After a branch that was taken the condition of an `elif` isn't read; one that can't be read leaves the `if` as
+    /// it was.
     pub(crate) fn elif_done(
         &mut self,
         alloc: Global,

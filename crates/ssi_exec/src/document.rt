@@ -77,7 +77,7 @@ pub enum Served {
     Same,
     /// This text is written, which may be empty.
     Text(ByteText),
-    /// The body of a subrequest stands here.
+    /// The body of a subrequest is here.
     Includes(Child),
     /// A subrequest is asked, and its body goes to `Document::captured` under this name.
     Captures { name: ByteText, child: Child },

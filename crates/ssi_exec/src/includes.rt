@@ -1,4 +1,4 @@
-// The command `include`, what a captured body comes to, and the bodies that additions put before and behind a document.
+// The command `include`, what a captured body comes to, and the bodies that additions put before and after a document.
 ghost use Rattle.std.specs.Prelude.{◌≡◌, ◌≢◌, ℕ, ◌+◌, ◌-◌, ◌<◌, ◌≤◌, ◌==◌, ◌++◌, ◌&&◌, not, codes, length, take, IfOk, None, Some, option_map, unwrap_or, is_some, if◌then◌else◌};
 ghost use Rattle.std.specs.List.{suffix_len};
 ghost use Rattle.std.specs.Result.{result_ok};

@@ -1,5 +1,5 @@
-//! The commands of a document of server side includes: what each part of it writes, which subrequests stand in its place, and
-//! what it leaves of the document (nginx's ngx_http_ssi_module).
+//! The commands of a document of server side includes: what each part of it writes, which subrequests take its place,
+//! and what it leaves of the document (nginx's ngx_http_ssi_module).
 #![tactic(auto)]
 
 mod blocks;

@@ -44,7 +44,7 @@ fn includes(word: Word) -> bool
     }
 }
 
-/// Text that is written as it stands, or isn't.
+/// Text that is written as it is, or isn't.
 fn same(live: bool) -> Served
     ensures { (text : List ℕ) (doc : Doc) → served_act (Text text) result doc
         ≡ written (if live then Some text else None) doc }
@@ -194,8 +194,8 @@ impl Document {
         }
     }
 
-    /// Takes up the next part of the document: what is done at its place. The document is then behind the part, but for a
-    /// subrequest whose body is captured, which `captured` takes up. `vars` are the variables that are set now.
+    /// Takes up the next part of the document: what is done at its place. The document is then after the part, but for
+    /// a subrequest whose body is captured, which `captured` takes up. `vars` are the variables that are set now.
     ///
     /// # Errors
     /// After want of memory the document is fit to be dropped alone.

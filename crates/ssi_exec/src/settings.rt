@@ -14,7 +14,7 @@ use ssi_text::Param;
 use ssi_values::{encoded, filled_settles, lowercase, named_settles};
 use std::alloc::Global;
 
-/// A text of a document has at most so many bytes.
+/// The most bytes of a text of a document.
 const TEXT_LIMIT: usize = 16384;
 
 fn is_good_format(format: Option<&[u8]>) -> bool

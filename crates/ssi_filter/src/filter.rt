@@ -21,8 +21,10 @@ fn feed_text(
     text: &[u8],
     out: &mut Vec<Part>,
 ) -> Result<(), OutOfMemory>
-    ensures state { OnOk result (state.new ≡ holding state.old (split 0 (state.old.held ++ text.now)).1) }
-    ensures out { OnOk result (marks out.new.items ≡ marks out.old.items ++ (split 0 (state.old.held ++ text.now)).0) }
+    ensures state { OnOk result (state.new
+        ≡ holding state.old (split 0 (state.old.held ++ text.now)).1) }
+    ensures out { OnOk result (marks out.new.items
+        ≡ marks out.old.items ++ (split 0 (state.old.held ++ text.now)).0) }
 {
     let mut split = SsiState::from_held(alloc, state.held.as_slice())?;
     split.feed(alloc, text, out)?;

@@ -127,7 +127,7 @@ after-more : (b : ℕ) (bs : List ℕ) (o : Option ℕ) → one_more (after bs o
 after-more b bs None = refl
 after-more b bs (Some n) = one_more-add n (size Outside (drop n bs))
 
--- from within a quote a command goes on behind the closing one
+-- from within a quote a command goes on after the closing one
 size-quoted : (q : ℕ) (bs : List ℕ) → size (Within q) bs ≡ after bs (quoted q bs)
 unfolding size quoted
 size-quoted q [] = refl

@@ -1,4 +1,4 @@
--- One step of the split, by what stands at the front.
+-- One step of the split, by what is at the front.
 use Rattle.std.proofs.Common.{◌≡◌, ℕ, zero, suc, ◌+◌, ◌-◌, ◌<◌, ◌≤◌, nat_le, true, false, ◌==◌, List, [], ◌∷◌, ◌++◌, Option, None, Some, map, length, get_or, drop, take, refl, sym, ap, ◌∙◌, arith, append_assoc, append-nil, length-drop, length-take, if◌then◌else◌, subst}
 use Rattle.std.proofs.lemmas.List.{drop_all, drop-drop, get_or-drop}
 use Rattle.std.proofs.lemmas.Bool.{eqb-true, eq-eqb, le-leb, lt-leb}
@@ -90,7 +90,7 @@ pub front-is-begun : (bs : List ℕ) → Yes ≡ begins opening bs → begun bs 
 unfolding front
 front-is-begun bs e = ap (λ (s : Begun). elim s [ Yes ↦ begun bs (size Outside (drop 5 (take limit bs))) | No ↦ Plain | Maybe ↦ Open ]) e
 
--- where the word doesn't stand and would fit, there is text
+-- where the word isn't there and would fit, there is text
 pub front-elsewhere : (bs : List ℕ) (k : ℕ) → k + 5 ≤ length bs → (OccursAt bs opening k → ⊥) → front (drop k bs) ≡ Plain
 front-elsewhere bs k h not =
     elim (begins opening (drop k bs)) as (λ (s : Begun). begins opening (drop k bs) ≡ s → front (drop k bs) ≡ Plain) [
@@ -99,7 +99,7 @@ front-elsewhere bs k h not =
       | Maybe ↦ λ e. absurd (let less : length (drop k bs) < 5 = begins-maybe opening (drop k bs) e in omega (arith, length-drop k bs))
     ] refl
 
--- where no `#` stands before place n, there is text up to four bytes before it
+-- where there is no `#` before place n, there is text up to four bytes before it
 pub front-no_hash : (bs : List ℕ) (n : ℕ) → Nowhere (Passes (is_byte 35) bs) 0 n → (k : ℕ) → k + 4 < n → k + 5 ≤ length bs → front (drop k bs) ≡ Plain
 front-no_hash bs n none k h g = front-elsewhere bs k g (λ o. none (k + 4) (omega arith) h (eq-eqb (get_or bs (k + 4) 0) 35 (o.reads 4 (omega arith))))
 

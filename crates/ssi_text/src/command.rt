@@ -20,7 +20,7 @@ fn is_word(byte: u8) -> bool
     !(is_space(byte) || byte == b'=' || is_quote(byte))
 }
 
-/// How many bytes of white space stand first.
+/// How many bytes of white space come first.
 fn space_len(bytes: &[u8]) -> usize
     ensures value { result ≡ prefix_len is_space_byte bytes.now }
     ensures within { result ≤ length bytes.now }
@@ -28,7 +28,7 @@ fn space_len(bytes: &[u8]) -> usize
     bytes.iter().take_while(|b| is_space(**b)).count()
 }
 
-/// How many bytes of a name stand first.
+/// How many bytes of a name come first.
 fn word_len(bytes: &[u8]) -> usize
     ensures value { result ≡ prefix_len is_word_byte bytes.now }
     ensures within { result ≤ length bytes.now }
@@ -45,7 +45,7 @@ fn lowercase(alloc: Global, name: &[u8]) -> Result<ByteText, OutOfMemory>
     Ok(ByteText::from_vec(bytes))
 }
 
-/// Whether a backslash stands first, and a quote or a backslash behind it.
+/// Whether the first byte is a backslash, and the next a quote or a backslash.
 fn escapes(bytes: &[u8]) -> bool
     ensures { result ≡ is_escape bytes.now }
 {
@@ -85,10 +85,12 @@ fn begins_value(equals: u8, quote: u8) -> bool
     equals == b'=' && is_quote(quote)
 }
 
-/// The value behind a parameter's name, and the parameter with the number of its bytes.
+/// The value after a parameter's name, and the parameter with the number of its bytes.
 fn assigned(alloc: Global, name: &[u8], bytes: &[u8]) -> Result<Option<(Param, usize)>, OutOfMemory>
-    ensures value { IfOk result (λ found. found ≡ assigned_of name.now (length name.now) bytes.now) }
-    ensures within { IfOk result (λ found. IfSome found (λ p. p.1 ≤ length name.now + length bytes.now)) }
+    ensures value { IfOk result (λ found. found
+        ≡ assigned_of name.now (length name.now) bytes.now) }
+    ensures within { IfOk result (λ found. IfSome found
+        (λ p. p.1 ≤ length name.now + length bytes.now)) }
 {
     let [equals, quote, rest @ ..] = bytes else {
         return Ok(None);
@@ -123,7 +125,7 @@ fn param(alloc: Global, bytes: &[u8]) -> Result<Option<(Param, usize)>, OutOfMem
     Ok(found)
 }
 
-/// Parameters, each behind white space, and white space: all that the bytes are, or none.
+/// Parameters, each after white space, and white space: all that the bytes are, or none.
 fn params(alloc: Global, bytes: &[u8]) -> Result<Option<Params>, OutOfMemory>
     ensures { IfOk result (λ found. found ≡ params_of bytes.now) }
 {

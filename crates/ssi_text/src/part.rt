@@ -93,8 +93,8 @@ pub enum Part {
     After,
 }
 
-/// What stands at the front of bytes that may go on: what only the bytes to come decide, one byte of text, or a part of
-/// so many bytes.
+/// What is at the front of bytes that may go on: what only the bytes to come decide, one byte of text, or a part with
+/// the number of its bytes.
 #[derive(Drop)]
 pub enum Front {
     Open,

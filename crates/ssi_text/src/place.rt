@@ -1,4 +1,4 @@
-// Where a byte of a command stands, and where the command ends.
+// Where a byte of a command is, and where the command ends.
 ghost use Rattle.std.specs.Prelude.{◌≡◌, ℕ, ◌+◌, ◌<◌, ◌≤◌, length, drop, IfSome};
 ghost use Rattle.std.specs.List.{prefix_len};
 ghost use Rattle.ssi_text.specs.Commands.{Outside, closes as closes_at, is_plain as is_plain_byte, is_quote as is_quote_byte, quoted, size, taken};
@@ -57,7 +57,7 @@ fn is_plain(byte: u8) -> bool
     !(byte == b'-' || is_quote(byte))
 }
 
-/// How many bytes of a value stand up to its closing quote, and with it.
+/// How many bytes of a value come up to its closing quote, and with it.
 pub fn quoted_len(quote: u8, bytes: &[u8]) -> Option<usize>
     ensures value { result ≡ quoted quote bytes.now }
     ensures least { IfSome result (λ n. 1 ≤ n) }
@@ -77,7 +77,7 @@ pub fn quoted_len(quote: u8, bytes: &[u8]) -> Option<usize>
     None
 }
 
-/// How many plain bytes stand first.
+/// How many plain bytes come first.
 fn plain_len(bytes: &[u8]) -> usize
     ensures value { result ≡ prefix_len is_plain_byte bytes.now }
     ensures within { result ≤ length bytes.now }
@@ -100,7 +100,7 @@ fn taken_len(byte: u8, rest: &[u8]) -> Option<usize>
     }
 }
 
-/// How many bytes stand up to the end of a command and with it.
+/// How many bytes come up to the end of a command and with it.
 pub fn size_of_command(bytes: &[u8]) -> Option<usize>
     ensures value { result ≡ size Outside bytes.now }
     ensures least { IfSome result (λ n. 3 ≤ n) }

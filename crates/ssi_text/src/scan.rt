@@ -33,11 +33,12 @@ fn ends_opening(bytes: &[u8], at: usize) -> bool
     }
 }
 
-/// How many bytes of text stand first. A `#` is rare, so the first one mostly ends a `<!--#`; only where it doesn't is
+/// How many bytes of text come first. A `#` is rare, so the first one mostly ends a `<!--#`; only where it doesn't is
 /// all of that searched for.
 fn text_len(bytes: &[u8]) -> usize
     ensures within { result ≤ length bytes.now }
-    ensures text { split 0 bytes.now ≡ with_text (take result bytes.now) (split 0 (drop result bytes.now)) }
+    ensures text { split 0 bytes.now
+        ≡ with_text (take result bytes.now) (split 0 (drop result bytes.now)) }
 {
     match memchr(b'#', bytes) {
         Some(at) => {
@@ -54,7 +55,8 @@ fn text_len(bytes: &[u8]) -> usize
 /// The same by a search for `<!--#`.
 fn text_len_to_opening(bytes: &[u8]) -> usize
     ensures within { result ≤ length bytes.now }
-    ensures text { split 0 bytes.now ≡ with_text (take result bytes.now) (split 0 (drop result bytes.now)) }
+    ensures text { split 0 bytes.now
+        ≡ with_text (take result bytes.now) (split 0 (drop result bytes.now)) }
 {
     match memmem::find(bytes, b"<!--#") {
         Some(at) => at,
@@ -62,11 +64,12 @@ fn text_len_to_opening(bytes: &[u8]) -> usize
     }
 }
 
-/// The same where no `<!--#` stands in the bytes: all but what may be the beginning of one.
+/// The same where the bytes have no `<!--#`: all but what may be the beginning of one.
 fn text_len_at_end(bytes: &[u8]) -> usize
     requires { (k : ℕ) → k + 5 ≤ length bytes.now → front (drop k bytes.now) ≡ Front.Plain }
     ensures within { result ≤ length bytes.now }
-    ensures text { split 0 bytes.now ≡ with_text (take result bytes.now) (split 0 (drop result bytes.now)) }
+    ensures text { split 0 bytes.now
+        ≡ with_text (take result bytes.now) (split 0 (drop result bytes.now)) }
 {
     let len = bytes.len();
     for at in len.saturating_sub(4)..len {
@@ -92,7 +95,7 @@ fn first_bytes(bytes: &[u8]) -> &[u8]
     }
 }
 
-/// What stands behind `<!--#`, as far as a command goes.
+/// What comes after `<!--#`, as far as a command goes.
 fn behind_opening(bytes: &[u8]) -> &[u8]
     requires { 5 ≤ length bytes.now }
     ensures value { result.now ≡ drop 5 (take limit bytes.now) }
@@ -102,7 +105,7 @@ fn behind_opening(bytes: &[u8]) -> &[u8]
     rest_of(first, 5)
 }
 
-/// The inside of a command, of which so many bytes stand behind `<!--#`.
+/// The inside of a command, which has `size` bytes after `<!--#`.
 fn inside_of(bytes: &[u8], size: usize) -> &[u8]
     requires { 5 + size ≤ length bytes.now }
     ensures { result.now ≡ take (size - 3) (drop 5 bytes.now) }
@@ -114,7 +117,8 @@ fn inside_of(bytes: &[u8], size: usize) -> &[u8]
 /// What a command is that has begun.
 fn begun(alloc: Global, bytes: &[u8]) -> Result<Front, OutOfMemory>
     requires { 5 ≤ length bytes.now }
-    ensures { IfOk result (λ found. found ≡ begun_front bytes.now (size Outside (drop 5 (take limit bytes.now)))) }
+    ensures { IfOk result (λ found. found
+        ≡ begun_front bytes.now (size Outside (drop 5 (take limit bytes.now)))) }
 {
     match size_of_command(behind_opening(bytes)) {
         Some(n) => {
@@ -131,7 +135,7 @@ fn begun(alloc: Global, bytes: &[u8]) -> Result<Front, OutOfMemory>
     }
 }
 
-/// What stands at the front.
+/// What is at the front.
 fn front_of(alloc: Global, bytes: &[u8]) -> Result<Front, OutOfMemory>
     ensures { IfOk result (λ found. found ≡ front bytes.now) }
 {
@@ -164,21 +168,23 @@ pub fn push_text(alloc: Global, bytes: &[u8], out: &mut Vec<Part>) -> Result<(),
     Ok(())
 }
 
-/// Takes the text that stands first.
+/// Takes the text that comes first.
 fn take_text(alloc: Global, bytes: &[u8], out: &mut Vec<Part>) -> Result<usize, OutOfMemory>
     ensures within { IfOk result (λ n. n ≤ length bytes.now) }
-    ensures moved { IfOk result (λ n. Moved (marks out.old.items) (marks out.new.items) bytes.now (drop n bytes.now)) }
+    ensures moved { IfOk result (λ n. Moved (marks out.old.items) (marks out.new.items) bytes.now
+        (drop n bytes.now)) }
 {
     let len = text_len(bytes);
     push_text(alloc, &bytes[..len], out)?;
     Ok(len)
 }
 
-/// Takes what stands at the front: nothing, where it is open.
+/// Takes what is at the front: nothing, where it is open.
 fn take_front(alloc: Global, bytes: &[u8], out: &mut Vec<Part>) -> Result<usize, OutOfMemory>
     requires { 0 < length bytes.now }
     ensures within { IfOk result (λ n. n ≤ length bytes.now) }
-    ensures moved { IfOk result (λ n. Moved (marks out.old.items) (marks out.new.items) bytes.now (drop n bytes.now)) }
+    ensures moved { IfOk result (λ n. Moved (marks out.old.items) (marks out.new.items) bytes.now
+        (drop n bytes.now)) }
     ensures open { IfOk result (λ n. n ≡ 0 → split 0 bytes.now ≡ ([], bytes.now)) }
 {
     match front_of(alloc, bytes)? {
@@ -197,7 +203,8 @@ fn take_front(alloc: Global, bytes: &[u8], out: &mut Vec<Part>) -> Result<usize,
 /// Puts out what the bytes decide, and answers how many bytes that is.
 pub fn split_bytes(alloc: Global, bytes: &[u8], out: &mut Vec<Part>) -> Result<usize, OutOfMemory>
     ensures within { IfOk result (λ n. n ≤ length bytes.now) }
-    ensures out { IfOk result (λ n. marks out.new.items ≡ marks out.old.items ++ (split 0 bytes.now).0) }
+    ensures out { IfOk result (λ n. marks out.new.items
+        ≡ marks out.old.items ++ (split 0 bytes.now).0) }
     ensures held { IfOk result (λ n. drop n bytes.now ≡ (split 0 bytes.now).1) }
 {
     let mut at = 0;

@@ -29,7 +29,7 @@ impl Model for SsiState {
     ghost view = { λ s. s.held };
 }
 
-/// The next bytes, at most so many that they decide a command.
+/// The next bytes, at most as many as decide a command.
 fn near_of(bytes: &[u8], at: usize) -> &[u8]
     requires { at ≤ length bytes.now }
     ensures value { result.now ≡ take (length result.now) (drop at bytes.now) }
@@ -77,7 +77,8 @@ impl SsiState {
         piece: &[u8],
         out: &mut Vec<Part>,
     ) -> Result<(), OutOfMemory>
-        ensures out { IfOk result (λ _. marks out.new.items ≡ marks out.old.items ++ (split 0 (self.old ++ piece.now)).0) }
+        ensures out { IfOk result (λ _. marks out.new.items
+            ≡ marks out.old.items ++ (split 0 (self.old ++ piece.now)).0) }
         ensures held { IfOk result (λ _. self.new ≡ (split 0 (self.old ++ piece.now)).1) }
     {
         let mut at = 0;
@@ -102,7 +103,8 @@ impl SsiState {
     /// The document ends, so what is held is text; another may begin. After want of memory the state and `out` may only
     /// be dropped.
     pub fn end(&mut self, alloc: Global, out: &mut Vec<Part>) -> Result<(), OutOfMemory>
-        ensures out { IfOk result (λ _. marks out.new.items ≡ marks out.old.items ++ map Byte self.old) }
+        ensures out { IfOk result (λ _. marks out.new.items
+            ≡ marks out.old.items ++ map Byte self.old) }
         ensures held { IfOk result (λ _. self.new ≡ []) }
     {
         push_text(alloc, self.held.front(), out)?;

@@ -77,7 +77,7 @@ module _ (k : Known) where
       ∙ ap (λ n. behind (unwrap_or (named_text k name) []) (rest_value k (drop n text))) wide))
   one_name text (Err fault) name size e = cc
 
-  -- what was written, and what is read behind it
+  -- what was written, and what is read after it
   pub goes_on_by : (old new more rest : List ℕ) (all : Option (List ℕ)) → new ≡ old ++ more → all ≡ behind more (rest_value k rest) → behind new (rest_value k rest) ≡ behind old all
   goes_on_by old new more rest all e f = ap (λ t. behind t (rest_value k rest)) e ∙ (behind_twice old more (rest_value k rest) ∙ sym (ap (λ o. behind old o) f))
 

@@ -1,7 +1,7 @@
 -- The texts of variables as a document shows them.
 use Rattle.std.specs.Prelude.{ℕ, List, [], ◌∷◌, Option, None, Some}
 use Rattle.ngx_variables.specs.declared.eval.FilePaths.{FilePaths}
-use Rattle.ngx_variables.specs.declared.request.Place.{Place}
+use Rattle.ngx_variables.specs.declared.request.FileRoot.{FileRoot}
 use Rattle.ngx_variables.specs.declared.value.Piece.{Piece}
 use Rattle.ngx_variables.specs.declared.value.Piece.TheVariants.{Builtin}
 use Rattle.ngx_variables.specs.declared.variable.Variable.TheVariants.{DateGmt, DateLocal, DocumentRoot, RequestFilename}
@@ -29,11 +29,11 @@ inner_value k piece = piece_text no_paths k.main k.request k.vars piece
 abbrev pub inner_values : Known → List Piece → List ℕ
 inner_values k pieces = pieces_text no_paths k.main k.request k.vars pieces
 
-abbrev pub root_value : Known → Place → List ℕ
+abbrev pub root_value : Known → FileRoot → List ℕ
 root_value k place = inner_values k (text_of place)
 
-abbrev pub paths_with : Known → Place → List ℕ → FilePaths
+abbrev pub paths_with : Known → FileRoot → List ℕ → FilePaths
 paths_with k place root = paths_by place root k.request.path k.main.folder
 
-abbrev pub paths_of : Known → Option Place → FilePaths
+abbrev pub paths_of : Known → Option FileRoot → FilePaths
 paths_of k place = place_paths k.main k.request k.vars place

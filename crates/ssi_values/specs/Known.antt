@@ -67,7 +67,7 @@ named_text k name = own_else (look k.ssi (lowercase name)) (site_text k (piece_n
 
 -- ---- texts with variables
 
--- the name behind a `$`, and how many bytes it takes there
+-- the name after a `$`, and how many bytes it takes there
 abbrev pub name_of : List ℕ → Result Reference ValueFault → Option (List ℕ × ℕ)
 name_of bytes (Ok r) = Some (name_in bytes r, r.size)
 name_of bytes (Err fault) = None

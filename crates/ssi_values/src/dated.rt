@@ -6,10 +6,10 @@ ghost use Rattle.ssi_values.specs.Dated.{special_of, piece_value, inner_value, r
 use crate::sight::Sight;
 use byte_text::{ByteText, OutOfMemory};
 use http_moment::shown;
-use ngx_variables::{Piece, Place, Variable, joined};
+use ngx_variables::{FileRoot, Piece, Variable, joined};
 use std::alloc::Global;
 
-/// An evaluated text has at most so many bytes.
+/// The most bytes of an evaluated text.
 pub(crate) const TEXT_LIMIT: usize = 16384;
 
 /// What a document may show otherwise than its request does: a date, and the paths whose text may have one.
@@ -59,7 +59,7 @@ fn append_inner(
 
 /// The text of `root` or `alias`, however long it is.
 #[tactic(auto, unfolding(ngx_variables::specs::Texts::pieces_text))]
-fn root_text(alloc: Global, sight: &Sight<'_>, place: &Place) -> Result<ByteText, OutOfMemory>
+fn root_text(alloc: Global, sight: &Sight<'_>, place: &FileRoot) -> Result<ByteText, OutOfMemory>
     ensures { IfOk result (λ text. text ≡ root_value (known_seen sight.now) place.now) }
 {
     let mut text = ByteText::new(alloc);
@@ -74,7 +74,7 @@ fn root_text(alloc: Global, sight: &Sight<'_>, place: &Place) -> Result<ByteText
 fn append_joined(
     alloc: Global,
     sight: &Sight<'_>,
-    place: &Place,
+    place: &FileRoot,
     root: &[u8],
     out: &mut ByteText,
 ) -> Result<(), OutOfMemory>
@@ -95,7 +95,7 @@ fn append_joined(
 fn append_root(
     alloc: Global,
     sight: &Sight<'_>,
-    place: &Option<Place>,
+    place: &Option<FileRoot>,
     out: &mut ByteText,
 ) -> Result<(), OutOfMemory>
     ensures { OnOk result (out.new ≡ out.old ++ (paths_of (known_seen sight.now) place.now).root) }
@@ -115,7 +115,7 @@ fn append_root(
 fn append_file(
     alloc: Global,
     sight: &Sight<'_>,
-    place: &Option<Place>,
+    place: &Option<FileRoot>,
     out: &mut ByteText,
 ) -> Result<(), OutOfMemory>
     ensures { OnOk result (out.new ≡ out.old ++ (paths_of (known_seen sight.now) place.now).file) }

@@ -125,7 +125,7 @@ impl Table {
     }
 }
 
-/// Where a name stands in the table.
+/// Where a name is in the table.
 fn position_of(entries: &[Entry], name: &[u8]) -> Option<usize>
     ensures { result ≡ position (λ e. bytes_eq e.name name.now) entries.now }
 {

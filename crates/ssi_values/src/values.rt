@@ -110,7 +110,8 @@ fn append_value(value: &Option<ByteText>, out: &mut ByteText) -> Result<(), OutO
     }
 }
 
-/// Writes the value of the variable whose `$` stands before the text, if a name stands there: how many bytes it takes.
+/// Writes the value of the variable whose `$` comes right before the text, if the text begins with a name: how many
+/// bytes it takes.
 fn append_named(
     alloc: Global,
     sight: &Sight<'_>,
@@ -135,7 +136,8 @@ fn append_named(
     }
 }
 
-/// Writes what a first byte and those behind it begin with, if it can be read: how many of the bytes behind it take.
+/// Writes what a first byte and those after it begin with, if it can be read: how many of the bytes after it this
+/// takes.
 fn append_token(
     alloc: Global,
     sight: &Sight<'_>,
@@ -161,7 +163,7 @@ fn append_token(
     Ok(Some(0))
 }
 
-/// Whether `\$` stands here.
+/// Whether `\$` is here.
 fn is_escape(first: u8, text: &[u8]) -> bool
     ensures { result ≡ (first == 92 && begins_with 36 text.now) }
 {
@@ -171,7 +173,7 @@ fn is_escape(first: u8, text: &[u8]) -> bool
     }
 }
 
-/// The first byte of a text and those behind it.
+/// The first byte of a text and those after it.
 fn front(text: &[u8]) -> Option<(u8, &[u8])>
     ensures { MatchOption result (text.now ≡ []) (λ p. text.now ≡ p.0 ∷ p.1.now) }
 {

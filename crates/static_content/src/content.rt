@@ -5,7 +5,7 @@ ghost use Rattle.static_content.specs.Content.{content_for, folder_for, node_for
 use file_tree::Node;
 use http_types::Method;
 
-/// What is answered for a URI, by what stands at its path.
+/// What is answered for a URI, by what is at its path.
 #[derive(Clone, Copy, Debug, PartialEq, Eq)]
 pub enum Content {
     /// The file's bytes.
@@ -48,8 +48,8 @@ fn node_for(node: Node, method: &Method) -> Content
     }
 }
 
-/// What is answered for a URI, by what stands at its path: a method that no file is served to is refused first. Behind
-/// a slash at the URI's end an index file was sought already; without one a folder is redirected to.
+/// What is answered for a URI, by what is at its path: a method that no file is served to is refused first. Where the
+/// URI ends in a slash an index file was sought already; without one a folder is redirected to.
 #[tactic(auto, unfolding(crate::specs::Content::content_for))]
 pub fn decide(node: Node, method: &Method, ends_in_slash: bool) -> Content
     ensures { result ≡ content_for node method.now ends_in_slash }

@@ -1,4 +1,4 @@
-//! What is answered for what stands at a URI's path, as nginx's static module does it
+//! What is answered for what is at a URI's path, as nginx's static module does it
 //! (<https://nginx.org/en/docs/http/ngx_http_core_module.html>).
 #![tactic(auto)]
 

@@ -3,8 +3,8 @@ ghost use Rattle.std.specs.Prelude.{◌≡◌, ◌+◌, ◌≤◌, ◌++◌, ℕ
 ghost use Rattle.ngx_outside.specs.Causes.{Rose};
 ghost use Rattle.ngx_outside.specs.declared.files.Listing.TheVariants.{Missing};
 
-use crate::at_once::AtOnce;
-use crate::kept::{Identity, KeptFile, KeptFiles, MOST, Place, Sought};
+use crate::kept::{Identity, KeptFile, KeptFiles, MOST, Sought};
+use crate::room::Room;
 use byte_text::{ByteText, ByteTexts, OutOfMemory};
 use file_tree::Node;
 use libc::types::rlimit;
@@ -14,7 +14,7 @@ use std::fs::{Metadata, OpenFile};
 use std::io::ErrorKind;
 use std::os::unix::fs::{FileExt, MetadataExt};
 use std::rt::Files as Host;
-use std::{fs, io, mem, str};
+use std::{fs, io, str};
 
 // The number of the error that the host has no descriptor left (errno(3)).
 const ENFILE: i32 = 23;
@@ -121,32 +121,12 @@ fn look_anew<R: Host>(
     }
 }
 
-// The kept file of a place, if it still is what stands at its path, with the rights that it had.
-fn look_again<R: Host>(
-    host: &R,
-    kept: &KeptFiles<R::File>,
-    place: Place,
-    path: &[u8],
-) -> Option<Node> {
-    let kept = kept.of_path(place, path)?;
-    let found = fs::metadata(host, kept.path.as_str()).ok()?;
-    if Identity::of(&found) == kept.identity {
-        Some(kept.node())
-    } else {
-        None
+// Whether a kept file still is what stands at its path, with the rights that it had.
+fn is_still_there<R: Host>(host: &R, kept: &KeptFile<R::File>) -> bool {
+    match fs::metadata(host, kept.path.as_str()) {
+        Ok(found) => Identity::of(&found) == kept.identity,
+        Err(_) => false,
     }
-}
-
-// The file of a place, if the tree of a number showed it at this path before.
-fn show_again<F: Drop>(
-    kept: &mut KeptFiles<F>,
-    place: Place,
-    path: &[u8],
-    of: u64,
-) -> Option<Node> {
-    let node = kept.shown(place, path, of)?.node();
-    kept.show(place, of);
-    Some(node)
 }
 
 // What the tree of a number shows at a path: the file that it showed there before, and else what stands there now. Where
@@ -158,26 +138,26 @@ fn look<R: Host>(
     path: &[u8],
     of: u64,
 ) -> Result<Node, Failed> {
-    let last = kept.find(path, Sought::Last);
-    let last = last.filter(|place| kept.can_show(*place, of));
-    let before = match last {
-        Some(place) => Some(place),
-        None => kept.find(path, Sought::ShownIn(of)),
-    };
-    if let Some(place) = before {
-        if let Some(node) = show_again(kept, place, path, of) {
-            return Ok(node);
+    if let Some((place, file)) = kept.find(path, Sought::LastFor(of)) {
+        let node = file.node();
+        let is_shown = file.is_in(of);
+        if !is_shown && kept.has_lost(of) {
+            return Err(Failed);
         }
-    }
-    if kept.has_lost(of) {
-        return Err(Failed);
-    }
-    if let Some(place) = last {
-        if let Some(node) = look_again(host, kept, place, path) {
+        if is_shown || is_still_there(host, file) {
             kept.show(place, of);
             return Ok(node);
         }
         kept.pass(place);
+        return look_anew(alloc, host, kept, path, of);
+    }
+    if let Some((place, file)) = kept.find(path, Sought::ShownIn(of)) {
+        let node = file.node();
+        kept.show(place, of);
+        return Ok(node);
+    }
+    if kept.has_lost(of) {
+        return Err(Failed);
     }
     look_anew(alloc, host, kept, path, of)
 }
@@ -190,101 +170,22 @@ pub(crate) fn has_same_bytes<F: OpenFile>(file: &F, identity: &Identity) -> bool
     }
 }
 
-// Fills a text up by so many bytes that a file has from a place on. Where these aren't all of its bytes, it fails if the
-// file was written since it was opened: else a response could have bytes of two states of it.
-fn fill<F: FileExt + OpenFile + Drop>(
-    kept: &KeptFile<F>,
-    start: u64,
-    count: usize,
-    bytes: &mut Vec<u8>,
-) -> Result<(), FileFault>
-    ensures kept { take (vec_len bytes.old) bytes.new.items ≡ bytes.old.items }
-    ensures size { OnOk result (vec_len bytes.new ≡ vec_len bytes.old + count) }
-{
-    let known = bytes.len();
-    let Some(size) = known.checked_add(count) else {
-        return Err(FileFault::OutOfMemory);
-    };
-    let Ok(()) = bytes.resize(size, 0) else {
-        return Err(FileFault::OutOfMemory);
-    };
-    let Ok(()) = kept.file.read_exact_at(&mut bytes[known..], start) else {
-        return Err(FileFault::Failed);
-    };
-    if kept.is_whole(start, count as u64) || has_same_bytes(&kept.file, &kept.identity) {
-        Ok(())
-    } else {
-        Err(FileFault::Failed)
-    }
-}
-
-// Adds so many bytes that a kept file has from a place on, with no copy between.
-#[tactic(auto, using(crate::proofs::Grown::grown))]
-fn add_bytes<F: FileExt + OpenFile + Drop>(
-    alloc: Global,
-    kept: &KeptFile<F>,
-    start: u64,
-    count: u64,
-    out: &mut ByteText,
-) -> Result<(), FileFault>
-    ensures ok { OnOk result ((added : List ℕ) × (out.new ≡ out.old ++ added) × (length added ≡ count)) }
-    ensures err { OnErr result (out.new ≡ out.old) }
-{
-    let known = out.len();
-    let mut bytes = mem::replace(out, ByteText::new(alloc)).into_vec();
-    let filled = fill(kept, start, count as usize, &mut bytes);
-    *out = ByteText::from_vec(bytes);
-    match filled {
-        Ok(()) => Ok(()),
-        Err(fault) => {
-            out.truncate(known);
-            Err(fault)
-        }
-    }
-}
-
-// Adds so many bytes of a kept file from a place on: those of a small file from the bytes that were read at once, unless they are
-// all of it.
-fn add_part<F: FileExt + OpenFile + Drop>(
-    kept: &KeptFile<F>,
-    at_once: &mut AtOnce,
-    start: u64,
-    count: u64,
-    of: u64,
-    out: &mut ByteText,
-) -> Result<(), FileFault>
-    ensures ok { OnOk result ((added : List ℕ) × (out.new ≡ out.old ++ added) × (length added ≡ count)) }
-    ensures err { OnErr result (out.new ≡ out.old) }
-{
-    if !kept.is_whole(start, count) && at_once.has(kept, start, of) {
-        at_once.add(kept, start, count, of, out)?;
-        return Ok(());
-    }
-    add_bytes(at_once.alloc, kept, start, count, out)?;
-    Ok(())
-}
-
-// Adds bytes of the file that the tree of a number showed at a path. One that isn't kept any more can't be read: another
-// may stand there.
+// Reads bytes of the file that the tree of a number showed at a path, which are lent. One that isn't kept any more can't be
+// read: another may stand there.
 fn read_file<F: FileExt + OpenFile + Drop>(
     kept: &mut KeptFiles<F>,
-    at_once: &mut AtOnce,
+    room: &mut Room,
     path: &[u8],
     start: u64,
     count: u64,
     of: u64,
-    out: &mut ByteText,
 ) -> Result<(), FileFault>
-    ensures ok { OnOk result ((added : List ℕ) × (out.new ≡ out.old ++ added) × (length added ≡ count)) }
-    ensures err { OnErr result (out.new ≡ out.old) }
+    ensures { OnOk result (length room.new ≡ count) }
 {
-    let Some(place) = kept.find(path, Sought::ShownIn(of)) else {
+    let Some((place, file)) = kept.find(path, Sought::ShownIn(of)) else {
         return Err(FileFault::Failed);
     };
-    let Some(file) = kept.shown(place, path, of) else {
-        return Err(FileFault::Failed);
-    };
-    match add_part(file, at_once, start, count, of, out) {
+    match room.read(file, start, count, of) {
         Ok(()) => {
             kept.show(place, of);
             kept.read(place, start, count, of);
@@ -319,7 +220,7 @@ fn most_kept() -> usize {
 pub struct HostFiles<R: Host + AllocGlobal + Clone + Drop> {
     host: R,
     kept: KeptFiles<R::File>,
-    at_once: AtOnce,
+    room: Room,
     newest: u64,
     faults: u64,
 }
@@ -328,11 +229,11 @@ impl<R: Host + AllocGlobal + Clone + Drop> HostFiles<R> {
     /// The files of a host, none of which is open.
     pub fn new(host: R) -> Result<Self, OutOfMemory> {
         let kept = KeptFiles::new(host.alloc(), most_kept())?;
-        let at_once = AtOnce::new(host.alloc());
+        let room = Room::new(host.alloc());
         Ok(HostFiles {
             host,
             kept,
-            at_once,
+            room,
             newest: 0,
             faults: 0,
         })
@@ -396,6 +297,7 @@ where
       tells = false;
       trees = λ _ _. Nothing;
       newest = f.newest;
+      block = f.room;
       versions = None;
       answers = None;
       faults = f.faults;
@@ -420,23 +322,18 @@ where
         }
     }
 
-    fn read(
+    fn block(&self) -> &[u8] {
+        self.room.block()
+    }
+
+    fn read_block(
         &mut self,
         path: &[u8],
         start: u64,
         count: u64,
         of: u64,
-        out: &mut ByteText,
     ) -> Result<(), FileFault> {
-        match read_file(
-            &mut self.kept,
-            &mut self.at_once,
-            path,
-            start,
-            count,
-            of,
-            out,
-        ) {
+        match read_file(&mut self.kept, &mut self.room, path, start, count, of) {
             Ok(()) => Ok(()),
             Err(FileFault::Failed) => {
                 self.count_fault();

@@ -1,5 +1,6 @@
 // The host's files that stay open from one call to the next.
-ghost use Rattle.std.specs.Prelude.{◌≡◌, ◌≤◌, true, IfSome, string_bytes};
+ghost use Rattle.std.specs.Prelude.{◌≡◌, ◌≤◌, ℕ, true, IfSome, string_bytes};
+ghost use Rattle.std_outside.specs.declared.kept.Sought.TheVariants.{ShownIn};
 
 use byte_text::OutOfMemory;
 use file_tree::Node;
@@ -119,33 +120,40 @@ impl<F: Drop> KeptFile<F> {
         self.path.as_bytes() == path
     }
 
-    fn is_in(&self, of: u64) -> bool
+    /// Whether the tree of a number showed it.
+    pub fn is_in(&self, of: u64) -> bool
         ensures { result ≡ true → (self.now.first ≤ of) × (of ≤ self.now.last) }
     {
         self.first <= of && of <= self.last
+    }
+
+    // Whether it is the file of a path that is sought.
+    fn is_sought(&self, path: &[u8], sought: Sought) -> bool
+        ensures path { result ≡ true → string_bytes self.now.path ≡ path.now }
+        ensures tree { result ≡ true → (of : ℕ) → sought ≡ ShownIn of →
+            (self.now.first ≤ of) × (of ≤ self.now.last) }
+    {
+        let fits = match sought {
+            Sought::ShownIn(of) => self.is_in(of),
+            Sought::LastFor(of) => !self.past && self.first <= of,
+        };
+        fits && self.is_at(path)
     }
 }
 
 /// Where a kept file lies.
 #[derive(Clone, Copy)]
-pub struct Place {
+pub struct Slot {
     bucket: usize,
     at: usize,
 }
 
-/// Which file of a path is sought: the one that the tree of a number shows, or the one that stood there last.
+/// Which file of a path is sought: the one that the tree of a number shows, or the one that stood there last, if that tree can
+/// show it, and all trees from its own to that one.
 #[derive(Clone, Copy)]
 pub enum Sought {
     ShownIn(u64),
-    Last,
-}
-
-fn is_sought<F: Drop>(kept: &KeptFile<F>, path: &[u8], sought: Sought) -> bool {
-    let fits = match sought {
-        Sought::ShownIn(of) => kept.is_in(of),
-        Sought::Last => !kept.past,
-    };
-    fits && kept.is_at(path)
+    LastFor(u64),
 }
 
 /// The bucket of a path.
@@ -168,18 +176,18 @@ fn empty_buckets<F: Drop>(alloc: Global) -> Result<Vec<Vec<KeptFile<F>>>, AllocE
 /// The file that was used longest ago, among those that were looked at.
 #[derive(Clone, Copy)]
 struct Oldest {
-    place: Place,
+    place: Slot,
     used: u64,
     count: usize,
 }
 
 const NONE_LOOKED_AT: Oldest = Oldest {
-    place: Place { bucket: 0, at: 0 },
+    place: Slot { bucket: 0, at: 0 },
     used: u64::MAX,
     count: 0,
 };
 
-fn older(oldest: Oldest, place: Place, used: u64) -> Oldest {
+fn older(oldest: Oldest, place: Slot, used: u64) -> Oldest {
     let count = oldest.count.saturating_add(1);
     if used < oldest.used {
         Oldest { place, used, count }
@@ -197,7 +205,7 @@ pub struct KeptFiles<F: Drop> {
     count: usize,
     most: usize,
     uses: u64,
-    near: Place,
+    near: Slot,
     lost: u64,
 }
 
@@ -209,65 +217,40 @@ impl<F: Drop> KeptFiles<F> {
             count: 0,
             most: most.min(MOST),
             uses: 0,
-            near: Place { bucket: 0, at: 0 },
+            near: Slot { bucket: 0, at: 0 },
             lost: 0,
         })
     }
 
-    fn file_at(&self, place: Place) -> Option<&KeptFile<F>> {
+    fn file_at(&self, place: Slot) -> Option<&KeptFile<F>> {
         match self.buckets.get(place.bucket) {
             Some(bucket) => bucket.get(place.at),
             None => None,
         }
     }
 
-    /// Where a path's file lies that is sought. Where the last one lay is looked at first.
-    pub fn find(&self, path: &[u8], sought: Sought) -> Option<Place> {
+    /// The file of a path that is sought, and where it lies. Where the last one lay is looked at first.
+    pub fn find(&self, path: &[u8], sought: Sought) -> Option<(Slot, &KeptFile<F>)>
+        ensures path { IfSome result (λ found. string_bytes found.1.now.path ≡ path.now) }
+        ensures tree { IfSome result (λ found. (of : ℕ) → sought ≡ ShownIn of →
+            (found.1.now.first ≤ of) × (of ≤ found.1.now.last)) }
+    {
         if let Some(kept) = self.file_at(self.near) {
-            if is_sought(kept, path, sought) {
-                return Some(self.near);
+            if kept.is_sought(path, sought) {
+                return Some((self.near, kept));
             }
         }
         let bucket = bucket_of(path);
         for (at, kept) in self.buckets.get(bucket)?.iter().enumerate() {
-            if is_sought(kept, path, sought) {
-                return Some(Place { bucket, at });
+            if kept.is_sought(path, sought) {
+                return Some((Slot { bucket, at }, kept));
             }
         }
         None
     }
 
-    /// The file of a place, if it is of this path.
-    pub fn of_path(&self, place: Place, path: &[u8]) -> Option<&KeptFile<F>>
-        ensures { IfSome result (λ kept. string_bytes kept.now.path ≡ path.now) }
-    {
-        let kept = self.file_at(place)?;
-        if kept.is_at(path) { Some(kept) } else { None }
-    }
-
-    /// The file of a place, if the tree of a number shows it at this path.
-    pub fn shown(&self, place: Place, path: &[u8], of: u64) -> Option<&KeptFile<F>>
-        ensures path { IfSome result (λ kept. string_bytes kept.now.path ≡ path.now) }
-        ensures tree { IfSome result (λ kept. (kept.now.first ≤ of) × (of ≤ kept.now.last)) }
-    {
-        let kept = self.file_at(place)?;
-        if kept.is_in(of) && kept.is_at(path) {
-            Some(kept)
-        } else {
-            None
-        }
-    }
-
-    /// Whether the file of a place can be shown by the tree of a number, and by all trees from its own to that one.
-    pub fn can_show(&self, place: Place, of: u64) -> bool {
-        match self.file_at(place) {
-            Some(kept) => kept.first <= of,
-            None => false,
-        }
-    }
-
     /// The file of a place is used now, for the tree of a number.
-    pub fn show(&mut self, place: Place, of: u64) {
+    pub fn show(&mut self, place: Slot, of: u64) {
         self.uses = self.uses.saturating_add(1);
         self.near = place;
         let uses = self.uses;
@@ -280,7 +263,7 @@ impl<F: Drop> KeptFiles<F> {
     }
 
     // Closes the file of a place.
-    fn close(&mut self, place: Place) {
+    fn close(&mut self, place: Slot) {
         if let Some(bucket) = self.buckets.get_mut(place.bucket) {
             if place.at < bucket.len() {
                 bucket.swap_remove(place.at);
@@ -290,7 +273,7 @@ impl<F: Drop> KeptFiles<F> {
     }
 
     /// Something else stands at the path of a place now, which later trees show. Who reads the file reads on.
-    pub fn pass(&mut self, place: Place) {
+    pub fn pass(&mut self, place: Slot) {
         let mut is_read = true;
         if let Some(bucket) = self.buckets.get_mut(place.bucket) {
             if let Some(kept) = bucket.get_mut(place.at) {
@@ -305,7 +288,7 @@ impl<F: Drop> KeptFiles<F> {
 
     /// So many bytes were read of the file of a place, from `start` on, for the tree of a number. Who began at the start
     /// reads it until its end was read. Then nobody may need it open any more.
-    pub fn read(&mut self, place: Place, start: u64, count: u64, of: u64) {
+    pub fn read(&mut self, place: Slot, start: u64, count: u64, of: u64) {
         let mut is_done = false;
         if let Some(bucket) = self.buckets.get_mut(place.bucket) {
             if let Some(kept) = bucket.get_mut(place.at) {
@@ -337,7 +320,7 @@ impl<F: Drop> KeptFiles<F> {
         let mut unread = NONE_LOOKED_AT;
         for (bucket, files) in self.buckets.iter().enumerate() {
             for (at, kept) in files.iter().enumerate() {
-                let place = Place { bucket, at };
+                let place = Slot { bucket, at };
                 all = older(all, place, kept.used);
                 if kept.readers == 0 {
                     unread = older(unread, place, kept.used);
@@ -365,7 +348,7 @@ impl<F: Drop> KeptFiles<F> {
     }
 
     // The file of a place will be closed. Where it is read, the trees up to its last one have lost it.
-    fn lose(&mut self, place: Place) {
+    fn lose(&mut self, place: Slot) {
         let mut lost = 0;
         if let Some(kept) = self.file_at(place) {
             if kept.readers > 0 {
@@ -399,7 +382,7 @@ impl<F: Drop> KeptFiles<F> {
         };
         if let Some(files) = self.buckets.get_mut(bucket) {
             files.push(kept)?;
-            self.near = Place {
+            self.near = Slot {
                 bucket,
                 at: files.len() - 1,
             };

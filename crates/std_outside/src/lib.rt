@@ -2,9 +2,9 @@
 //! nothing of what the host holds or takes.
 #![tactic(auto)]
 
-mod at_once;
 mod files;
 mod kept;
+mod room;
 mod sink;
 
 pub use files::HostFiles;

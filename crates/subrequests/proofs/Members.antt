@@ -315,7 +315,7 @@ module _ (laws : ShowsTheSame) (w : World) (patterns : List SetPattern) (site : 
       by j true e f = absurd (false_true f)
       by j false e f = others j e
 
-  -- so too where its stub stands in its place
+  -- so too where its stub is in its place
   pub decided : (answer : Answer) (row' : Row) (nodes' : List Node) (new : Node) → DecidedAs at row row' old new → act old ≡ Done answer → at ≢ 0 →
       ((j : ℕ) → (j == at) ≡ false → (before).stance j ≡ stance_in (doing_by w patterns site main texts) nodes' most_levels j) →
       ((j : ℕ) → is_open j row'.pieces ≡ cond (j == at) false (is_open j row.pieces)) →
@@ -357,7 +357,7 @@ module _ (laws : ShowsTheSame) (w : World) (patterns : List SetPattern) (site : 
   abbrev does : Doing
   does = doing_by w patterns site main texts
 
-  -- the others are told of as before where one more is behind them
+  -- the others are told of as before where one more is after them
   others_more : (new member : Node) → is_captured old.place ≡ false → is_captured new.place ≡ false → is_captured member.place ≡ false → (j : ℕ) → (j == at) ≡ false → (j == length nodes) ≡ false →
       family.stance j ≡ stance_in (doing_by w patterns site main texts) (set nodes at new ++ member ∷ []) most_levels j
   others_more new member was is more j e f =
@@ -553,7 +553,7 @@ same_files laws w patterns site main row nodes texts texts' same =
 some_is : {A : Type 0} (x y : A) → Some x ≡ Some y → x ≡ y
 some_is x y f = ap (λ o. unwrap_or o x) f
 
--- where another node stands in the place of one
+-- where another node is in the place of one
 pub set_files : (trees : Trees) (nodes : List Node) (at : ℕ) (old new : Node) → slice_get nodes at ≡ Some old → (reads_text new.stage ≡ true → text_in trees old ≡ text_in trees new) →
     SameTexts (set nodes at new) (texts_of trees nodes) (texts_of trees (set nodes at new))
 set_files trees nodes at old new there keeps j n e reads = by (j == at) refl

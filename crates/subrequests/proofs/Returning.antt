@@ -101,7 +101,7 @@ as_replied text p p' (Holds free apart is) =
       file = (ap (λ (n : Node). n.ask) is, ap (λ (n : Node). n.start) is);
     }
 
--- and stands where it stood
+-- and is where it was
 pub stands_so : (text : List ℕ) (p p' : Node) → HasReply text p p' → StandsAs p' p
 stands_so text p p' (Hears capturing same place file acts) = members.stands_as p' p (sym same.parent) (sym place)
 stands_so text p p' (Holds free apart is) =

@@ -7,7 +7,7 @@ use Rattle.node_turn.specs.declared.node.Node.{Node}
 use Rattle.subrequests.proofs.Numbers as numbers
 use Rattle.subrequests.proofs.Wholes as wholes
 
--- behind the last node there is none
+-- after the last node there is none
 nothing_there : (nodes : List Node) (at : ℕ) → slice_get nodes at ≡ None → drop at nodes ≡ []
 nothing_there [] zero e = refl
 nothing_there [] (suc at) e = refl

@@ -71,7 +71,7 @@ module _ (laws : ShowsTheSame) (w : World) (patterns : List SetPattern) (site : 
       (steps.then (steps.works w tree laws at at InItsRow old.left before goes_on vars (act old) x works)
       (steps.alike (forgotten new (Going old.left x) (ap is_captured was) (ap is_captured here)) next))
 
-  -- ---- it asks for one more than are opened, wherever it stands
+  -- ---- it asks for one more than are opened, wherever it is
 
   pub row_open : old.place ≡ InRow → (child : Child) (l : ℕ) (m : Serving Answer) → old.left ≡ suc l → Works vars (node_act w patterns site main old (texts at)) (Inner child m) → Opens_one w tree (seen w patterns site main row nodes texts) vars
   row_open was child l m deep works =
@@ -129,7 +129,7 @@ module _ (laws : ShowsTheSame) (w : World) (patterns : List SetPattern) (site : 
               (steps.asks_any w tree laws q.h at old.left before h_open q.own spot q.rest row.nodes l child k vars deep));
         }
 
-  -- where it stands in a line
+  -- where it is in a line
   pub located : is_in_row old.place ≡ false → Located most_levels (doing_by w patterns site main texts) nodes most_levels 1 at old
   located apart =
       locate most_levels (doing_by w patterns site main texts) nodes most_levels 1 at old there (members.not_over row nodes at old there sound goes_on) (one most_levels) (members.heard_above nodes at old there seat) apart
@@ -197,7 +197,7 @@ module _ (laws : ShowsTheSame) (w : World) (patterns : List SetPattern) (site : 
     well : IsWell (seen w patterns site main row nodes texts)
     well = members.seen_well w patterns site main row nodes texts sound
 
-    -- where its own bytes go on behind them
+    -- where its own bytes go on after them
     pub included : is_in_row old.place ≡ false → is_capturing mid.stage ≡ false → Works vars (node_act w patterns site main old (texts at)) (Inner child (node_act w patterns site main mid (texts at))) →
         Opening w tree 1 (seen w patterns site main row nodes texts) vars (seen w patterns site main (with_child at row) (set (set nodes at mid) at (record mid { children = children; asks = Some number }) ++ member ∷ []) texts) vars
     included apart e acts =

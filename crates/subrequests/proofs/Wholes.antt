@@ -114,7 +114,7 @@ both_ways laws patterns g old new opened grows any same =
     no_more : (n : ℕ) → n + 0 ≡ n
     no_more n = omega arith
 
--- where another node stands in the place of one
+-- where another node is in the place of one
 pub as_many : (nodes : List Node) (at : ℕ) (new : Node) → length (set nodes at new) ≡ length nodes + 0
 as_many nodes at new = length_set nodes at new ∙ (let e : length nodes ≡ length nodes + 0 = omega arith in e)
 

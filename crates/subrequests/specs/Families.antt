@@ -84,16 +84,16 @@ pub record IsTaken (stage : Stage) (text : List ℕ) (old new : Place) : Type 0 
   pub then : new ≡ Captured stub []
   pub shown : is_some stub ≡ true → ((length text == 0) ≡ false) × (is_good_end stage ≡ true)
 
--- A node has the bytes for which it waited: as those of a reply, with which it goes on; or behind its own that are held, in whose
--- place they stand.
+-- A node has the bytes for which it waited: as those of a reply, with which it goes on; or after its own that are held,
+-- in whose place they are.
 pub data HasReply (body : List ℕ) (old new : Node) : Type 0 where
   Hears : is_capturing old.stage ≡ true → IsSameNode (record old { asks = None }) new → new.place ≡ old.place → (new.ask ≡ old.ask) × (new.start ≡ old.start) →
       ((w : World) (patterns : List SetPattern) (site : Site) (main : Main) (text : List ℕ) → node_act w patterns site main new text ≡ node_heard w patterns site main old text body) →
       HasReply body old new
   Holds : is_capturing old.stage ≡ false → is_in_row old.place ≡ false → new ≡ record old { asks = None; place = held_more body old.place } → HasReply body old new
 
--- The row has a place for each node that isn't over, and for no other, and the main request's behind all, whose bytes no other
--- waits for; and there are no more nodes than make one response.
+-- The row has a place for each node that isn't over, and for no other. The main request's place comes after all others,
+-- and no other node waits for its bytes. And there are no more nodes than make one response.
 pub record IsSound (row : Row) (nodes : List Node) : Type 0 where
   pub well : IsWellRow 0 row
   pub few : length nodes ≤ 1001

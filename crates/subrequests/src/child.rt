@@ -160,7 +160,7 @@ fn child_node(
     }
 }
 
-/// Puts the node of a subrequest, which the node with this number asks for, behind the nodes.
+/// Puts the node of a subrequest, which the node with this number asks for, after the other nodes.
 pub(crate) fn push_child(
     alloc: Global,
     level: u32,

@@ -90,7 +90,7 @@ fn on_or_rests(on: bool) -> Stepped
     if on { Stepped::On } else { Stepped::Rests }
 }
 
-/// Whether a node may have one more subrequest, where there are so many nodes.
+/// Whether a node may have one more subrequest, where there are `count` nodes.
 fn may_ask(node: &Node, count: usize) -> bool
     ensures free { result ≡ true → node.now.asks ≡ None }
     ensures deep { result ≡ true → node.now.left ≢ 0 }
@@ -99,8 +99,8 @@ fn may_ask(node: &Node, count: usize) -> bool
     node.asks.is_none() && node.left > 0 && count < MOST_NODES
 }
 
-/// Whether a node may open a subrequest beside it, where there are so many nodes. One whose bytes
-/// don't go to the row waits for those of its subrequests.
+/// Whether a node may open a subrequest beside it, where there are `count` nodes. One whose bytes don't go to the row
+/// waits for those of its subrequests.
 fn may_open(node: &Node, count: usize) -> bool
     ensures row { result ≡ true → in_row node.now.place ≡ true }
     ensures free { result ≡ true → node.now.asks ≡ None }
@@ -166,8 +166,8 @@ fn ends_well(stage: &Stage) -> bool
     }
 }
 
-/// The bytes of a node for whose body its parent waits: all that came. Where its stub would stand in
-/// their place there is no memory.
+/// The bytes of a node for whose body its parent waits: all that came. Where its stub would come in their place there
+/// is no memory.
 fn taken(alloc: Global, stage: &Stage, place: &mut Place) -> Result<ByteText, OutOfMemory>
     ensures { IfOk result (λ text. IsTaken stage.now text place.old place.new) }
 {
@@ -182,8 +182,7 @@ fn taken(alloc: Global, stage: &Stage, place: &mut Place) -> Result<ByteText, Ou
     }
 }
 
-/// A node has the body for which it waited: it goes on with its page; or its own bytes go on behind
-/// it.
+/// A node has the body for which it waited: it goes on with its page; or its own bytes go on after it.
 fn put_reply(alloc: Global, node: &mut Node, body: ByteText) -> Result<(), OutOfMemory>
     ensures { OnOk result (HasReply body node.old node.new) }
 {

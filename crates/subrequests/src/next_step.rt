@@ -20,7 +20,7 @@ pub(crate) enum Next {
     Takes,
     /// It is over.
     Ends,
-    /// It is over, and its stub stands at its place.
+    /// It is over, and its stub is at its place.
     Decides,
     /// It is over, and its parent has its body.
     Returns,

@@ -15,7 +15,7 @@ use std::marker::Model;
 /// Nothing is known of a node.
 const UNKNOWN: u8 = 0;
 
-/// A node can't run as it stands, whatever room there is for its bytes.
+/// A node can't run as it is, whatever room there is for its bytes.
 const RESTS: u8 = 1;
 
 /// It can't run, and has no job that waits.
@@ -66,7 +66,7 @@ fn may_go(at: u32, node: &Node) -> bool
     }
 }
 
-/// What is known of a node with this number as it stands.
+/// What is known of a node with this number as it is.
 fn mark_of(at: u32, node: &Node) -> u8
     ensures { IsMarked result at (Some node.now) }
 {
@@ -131,7 +131,7 @@ impl Nodes {
         &mut self.all[at]
     }
 
-    /// Puts a node behind all others. One for whose mark there is no memory has none.
+    /// Puts a node after all others. One for whose mark there is no memory has none.
     #[inline(always)]
     pub(crate) fn push(&mut self, node: Node) -> Result<(), OutOfMemory>
         ensures items { OnOk result (self.new ≡ self.old ++ node ∷ []) }
@@ -141,7 +141,7 @@ impl Nodes {
         Ok(())
     }
 
-    /// Marks the node with this number by what is known of it as it stands.
+    /// Marks the node with this number by what is known of it as it is.
     pub(crate) fn mark(&mut self, at: u32)
         ensures { self.new ≡ self.old }
     {
@@ -151,7 +151,8 @@ impl Nodes {
         }
     }
 
-    /// The first number from this one on whose node may run, for all that is known; behind all, where there is none.
+    /// The first number from this one on whose node may run, for all that is known; a number after all nodes, where
+    /// there is none.
     pub(crate) fn next_awake(&self, from: usize) -> usize
         ensures from { from ≤ result }
         ensures rest { (row : Row) (at : ℕ) → from ≤ at → at < result
@@ -167,7 +168,8 @@ impl Nodes {
         }
     }
 
-    /// The first number from this one on whose node may have a job, for all that is known; behind all, where there is none.
+    /// The first number from this one on whose node may have a job, for all that is known; a number after all nodes,
+    /// where there is none.
     pub(crate) fn next_asking(&self, from: usize) -> usize
         ensures from { from ≤ result }
         ensures rest { (tree at : ℕ) → from ≤ at → at < result

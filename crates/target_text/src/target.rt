@@ -91,7 +91,8 @@ fn path_len(
 
 /// The same where the text begins with bytes that have the `?`.
 fn literal_len(pieces: &[Piece]) -> Option<usize>
-    ensures { MatchOption result (Unit {0}) (λ len. (main : MainView) (request : RequestView) (vars : Vars)
+    ensures { MatchOption result (Unit {0})
+        (λ len. (main : MainView) (request : RequestView) (vars : Vars)
         → len ≡ length (value_text main request vars (cut pieces.now).path)) }
 {
     match pieces {

@@ -1,4 +1,4 @@
--- Digits behind a number don't make it less.
+-- Digits after a number don't make it less.
 use Rattle.std.proofs.Common.{◌≡◌, ℕ, suc, ◌+◌, ◌*◌, ◌-◌, ◌≤◌, ◌<◌, List, [], ◌∷◌, length, drop, get_or, drop-cons, arith}
 use Rattle.text_words.specs.Digits.{value_behind}
 

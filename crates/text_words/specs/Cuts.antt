@@ -6,13 +6,13 @@ use Rattle.std.specs.List.{position_or_len}
 abbrev pub before_byte : ℕ → List ℕ → List ℕ
 before_byte c text = take (position_or_len (λ b. b == c) text) text
 
--- the text behind the first byte of this value, if there is one
+-- the text after the first byte of this value, if there is one
 abbrev pub behind_byte : ℕ → List ℕ → Option (List ℕ)
 behind_byte c text =
     let at = position_or_len (λ b. b == c) text in
     if at == length text then None else Some (drop (at + 1) text)
 
--- what stands behind a colon that stands first
+-- what comes after a colon at the front
 abbrev pub behind_colon : Option (List ℕ) → Option (List ℕ)
 behind_colon None = None
 behind_colon (Some []) = None

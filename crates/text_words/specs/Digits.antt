@@ -5,7 +5,7 @@ use Rattle.std.specs.Prelude.{ℕ, ◌+◌, ◌*◌, ◌-◌, List, [], ◌∷�
 abbrev pub is_decimal : ℕ → Bool
 is_decimal b = nat_le 48 b && nat_le b 57
 
--- the number that these digits write behind those of n
+-- the number that these digits write after those of n
 abbrev pub value_behind : ℕ → List ℕ → ℕ
 value_behind n [] = n
 value_behind n (b ∷ bs) = value_behind (n * 10 + (b - 48)) bs

@@ -3,7 +3,7 @@ ghost use Rattle.std.specs.Prelude.{◌≡◌, ◌+◌, ◌≤◌, ◌==◌, len
 ghost use Rattle.std.specs.List.{position_or_len};
 ghost use Rattle.text_words.specs.Cuts.{before_byte, behind_byte, behind_colon};
 
-/// How many bytes stand before the first of this value.
+/// How many bytes come before the first of this value.
 pub fn length_before(bytes: &[u8], byte: u8) -> usize
     ensures place { result ≡ position_or_len (λ b. b == byte) bytes.now }
     ensures within { result ≤ length bytes.now }
@@ -42,7 +42,7 @@ pub fn before_byte(text: &[u8], byte: u8) -> &[u8]
     bytes_to(text, at)
 }
 
-/// The text behind the first byte of this value, if there is one.
+/// The text after the first byte of this value, if there is one.
 pub fn behind_byte(text: &[u8], byte: u8) -> Option<&[u8]>
     ensures { option_map (λ t. t.now) result ≡ behind_byte byte text.now }
 {
@@ -53,7 +53,7 @@ pub fn behind_byte(text: &[u8], byte: u8) -> Option<&[u8]>
     Some(bytes_from(text, at + 1))
 }
 
-/// What stands behind a colon that stands first.
+/// What comes after a colon at the front.
 pub fn behind_colon(text: Option<&[u8]>) -> Option<&[u8]>
     ensures { option_map (λ t. t.now) result ≡ behind_colon (option_map (λ t. t.now) text.entry) }
 {

@@ -19,7 +19,8 @@ pub fn are_decimal(text: &[u8]) -> bool
 
 /// The number that decimal digits write, or nothing where it is past the type's end.
 pub fn value_of(digits: &[u8]) -> Option<u64>
-    ensures { MatchOption result (2 ^ 64 ≤ value_behind 0 digits.now) (λ n. n ≡ value_behind 0 digits.now) }
+    ensures { MatchOption result (2 ^ 64 ≤ value_behind 0 digits.now)
+        (λ n. n ≡ value_behind 0 digits.now) }
 {
     let mut value: u64 = 0;
     for b in digits {

@@ -10,7 +10,7 @@ use Rattle.acts.proofs.ActLaws.{settles_in_turn}
 use Rattle.file_tree.specs.Tree.{Item, AFile, AFolder, ALocked, Nothing, node_of}
 use Rattle.file_tree.specs.declared.job.Node.{Node}
 use Rattle.ngx_variables.specs.declared.request.Main.{Main}
-use Rattle.ngx_variables.specs.declared.request.Place.{Place}
+use Rattle.ngx_variables.specs.declared.request.FileRoot.{FileRoot}
 use Rattle.ngx_variables.specs.declared.request.Request.{Request}
 use Rattle.ngx_variables.specs.Texts.{value_text, is_too_long}
 use Rattle.file_path.specs.Located.{Located, located_at}
@@ -173,10 +173,10 @@ module _ (fits : FitValueSettles) (items : ItemSettles) (main : Main) (vars : Va
         indexed_name name p (text_fits n.text e.0) ∙ item_unfit (s.request.path ++ name) (λ i. index_at s (s.request.path ++ name) i more) e.1
 
 -- what holds of this request and place holds where the request is in such a level
-moved : (P : Request → Place → Type 0) (request : Request) (place : Place) (s : Standing) → IsAt request place s → P request place → P s.request s.values.place
+moved : (P : Request → FileRoot → Type 0) (request : Request) (place : FileRoot) (s : Standing) → IsAt request place s → P request place → P s.request s.values.place
 moved P request place s h x = subst (λ r. P r s.values.place) (sym h.of_request) (subst (λ p. P request p) (sym h.at_place) x)
 
-module _ (fits : FitValueSettles) (items : ItemSettles) (main : Main) (vars : Vars) (request : Request) (place : Place) (s : Standing) (h : IsAt request place s) where
+module _ (fits : FitValueSettles) (items : ItemSettles) (main : Main) (vars : Vars) (request : Request) (place : FileRoot) (s : Standing) (h : IsAt request place s) where
   pub try_nowhere : (n : Text) (names : List Text) (last : LastTry) → IsNotThere main request vars place [] n → settled (tried main s (n ∷ names) last) vars ≡ settled (tried main s names last) vars
   try_nowhere n names last e = tried_nowhere fits items main vars s n names last (moved (λ r p. IsNotThere main r vars p [] n) request place s h e)
 
@@ -252,7 +252,7 @@ module _ (main : Main) (vars : Vars) (s : Standing) where
   unfolding indexed
   indexed_done names at h = ap (λ names. settled (indexed main s names) vars) (drop-map index_seen at names ∙ ap (map index_seen) (drop_of_length-le names h))
 
-module _ (fits : FitValueSettles) (items : ItemSettles) (main : Main) (vars : Vars) (request : Request) (place : Place) (s : Standing) (h : IsAt request place s) where
+module _ (fits : FitValueSettles) (items : ItemSettles) (main : Main) (vars : Vars) (request : Request) (place : FileRoot) (s : Standing) (h : IsAt request place s) where
   module _ (names : List Text) (last : LastTry) (at : ℕ) (n : Text) (inside : at < length names) (here : n ≡ get_or names at n) where
     first_of_them : settled (tried main s (drop at names) last) vars ≡ settled (tried main s (n ∷ drop (at + 1) names) last) vars
     first_of_them = ap (λ names. settled (tried main s names last) vars) (next_at names at n inside here)

@@ -7,7 +7,7 @@ use Rattle.file_tree.specs.Tree.{Item}
 use Rattle.file_tree.specs.declared.job.Node.{Node}
 use Rattle.file_tree.specs.declared.job.Node.TheVariants.{File, Folder, Locked, Missing}
 use Rattle.ngx_variables.specs.declared.request.Main.{Main}
-use Rattle.ngx_variables.specs.declared.request.Place.{Place}
+use Rattle.ngx_variables.specs.declared.request.FileRoot.{FileRoot}
 use Rattle.ngx_variables.specs.declared.request.Request.{Request}
 use Rattle.ngx_variables.specs.Texts.{value_text, is_too_long}
 use Rattle.file_path.specs.Located.{located_at}
@@ -28,7 +28,7 @@ use Rattle.try_index.specs.declared.index.IndexStep.{IndexStep}
 use Rattle.try_index.specs.declared.index.IndexStep.TheVariants as turns
 
 -- where this request is in a level whose files are at this place
-pub record IsAt (request : Request) (place : Place) (s : Standing) : Type 0 where
+pub record IsAt (request : Request) (place : FileRoot) (s : Standing) : Type 0 where
   pub of_request : s.request ≡ request
   pub at_place : s.values.place ≡ place
 
@@ -52,18 +52,18 @@ is_found name node = if ends_in_slash name then is_folder node else is_file node
 -- ---- the turn of a name
 
 -- it fits, and no file can be at its path
-pub record IsNotThere (main : Main) (request : Request) (vars : Vars) (place : Place) (front : List ℕ) (name : Text) : Type 0 where
+pub record IsNotThere (main : Main) (request : Request) (vars : Vars) (place : FileRoot) (front : List ℕ) (name : Text) : Type 0 where
   pub fits : is_too_long (value_text main request vars name) ≡ false
   pub nowhere : located_at main request vars place (front ++ value_text main request vars name) ≡ NotThere
 
 -- it fits, and its file is asked for
-pub record IsThere (main : Main) (request : Request) (vars : Vars) (place : Place) (front : List ℕ) (name : Text) (turn : Turn) : Type 0 where
+pub record IsThere (main : Main) (request : Request) (vars : Vars) (place : FileRoot) (front : List ℕ) (name : Text) (turn : Turn) : Type 0 where
   pub fits : is_too_long (value_text main request vars name) ≡ false
   pub named : turn.uri ≡ front ++ value_text main request vars name
   pub at : located_at main request vars place (front ++ value_text main request vars name) ≡ At turn.path
 
 -- it is too long, or the text of `root` or `alias` is
-abbrev pub IsUnfit : Main → Request → Vars → Place → List ℕ → Text → Type 0
+abbrev pub IsUnfit : Main → Request → Vars → FileRoot → List ℕ → Text → Type 0
 IsUnfit main request vars place front name =
     (is_too_long (value_text main request vars name) ≡ true)
     ⊎ ((is_too_long (value_text main request vars name) ≡ false) × (located_at main request vars place (front ++ value_text main request vars name) ≡ TooLong))
@@ -114,18 +114,18 @@ IsLastUnfit main request vars (ToLocation name) = ⊥
 IsLastUnfit main request vars (ToCode code) = ⊥
 
 -- of the names that were taken up the last one is unfit, or all are taken up, and the last word is
-abbrev pub IsTryUnfit : Main → Request → Vars → Place → Tries → (passed : ℕ) → Type 0
+abbrev pub IsTryUnfit : Main → Request → Vars → FileRoot → Tries → (passed : ℕ) → Type 0
 IsTryUnfit main request vars place t passed =
     ((at : ℕ) × (name : Text) × (passed ≡ at + 1) × (slice_get t.names at ≡ Some name) × IsUnfit main request vars place [] name)
     ⊎ ((length t.names ≤ passed) × IsLastUnfit main request vars t.last)
 
 -- a name of `index` is unfit
-abbrev pub IsNameUnfit : Main → Request → Vars → Place → IndexName → Type 0
+abbrev pub IsNameUnfit : Main → Request → Vars → FileRoot → IndexName → Type 0
 IsNameUnfit main request vars place name =
     ((name.is_path ≡ true) × (fit (value_text main request vars name.text) ≡ None))
     ⊎ ((name.is_path ≡ false) × IsUnfit main request vars place request.path name.text)
 
 -- of the names that were taken up the last one is so
-abbrev pub IsIndexUnfit : Main → Request → Vars → Place → List IndexName → (passed : ℕ) → Type 0
+abbrev pub IsIndexUnfit : Main → Request → Vars → FileRoot → List IndexName → (passed : ℕ) → Type 0
 IsIndexUnfit main request vars place names passed =
     (at : ℕ) × (name : IndexName) × (passed ≡ at + 1) × (slice_get names at ≡ Some name) × IsNameUnfit main request vars place name

@@ -14,10 +14,10 @@ ghost use Rattle.request_meaning.specs.Contents.{indexed};
 ghost use Rattle.target_text.specs.Settled.{fit};
 ghost use Rattle.try_index.specs.Searches.{IsAt, indexed_from, index_told, index_left, IsIndexUnfit};
 
-use crate::probe::{is_file, turn_of};
+use crate::probe::{Scene, is_file, turn_of};
 use byte_text::{ByteText, OutOfMemory};
 use file_tree::Node;
-use ngx_variables::{EvalFault, Main, Piece, Place, Request, Value, VarTable};
+use ngx_variables::{EvalFault, FileRoot, Main, Piece, Request, Value, VarTable};
 use site_model::IndexName;
 use std::alloc::Global;
 use target_text::{fit_value_settles, item_settles};
@@ -96,22 +96,28 @@ impl IndexState {
         alloc: Global,
         answer: Option<Node>,
         names: &[IndexName],
-        place: &Place,
-        main: &Main,
-        request: &Request,
-        vars: &VarTable,
+        scene: &Scene<'_>,
     ) -> Result<IndexStep, EvalFault>
         ensures step { IfOk result (λ step. (s : Standing) (item : Item)
-            → IsAt request.now place.now s → node_of item ≡ unwrap_or answer Missing
-            → settled (index_told main.now s (map index_seen names.now) self.old item) vars.now
-            ≡ settled (index_left main.now s (map index_seen names.now) self.new step) vars.now) }
+            → let vars = scene.now.vars.now in let main = scene.now.main.now in
+            IsAt scene.now.request.now scene.now.place.now s
+            → node_of item ≡ unwrap_or answer Missing
+            → settled (index_told main s (map index_seen names.now) self.old item) vars
+            ≡ settled (index_left main s (map index_seen names.now) self.new step) vars) }
         ensures too_long { result ≡ Err EvalFault.TooLong → (s : Standing) (item : Item)
-            → IsAt request.now place.now s → node_of item ≡ unwrap_or answer Missing
-            → settled (index_told main.now s (map index_seen names.now) self.old item) vars.now
-            ≡ (Done (decided s (Fails 500)), vars.now) }
-        ensures unfit { result ≡ Err EvalFault.TooLong → IsIndexUnfit main.now request.now
-            vars.now place.now (map index_seen names.now) self.new.passed }
+            → let vars = scene.now.vars.now in let main = scene.now.main.now in
+            IsAt scene.now.request.now scene.now.place.now s
+            → node_of item ≡ unwrap_or answer Missing
+            → settled (index_told main s (map index_seen names.now) self.old item) vars
+            ≡ (Done (decided s (Fails 500)), vars) }
+        ensures unfit { result ≡ Err EvalFault.TooLong → IsIndexUnfit scene.now.main.now
+            scene.now.request.now scene.now.vars.now scene.now.place.now
+            (map index_seen names.now) self.new.passed }
     {
+        let place = scene.place;
+        let main = scene.main;
+        let request = scene.request;
+        let vars = scene.vars;
         match self.asked.take() {
             Some(path) => {
                 if is_file(answer.unwrap_or(Node::Missing)) {
@@ -132,7 +138,7 @@ impl IndexState {
         &mut self,
         alloc: Global,
         names: &[IndexName],
-        place: &Place,
+        place: &FileRoot,
         main: &Main,
         request: &Request,
         vars: &VarTable,

@@ -8,4 +8,5 @@ mod probe;
 mod tries;
 
 pub use index::{IndexState, IndexStep, default_index};
+pub use probe::Scene;
 pub use tries::{TryState, TryStep};

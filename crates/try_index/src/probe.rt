@@ -6,8 +6,17 @@ ghost use Rattle.try_index.specs.Searches.{IsNotThere, IsThere, IsUnfit, is_file
 use byte_text::ByteText;
 use file_path::path_of;
 use file_tree::Node;
-use ngx_variables::{EvalFault, Main, Place, Request, Value, VarTable};
+use ngx_variables::{EvalFault, FileRoot, Main, Request, Value, VarTable};
 use std::alloc::Global;
+
+/// What names are tried over: the place of the level's files, the main request, the request, and the variables.
+#[derive(Clone, Copy)]
+pub struct Scene<'a> {
+    pub place: &'a FileRoot,
+    pub main: &'a Main,
+    pub request: &'a Request,
+    pub vars: &'a VarTable,
+}
 
 /// A path of the site, and the path of its file.
 #[derive(Drop)]
@@ -21,7 +30,7 @@ pub fn turn_of(
     alloc: Global,
     front: &[u8],
     name: &Value,
-    place: &Place,
+    place: &FileRoot,
     main: &Main,
     request: &Request,
     vars: &VarTable,

@@ -13,10 +13,10 @@ ghost use Rattle.request_meaning.specs.Contents.{ends_in_slash as slash_last, la
 ghost use Rattle.try_index.specs.declared.tries.TryState.{TryState as TryView};
 ghost use Rattle.try_index.specs.Searches.{IsAt, is_found as found_by, tried_from, try_told, try_left, IsLastUnfit, IsTryUnfit};
 
-use crate::probe::{is_file, is_folder, turn_of};
+use crate::probe::{Scene, is_file, is_folder, turn_of};
 use byte_text::ByteText;
 use file_tree::Node;
-use ngx_variables::{EvalFault, Main, Place, Request, Value, VarTable};
+use ngx_variables::{EvalFault, FileRoot, Main, Request, Value, VarTable};
 use site_model::{LastTry, Tries};
 use std::alloc::Global;
 use target_text::{fit_value_settles, item_settles, target_of, target_settles};
@@ -119,22 +119,28 @@ impl TryState {
         alloc: Global,
         answer: Option<Node>,
         tries: &Tries,
-        place: &Place,
-        main: &Main,
-        request: &Request,
-        vars: &VarTable,
+        scene: &Scene<'_>,
     ) -> Result<TryStep, EvalFault>
         ensures step { IfOk result (λ step. (s : Standing) (item : Item)
-            → IsAt request.now place.now s → node_of item ≡ unwrap_or answer Missing
-            → settled (try_told main.now s (tries_seen tries.now) self.old item) vars.now
-            ≡ settled (try_left main.now s (tries_seen tries.now) self.new step) vars.now) }
+            → let vars = scene.now.vars.now in let main = scene.now.main.now in
+            IsAt scene.now.request.now scene.now.place.now s
+            → node_of item ≡ unwrap_or answer Missing
+            → settled (try_told main s (tries_seen tries.now) self.old item) vars
+            ≡ settled (try_left main s (tries_seen tries.now) self.new step) vars) }
         ensures too_long { result ≡ Err EvalFault.TooLong → (s : Standing) (item : Item)
-            → IsAt request.now place.now s → node_of item ≡ unwrap_or answer Missing
-            → settled (try_told main.now s (tries_seen tries.now) self.old item) vars.now
-            ≡ (Done (decided s (Fails 500)), vars.now) }
-        ensures unfit { result ≡ Err EvalFault.TooLong → IsTryUnfit main.now request.now vars.now
-            place.now (tries_seen tries.now) self.new.passed }
+            → let vars = scene.now.vars.now in let main = scene.now.main.now in
+            IsAt scene.now.request.now scene.now.place.now s
+            → node_of item ≡ unwrap_or answer Missing
+            → settled (try_told main s (tries_seen tries.now) self.old item) vars
+            ≡ (Done (decided s (Fails 500)), vars) }
+        ensures unfit { result ≡ Err EvalFault.TooLong → IsTryUnfit scene.now.main.now
+            scene.now.request.now scene.now.vars.now scene.now.place.now (tries_seen tries.now)
+            self.new.passed }
     {
+        let place = scene.place;
+        let main = scene.main;
+        let request = scene.request;
+        let vars = scene.vars;
         match self.asked.take() {
             Some(name) => {
                 if is_found(name.as_slice(), answer.unwrap_or(Node::Missing)) {
@@ -155,7 +161,7 @@ impl TryState {
         &mut self,
         alloc: Global,
         tries: &Tries,
-        place: &Place,
+        place: &FileRoot,
         main: &Main,
         request: &Request,
         vars: &VarTable,

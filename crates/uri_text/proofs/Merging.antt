@@ -8,7 +8,7 @@ use Rattle.uri_text.specs.declared.segment.Segment.TheVariants.{Empty, Dot, Dots
 use Rattle.uri_text.specs.Target.{Segments, segments, decoded, kind_of, entered, resolved, last_folder, last_name, path_with, fault_behind, path_from, path_of, normal_behind, path_and_query, behind_root, normal_of}
 use Rattle.uri_text.proofs.Targets.{is_ok-with_args}
 
--- how the folders `fs` end behind each stack
+-- how the folders `fs` end after each stack
 abbrev passes : Bool → List (List ℕ) → Option (List (List ℕ)) → Bool
 passes merge fs stay = is_some (option_and_then (λ kept. resolved merge kept fs) stay)
 

@@ -61,7 +61,7 @@ segments-text_of (f ∷ fs) name folders last =
 
 -- ---- folders that stay
 
--- `fs` behind the folders that were kept, the last first
+-- `fs` after the folders that were kept, the last first
 abbrev pub pile : List (List ℕ) → List (List ℕ) → List (List ℕ)
 pile kept [] = kept
 pile kept (f ∷ fs) = pile (f ∷ kept) fs

@@ -78,7 +78,7 @@ pub is_ok-with_args : (args : List ℕ) (r : Result (List ℕ) UriFault) → is_
 is_ok-with_args args (Ok path) = refl
 is_ok-with_args args (Err fault) = refl
 
--- ---- an absolute form names what stands behind its host
+-- ---- an absolute form names what comes after its host
 
 absolute-slash : (text : List ℕ) → absolute_of (47 ∷ text) ≡ None
 unfolding absolute_of

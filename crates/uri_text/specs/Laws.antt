@@ -50,6 +50,6 @@ EscapedPathsAreReadBack = (path : List ℕ) (merge : Bool) → is_normal merge p
 abbrev pub MergedTargetsPass : Type 0
 MergedTargetsPass = (raw : List ℕ) → is_ok (normal_of raw true) ≡ true → is_ok (normal_of raw false) ≡ true
 
--- A target `http://host..` names what stands behind its host, with a slash before it where it has none.
+-- A target `http://host..` names what comes after its host, with a slash before it where it has none.
 abbrev pub AbsoluteFormsNameTheirPath : Type 0
 AbsoluteFormsNameTheirPath = (raw host rest : List ℕ) (merge : Bool) → absolute_of raw ≡ Some (host, rest) → normal_of raw merge ≡ normal_of (slash ∷ unwrap_or (strip_slash rest) rest) merge

@@ -15,7 +15,7 @@ has_no_slash bytes = list_all (λ b. not (b == slash)) bytes
 abbrev pub have_no_slash : List (List ℕ) → Bool
 have_no_slash folders = list_all has_no_slash folders
 
--- the text spells these folders, the last first, and behind them, from `start` on, a segment that isn't whole
+-- the text spells these folders, the last first, and after them, from `start` on, a segment that isn't whole
 pub record Stands (kept : List (List ℕ)) (segment text : List ℕ) (start : ℕ) : Type 0 where
   pub spells : text ≡ spelled kept ++ segment
   pub starts : start ≡ length (spelled kept)
@@ -44,14 +44,14 @@ kind_with Dot b = if b == dot then Dots else Name
 kind_with Dots b = Name
 kind_with Name b = Name
 
--- how many folders stay behind one more
+-- how many folders there are after one more segment
 unfoldable pub depth_with : Bool → Segment → ℕ → Option ℕ
 depth_with merge Empty depth = if merge then Some depth else Some (depth + 1)
 depth_with merge Dot depth = Some depth
 depth_with merge Dots depth = if nat_lt 0 depth then Some (depth - 1) else None
 depth_with merge Name depth = Some (depth + 1)
 
--- the path that a text names behind the folders that were kept and a segment that isn't whole
+-- the path that a text names after the folders that were kept and a segment that isn't whole
 unfoldable pub path_behind : Bool → List (List ℕ) → List ℕ → List ℕ → Result (List ℕ) UriFault
 path_behind merge kept segment rest =
     path_from merge kept (segments (segment ++ (decoded rest).bytes)) (decoded rest).fault
@@ -63,7 +63,7 @@ pub record Leads (merge : Bool) (whole : Result (List ℕ) UriFault) (rest text 
   pub stands : Stands kept segment text start
   pub same : path_behind merge kept segment rest ≡ whole
 
--- With so many folders, a segment of this kind and the rest, there is a path where the whole text has one.
+-- With `depth` folders, a segment of this kind and the rest, there is a path where the whole text has one.
 pub record Counts (merge whole : Bool) (rest : List ℕ) (depth : ℕ) (kind : Segment) : Type 0 where
   pub kept : List (List ℕ)
   pub segment : List ℕ

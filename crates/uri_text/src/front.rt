@@ -38,7 +38,7 @@ pub fn front_of(text: &[u8]) -> Front<'_>
     }
 }
 
-/// How many bytes stand at the front as they are and end no segment.
+/// How many bytes at the front are as they are and end no segment.
 pub fn plain_len(text: &[u8]) -> usize
     ensures within { result ≤ length text.now }
     ensures value { result ≡ prefix_len is_plain text.now }
@@ -53,7 +53,8 @@ pub fn plain_len(text: &[u8]) -> usize
 
 /// The byte that two hexadecimal digits stand for.
 fn byte_of(high: u8, low: u8) -> Option<u8>
-    ensures { result ≡ (if is_digit high 16 && is_digit low 16 then Some (escape_value high low) else None) }
+    ensures { result ≡ (if is_digit high 16 && is_digit low 16
+        then Some (escape_value high low) else None) }
 {
     let high = char::from(high).to_digit(16)?;
     let low = char::from(low).to_digit(16)?;

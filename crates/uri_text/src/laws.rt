@@ -1,8 +1,8 @@
 //! What holds of every target and every path: each function's contract is a law, and its body does nothing.
 ghost use Rattle.uri_text.specs.Laws.{PathsAreNormal, NormalPathsStay, EscapedPathsAreReadBack, MergedTargetsPass, AbsoluteFormsNameTheirPath};
 
-/// A path that [`crate::normal`] answers begins with `/` and has no segment `.` or `..`, and none that is empty but the last
-/// where slashes are merged. So no path leads out of the folder that it is put behind.
+/// A path that [`crate::normal`] answers begins with `/` and has no segment `.` or `..`, and none that is empty but the
+/// last where slashes are merged. So no path leads out of the folder that it is put after.
 pub fn paths_are_normal()
     ensures { PathsAreNormal }
 {}
@@ -22,7 +22,7 @@ pub fn merged_targets_pass()
     ensures { MergedTargetsPass }
 {}
 
-/// A target `http://host..` names what stands behind its host, with a slash before it where it has none.
+/// A target `http://host..` names what comes after its host, with a slash before it where it has none.
 pub fn absolute_forms_name_their_path()
     ensures { AbsoluteFormsNameTheirPath }
 {}

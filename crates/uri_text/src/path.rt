@@ -72,7 +72,8 @@ fn enter(path: &mut ByteText, start: usize, merge: bool) -> Result<usize, UriFau
 fn finish(path: &mut ByteText, start: usize, merge: bool) -> Result<(), UriFault>
     requires { start ≤ length path.old }
     ensures ok { (kept : List (List ℕ)) (segment : List ℕ) → Stands kept segment path.old start
-        → OnOk result (path_from merge kept (record { folders = []; name = segment }) None ≡ Ok path.new) }
+        → OnOk result (path_from merge kept (record { folders = []; name = segment }) None
+        ≡ Ok path.new) }
     ensures err { (kept : List (List ℕ)) (segment : List ℕ) → Stands kept segment path.old start
         → IfErr result (λ f. f ≢ UriFault.OutOfMemory
         → path_from merge kept (record { folders = []; name = segment }) None ≡ Err f) }
@@ -86,7 +87,7 @@ fn finish(path: &mut ByteText, start: usize, merge: bool) -> Result<(), UriFault
     }
 }
 
-/// Writes the path that the text behind the root's slash names.
+/// Writes the path that the text after the root's slash names.
 pub fn write_path(text: &[u8], merge: bool, path: &mut ByteText) -> Result<(), UriFault>
     ensures ok { OnOk result (path_of merge text.now ≡ Ok path.new) }
     ensures err { IfErr result (λ f. f ≢ UriFault.OutOfMemory → path_of merge text.now ≡ Err f) }
@@ -117,7 +118,7 @@ pub fn write_path(text: &[u8], merge: bool, path: &mut ByteText) -> Result<(), U
     Ok(())
 }
 
-/// How many folders stay behind one more; none above the root.
+/// How many folders there are after one more segment; none above the root.
 #[tactic(auto, unfolding(crate::specs::Steps::depth_with))]
 fn deeper(depth: usize, kind: Segment, merge: bool) -> Option<usize>
     requires { depth < 2 ^ 63 }
@@ -132,7 +133,7 @@ fn deeper(depth: usize, kind: Segment, merge: bool) -> Option<usize>
     }
 }
 
-/// Whether the text behind the root's slash names a path.
+/// Whether the text after the root's slash names a path.
 pub fn is_path(text: &[u8], merge: bool) -> bool
     ensures { result ≡ is_ok (path_of merge text.now) }
 {

@@ -37,7 +37,7 @@ fn may_follow_host(rest: &[u8]) -> bool
     }
 }
 
-/// The host of a target `http://host..` and what stands behind it; none for any other target.
+/// The host of a target `http://host..` and what comes after it; none for any other target.
 ///
 /// The host's bytes are visible ASCII without `/`, `?` and `#`. Takes no memory.
 pub fn absolute_form(target: &[u8]) -> Option<AbsoluteForm<'_>>
@@ -58,9 +58,10 @@ pub fn absolute_form(target: &[u8]) -> Option<AbsoluteForm<'_>>
     }
 }
 
-/// What stands behind a slash at the front.
+/// What comes after a slash at the front.
 fn without_slash(text: &[u8]) -> Option<&[u8]>
-    ensures { MatchOption result (strip_slash text.now ≡ None) (λ rest. strip_slash text.now ≡ Some rest.now) }
+    ensures { MatchOption result (strip_slash text.now ≡ None)
+        (λ rest. strip_slash text.now ≡ Some rest.now) }
 {
     let [first, rest @ ..] = text else {
         return None;
@@ -68,9 +69,10 @@ fn without_slash(text: &[u8]) -> Option<&[u8]>
     if *first == b'/' { Some(rest) } else { None }
 }
 
-/// What stands behind the slash with which the path begins.
+/// What comes after the slash with which the path begins.
 fn text_behind_root(target: &[u8]) -> Option<&[u8]>
-    ensures { MatchOption result (behind_root target.now ≡ None) (λ text. behind_root target.now ≡ Some text.now) }
+    ensures { MatchOption result (behind_root target.now ≡ None)
+        (λ text. behind_root target.now ≡ Some text.now) }
 {
     if let Some(rest) = without_slash(target) {
         return Some(rest);
@@ -128,9 +130,9 @@ fn fill(raw: &[u8], merge: bool, path: &mut ByteText, args: &mut ByteText) -> Re
 
 /// The path and the arguments that a request target names, in place of what `path` and `args` held.
 ///
-/// The target is `/..` or `http://host..`. Its fragment is dropped, and the query begins at the first `?` as it stands. In
-/// the path `%XX` is decoded, `.` and `..` are resolved (RFC 3986, section 5.2.4), and adjacent slashes are merged where
-/// `merge` holds, before `..` is resolved (nginx, `merge_slashes`). Arguments stay as they are.
+/// The target is `/..` or `http://host..`. Its fragment is dropped, and the query begins at the first `?` as it is. In
+/// the path `%XX` is decoded, `.` and `..` are resolved (RFC 3986, section 5.2.4), and adjacent slashes are merged
+/// where `merge` holds, before `..` is resolved (nginx, `merge_slashes`). Arguments stay as they are.
 ///
 /// # Errors
 ///

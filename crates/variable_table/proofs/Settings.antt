@@ -1,4 +1,4 @@
--- The table's entries, and where a name stands among them.
+-- The table's entries, and where a name is among them.
 use Rattle.std.proofs.Common.{◌≡◌, ℕ, suc, ◌+◌, ◌<◌, ◌≤◌, Bool, true, false, cond, not, List, [], ◌∷◌, ◌++◌, length, get_or, set as put_at, Some, None, ltb, refl, sym, ◌∙◌, ap, subst, arith}
 use Rattle.std.specs.List.{position_or_len, position}
 use Rattle.std.specs.Str.{bytes_eq}
@@ -38,7 +38,7 @@ set_at name value (x ∷ xs) at found e h is =
           put_later x (found.0, value) xs at (position_or_len (is_of name) xs) next ∙ ap (λ rest. x ∷ rest) (set_at name value xs (position_or_len (is_of name) xs) found refl (omega arith) (found_later x xs at (position_or_len (is_of name) xs) found next is))
     ] e
 
--- a name that stands nowhere comes last
+-- a name that is nowhere comes last
 pub set_last : (name value : List ℕ) (xs : List Entry) → length xs ≤ position_or_len (is_of name) xs → xs ++ (name, value) ∷ [] ≡ set name value xs
 unfolding set
 set_last name value [] h = refl

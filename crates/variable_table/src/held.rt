@@ -5,7 +5,7 @@ ghost use Rattle.variable_table.specs.Held.{held_bytes};
 use byte_text::{ByteText, OutOfMemory};
 use std::alloc::Global;
 
-/// A text of at most so many bytes takes no memory of its own: most names and values have no more.
+/// The most bytes of a text that takes no memory of its own: most names and values have no more.
 const SHORT: usize = 24;
 
 /// A text, which contracts see by `held_bytes`.

@@ -128,7 +128,7 @@ impl VarTable {
     }
 }
 
-/// Where a name stands in the table.
+/// Where a name is in the table.
 fn position_of(settings: &[Setting], name: &[u8]) -> Option<usize>
     ensures { result ≡ position (λ s. bytes_eq s.0 name.now) settings.now }
 {

@@ -1,4 +1,5 @@
-//! Runs `ngx replay` on each of the scripts that its words name, one after another, and prints the exit status behind each.
+//! Runs `ngx replay` on each of the scripts that its words name, one after another, and prints the exit status after
+//! each.
 #![tactic(auto)]
 
 use memory_links::MemoryLinks;

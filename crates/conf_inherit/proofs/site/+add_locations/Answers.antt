@@ -12,7 +12,7 @@ pub loop-branch-init : goal.loop-branch-init
 loop-branch-init g t c = (added-none _ _ _ _ _ _, omega arith)
 
 pub inner-requires : goal.inner-requires
-inner-requires g t c = fits-later _ _ c.args.outer c.loop-branch.invariant.0.shelf_kept c.requires
+inner-requires g t c = fits-later _ _ c.args.around.values c.loop-branch.invariant.0.shelf_kept c.requires
 
 pub location_of-requires : goal.location_of-requires
 location_of-requires g t c = c.in_ok-values.ensures.there
@@ -20,17 +20,17 @@ location_of-requires g t c = c.in_ok-values.ensures.there
 pub loop-branch-preserved : goal.loop-branch-preserved
 loop-branch-preserved g t c =
     let known = holds c.args.known.now.keys in
-    let outer = values_by c.args.outer in
+    let outer = values_by c.args.around.values in
     let v = values_by c.in_ok-values.values in
     let d = c.in-Some.branch.directive.now in
     let block = forest_of c.in-Some.branch.block.now in
     let within : v ≡ inner_values outer d block =
     c.in_ok-values.ensures.values ∙ ap (λ p. over (stated p block) outer) (c.alias_prefix-prefix.ensures ∙ ap alias_prefix c.as_slice.ensures) in (
-      added-more c.loop-branch.invariant.0 v c.in_ok-inside.inside _ _ _ _ _ _ c.in_ok-location.location (location_with known v d block) (locations_in known v block)
+      added-more c.loop-branch.invariant.0 v c.in_ok-deeper.deeper _ _ _ _ _ _ c.in_ok-location.location (location_with known v d block) (locations_in known v block)
           (locations_in known outer (forest_of c.in-Some.branch.beside.now))
           (keeps-then _ _ _ (keeps-same _ _ c.in_ok-values.ensures.levels) c.in_ok-location.ensures.levels)
           (all-then _ _ _ c.in_ok-values.ensures.shelf c.in_ok-location.ensures.shelf)
-          c.in_ok-push.ensures.items c.in_ok-location.ensures.depth c.in_ok-inside.ensures
+          c.in_ok-push.ensures.items c.in_ok-location.ensures.depth c.in_ok-deeper.ensures
           (locations-by known outer v _ d block _ c.in-Some.ensures.forest c.in-Some.ensures.found within) c.in_ok-location.ensures.seen c.in_ok-add_locations.ensures,
       omega (arith, c.in-Some.ensures.beside),
     )

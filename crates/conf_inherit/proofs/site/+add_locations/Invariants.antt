@@ -11,8 +11,8 @@ decreases-add_locations g l = length l.level.now
 -- the locations so far, and those that are left
 abbrev pub invariant-loop-branch : goal.invariant-loop-branch
 invariant-loop-branch g l =
-    Added (values_by l.outer) l.depth l.fn.pool.levels.items l.pool.levels.items l.fn.pool.shelf l.pool.shelf l.fn.locations.items l.locations.items
-    (locations_in (holds l.known.keys) (values_by l.outer) (forest_of l.rest)) (locations_in (holds l.known.keys) (values_by l.outer) (forest_of l.level))
+    Added (values_by l.around.values) l.around.depth l.fn.pool.levels.items l.pool.levels.items l.fn.pool.shelf l.pool.shelf l.fn.locations.items l.locations.items
+    (locations_in (holds l.known.keys) (values_by l.around.values) (forest_of l.rest)) (locations_in (holds l.known.keys) (values_by l.around.values) (forest_of l.level))
     × (length l.rest ≤ length l.level)
 
 abbrev pub decreases-loop-branch : goal.decreases-loop-branch

@@ -12,18 +12,18 @@ use Rattle.conf_races.proofs.named.races_in.Goals as goal
 
 pub returns-then-is_empty : goal.returns-then-is_empty
 returns-then-is_empty c = λ outer means files patterns.
-    let s = server_whole patterns c.args.site.now c.args.server.now in
+    let s = server_whole patterns c.args.site.now c.args.described.server.now in
     let none : c.in_ok-named.named.items ≡ [] = no_length c.in_ok-named.named.items c.in_ok-named.named.len (omega (arith, c.in_ok-named.named.ok.0)) (sym c.is_empty.ensures ∙ c.if-is_empty.true) in
-    let sources = server_sources files s (server_origins (holds c.args.known.now.keys) outer (forest_of c.args.block.now)) in
-    subst (λ (cs : List Told). AreConflicts c.args.number s sources (map (conflict_seen files) cs)) (sym c.new.ensures.items)
-    (no_conflicts c.args.number s sources (raceless_by c.args.number s c.in_ok-named.named.items (c.in_ok-named.ensures patterns) none))
+    let sources = server_sources files s (server_origins (holds c.args.known.now.keys) outer (forest_of c.args.described.block.now)) in
+    subst (λ (cs : List Told). AreConflicts c.args.described.number s sources (map (conflict_seen files) cs)) (sym c.new.ensures.items)
+    (no_conflicts c.args.described.number s sources (raceless_by c.args.described.number s c.in_ok-named.named.items (c.in_ok-named.ensures patterns) none))
 
 pub placed-requires : goal.placed-requires
 placed-requires c = λ patterns.
-    subst (HasNamed c.args.number (server_whole patterns c.args.site.now c.args.server.now) []) (sym c.as_slice-2.ensures.value) (c.in_ok-named.ensures patterns)
+    subst (HasNamed c.args.described.number (server_whole patterns c.args.site.now c.args.described.server.now) []) (sym c.as_slice-2.ensures.value) (c.in_ok-named.ensures patterns)
 
 pub returns : goal.returns
 returns c = λ outer means files patterns.
-    let s = server_whole patterns c.args.site.now c.args.server.now in
-    subst (λ (ls : List LevelOrigins). AreConflicts c.args.number s (server_sources files s ls) (map (conflict_seen files) c.in_ok-conflicts.conflicts.items))
+    let s = server_whole patterns c.args.site.now c.args.described.server.now in
+    subst (λ (ls : List LevelOrigins). AreConflicts c.args.described.number s (server_sources files s ls) (map (conflict_seen files) c.in_ok-conflicts.conflicts.items))
     (c.in_ok-lines.ensures outer (subst (λ l. Means l c.args.around.now.lines outer) (sym c.as_slice.ensures.value) means)) (c.in_ok-conflicts.ensures files patterns)

@@ -14,8 +14,8 @@ use Rattle.http_connection.proofs.start.run_one.Goals as goal
 
 pub returns-in-Ok-On-clause-ran : goal.returns-in-Ok-On-clause-ran
 returns-in-Ok-On-clause-ran c =
-    let x : Serves = record { patterns = c.args.space.now.patterns; served = c.args.served.now } in
-    let m = c.args.meeting in
+    let x : Serves = record { patterns = c.args.space.now.patterns; served = c.args.setting.served.now } in
+    let m = c.args.setting.meeting in
     let service = service_in x m.local m.peer in
     let d = c.drop_body-dropped.result in
     let o = c.in-Ok-On.opened in
@@ -27,8 +27,8 @@ returns-in-Ok-On-clause-ran c =
 
 pub returns-in-Ok-TooMany-clause-ran : goal.returns-in-Ok-TooMany-clause-ran
 returns-in-Ok-TooMany-clause-ran c =
-    let x : Serves = record { patterns = c.args.space.now.patterns; served = c.args.served.now } in
-    let m = c.args.meeting in
+    let x : Serves = record { patterns = c.args.space.now.patterns; served = c.args.setting.served.now } in
+    let m = c.args.setting.meeting in
     let service = service_in x m.local m.peer in
     subst (λ k. RanOver x service (start_in m) k c.args.next.now) (c.len.ensures ∙ c.make_room.ensures.count)
     (ran_over_head x m c.len.result c.in-Head.head c.in-Head.size c.args.next.now c.in-Head.is
@@ -36,42 +36,42 @@ returns-in-Ok-TooMany-clause-ran c =
 
 pub returns-in-Ok-On-clause-level : goal.returns-in-Ok-On-clause-level
 returns-in-Ok-On-clause-level c = λ raceless.
-    let x : Serves = record { patterns = c.args.space.now.patterns; served = c.args.served.now } in
-    let m = c.args.meeting in
+    let x : Serves = record { patterns = c.args.space.now.patterns; served = c.args.setting.served.now } in
+    let m = c.args.setting.meeting in
     let o = c.in-Ok-On.opened in
-    subst (λ n. LevelFor (service_in x m.local m.peer) (start_in m) n (λ trees. (rest_in x c.with_broken-onward.result.flight trees).values) (values_at c.args.served.now c.with_broken-onward.result.level)) (sym c.in-Head.is)
-    (subst (λ (o : Onward). LevelFor (service_in x m.local m.peer) (start_in m) (Head c.in-Head.head c.in-Head.size) (λ trees. (rest_in x o.flight trees).values) (values_at c.args.served.now o.level)) (sym c.with_broken-onward.ensures)
+    subst (λ n. LevelFor (service_in x m.local m.peer) (start_in m) n (λ trees. (rest_in x c.with_broken-onward.result.flight trees).values) (values_at c.args.setting.served.now c.with_broken-onward.result.level)) (sym c.in-Head.is)
+    (subst (λ (o : Onward). LevelFor (service_in x m.local m.peer) (start_in m) (Head c.in-Head.head c.in-Head.size) (λ trees. (rest_in x o.flight trees).values) (values_at c.args.setting.served.now o.level)) (sym c.with_broken-onward.ensures)
     (λ trees. (subst (λ h. Opened x trees m c.len.result h o.flight c.args.out.now c.open.new.out o.closing o.log o.level) (c.take_head-head.ensures.head c.in-Head.head c.in-Head.size refl) (opened_on x m c.len.result c.take_head-head.result c.args.out.now c.open.new.out c.in-Ok-On.field-0 o c.in-Ok-On.field-0-is c.in-Ok-On.ensures.opens raceless trees)).level))
 
 pub returns-in_ok-onward-in-Bad-clause-ran : goal.returns-in_ok-onward-in-Bad-clause-ran
 returns-in_ok-onward-in-Bad-clause-ran c =
-    let x : Serves = record { patterns = c.args.space.now.patterns; served = c.args.served.now } in
-    let m = c.args.meeting in
+    let x : Serves = record { patterns = c.args.space.now.patterns; served = c.args.setting.served.now } in
+    let m = c.args.setting.meeting in
     let o = c.in_ok-onward-in-Bad.onward in
     ran_bad x (service_in x m.local m.peer) (start_in m) (vec_len c.args.journal.now) c.in-Bad.code c.in-Bad.no_body c.args.next.now c.args.held.now o.flight c.args.out.now c.refuse.new.out o.closing o.log
     c.in-Bad.is (c.in_ok-onward-in-Bad.ensures.refuses (start_in m) refl)
 
 pub returns-in_ok-onward-in-Bad-clause-level : goal.returns-in_ok-onward-in-Bad-clause-level
 returns-in_ok-onward-in-Bad-clause-level c = λ raceless.
-    let x : Serves = record { patterns = c.args.space.now.patterns; served = c.args.served.now } in
-    let m = c.args.meeting in
+    let x : Serves = record { patterns = c.args.space.now.patterns; served = c.args.setting.served.now } in
+    let m = c.args.setting.meeting in
     let o = c.in_ok-onward-in-Bad.onward in
-    subst (λ n. LevelFor (service_in x m.local m.peer) (start_in m) n (λ trees. (rest_in x o.flight trees).values) (values_at c.args.served.now o.level)) (sym c.in-Bad.is)
-    (ap (values_at c.args.served.now) c.in_ok-onward-in-Bad.ensures.level ∙ c.own_level-level.ensures c.args.space.now.patterns)
+    subst (λ n. LevelFor (service_in x m.local m.peer) (start_in m) n (λ trees. (rest_in x o.flight trees).values) (values_at c.args.setting.served.now o.level)) (sym c.in-Bad.is)
+    (ap (values_at c.args.setting.served.now) c.in_ok-onward-in-Bad.ensures.level ∙ c.own_level-level.ensures c.args.space.now.patterns)
 
 pub returns-in_ok-onward-in-Bad-clause-reached : goal.returns-in_ok-onward-in-Bad-clause-reached
 returns-in_ok-onward-in-Bad-clause-reached c =
-    let r = c.in_ok-onward-in-Bad.ensures.refuses (start_in c.args.meeting) refl in
-    let x : Serves = record { patterns = c.args.space.now.patterns; served = c.args.served.now } in
+    let r = c.in_ok-onward-in-Bad.ensures.refuses (start_in c.args.setting.meeting) refl in
+    let x : Serves = record { patterns = c.args.space.now.patterns; served = c.args.setting.served.now } in
     subst (ReachedIn x) (sym r.over) tt
 
 pub returns-in_ok-onward-in-Bad-clause-over : goal.returns-in_ok-onward-in-Bad-clause-over
 returns-in_ok-onward-in-Bad-clause-over c =
-    let r = c.in_ok-onward-in-Bad.ensures.refuses (start_in c.args.meeting) refl in
+    let r = c.in_ok-onward-in-Bad.ensures.refuses (start_in c.args.setting.meeting) refl in
     ap is_some r.logged ∙ ap (λ f. not (is_some f)) (sym r.over)
 
 pub returns-in_ok-onward-in-Bad-clause-asked : goal.returns-in_ok-onward-in-Bad-clause-asked
 returns-in_ok-onward-in-Bad-clause-asked c =
-    let r = c.in_ok-onward-in-Bad.ensures.refuses (start_in c.args.meeting) refl in
+    let r = c.in_ok-onward-in-Bad.ensures.refuses (start_in c.args.setting.meeting) refl in
     let e = ap flight_tree r.over in
     omega (arith, e)

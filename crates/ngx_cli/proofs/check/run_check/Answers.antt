@@ -2,7 +2,7 @@ use Rattle.std.proofs.Common.{◌≡◌, List, [], ℕ, Ok, Err, refl, sym, ap, 
 use Rattle.ngx_outside.specs.Seen.{FilesSeen}
 use Rattle.conf_inherit.specs.Values.{has_items}
 use Rattle.conf_inherit.specs.declared.site.Purpose.TheVariants as purposes
-use Rattle.ngx_cli.specs.declared.site.Found.{Found}
+use Rattle.ngx_cli.specs.declared.site.ReadSite.{ReadSite}
 use Rattle.ngx_cli.specs.declared.site.SiteError.TheVariants as error
 use Rattle.ngx_cli.specs.declared.status.Status.{Status}
 use Rattle.ngx_cli.specs.declared.status.Status.TheVariants as status

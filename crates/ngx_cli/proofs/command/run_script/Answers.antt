@@ -3,7 +3,7 @@ use Rattle.file_tree.specs.Tree.{text_of}
 use Rattle.ngx_outside.specs.Seen.{FilesSeen}
 use Rattle.ngx_cli.specs.Commands.{Output, Made, ComesTo, Printed, ReplayEnds, PutsText}
 use Rattle.ngx_cli.specs.Running.{Replays}
-use Rattle.ngx_cli.specs.declared.script.Outcome.{Outcome}
+use Rattle.ngx_cli.specs.declared.script.ScriptOutcome.{ScriptOutcome}
 use Rattle.ngx_cli.proofs.Endings.{played, unput_replay}
 use Rattle.ngx_cli.proofs.command.run_script.Goals as goal
 
@@ -14,7 +14,7 @@ returns-in-Ok-put_text g c =
     let made : Made = record { before = g.M.PatternMaker.refusals c.args.maker.now; after = g.M.PatternMaker.refusals c.replay.new.maker } in
     let out : Output = record { before = g.O.Sink.seen c.args.out.now; after = g.O.Sink.seen c.put_text.new.out } in
     let path = c.args.path.now in
-    let outcome : Outcome = c.in-Ok-replay.outcome in
+    let outcome : ScriptOutcome = c.in-Ok-replay.outcome in
     let ran = c.in-Ok-replay.ensures.text in
     let comes : ComesTo files made path c.args.racy outcome ran.0 = record {
       bytes = c.as_slice.result.now;
@@ -33,7 +33,7 @@ returns-in-Ok-replay g c =
     let made : Made = record { before = g.M.PatternMaker.refusals c.args.maker.now; after = g.M.PatternMaker.refusals c.replay.new.maker } in
     let out : Output = record { before = g.O.Sink.seen c.args.out.now; after = g.O.Sink.seen c.put_text.new.out } in
     let path = c.args.path.now in
-    let outcome : Outcome = c.in-Ok-replay.outcome in
+    let outcome : ScriptOutcome = c.in-Ok-replay.outcome in
     let ran = c.in-Ok-replay.ensures.text in
     let comes : ComesTo files made path c.args.racy outcome ran.0 = record {
       bytes = c.as_slice.result.now;

@@ -25,7 +25,7 @@ returns-in-Ok-serve_site g c =
     let out : Output = record { before = g.O.Sink.seen c.args.out.now; after = g.O.Sink.seen c.args.out.now } in
     let s = c.in-Ok-serve_site.ensures in
     let found = c.args.found in
-    subst (FoundEnds c.args.found c.args.racy o out c.args.turns) (sym c.served_status.ensures)
-    (served c.args.found c.args.racy o out c.args.turns c.in-Ok-serve_site.ending
-    (record { names = unrefused c.args.racy (has_items (conflicts_of c.args.found)) (sym c.is_refused.ensures ∙ c.if-is_refused.false); serving = subst (λ q. Serving q found.built.patterns found.built.site c.args.turns c.in-Ok-serve_site.ending o) (ap not c.is_racy-raceless.ensures) s.serving; printed = λ tells. sym (append-nil (g.O.Sink.seen c.args.out.now).written) })
+    subst (FoundEnds c.args.found c.args.asked.racy o out c.args.asked.turns) (sym c.served_status.ensures)
+    (served c.args.found c.args.asked.racy o out c.args.asked.turns c.in-Ok-serve_site.ending
+    (record { names = unrefused c.args.asked.racy (has_items (conflicts_of c.args.found)) (sym c.is_refused.ensures ∙ c.if-is_refused.false); serving = subst (λ q. Serving q found.built.patterns found.built.site c.args.asked.turns c.in-Ok-serve_site.ending o) (ap not c.is_racy-raceless.ensures) s.serving; printed = λ tells. sym (append-nil (g.O.Sink.seen c.args.out.now).written) })
     (λ is. s.ended (ap Ok is)) (λ is. s.listen_fault (ap Ok is)) (λ is. s.next_fault (ap Ok is)))

@@ -3,7 +3,7 @@ use Rattle.replay_text.specs.declared.parts.Conf.{Conf}
 use Rattle.conf_text.specs.declared.fault.ConfFault.{ConfFault}
 use Rattle.conf_include.specs.Listings.{Names, IsNaming}
 use Rattle.conf_include.specs.Asked.{IsAskedAt}
-use Rattle.ngx_cli.specs.declared.site.Found.{Found}
+use Rattle.ngx_cli.specs.declared.site.ReadSite.{ReadSite}
 use Rattle.ngx_cli.specs.declared.site.SiteError.{SiteError}
 use Rattle.ngx_cli.specs.declared.site.SiteError.TheVariants as error
 use Rattle.replay_confs.specs.Confs.{conf_tree}
@@ -15,7 +15,7 @@ use Rattle.ngx_cli.proofs.NamingLaws.{folders_have_their_names}
 use Rattle.ngx_cli.proofs.script.site_of.Goals as goal
 
 -- what was answered is said of the configurations, their names and the main one's path
-found : (confs confs' : List Conf) (path path' : List ℕ) (result : Result Found SiteError) → confs' ≡ confs → path' ≡ path →
+found : (confs confs' : List Conf) (path path' : List ℕ) (result : Result ReadSite SiteError) → confs' ≡ confs → path' ≡ path →
     ((names : Names) → IsNaming (conf_tree confs') names → Describes (IsAskedAt (conf_tree confs') names path') result (site_at purposes.Serving (conf_tree confs') names path')) →
     Describes (IsAskedAt (conf_tree confs) (conf_names confs) path) result (site_at purposes.Serving (conf_tree confs) (conf_names confs) path)
 found confs confs' path path' result c p h =
@@ -28,7 +28,7 @@ fault_of asked (error.Failed placed) outcome d = tt
 fault_of asked (error.TooBig placed) outcome d = tt
 fault_of asked error.OutOfMemory outcome d = tt
 
-refused_by : (e : SiteError) (before now made made' : ℕ) → FailsIf {A = Found} (Err e) before now made made' → OnRefused e made made'
+refused_by : (e : SiteError) (before now made made' : ℕ) → FailsIf {A = ReadSite} (Err e) before now made made' → OnRefused e made made'
 refused_by (error.Fault placed) before now made made' f = tt
 refused_by (error.Failed placed) before now made made' f = tt
 refused_by (error.TooBig placed) before now made made' f = f

@@ -70,5 +70,5 @@ returns-in_ok-sent-in-File-clause-acts c = λ patterns path text vars.
     let parts = c.in_ok-answered.ensures site p bytes made (phased.is_for w site p bytes o) (phased.reply_so w site p text c.in_ok-reply.reply o c.args.outcome refl refl c.in_ok-reply.ensures) in
     phased.answers_so w c.args.left c.args.ssi made answer bytes facts c.in_ok-answered.field-0.body _ vars parts.0 parts.1 c.in-File.is
     ∙ (ap (λ b. settled (body_then w c.args.left c.args.ssi answer (sent_as facts b)) vars)
-    (sym (ap (λ (x : List ℕ). x ++ padded len text) c.new-none.ensures ∙ c.file_len-len.ensures text))
+    (sym (ap (λ (x : List ℕ). x ++ padded len text) c.new.ensures ∙ c.file_len-len.ensures text))
     ∙ c.in_ok-sent-in-File.ensures.acts g p c.args.left patterns path text vars c.scene_of-scene.ensures)

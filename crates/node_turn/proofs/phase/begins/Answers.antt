@@ -11,7 +11,7 @@ use Rattle.node_turn.proofs.phase.begins.Goals as goal
 
 pub returns-clause-turns : goal.returns-clause-turns
 returns-clause-turns c = λ path text.
-    let g = c.args.ground.now in
+    let g = c.args.footing.ground.now in
     let site = g.site.now in
     let ps = c.args.patterns.now in
     let w = world_in ps g shipped in
@@ -21,7 +21,7 @@ returns-clause-turns c = λ path text.
     let q = c.begin.new.phases in
     let step = c.in_ok-step.step in
     let turned = c.in_ok-turned.turned in
-    let left = c.args.left in
+    let left = c.args.footing.left in
     let given = c.lend.new.phases in
     ap (λ (p : Phases). settled (served_as w left c.args.ssi (rounds w p.changes (asked_from p Start))) old) (sym c.lend.ensures.phases)
     ∙ (phased.in_turn (rounds w given.changes (asked_from given Start)) (phases_left w ps site (padded 0 text) q step) (after_phases w left c.args.ssi) old new

@@ -13,7 +13,7 @@ pub returns-clause-acts : goal.returns-clause-acts
 returns-clause-acts c = λ g p levels patterns path file is.
     let w = world_in patterns g shipped in
     let answer = answer_seen g.site.now p c.args.answered in
-    let bytes = c.args.text ++ padded c.args.left file in
+    let bytes = c.args.source.text ++ padded c.args.source.left file in
     let page = c.in_ok-page.page in
     let made = c.in_ok-new.field-0 in
     let scene = c.args.scene.now in

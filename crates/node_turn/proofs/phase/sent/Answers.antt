@@ -11,7 +11,7 @@ pub returns-in_ok-plain-in-None-clause-acts : goal.returns-in_ok-plain-in-None-c
 returns-in_ok-plain-in-None-clause-acts c = λ g p levels patterns path file vars is.
     let w = world_in patterns g shipped in
     let answer = answer_seen g.site.now p c.args.answered in
-    let bytes = c.args.text ++ padded c.args.left file in
+    let bytes = c.args.source.text ++ padded c.args.source.left file in
     ap (λ f. settled (body_then w levels c.args.ssi answer (sent_as f bytes)) vars) c.in-None.is
     ∙ (phased.plain_so w levels c.args.ssi answer bytes vars ∙ ap (λ m. (m, vars)) (sym (c.in_ok-plain-in-None.ensures.acts g p levels patterns path file)))
 
@@ -19,7 +19,7 @@ pub returns-in_ok-paged-in-Some-clause-acts : goal.returns-in_ok-paged-in-Some-c
 returns-in_ok-paged-in-Some-clause-acts c = λ g p levels patterns path file vars is.
     let w = world_in patterns g shipped in
     let answer = answer_seen g.site.now p c.args.answered in
-    let bytes = c.args.text ++ padded c.args.left file in
+    let bytes = c.args.source.text ++ padded c.args.source.left file in
     ap (λ f. settled (body_then w levels c.args.ssi answer (sent_as f bytes)) vars) c.in-Some.is
     ∙ (phased.paged_so w levels c.args.ssi answer c.in-Some.facts bytes vars
     ∙ ap (λ m. (m, vars)) (c.in_ok-paged-in-Some.ensures.acts g p levels patterns path file is))

@@ -33,4 +33,4 @@ invariant-loop-want g l =
     }
 
 abbrev pub decreases-loop-want : goal.decreases-loop-want
-decreases-loop-want g l = work (g.E.EventCore.seen l.core).terms.price (vec_len l.buffers.input) l.ready.due l.ready.full (g.E.EventCore.seen l.core).left
+decreases-loop-want g l = work (g.E.EventCore.seen l.core).terms.price (vec_len l.input) l.ready.due l.ready.full (g.E.EventCore.seen l.core).left

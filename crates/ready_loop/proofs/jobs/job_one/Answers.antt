@@ -19,7 +19,7 @@ returns-in-Ok-Node-clause-kept g c = λ links links_tell tells marks whole ticks
     let within : tree_of ask ≤ (f.seen c.args.files.now).newest = (let k = c.in-Some.ensures.known in let r = c.requires.known in omega (arith, k, r)) in
     kept_passed marks whole (e.seen c.args.core.now) (e.seen c.file_done.new.core) links links (f.seen c.args.files.now) (f.seen c.find.new.files) ticks c.args.conn (Answers ask (answer.Stat c.in-Ok-Node.node_there)) [] []
     (record { terms = c.file_done.ensures.steady.0; now = c.file_done.ensures.steady.1; counts = c.file_done.ensures.counts; views = c.file_done.ensures.others; wires = λ d ne. refl; used = λ d. refl; opens = λ d ne. refl; faults = λ d. omega arith; store = c.find.ensures.grown; crowd = λ e. c.file_done.ensures.steady.2 ∙ e })
-    (λ raceless trees agree. node_from (f.seen c.args.files.now).tells (f.seen c.args.files.now) (f.seen c.find.new.files) trees ask c.in-Ok-Node.node_there c.find.new.block tells c.find.ensures.grown agree within (subst (λ k. Gives (f.seen c.args.files.now).tells (f.seen c.args.files.now).trees ask k c.find.new.block) c.in-Ok-Node.field-0-is c.in-Ok-Node.ensures.gives)) (λ x. absurd x) (λ x. absurd x) (λ x. x) refl refl refl (sym (append-nil (links.link c.args.conn).taken)) (sym (append-nil (links.link c.args.conn).sent))
+    (λ raceless trees agree. node_from (f.seen c.args.files.now).tells (f.seen c.args.files.now) (f.seen c.find.new.files) trees ask c.in-Ok-Node.node_there (f.seen c.find.new.files).block tells c.find.ensures.grown agree within (subst (λ k. Gives (f.seen c.args.files.now).tells (f.seen c.args.files.now).trees ask k (f.seen c.find.new.files).block) c.in-Ok-Node.field-0-is c.in-Ok-Node.ensures.gives)) (λ x. absurd x) (λ x. absurd x) (λ x. x) refl refl refl (sym (append-nil (links.link c.args.conn).taken)) (sym (append-nil (links.link c.args.conn).sent))
     (ends_same ((e.seen c.args.core.now).view c.args.conn) ((e.seen c.file_done.new.core).view c.args.conn) (links.link c.args.conn) (links.link c.args.conn) c.file_done.ensures.ended refl) (c.file_done.ensures.passed ask waits)
 
 pub returns-in-Ok-Block-clause-kept : goal.returns-in-Ok-Block-clause-kept
@@ -29,9 +29,9 @@ returns-in-Ok-Block-clause-kept g c = λ links links_tell tells marks whole tick
     let ask = c.in-Some.ask.now in
     let waits : ask_in ((e.seen c.args.core.now).view c.args.conn).jobs c.args.node ≡ Some ask = sym c.in-Some.ensures.job in
     let within : tree_of ask ≤ (f.seen c.args.files.now).newest = (let k = c.in-Some.ensures.known in let r = c.requires.known in omega (arith, k, r)) in
-    kept_passed marks whole (e.seen c.args.core.now) (e.seen c.file_done-in-Ok-Block.new.core) links links (f.seen c.args.files.now) (f.seen c.find.new.files) ticks c.args.conn (Answers ask (answer.Read c.as_slice.result)) [] []
+    kept_passed marks whole (e.seen c.args.core.now) (e.seen c.file_done-in-Ok-Block.new.core) links links (f.seen c.args.files.now) (f.seen c.find.new.files) ticks c.args.conn (Answers ask (answer.Read c.block.result)) [] []
     (record { terms = c.file_done-in-Ok-Block.ensures.steady.0; now = c.file_done-in-Ok-Block.ensures.steady.1; counts = c.file_done-in-Ok-Block.ensures.counts; views = c.file_done-in-Ok-Block.ensures.others; wires = λ d ne. refl; used = λ d. refl; opens = λ d ne. refl; faults = λ d. omega arith; store = c.find.ensures.grown; crowd = λ e. c.file_done-in-Ok-Block.ensures.steady.2 ∙ e })
-    (λ raceless trees agree. block_from (f.seen c.args.files.now).tells (f.seen c.args.files.now) (f.seen c.find.new.files) trees ask (answer.Read c.as_slice.result) c.find.new.block tells c.find.ensures.grown agree within c.as_slice.ensures (subst (λ k. Gives (f.seen c.args.files.now).tells (f.seen c.args.files.now).trees ask k c.find.new.block) c.in-Ok-Block.field-0-is c.in-Ok-Block.ensures.gives)) (λ x. absurd x) (λ x. absurd x) (λ x. x) refl refl refl (sym (append-nil (links.link c.args.conn).taken)) (sym (append-nil (links.link c.args.conn).sent))
+    (λ raceless trees agree. block_from (f.seen c.args.files.now).tells (f.seen c.args.files.now) (f.seen c.find.new.files) trees ask (answer.Read c.block.result) (f.seen c.find.new.files).block tells c.find.ensures.grown agree within c.block.ensures (subst (λ k. Gives (f.seen c.args.files.now).tells (f.seen c.args.files.now).trees ask k (f.seen c.find.new.files).block) c.in-Ok-Block.field-0-is c.in-Ok-Block.ensures.gives)) (λ x. absurd x) (λ x. absurd x) (λ x. x) refl refl refl (sym (append-nil (links.link c.args.conn).taken)) (sym (append-nil (links.link c.args.conn).sent))
     (ends_same ((e.seen c.args.core.now).view c.args.conn) ((e.seen c.file_done-in-Ok-Block.new.core).view c.args.conn) (links.link c.args.conn) (links.link c.args.conn) c.file_done-in-Ok-Block.ensures.ended refl) (c.file_done-in-Ok-Block.ensures.passed ask waits)
 
 pub returns-in-Err-Failed-clause-kept : goal.returns-in-Err-Failed-clause-kept

@@ -1,4 +1,4 @@
-use Rattle.std.proofs.Common.{subst}
+use Rattle.std.proofs.Common.{refl, subst}
 use Rattle.file_tree.specs.declared.job.JobAnswer.TheVariants as answer
 use Rattle.ngx_outside.specs.Views.{nobody}
 use Rattle.replay_run.specs.Scene.{IsFound, Answers, Fails}
@@ -18,14 +18,14 @@ returns-in-Stands-clause-falls g c = λ told a waits f.
 
 pub returns-in-Block-clause-answers : goal.returns-in-Block-clause-answers
 returns-in-Block-clause-answers g c = λ told a waits known f.
-    Answers a (answer.Read c.as_slice.result) waits known (block_from told.trees a c.as_slice.result c.args.block.now c.as_slice.ensures (subst (λ x. IsFound told.trees a x c.args.block.now) c.in-Block.is f))
+    Answers a (answer.Read c.args.block) waits known (block_from told.trees a c.args.block c.args.block.now refl (subst (λ x. IsFound told.trees a x c.args.block.now) c.in-Block.is f))
     (record { steps = c.step-in-Block.ensures.steps; moment = c.step-in-Block.ensures.now; ended = c.step-in-Block.ensures.ended })
 
 pub returns-in-Block-clause-falls : goal.returns-in-Block-clause-falls
 returns-in-Block-clause-falls g c = λ told a waits f.
     let e = g.E.EventCore in
-    done_falls nobody.course (e.seen c.args.core.now).now (e.seen c.args.core.now).terms.price c.args.conn c.args.node a (answer.Read c.as_slice.result) c.step-in-Block.result ((e.seen c.args.core.now).view c.args.conn) ((e.seen c.step-in-Block.new.self).view c.args.conn) (e.seen c.args.core.now).left (e.seen c.step-in-Block.new.self).left
-    c.step-in-Block.ensures.steps.own c.step-in-Block.ensures.left waits (block_fits told.trees a c.as_slice.result c.args.block.now c.as_slice.ensures (subst (λ x. IsFound told.trees a x c.args.block.now) c.in-Block.is f))
+    done_falls nobody.course (e.seen c.args.core.now).now (e.seen c.args.core.now).terms.price c.args.conn c.args.node a (answer.Read c.args.block) c.step-in-Block.result ((e.seen c.args.core.now).view c.args.conn) ((e.seen c.step-in-Block.new.self).view c.args.conn) (e.seen c.args.core.now).left (e.seen c.step-in-Block.new.self).left
+    c.step-in-Block.ensures.steps.own c.step-in-Block.ensures.left waits (block_fits told.trees a c.args.block c.args.block.now refl (subst (λ x. IsFound told.trees a x c.args.block.now) c.in-Block.is f))
 
 pub returns-in-Nothing-clause-answers : goal.returns-in-Nothing-clause-answers
 returns-in-Nothing-clause-answers g c = λ told a waits known f.

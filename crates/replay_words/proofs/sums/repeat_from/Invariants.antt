@@ -2,7 +2,7 @@ use Rattle.std.proofs.Common.{◌-◌, ◌≡◌, ◌≤◌, ◌++◌, length, t
 use Rattle.replay_words.specs.Sums.{repeated}
 use Rattle.replay_words.proofs.sums.repeat_from.Given as goal
 
--- so many copies stand there
+-- this many copies are there
 pub record Copies (front text bytes : List ℕ) (start len count done : ℕ) : Type 0 where
   pub copies : bytes ≡ front ++ repeated done text
   pub front_len : length front ≡ start

@@ -13,7 +13,7 @@ returns-in-Test-clause-does c = λ bytes members a.
     let site = c.args.ground.now.site.now in
     let vars = c.args.vars.now in
     let at = c.args.at.now in
-    ap (λ step. settled (ran_in w b c.args.patterns.now site c.args.level at step true) vars) c.in-Test.is ∙ programs.ran_asks w b c.args.patterns.now site c.args.level bytes vars at c.in-Test.path c.in-Test.place true
+    ap (λ step. settled (ran_in w b c.args.patterns.now site c.args.ran.level at step true) vars) c.in-Test.is ∙ programs.ran_asks w b c.args.patterns.now site c.args.ran.level bytes vars at c.in-Test.path c.in-Test.place true
 
 pub returns-in-Some-clause-does : goal.returns-in-Some-clause-does
 returns-in-Some-clause-does c = λ bytes members a.
@@ -22,7 +22,7 @@ returns-in-Some-clause-does c = λ bytes members a.
     let site = c.args.ground.now.site.now in
     let vars = c.args.vars.now in
     let at = c.args.at.now in
-    ap (λ step. settled (ran_in w b c.args.patterns.now site c.args.level at step true) vars) c.in-Ended.is ∙ programs.ran_decides w b c.args.patterns.now site c.args.level bytes vars at c.in-Ended.ending true c.in-Some.decision c.in-Some.ensures
+    ap (λ step. settled (ran_in w b c.args.patterns.now site c.args.ran.level at step true) vars) c.in-Ended.is ∙ programs.ran_decides w b c.args.patterns.now site c.args.ran.level bytes vars at c.in-Ended.ending true c.in-Some.decision c.in-Some.ensures
 
 pub returns-in_ok-find_config-in-None-clause-does : goal.returns-in_ok-find_config-in-None-clause-does
 returns-in_ok-find_config-in-None-clause-does c = λ bytes members a.
@@ -31,5 +31,5 @@ returns-in_ok-find_config-in-None-clause-does c = λ bytes members a.
     let site = c.args.ground.now.site.now in
     let vars = c.args.vars.now in
     let at = c.args.at.now in
-    ap (λ step. settled (ran_in w b c.args.patterns.now site c.args.level at step true) vars) c.in-Ended.is ∙ programs.ran_finds w b c.args.patterns.now site c.args.level vars at c.in-Ended.ending c.in-None.ensures
+    ap (λ step. settled (ran_in w b c.args.patterns.now site c.args.ran.level at step true) vars) c.in-Ended.is ∙ programs.ran_finds w b c.args.patterns.now site c.args.ran.level vars at c.in-Ended.ending c.in-None.ensures
     (c.in_ok-find_config-in-None.ensures.does bytes members a)

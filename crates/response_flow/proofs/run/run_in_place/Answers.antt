@@ -52,3 +52,8 @@ returns-in_ok-page_ends-in-Some-true-clause-runs c = λ trees raceless reached.
     (to.done so go.whole patterns g (files trees q.family))
     (goes.moved site before before (page_left w patterns site trees q) out out [] closing closing None (ap (λ f. flight_rest w patterns site f trees) is ∙ left) none
     (goes.same_continues site before out closing))
+
+pub returns-then-is_sending-clause-runs : goal.returns-then-is_sending-clause-runs
+returns-then-is_sending-clause-runs c = λ trees raceless reached.
+    let patterns = c.args.space.now.patterns in
+    c.sends.ensures.runs (world_in patterns c.args.ground.now shipped) patterns c.args.ground.now.site.now trees c.args.out.now

@@ -14,7 +14,7 @@ returns-in-Some-Alone-clause-writes c = λ w patterns site trees.
     let flow = c.in-Some-Alone.flow in
     let out = c.args.out.now in
     let new = c.used-in-Some-Alone.new.self in
-    subst (λ (f : Option Flight). Writes (flight_rest w patterns site f trees) (flow_rest w patterns site (Some c.wrote.result) trees) out new (take c.args.count (pending_of f out))) (sym (c.in-Some-Alone.is ∙ ap (λ f. Some f) c.in-Some-Alone.field-0-is))
+    subst (λ (f : Option Flight). Writes (flight_rest w patterns site f trees) (flow_rest w patterns site (Some c.wrote.new.flow) trees) out new (take c.args.count (pending_of f out))) (sym (c.in-Some-Alone.is ∙ ap (λ f. Some f) c.in-Some-Alone.field-0-is))
     (subst (λ (x : Flow). Writes (flow_rest w patterns site (Some flow) trees) (flow_rest w patterns site (Some x) trees) out new (take c.args.count (take (Rattle.request_flow.specs.Flows.shown_by flow.stage) out))) (sym c.wrote.ensures)
     (writing.flow_writes w patterns site trees flow out new c.args.count c.used-in-Some-Alone.ensures
     (subst (λ (f : Option Flight). c.args.count ≤ length (pending_of f out)) (c.in-Some-Alone.is ∙ ap (λ f. Some f) c.in-Some-Alone.field-0-is) c.requires.count)))

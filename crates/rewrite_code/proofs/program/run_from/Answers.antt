@@ -10,8 +10,8 @@ use Rattle.rewrite_code.proofs.program.run_from.Goals as goal
 
 pub steps-preserved-in-Some-done : goal.steps-preserved-in-Some-done
 steps-preserved-in-Some-done c =
-    let main = c.args.main.now in
-    let site = c.args.site.now in
+    let main = c.args.setting.now.main.now in
+    let site = c.args.setting.now.site.now in
     let program = c.args.program.now in
     let ps = c.args.patterns.now in
     let skip = c.in-Some-done.skip in
@@ -26,8 +26,8 @@ steps-preserved-in-Some-done c =
 
 pub steps-preserved : goal.steps-preserved
 steps-preserved c =
-    let main = c.args.main.now in
-    let site = c.args.site.now in
+    let main = c.args.setting.now.main.now in
+    let site = c.args.setting.now.site.now in
     let program = c.args.program.now in (
       c.in_ok-next-in-None-done.ensures.kept ∙ c.steps.invariant.0,
       λ w. onward
@@ -42,8 +42,8 @@ steps-preserved c =
 
 pub returns-in-Answered-clause-does : goal.returns-in-Answered-clause-does
 returns-in-Answered-clause-does c =
-    let main = c.args.main.now in
-    let site = c.args.site.now in
+    let main = c.args.setting.now.main.now in
+    let site = c.args.setting.now.site.now in
     let program = c.args.program.now in
     λ w. sym (onward
     (λ ps next. ahead (finding w) main site (program_of ps site program) c.advance.new.progress c.advance.new.vars next)
@@ -56,4 +56,4 @@ returns-in-Answered-clause-does c =
 
 pub returns-in-None-clause-does : goal.returns-in-None-clause-does
 returns-in-None-clause-does c = λ w.
-    sym (over_at (finding w) c.args.main.now c.args.patterns.now c.args.site.now c.args.program.now c.steps.at c.in-None.ensures.lookup.3 c.steps.progress c.steps.vars c.steps.leading ∙ c.steps.invariant.1 w)
+    sym (over_at (finding w) c.args.setting.now.main.now c.args.patterns.now c.args.setting.now.site.now c.args.program.now c.steps.at c.in-None.ensures.lookup.3 c.steps.progress c.steps.vars c.steps.leading ∙ c.steps.invariant.1 w)

@@ -10,8 +10,8 @@ use Rattle.rewrite_code.proofs.program.run_from.Given as goal
 abbrev pub invariant-steps : goal.invariant-steps
 invariant-steps l =
     (l.patterns ≡ l.fn.patterns)
-    × ((w : World) → ahead (finding w) l.main l.site (program_of l.fn.patterns l.site l.program) l.progress l.vars (At l.at l.leading)
-    ≡ ahead (finding w) l.main l.site (program_of l.fn.patterns l.site l.program) l.fn.progress l.fn.vars (At l.fn.at l.fn.leading))
+    × ((w : World) → ahead (finding w) l.setting.main.now l.setting.site.now (program_of l.fn.patterns l.setting.site.now l.program) l.progress l.vars (At l.at l.leading)
+    ≡ ahead (finding w) l.setting.main.now l.setting.site.now (program_of l.fn.patterns l.setting.site.now l.program) l.fn.progress l.fn.vars (At l.fn.at l.fn.leading))
 
 abbrev pub decreases-steps : goal.decreases-steps
 decreases-steps l = length l.program - l.at

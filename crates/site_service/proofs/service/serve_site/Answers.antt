@@ -28,7 +28,7 @@ serve-requires g c = record {
 pub new-hub-requires : goal.new-hub-requires
 new-hub-requires g c = record {
   quiet =
-      subst (λ (s : Site). c.in_ok-served.served.raceless ≡ true → IsRacelessSite c.args.patterns s) (sym c.in_ok-served.ensures.site)
+      subst (λ (s : Site). c.in_ok-served.served.raceless ≡ true → IsRacelessSite c.args.checked.patterns s) (sym c.in_ok-served.ensures.site)
       (λ r. c.requires.quiet (sym c.in_ok-served.ensures.raceless ∙ r));
 }
 
@@ -37,9 +37,9 @@ returns-clause-serving g c =
     let f = g.F.Files in
     let k = g.L.Links in
     let t = g.C.Clock in
-    let patterns = c.args.patterns in
-    let site = c.args.site in
-    let raceless = c.args.raceless in
+    let patterns = c.args.checked.patterns in
+    let site = c.args.checked.site in
+    let raceless = c.args.checked.raceless in
     let hub = c.new-hub.result in
     let end = c.serve.new.core in
     let s = c.in_ok-ending.ensures in

@@ -1,5 +1,5 @@
 use Rattle.std.proofs.Common.{◌≡◌, ◌-◌, ◌≤◌, length, drop}
-use Rattle.body_frame.specs.Place.{Skips}
+use Rattle.body_frame.specs.Position.{Skips}
 use Rattle.body_frame.proofs.state.BodyState.take.Given as goal
 
 -- the bytes so far lead to the place

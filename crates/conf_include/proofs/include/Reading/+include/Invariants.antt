@@ -20,7 +20,7 @@ decreases-put_line g l = 4 * l.left + 2
 abbrev pub decreases-put_lines : goal.decreases-put_lines
 decreases-put_lines g l = 4 * l.left + 3
 
--- the files that are left, behind what was put, are all files behind what stood there
+-- the files that are left, after what was put, are all files after what was there
 abbrev pub invariant-put_files-loop-path : goal.invariant-put_files-loop-path
 invariant-put_files-loop-path g l = record {
   listed : into_iter_len l.path-iterator ≡ length (into_iter_items l.path-iterator);

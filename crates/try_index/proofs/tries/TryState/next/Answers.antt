@@ -8,30 +8,30 @@ use Rattle.try_index.proofs.tries.TryState.next.Goals as goal
 pub returns-then-is_found-clause-step : goal.returns-then-is_found-clause-step
 returns-then-is_found-clause-step c = λ s item at node.
     let found : is_found c.in-Some.name c.unwrap_or.result ≡ true = search rules in
-    turns.told_found c.args.main.now c.args.vars.now s (tries_seen c.args.tries.now) c.args.self.now item c.in-Some.name c.unwrap_or.result (sym c.in-Some.ensures.value) (node ∙ sym c.unwrap_or.ensures) found
+    turns.told_found c.args.scene.now.main.now c.args.scene.now.vars.now s (tries_seen c.args.tries.now) c.args.self.now item c.in-Some.name c.unwrap_or.result (sym c.in-Some.ensures.value) (node ∙ sym c.unwrap_or.ensures) found
 
 pub returns-in_ok-step-in-Some-clause-step : goal.returns-in_ok-step-in-Some-clause-step
 returns-in_ok-step-in-Some-clause-step c = λ s item at node.
     let missing : is_found c.in-Some.name c.unwrap_or.result ≡ false = search rules in
-    turns.told_not c.args.main.now c.args.vars.now s (tries_seen c.args.tries.now) c.args.self.now item c.in-Some.name c.unwrap_or.result (sym c.in-Some.ensures.value) (node ∙ sym c.unwrap_or.ensures) missing
+    turns.told_not c.args.scene.now.main.now c.args.scene.now.vars.now s (tries_seen c.args.tries.now) c.args.self.now item c.in-Some.name c.unwrap_or.result (sym c.in-Some.ensures.value) (node ∙ sym c.unwrap_or.ensures) missing
     ∙ c.in_ok-step-in-Some.ensures.step s at
 
 pub returns-in_err-step-in-Some-clause-too_long : goal.returns-in_err-step-in-Some-clause-too_long
 returns-in_err-step-in-Some-clause-too_long c = λ e s item at node.
     let missing : is_found c.in-Some.name c.unwrap_or.result ≡ false = search rules in
     let refused : c.search.result ≡ Err TooLong = search rules in
-    turns.told_not c.args.main.now c.args.vars.now s (tries_seen c.args.tries.now) c.args.self.now item c.in-Some.name c.unwrap_or.result (sym c.in-Some.ensures.value) (node ∙ sym c.unwrap_or.ensures) missing
+    turns.told_not c.args.scene.now.main.now c.args.scene.now.vars.now s (tries_seen c.args.tries.now) c.args.self.now item c.in-Some.name c.unwrap_or.result (sym c.in-Some.ensures.value) (node ∙ sym c.unwrap_or.ensures) missing
     ∙ c.search.ensures.too_long refused s at
 
 pub returns-in_ok-step-in-None-clause-step : goal.returns-in_ok-step-in-None-clause-step
 returns-in_ok-step-in-None-clause-step c = λ s item at node.
-    turns.told_first c.args.main.now c.args.vars.now s (tries_seen c.args.tries.now) c.args.self.now item (sym c.in-None.ensures.value)
+    turns.told_first c.args.scene.now.main.now c.args.scene.now.vars.now s (tries_seen c.args.tries.now) c.args.self.now item (sym c.in-None.ensures.value)
     ∙ c.in_ok-step-in-None.ensures.step s at
 
 pub returns-in_err-step-in-None-clause-too_long : goal.returns-in_err-step-in-None-clause-too_long
 returns-in_err-step-in-None-clause-too_long c = λ e s item at node.
     let refused : c.search-in-None.result ≡ Err TooLong = search rules in
-    turns.told_first c.args.main.now c.args.vars.now s (tries_seen c.args.tries.now) c.args.self.now item (sym c.in-None.ensures.value)
+    turns.told_first c.args.scene.now.main.now c.args.scene.now.vars.now s (tries_seen c.args.tries.now) c.args.self.now item (sym c.in-None.ensures.value)
     ∙ c.search-in-None.ensures.too_long refused s at
 
 pub returns-in_err-step-in-Some-clause-unfit : goal.returns-in_err-step-in-Some-clause-unfit

@@ -1,9 +1,9 @@
 use Rattle.std.proofs.Common.{◌≡◌, ap, arith}
 use Rattle.body_frame.specs.Outcome.{Short}
-use Rattle.body_frame.specs.Place.{stops_at}
+use Rattle.body_frame.specs.Position.{stops_at}
 use Rattle.body_frame.proofs.RunLemmas.{skips_one, skips_data, skips_plain, skips_from, skips_to, stops_short}
-use Rattle.body_frame.proofs.place.Place.skip.Goals.{in_default-via-in-Data+else-left-gt0, in_default-via-in_default}
-use Rattle.body_frame.proofs.place.Place.skip.Goals as goal
+use Rattle.body_frame.proofs.place.Position.skip.Goals.{in_default-via-in-Data+else-left-gt0, in_default-via-in_default}
+use Rattle.body_frame.proofs.place.Position.skip.Goals as goal
 
 pub returns-in-Plain-clause-skips : goal.returns-in-Plain-clause-skips
 returns-in-Plain-clause-skips c = skips_from _ _ _ _ _ c.in-Plain.is (skips_plain _ _ c.args.bytes.now (omega arith) (omega arith))
