@@ -9,7 +9,6 @@ use Rattle.ngx_outside.specs.Views.{Start}
 use Rattle.ngx_variables.specs.declared.request.Main.{Main}
 use Rattle.ngx_variables.specs.declared.request.Request.{Request}
 use Rattle.ngx_variables.specs.declared.request.Role.TheVariants as role
-use Rattle.ngx_variables.specs.Words.{method_name, protocol_name}
 use Rattle.req_head.specs.declared.head.Head.{Head}
 use Rattle.uri_text.specs.declared.fault.UriFault.{UriFault}
 use Rattle.uri_text.specs.Target.{normal_of}
@@ -26,15 +25,11 @@ pub record Service : Type 0 where
   pub local : Addr
   pub peer : Addr
 
--- a request line as received
-unfoldable pub received : Head → List ℕ
-received head = method_name head.method ++ 32 ∷ (head.target ++ 32 ∷ protocol_name head.version)
-
 -- what the variables of a main request mean
 unfoldable pub main_of : Service → Start → ServerView → Head → Main
 main_of service start server head =
     record {
-      received = received head;
+      asked = head.method;
       method = head.method;
       version = head.version;
       target = head.target;

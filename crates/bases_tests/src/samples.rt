@@ -26,7 +26,7 @@ pub fn main_request(alloc: Global) -> Result<Main, Fail> {
         port: 80,
     };
     Ok(Main {
-        received: text(alloc, b"GET /d/?a=1 HTTP/1.1")?,
+        asked: Method::Get,
         method: Method::Get,
         version: Version::V11,
         target: text(alloc, b"/d/?a=1")?,

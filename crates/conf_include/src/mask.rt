@@ -32,7 +32,7 @@ fn put_byte(row: &mut [bool], byte: u8, name: &[u8])
     row[name.len()] = false;
 }
 
-/// Whether a mask matches a name: `*` stands for any bytes, none too, `?` for one byte, each other byte for itself. Takes
+/// Whether a mask matches a name: `*` means any bytes, none too, `?` one byte, each other byte itself. Takes
 /// time in proportion to the product of their lengths.
 pub fn matches(alloc: Global, mask: &[u8], name: &[u8]) -> Result<bool, OutOfMemory>
     ensures { IfOk result (λ b. b ≡ matches mask.now name.now) }

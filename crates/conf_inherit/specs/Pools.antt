@@ -184,12 +184,12 @@ server_built b s = server_whole (patterns_in b) b.site s
 abbrev pub site_built : Built → SiteView
 site_built b = whole (patterns_in b) b.site
 
--- what a number stands for in a list: `default` without one, and `none` where it is no item's
+-- what a number means in a list: `default` without one, and `none` where it is no item's
 abbrev pub listed_in : {A B : Type 0} → (default none : B) → (A → B) → List A → Option ℕ → B
 listed_in default none view items None = default
 listed_in default none view items (Some n) = unwrap_or (option_map view (slice_get items n)) none
 
--- the number stands for this, also in a list that has more
+-- the number means this, also in a list that has more
 abbrev pub Stands : {A B : Type 0} → (default none : B) → (A → B) → List A → Option Listed → B
     → Type 0
 Stands {A} default none view items s meaning =
@@ -207,7 +207,7 @@ rules_in r = r.rules.items
 abbrev pub sets_in : AuthSets → List (List ℕ × Text)
 sets_in s = map auth_set_seen s.sets.items
 
--- the numbers of lists stand for these lists
+-- the numbers of lists mean these lists
 pub record FitsLists (shelf : Shelf) (s : Shared) : Type 0 where
   pub index : Stands default_index [] index_names shelf.indexes.items s.index (lists_by s).index
   pub pages : Stands [] [] page_rules shelf.pages.items s.pages (lists_by s).pages
@@ -218,7 +218,7 @@ pub record FitsLists (shelf : Shelf) (s : Shared) : Type 0 where
   pub addition_types : Stands no_media no_media media_seen shelf.media.items s.addition_types
       (lists_by s).addition_types
 
--- the numbers of media types and lists stand for the values
+-- the numbers of media types and lists mean the values
 pub record Fits (shelf : Shelf) (v : Inherited) : Type 0 where
   pub types : slice_get shelf.types.items v.types ≡ Some (values_by v).types
   pub lists : FitsLists shelf v.lists
@@ -268,7 +268,7 @@ pub record Added (outer : Values) (depth : ℕ) (first last : List Level)
   pub shelf_kept : KeepsAll first_shelf last_shelf
   pub same : (b : Built) → Holds last last_shelf b → follow (list_seen b added) left ≡ all
 
--- names were added that are these, whatever patterns the set has behind its own
+-- names were added that are these, whatever patterns the set has after its own
 pub record AreNamed (old new : List SetPattern) (before after : List CodeName)
     (names : List ServerName) : Type 0 where
   pub kept : Keeps old new

@@ -45,7 +45,7 @@ reading_shown block values (Step raw) = step_shown block values raw ∷ []
 
 -- ---- a program
 
--- the values of the next block, where blocks are levels, and those of the blocks behind it
+-- the values of the next block, where blocks are levels, and those of the blocks after it
 abbrev pub first_values : Option (List Values) → Option Values
 first_values None = None
 first_values (Some []) = None
@@ -59,7 +59,7 @@ later_values (Some (v ∷ vs)) = Some vs
 abbrev pub values_behind : Option (List Values) → Reading → Option (List Values)
 values_behind values reading = if has_block reading then later_values values else values
 
--- The directives of a program in the order of the text, those of a block right behind its `if`; the values that hold in the
+-- The directives of a program in the order of the text, those of a block right after its `if`; the values that hold in the
 -- blocks, where these are levels, in the same order.
 unfoldable pub program_of : Option (List Values) → List Part → Program
 program_of values [] = []
@@ -83,7 +83,7 @@ blocks_in known (Branch d block beside) =
     own_blocks (leads (reading_by known d.name d.args)) block (blocks_in known block)
     ++ blocks_in known beside
 
--- numbers, from this one on, stand for these
+-- numbers, from this one on, mean these
 unfoldable pub AllAt : {A : Type 0} → (at : ℕ → A) → ℕ → List A → Type 0
 AllAt at n [] = Unit {0}
 AllAt at n (x ∷ xs) = (at n ≡ x) × AllAt at (suc n) xs

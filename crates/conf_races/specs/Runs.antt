@@ -6,13 +6,13 @@ use Rattle.conf_text.specs.declared.directive.Directive.{Directive}
 abbrev pub in_run : (run : ℕ) → Directive → Directive
 in_run run d = record d { file = run }
 
--- The directives behind one of this run, which is of this file: one of another file begins the next run.
+-- The directives after one of this run, which is of this file: one of another file begins the next run.
 unfoldable pub runs_behind : (run file : ℕ) → List Directive → List Directive
 runs_behind run file [] = []
 runs_behind run file (d ∷ ds) = if d.file == file then in_run run d ∷ runs_behind run file ds
     else in_run (suc run) d ∷ runs_behind (suc run) d.file ds
 
--- the files of the runs that begin behind a directive of this file
+-- the files of the runs that begin after a directive of this file
 unfoldable pub files_behind : (file : ℕ) → List Directive → List ℕ
 files_behind file [] = []
 files_behind file (d ∷ ds) = if d.file == file then files_behind file ds

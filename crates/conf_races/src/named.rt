@@ -41,7 +41,7 @@ fn next_server(level: &[Directive]) -> (&[Directive], &[Directive])
     }
 }
 
-/// Where the values are stated that hold around servers, and the lists that the numbers in that stand for.
+/// Where the values are stated that hold around servers, and the lists that the numbers in it mean.
 #[derive(Drop)]
 struct Around {
     lists: Vec<LineList>,

@@ -20,7 +20,7 @@ struct World {
 /// A main request of empty texts.
 fn empty_main(alloc: Global) -> Main {
     Main {
-        received: ByteText::new(alloc),
+        asked: Method::Get,
         method: Method::Get,
         version: Version::V11,
         target: ByteText::new(alloc),
@@ -60,7 +60,6 @@ fn empty_world(alloc: Global) -> World {
 // The texts are written into what is there already, so that no call has anything to let go where memory runs out.
 
 fn write_main(main: &mut Main) -> Result<(), OutOfMemory> {
-    main.received.extend(b"GET http://H.x:1/q?a=1 HTTP/1.1")?;
     main.target.extend(b"http://H.x:1/q?a=1")?;
     main.host.extend(b"h.x")?;
     main.server_name.extend(b"s.x")?;

@@ -24,7 +24,7 @@ pieces [] = []
 pieces (b ∷ []) = (if b == 92 then Cut else Byte b) ∷ []
 pieces (b ∷ c ∷ cs) = if b == 92 then Pair c ∷ pieces cs else Byte b ∷ pieces (c ∷ cs)
 
--- what a backslash and a byte stand for: a quote or a backslash itself, a tab, a carriage return, a line feed; any
+-- what a backslash and a byte mean: a quote or a backslash itself, a tab, a carriage return, a line feed; any
 -- other pair stays as it is
 unfoldable pub escape : ℕ → List ℕ
 escape c =
@@ -34,13 +34,13 @@ escape c =
     else if c == 110 then 10 ∷ []
     else 92 ∷ c ∷ []
 
--- What a word is read as: the bytes that it stands for and how many bytes of the text it takes; or the fault and
+-- What a word is read as: the bytes that it means and how many bytes of the text it takes; or the fault and
 -- the line where it shows.
 pub data Word : Type 0 where
   Whole : (bytes : List ℕ) → (size : ℕ) → Word
   Faulty : FaultKind → (line : ℕ) → Word
 
--- bytes that a piece stands for, with how many bytes of the text it takes, in front of the rest of their word
+-- bytes that a piece means, with how many bytes of the text it takes, in front of the rest of their word
 abbrev pub in_front : List ℕ → ℕ → Word → Word
 in_front bytes size (Whole more n) = Whole (bytes ++ more) (size + n)
 in_front bytes size (Faulty kind line) = Faulty kind line

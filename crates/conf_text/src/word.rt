@@ -69,7 +69,7 @@ fn put(word: &mut ByteText, byte: u8) -> Result<bool, OutOfMemory>
     Ok(true)
 }
 
-/// Puts what a backslash and this byte stand for at the end of a word, if there is room for it.
+/// Puts what a backslash and this byte mean at the end of a word, if there is room for it.
 #[tactic(auto, unfolding(crate::specs::Words::escape))]
 fn put_escape(word: &mut ByteText, byte: u8) -> Result<bool, OutOfMemory>
     ensures fits { IfOk result (λ fits. fits

@@ -35,13 +35,13 @@ page_asks tree at (n ∷ nodes) node ask e =
 pub asks_known : (flight : Option Flight) (node tree : ℕ) (job : Option (Bor Ask)) → option_copied job ≡ ask_in (jobs_of flight) node → flight_tree flight ≤ tree → IfSome job (λ ask. tree_of ask.now ≤ tree)
 asks_known flight node tree None e h = tt
 asks_known None node tree (Some ask) e h = cc
-asks_known (Some (Alone flow)) node tree (Some ask) e h = by (waits flow.stage) e
+asks_known (Some (Alone flow)) node tree (Some ask) e h = by (waits flow.value.stage) e
   where
-    at : (t : Bool) → Some ask.now ≡ cond t (Some flow.ask) None → tree_of ask.now ≤ tree
-    at true f = let g = ap tree_of (let i : ask.now ≡ flow.ask = cc in i) in omega (arith, g, h)
+    at : (t : Bool) → Some ask.now ≡ cond t (Some flow.value.ask) None → tree_of ask.now ≤ tree
+    at true f = let g = ap tree_of (let i : ask.now ≡ flow.value.ask = cc in i) in omega (arith, g, h)
     at false f = cc
 
-    by : (t : Bool) → Some ask.now ≡ ask_in (cond t (record { node = 0; ask = flow.ask } ∷ []) []) node → tree_of ask.now ≤ tree
+    by : (t : Bool) → Some ask.now ≡ ask_in (cond t (record { node = 0; ask = flow.value.ask } ∷ []) []) node → tree_of ask.now ≤ tree
     by true f = at (eqb 0 node) f
     by false f = cc
 asks_known (Some (Page p)) node tree (Some ask) e h =

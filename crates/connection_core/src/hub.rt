@@ -75,6 +75,7 @@ impl Hub {
     }
 
     // The connection under a number.
+    #[inline(always)]
     fn get(&self, conn: u32) -> Option<&Conn>
         ensures view { MatchOption result (view_at self.now conn ≡ nobody)
             (λ c. view_at self.now conn ≡ view_of (serves_at self.now) c.now) }
@@ -136,6 +137,7 @@ impl Hub {
     }
 
     // An event of one connection.
+    #[inline(always)]
     fn own(&mut self, conn: u32, event: &Event) -> StepAnswer
         requires own { is_own event.now ≡ true }
         requires conn { event_conn event.now ≡ conn }

@@ -30,6 +30,7 @@ fn is_there(ids: &[u32], at: usize, conn: u32) -> bool
 }
 
 /// The same, looked for first where one was found before.
+#[inline(always)]
 pub(crate) fn place_near(ids: &[u32], near: usize, conn: u32) -> Result<usize, usize>
     requires { IsStrictlyIncreasing ids.now }
     ensures { MatchResult result (λ i. StandsAt conn ids.now i) (λ i. BelongsAt conn ids.now i) }
@@ -90,6 +91,7 @@ pub(crate) fn tick_all(conns: &mut [Conn], now: u64) -> u64
 }
 
 /// Gives a connection one event of its own; any other event is skipped.
+#[inline(always)]
 pub(crate) fn happen(
     conn: &mut Conn,
     space: &mut Workspace,
@@ -130,6 +132,7 @@ pub(crate) fn happen(
 }
 
 /// Gives the connection at a place one event of its own.
+#[inline(always)]
 pub(crate) fn happen_at(
     conns: &mut Vec<Conn>,
     at: usize,

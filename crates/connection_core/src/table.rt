@@ -54,6 +54,7 @@ impl Table {
     }
 
     /// The connection under a number.
+    #[inline(always)]
     pub(crate) fn get(&self, conn: u32) -> Option<&Conn>
         ensures view { (x : Serves) → MatchOption result
             (view_in x self.now.ids.items self.now.conns.items conn ≡ nobody)
@@ -169,6 +170,7 @@ impl Table {
     }
 
     /// Gives a connection one event of its own.
+    #[inline(always)]
     pub(crate) fn own(
         &mut self,
         space: &mut Workspace,

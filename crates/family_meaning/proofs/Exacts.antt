@@ -171,6 +171,21 @@ decides w tree own stub line vars said e h last =
     ap (λ (r : Left). before (or_stub (Some stub) (status_of r.answer) r.body) (rest w tree line r.answer r.vars)) (ended_rest w tree own None vars said e)
     ∙ ap (before (or_stub (Some stub) said.answer.status said.body)) (last_lost w tree line (Some said.answer) last vars h)
 
+pub chooses : (w : World) (tree : Tree) (own : Line) (stub : List ℕ) (node left : ℕ) (line : Line) (vars : Vars) (said : Reply) → ended own None ≡ Some said →
+    Same w tree (Stubs own stub line) vars (Held (or_stub (Some stub) said.answer.status said.body) (Gives node left (Done said.answer) line)) vars
+unfolding rest run left_by
+chooses w tree own stub node left line vars said e last =
+    ap (λ (r : Left). before (or_stub (Some stub) (status_of r.answer) r.body) (rest w tree line r.answer r.vars)) (ended_rest w tree own None vars said e)
+
+-- bytes that come first
+pub parts : (w : World) (tree : Tree) (some more : List ℕ) (line : Line) (vars : Vars) → Same w tree (Held (some ++ more) line) vars (Held some (Held more line)) vars
+unfolding rest
+parts w tree some more line vars last = before_before some more (rest w tree line last vars)
+
+pub gone : (w : World) (tree : Tree) (line : Line) (vars : Vars) → Same w tree (Held [] line) vars line vars
+unfolding rest
+gone w tree line vars last = refl
+
 -- two lines one after another
 waits_joined : (w : World) (tree : Tree) (a b : Line) (left : ℕ) (k : Reply → Serving Answer) →
     ((last : Option Answer) (vars : Vars) → rest w tree (joined a b) last vars ≡ (let r = rest w tree a last vars in before r.body (rest w tree b r.answer r.vars))) →
@@ -242,7 +257,7 @@ keeps w tree own stub line vars s h last =
     ∙ sym (joined_rest w tree own line last vars)
 
 pub first_steps : FirstIsExact
-first_steps = record { thinks = thinks; reads = reads; learns = learns; places = places; merges = merges; opens = opens; asks = asks; leaves = leaves; hears = hears; keeps = keeps; decides = decides }
+first_steps = record { thinks = thinks; reads = reads; learns = learns; places = places; merges = merges; opens = opens; asks = asks; leaves = leaves; hears = hears; keeps = keeps; decides = decides; chooses = chooses; parts = parts; gone = gone }
 
 pub whole_at_start : (w : World) (tree : Tree) (main : Main) (request : Request) (terms : Terms) → flight_rest w tree (begun w main request terms) ≡ whole_rest terms (main_reply w tree main request)
 unfolding flight_rest begun rest main_reply main_came

@@ -9,10 +9,10 @@ use Rattle.request_meaning.specs.Replies.{run, or_stub}
 use Rattle.family_meaning.specs.Line.{Line, Left, rest, before, reply_of, status_of}
 use Rattle.family_meaning.specs.Line.Line.{Gives}
 use Rattle.family_meaning.specs.Moves.{Quiet, Quiets}
-use Rattle.family_meaning.specs.Moves.Quiet.{Learns, Places, Placed, Merges, Opens, Asks, Hears, Leaves, Keeps, Decides, PastHeld, PastNode, PastWait, Within, PastStub, WithinStub}
+use Rattle.family_meaning.specs.Moves.Quiet.{Learns, Places, Placed, Merges, Opens, Asks, Hears, Leaves, Keeps, Decides, Chooses, Parts, Gone, PastHeld, PastNode, PastWait, Within, PastStub, WithinStub}
 use Rattle.family_meaning.specs.Moves.Quiets.{Rests, Goes}
 use Rattle.family_meaning.specs.Exact.{Same, OrderIsNoMatter}
-use Rattle.family_meaning.proofs.Exacts.{learns, places, merges, opens, asks, hears, leaves, keeps, decides}
+use Rattle.family_meaning.proofs.Exacts.{learns, places, merges, opens, asks, hears, leaves, keeps, decides, chooses, parts, gone}
 
 placed : (w : World) (tree : Tree) (node left : ℕ) (m : Serving Answer) (line : Line) (vars : Vars) → Same w tree (Gives node left (Write [] m) line) vars (Gives node left m line) vars
 unfolding rest run
@@ -47,6 +47,9 @@ quiet_same w tree _ _ (Hears {node} {left} {own} {line} {k} said e) vars last = 
 quiet_same w tree _ _ (Leaves {node} {left} {answer} {line} h) vars last = leaves w tree node left answer line vars h last
 quiet_same w tree _ _ (Keeps {own} {line} {stub} s h) vars last = keeps w tree own stub line vars s h last
 quiet_same w tree _ _ (Decides {own} {line} {stub} said e h) vars last = decides w tree own stub line vars said e h last
+quiet_same w tree _ _ (Chooses {own} {line} {stub} node left said e) vars last = chooses w tree own stub node left line vars said e last
+quiet_same w tree _ _ (Parts {some} {more} {line}) vars last = parts w tree some more line vars last
+quiet_same w tree _ _ (Gone {line}) vars last = gone w tree line vars last
 quiet_same w tree _ _ (PastHeld {bytes} {line} {line'} q) vars last = ap (before bytes) (quiet_same w tree line line' q vars last)
 quiet_same w tree _ _ (PastNode {node} {left} {m} {line} {line'} q) vars last =
     let r = run tree (Replies.reply w tree left) m vars in

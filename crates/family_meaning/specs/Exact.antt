@@ -36,6 +36,11 @@ pub record FirstIsExact : Type 0 where
       KeepsBody w tree own → front own ≢ [] → Same w tree (Stubs own stub line) vars (joined own line) vars
   pub decides : (w : World) (tree : Tree) (own : Line) (stub : List ℕ) (line : Line) (vars : Vars) (reply : Reply) →
       ended own None ≡ Some reply → has_node line ≡ true → Same w tree (Stubs own stub line) vars (Held (or_stub (Some stub) reply.answer.status reply.body) line) vars
+  pub chooses : (w : World) (tree : Tree) (own : Line) (stub : List ℕ) (node left : ℕ) (line : Line) (vars : Vars) (reply : Reply) → ended own None ≡ Some reply →
+      Same w tree (Stubs own stub line) vars (Held (or_stub (Some stub) reply.answer.status reply.body) (Gives node left (Done reply.answer) line)) vars
+  -- bytes that come first, taken apart; and where none are left
+  pub parts : (w : World) (tree : Tree) (some more : List ℕ) (line : Line) (vars : Vars) → Same w tree (Held (some ++ more) line) vars (Held some (Held more line)) vars
+  pub gone : (w : World) (tree : Tree) (line : Line) (vars : Vars) → Same w tree (Held [] line) vars line vars
 
 -- Quiet steps make no difference to what is still to come, whatever the table is; so their order makes none.
 pub record OrderIsNoMatter : Type 0 where

@@ -59,6 +59,12 @@ pub data Quiet (w : World) (tree : Tree) : Line → Line → Type 0 where
   Keeps : {own line : Line} {stub : List ℕ} → KeepsBody w tree own → front own ≢ [] → Quiet w tree (Stubs own stub line) (joined own line)
   Decides : {own line : Line} {stub : List ℕ} (reply : Reply) → ended own None ≡ Some reply → has_node line ≡ true →
       Quiet w tree (Stubs own stub line) (Held (or_stub (Some stub) reply.answer.status reply.body) line)
+  -- so it is where the answer of its last node stays, which a node may wait for
+  Chooses : {own line : Line} {stub : List ℕ} (node left : ℕ) (reply : Reply) → ended own None ≡ Some reply →
+      Quiet w tree (Stubs own stub line) (Held (or_stub (Some stub) reply.answer.status reply.body) (Gives node left (Done reply.answer) line))
+  -- bytes that wait are taken apart, and where none are left nothing waits
+  Parts : {some more : List ℕ} {line : Line} → Quiet w tree (Held (some ++ more) line) (Held some (Held more line))
+  Gone : {line : Line} → Quiet w tree (Held [] line) line
   -- at another place of the line
   PastHeld : {bytes : List ℕ} {line line' : Line} → Quiet w tree line line' → Quiet w tree (Held bytes line) (Held bytes line')
   PastNode : {node left : ℕ} {m : Serving Answer} {line line' : Line} → Quiet w tree line line' → Quiet w tree (Gives node left m line) (Gives node left m line')

@@ -11,7 +11,7 @@ use Rattle.family_meaning.specs.Line.{Line, Left, rest, before, joined, with_stu
 use Rattle.family_meaning.specs.Line.Line.{Nil, Held, Gives, Waits, Stubs}
 use Rattle.family_meaning.specs.Left.{subs_left, act_subs}
 use Rattle.family_meaning.specs.Moves.{Quiet}
-use Rattle.family_meaning.specs.Moves.Quiet.{Learns, Places, Placed, Merges, Opens, Asks, Hears, Leaves, Keeps, Decides, PastHeld, PastNode, PastWait, Within, PastStub, WithinStub}
+use Rattle.family_meaning.specs.Moves.Quiet.{Learns, Places, Placed, Merges, Opens, Asks, Hears, Leaves, Keeps, Decides, Chooses, Parts, Gone, PastHeld, PastNode, PastWait, Within, PastStub, WithinStub}
 use Rattle.family_meaning.proofs.Exacts.{settled_run}
 use Rattle.family_meaning.proofs.Orders.{quiet_same}
 use Rattle.family_order.specs.Items.{Item, items}
@@ -208,6 +208,13 @@ module _ (w : World) (tree : Tree) where
   quiet_subs _ _ (Decides {own} {line} {stub} said e h) vars =
       let i = is_ended own None vars said e in
       ap (λ z. z + subs_left w tree line (rest w tree own None vars).vars) i.none ∙ ap (λ (r : Left). 0 + subs_left w tree line r.vars) i.comes
+  quiet_subs _ _ (Chooses {own} {line} {stub} node left said e) vars =
+      let i = is_ended own None vars said e in
+      ap (λ z. z + subs_left w tree line (rest w tree own None vars).vars) i.none
+      ∙ ap (λ (r : Left). 0 + subs_left w tree line r.vars) i.comes
+      ∙ ap (λ z. 0 + z) (none_more (subs_left w tree line vars))
+  quiet_subs _ _ (Parts {line}) vars = none_more (subs_left w tree line vars)
+  quiet_subs _ _ (Gone {line}) vars = none_more (subs_left w tree line vars)
   quiet_subs _ _ (PastHeld {line} {line'} q) vars = quiet_subs line line' q vars
   quiet_subs _ _ (PastNode {node} {left} {m} {line} {line'} q) vars =
       let r = run tree (Replies.reply w tree left) m vars in

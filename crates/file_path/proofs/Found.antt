@@ -15,7 +15,7 @@ use Rattle.ngx_variables.specs.declared.value.Piece.{Piece}
 use Rattle.ngx_variables.specs.declared.request.Main.{Main}
 use Rattle.ngx_variables.specs.declared.request.FileRoot.{FileRoot}
 use Rattle.ngx_variables.specs.declared.request.Request.{Request}
-use Rattle.ngx_variables.specs.Paths.{text_of, joined}
+use Rattle.ngx_variables.specs.Paths.{behind_start, joined, merged, start as begin, text_of, without_last_slash}
 use Rattle.ngx_variables.specs.Texts.{is_too_long, value_text}
 use Rattle.file_path.specs.Located.{is_dots, has_dots, can_stand, located, located_at}
 use Rattle.file_path.specs.Located.Located.{TooLong, NotThere, At}
@@ -48,6 +48,12 @@ behind_old old more new slice start s e h =
 pub before_more : (old more new : List ℕ) (start : ℕ) → new ≡ old ++ more → start ≡ length old → take start new ≡ old
 before_more old more new start e h = ap (λ l. take start l) e ∙ (ap (λ k. take k (old ++ more)) h ∙ take-append_seam old more)
 
+-- where what comes after a text is made another
+pub cut_after : (f : List ℕ → List ℕ) (old more new : List ℕ) (start : ℕ) → new ≡ old ++ more → start ≡ length old → take start new ++ f (drop start new) ≡ old ++ f more
+cut_after f old more new start e h =
+    ap (λ l. l ++ f (drop start new)) (before_more old more new start e h)
+    ∙ ap (λ l. old ++ f l) (ap (λ l. drop start l) e ∙ (ap (λ k. drop k (old ++ more)) h ∙ drop-append_seam old more))
+
 -- bytes that are no text
 pub no_text : (path : List ℕ) → ¬ (IsUtf8 path) → false ≡ is_utf8 path
 no_text path h = elim (is_utf8 path) as (λ t. is_utf8 path ≡ t → false ≡ t) [
@@ -56,6 +62,11 @@ no_text path h = elim (is_utf8 path) as (λ t. is_utf8 path ≡ t → false ≡ 
 ] refl
 
 module _ (place : FileRoot) (text uri folder : List ℕ) where
+  -- a path whose slashes stay
+  pub joined_by : merged (begin folder text ++ behind_start place text uri) ≡ begin folder text ++ behind_start place text uri → joined place text uri folder ≡ without_last_slash (begin folder text ++ behind_start place text uri)
+  unfolding joined
+  joined_by single = ap without_last_slash single
+
   pub too_long_by : is_too_long text ≡ true → located place text uri folder ≡ TooLong
   unfolding located
   too_long_by h = cond-true _ _ _ h

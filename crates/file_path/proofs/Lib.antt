@@ -2,3 +2,4 @@ pub mod Settles
 mod Roots
 mod Found
 mod Plain
+mod Clean

@@ -1,7 +1,5 @@
 -- At a path of plain bytes a file can be.
-use Rattle.std.proofs.Common.{◌≡◌, ℕ, zero, suc, ◌+◌, ◌<◌, ◌≤◌, Bool, true, false, not, ◌&&◌, ◌||◌, cond, eqb, List, [], ◌∷◌, length, drop, get_or, add-one, refl, sym, ◌∙◌, ap, arith}
-use Rattle.std.proofs.Math.Seq.{drop-cons}
-use Rattle.std.proofs.Math.ListN.{drop_of_length-le}
+use Rattle.std.proofs.Common.{◌≡◌, ℕ, zero, suc, ◌<◌, Bool, true, false, not, ◌&&◌, ◌||◌, cond, eqb, List, [], ◌∷◌, take, refl, sym, ◌∙◌, ap, arith}
 use Rattle.std.specs.List.{list_any, slice_split, onto_first}
 use Rattle.std.specs.Str.{IsAscii, is_utf8, bytes_eq}
 use Rattle.std.proofs.lemmas.Bool.{ltb-true, false≢true}
@@ -9,15 +7,15 @@ use Rattle.std.proofs.lemmas.Str.{IsUtf8-from_ascii, is_utf8-from_IsUtf8}
 use Rattle.file_path.specs.Located.{is_dots, has_dots, has_nul, can_stand, is_plain_behind}
 
 -- each byte is plain after the one before it
-pub are_plain : ℕ → List ℕ → Bool
+unfoldable pub are_plain : ℕ → List ℕ → Bool
 are_plain before [] = true
 are_plain before (b ∷ bs) = is_plain_behind before b && are_plain b bs
 
-both : (a b : Bool) → (a && b) ≡ true → (a ≡ true) × (b ≡ true)
+pub both : (a b : Bool) → (a && b) ≡ true → (a ≡ true) × (b ≡ true)
 both true b e = (refl, e)
 both false b e = absurd (false≢true e)
 
-off : (a : Bool) → not a ≡ true → a ≡ false
+pub off : (a : Bool) → not a ≡ true → a ≡ false
 off true e = absurd (false≢true e)
 off false e = refl
 
@@ -91,15 +89,11 @@ can_stand_at path h =
     ap (λ t. not t && (not (has_nul path) && is_utf8 path)) ((no_dots_in 47 path h).1 refl)
     ∙ (ap (λ t. not t && is_utf8 path) (no_nul_in 47 path h) ∙ is_utf8-from_IsUtf8 path (IsUtf8-from_ascii path (low_in 47 path h)))
 
-pub plain_next : (before b : ℕ) (bs : List ℕ) → is_plain_behind before b ≡ true → are_plain before (b ∷ bs) ≡ are_plain b bs
+-- the front of a plain text
+pub plain_front : (before n : ℕ) (bs : List ℕ) → are_plain before bs ≡ true → are_plain before (take n bs) ≡ true
 unfolding are_plain
-plain_next before b bs e = ap (λ t. t && are_plain b bs) e
-
-pub plain_from : (path : List ℕ) (before i : ℕ) → i < length path → is_plain_behind before (get_or path i 0) ≡ true → are_plain before (drop i path) ≡ are_plain 47 path → are_plain (get_or path i 0) (drop (i + 1) path) ≡ are_plain 47 path
-plain_from path before i h e so_far =
-    let there : drop i path ≡ get_or path i 0 ∷ drop (i + 1) path = rw add-one (drop-cons path i 0 h) in
-    sym (plain_next before (get_or path i 0) (drop (i + 1) path) e) ∙ (ap (λ l. are_plain before l) (sym there) ∙ so_far)
-
-pub plain_to : (path : List ℕ) (before i : ℕ) → length path ≤ i → are_plain before (drop i path) ≡ are_plain 47 path → are_plain 47 path ≡ true
-unfolding are_plain
-plain_to path before i h so_far = sym so_far ∙ ap (λ l. are_plain before l) (drop_of_length-le path h)
+plain_front before zero bs h = refl
+plain_front before (suc n) [] h = refl
+plain_front before (suc n) (b ∷ bs) h =
+    let parts = both _ _ h in
+    ap (λ t. t && are_plain b (take n bs)) parts.0 ∙ plain_front b n bs parts.1

@@ -1,6 +1,4 @@
 -- Finding a path as acts gives where the file is, and changes no variable.
-use Rattle.std.proofs.Common.{◌≡◌}
-use Rattle.acts.specs.Vars.{Vars}
 use Rattle.acts.specs.Act.{Done, settled}
 use Rattle.ngx_variables.proofs.Settles.{then_does}
 use Rattle.ngx_variables.specs.Paths.{text_of}

@@ -1,13 +1,17 @@
 // The path of a file.
 ghost use Rattle.std.specs.Prelude.{◌≡◌, ℕ, ◌≤◌, ◌<◌, ◌+◌, ◌==◌, true, false, List, ◌++◌, length, Ok, Err};
 ghost use Rattle.std.specs.Str.{is_utf8};
-ghost use Rattle.file_path.specs.Located.{is_dots, has_dots, has_nul, can_stand, is_plain_behind, located, located_at};
+ghost use Rattle.file_path.specs.Located.{is_dots, has_dots, has_nul, can_stand, begins_with_mark, goes_with, located, located_at};
 ghost use Rattle.file_path.specs.Located.Located.{At, NotThere, TooLong};
+ghost use Rattle.ngx_variables.specs.Grammar.{begins_with};
+ghost use Rattle.ngx_variables.specs.Paths.{merged, without_last_slash};
 ghost use Rattle.ngx_variables.specs.Texts.{is_too_long};
 
 use byte_text::ByteText;
 use memchr::memchr;
-use ngx_variables::{EvalFault, FileRoot, Main, Request, VarTable, joined};
+use ngx_variables::{
+    EvalFault, FileRoot, Main, Request, VarTable, append_whole, drop_last_slash, joined,
+};
 use std::alloc::Global;
 
 /// The most bytes that the text of `root` or `alias` may have.
@@ -55,34 +59,89 @@ fn is_too_long(text: &[u8]) -> bool
     text.len() > TEXT_LIMIT
 }
 
-/// Whether a byte is ASCII, not NUL, and no dot that begins a segment.
-fn is_plain_behind(before: u8, byte: u8) -> bool
-    ensures { result ≡ is_plain_behind before byte }
-{
-    byte != 0 && byte < 128 && !(byte == b'.' && before == b'/')
-}
-
-/// Whether each byte is plain, so that a file can be at the path: one pass says this of most paths.
-fn is_plain(path: &[u8]) -> bool
-    ensures { result ≡ true → can_stand path.now ≡ true }
-{
-    let mut before = b'/';
-    for byte in path {
-        if !is_plain_behind(before, *byte) {
-            return false;
-        }
-        before = *byte;
-    }
-    true
-}
-
 /// Whether a file can be at a path: no segment leads to a folder itself or out of it, and the path is UTF-8 text
 /// without NUL.
 #[tactic(auto, unfolding(crate::specs::Located::can_stand))]
 fn can_stand(path: &[u8]) -> bool
     ensures { result ≡ can_stand path.now }
 {
-    is_plain(path) || (!has_dots(path) && !has_nul(path) && is_text(path))
+    !has_dots(path) && !has_nul(path) && is_text(path)
+}
+
+/// Whether a text begins with a slash or a dot.
+fn begins_with_mark(text: &[u8]) -> bool
+    ensures { result ≡ begins_with_mark text.now }
+{
+    match text {
+        [first, ..] => *first == b'/' || *first == b'.',
+        [] => false,
+    }
+}
+
+fn begins_with_dot(text: &[u8]) -> bool
+    ensures { result ≡ begins_with 46 text.now }
+{
+    match text {
+        [b'.', ..] => true,
+        _ => false,
+    }
+}
+
+/// Whether a byte is ASCII and not NUL, and no slash that comes before another or before a dot.
+#[inline(always)]
+fn goes_with(byte: u8, behind: &[u8]) -> bool
+    ensures { result ≡ goes_with byte behind.now }
+{
+    if byte > b'/' {
+        return byte < 128;
+    }
+    byte != 0 && !(byte == b'/' && begins_with_mark(behind))
+}
+
+/// Whether each byte goes with what comes after it, so that a file can be at the path and its slashes stay: one pass says
+/// this of most paths.
+fn is_clean(path: &[u8]) -> bool
+    ensures stands { result ≡ true → can_stand (without_last_slash path.now) ≡ true }
+    ensures single { result ≡ true → merged path.now ≡ path.now }
+{
+    if begins_with_dot(path) {
+        return false;
+    }
+    let mut rest = path;
+    while let [byte, behind @ ..] = rest {
+        if !goes_with(*byte, behind) {
+            return false;
+        }
+        rest = behind;
+    }
+    true
+}
+
+/// Appends the path to `out` by all tests, as few paths need.
+#[inline(never)]
+fn path_by_tests(
+    alloc: Global,
+    place: &FileRoot,
+    text: &[u8],
+    uri: &[u8],
+    folder: &[u8],
+    out: &mut ByteText,
+) -> Result<bool, EvalFault>
+    requires { is_too_long text.now ≡ false }
+    ensures there { result ≡ Ok true
+        → (path : List ℕ) × (located place.now text.now uri.now folder.now ≡ At path)
+        × (out.new ≡ out.old ++ path) }
+    ensures not_there { result ≡ Ok false
+        → (located place.now text.now uri.now folder.now ≡ NotThere) × (out.new ≡ out.old) }
+    ensures too_long { result ≡ Err EvalFault.TooLong → ⊥ }
+{
+    let start = out.len();
+    joined(alloc, place, text, uri, folder, out)?;
+    if can_stand(&out.as_slice()[start..]) {
+        return Ok(true);
+    }
+    out.truncate(start);
+    Ok(false)
 }
 
 /// Appends the path to `out`, where `text` is what the text of `root` or `alias` evaluates to.
@@ -106,12 +165,13 @@ pub fn path_under(
         return Err(EvalFault::TooLong);
     }
     let start = out.len();
-    joined(alloc, place, text, uri, folder, out)?;
-    if can_stand(&out.as_slice()[start..]) {
+    append_whole(place, text, uri, folder, out)?;
+    if is_clean(&out.as_slice()[start..]) {
+        drop_last_slash(start, out);
         return Ok(true);
     }
     out.truncate(start);
-    Ok(false)
+    path_by_tests(alloc, place, text, uri, folder, out)
 }
 
 /// Appends the path of the file of a path of the site to `out`, and answers whether a file can be there. `out` is as it

@@ -193,7 +193,7 @@ fn main_request(alloc: Global) -> Result<Main, Fail> {
         port: 80,
     };
     Ok(Main {
-        received: text(alloc, b"GET /q HTTP/1.1")?,
+        asked: Method::Get,
         method: Method::Get,
         version: Version::V11,
         target: text(alloc, b"/q")?,

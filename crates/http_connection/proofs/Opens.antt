@@ -22,7 +22,8 @@ use Rattle.request_phases.specs.declared.ground.Ground.{Ground}
 use Rattle.request_phases.specs.Rounds.{world_in}
 use Rattle.request_opening.specs.declared.asked.Opening.{Opening}
 use Rattle.request_flow.specs.declared.flow.Flow.{Flow}
-use Rattle.request_flow.specs.Flows.{IsServedBy, StageBy, stage_length, stage_server}
+use Rattle.std.specs.Global.{Box}
+use Rattle.request_flow.specs.Flows.{StageBy, stage_length, stage_server}
 use Rattle.request_flow.specs.declared.flow.Stage.{Stage}
 use Rattle.request_flow.specs.declared.flow.Stage.TheVariants.{Asked, Told, Reading, Came}
 use Rattle.request_opening.specs.Openings.{main_at}
@@ -42,8 +43,8 @@ use Rattle.http_connection.specs.Steps.{Opened, OpenedTo, Refuses, is_heavy, sta
 use Rattle.http_connection.specs.Times.{or_values, values_in}
 use Rattle.http_connection.specs.declared.open.Meeting.{Meeting}
 
-abbrev at_stage : Flow → Stage → Option Flight
-at_stage flow stage = Some (Alone (record { ask = flow.ask; stage = stage }))
+abbrev at_stage : Box Flow → Stage → Option Flight
+at_stage flow stage = Some (Alone (record flow { value = record { ask = flow.value.ask; stage = stage } }))
 
 abbrev pub rest_at : (x : Serves) (number length : ℕ) → Option Flight → Trees → Rest
 rest_at x number length flight trees = flight_rest (world_at x number length) x.patterns x.served.site flight trees
@@ -52,7 +53,7 @@ abbrev pub reached_at : (x : Serves) (number length : ℕ) → Option Flight →
 reached_at x number length flight = FlightReached (world_at x number length) x.patterns x.served.site flight
 
 -- what a response in flight has still to do is by what serves it
-by_stage : (x : Serves) (number length : ℕ) (flow : Flow) (stage : Stage) (trees : Trees) → IsServedBy number length (Some (record { ask = flow.ask; stage = stage })) →
+by_stage : (x : Serves) (number length : ℕ) (flow : Box Flow) (stage : Stage) (trees : Trees) → StageBy number length stage →
     rest_in x (at_stage flow stage) trees ≡ rest_at x number length (at_stage flow stage) trees
 by_stage x number length flow (Asked request wait) trees by =
     ap (λ n. rest_at x n request.value.length (at_stage flow (Asked request wait)) trees) by.0
@@ -71,11 +72,11 @@ by_page x number length p trees by =
 pub rest_by : (x : Serves) (number length : ℕ) (flight : Option Flight) (trees : Trees) → FlightServedBy number length flight →
     rest_in x flight trees ≡ rest_at x number length flight trees
 rest_by x number length None trees by = refl
-rest_by x number length (Some (Alone flow)) trees by = by_stage x number length flow flow.stage trees by
+rest_by x number length (Some (Alone flow)) trees by = by_stage x number length flow flow.value.stage trees by
 rest_by x number length (Some (Page p)) trees by = by_page x number length p trees by
 
 pub own_served : (flight : Flight) → FlightServedBy (flight_server flight) (flight_length flight) (Some flight)
-own_served (Alone flow) = own_stage flow.stage
+own_served (Alone flow) = own_stage flow.value.stage
   where
     own_stage : (stage : Stage) → StageBy (stage_server stage) (stage_length stage) stage
     own_stage (Asked request wait) = (refl, refl)
@@ -88,7 +89,7 @@ own_served (Page p) = (refl, refl)
 first_server : (x : Serves) (number : ℕ) → HasServer x number → HasServer x 0
 first_server x number h = omega (arith, h)
 
-reached_stage : (x : Serves) (number length : ℕ) (flow : Flow) (stage : Stage) → IsServedBy number length (Some (record { ask = flow.ask; stage = stage })) → HasServer x number →
+reached_stage : (x : Serves) (number length : ℕ) (flow : Box Flow) (stage : Stage) → StageBy number length stage → HasServer x number →
     reached_at x number length (at_stage flow stage) → ReachedIn x (at_stage flow stage)
 reached_stage x number length flow (Asked request wait) by h r =
     let f = at_stage flow (Asked request wait) in
@@ -101,7 +102,7 @@ reached_stage x number length flow (Came sending left placed) by h r = (tt, firs
 
 pub reached_by : (x : Serves) (number length : ℕ) (flight : Option Flight) → FlightServedBy number length flight → HasServer x number → reached_at x number length flight → ReachedIn x flight
 reached_by x number length None by h r = tt
-reached_by x number length (Some (Alone flow)) by h r = reached_stage x number length flow flow.stage by h r
+reached_by x number length (Some (Alone flow)) by h r = reached_stage x number length flow flow.value.stage by h r
 reached_by x number length (Some (Page p)) by h r =
     let f : Option Flight = Some (Page p) in
     (subst (λ n. reached_at x n p.length f) (sym by.0) (subst (λ l. reached_at x number l f) (sym by.1) r), subst (HasServer x) (sym by.0) h)

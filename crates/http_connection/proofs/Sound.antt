@@ -16,6 +16,7 @@ use Rattle.body_frame.specs.Outcome.{Short}
 use Rattle.body_frame.specs.State.{body_of}
 use Rattle.body_frame.specs.declared.state.BodyState.{BodyState}
 use Rattle.request_flow.specs.declared.flow.Flow.{Flow}
+use Rattle.std.specs.Global.{Box}
 use Rattle.response_flow.specs.declared.flight.Flight.{Flight}
 use Rattle.response_flow.specs.declared.flight.Flight.TheVariants.{Alone, Page}
 use Rattle.response_flow.specs.Flights.{FlightFits, are_done, jobs_by, most_kept, page_ready, pending_by, ready_by}
@@ -159,17 +160,17 @@ unplaced out false placed e within h =
     cc
 
 -- a request in flight alone waits for its job, or runs, or has bytes to be written
-busy_alone : (flow : Flow) (out : List ℕ) → flow_fits (Some flow) (length out) ≡ true →
-    (no_bytes (take (shown_by flow.stage) out) && no_nodes (cond (may_run flow.stage) (0 ∷ []) []) && no_jobs (jobs_of (Some flow))) ≡ true → ⊥
-busy_alone flow out fits h = by flow.stage fits h
+busy_alone : (flow : Box Flow) (out : List ℕ) → flow_fits (Some flow) (length out) ≡ true →
+    (no_bytes (take (shown_by flow.value.stage) out) && no_nodes (cond (may_run flow.value.stage) (0 ∷ []) []) && no_jobs (jobs_of (Some flow))) ≡ true → ⊥
+busy_alone flow out fits h = by flow.value.stage fits h
   where
-    by : (stage : Stage) → stage_fits flow.ask stage (length out) ≡ true →
-        (no_bytes (take (shown_by stage) out) && no_nodes (cond (may_run stage) (0 ∷ []) []) && no_jobs (jobs_of (Some (record { ask = flow.ask; stage = stage })))) ≡ true → ⊥
+    by : (stage : Stage) → stage_fits flow.value.ask stage (length out) ≡ true →
+        (no_bytes (take (shown_by stage) out) && no_nodes (cond (may_run stage) (0 ∷ []) []) && no_jobs (jobs_of (Some (record flow { value = record { ask = flow.value.ask; stage = stage } })))) ≡ true → ⊥
     by (Asked request wait) f h = never_all (no_bytes (take shown_most out)) true h
     by (Told request wait node) f h = never_mid (no_bytes (take shown_most out)) h
     by (Reading sending left) f h = never_all (no_bytes (take shown_most out)) true h
     by (Came sending left placed) f h =
-        let q = and_right (nat_le left sending.len && not (is_stat flow.ask)) ((nat_le placed (length out) && nat_le placed placed_most) && nat_le (length out) kept_most) f in
+        let q = and_right (nat_le left sending.len && not (is_stat flow.value.ask)) ((nat_le placed (length out) && nat_le placed placed_most) && nat_le (length out) kept_most) f in
         let p = and_left (nat_le placed (length out) && nat_le placed placed_most) (nat_le (length out) kept_most) q in
         unplaced out (nat_lt placed placed_most) placed refl (below placed (length out) (and_left (nat_le placed (length out)) (nat_le placed placed_most) p)) h
 
@@ -217,7 +218,7 @@ none_most size e = omega (arith, e)
 
 pub bounded : (flight : Option Flight) (size : ℕ) → FlightFits flight size → size ≤ most_kept
 bounded None size f = f
-bounded (Some (Alone flow)) size f = few_most size (stage_bounded size flow.ask flow.stage f)
+bounded (Some (Alone flow)) size f = few_most size (stage_bounded size flow.value.ask flow.value.stage f)
 bounded (Some (Page p)) size f = none_most size f.0
 
 module _ (serves : Serves) where

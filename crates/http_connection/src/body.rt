@@ -15,6 +15,7 @@ pub(crate) struct Dropped {
 }
 
 /// Drops a body, of which some bytes may have come before, from the front of these bytes.
+#[inline(always)]
 pub(crate) fn drop_body(body: BodyState, bytes: &[u8]) -> Dropped
     ensures within { result.used ≤ length bytes.now }
     ensures drops { Drops (rest_body body) bytes.now result.body
@@ -42,6 +43,7 @@ pub(crate) fn drop_body(body: BodyState, bytes: &[u8]) -> Dropped
 }
 
 /// Drops what is left of a body, if there is one, from the front of these bytes.
+#[inline(always)]
 pub(crate) fn drop_rest(body: Option<BodyState>, bytes: &[u8]) -> Dropped
     ensures within { result.used ≤ length bytes.now }
     ensures drops { Drops (rest_of body) bytes.now result.body

@@ -5,6 +5,7 @@ ghost use Rattle.std.specs.Prelude.{◌≡◌};
 use std::mem::replace;
 
 /// Puts a value in place of another.
+#[inline(always)]
 pub(crate) fn put<T: Drop>(slot: &mut T, value: T)
     ensures { slot.new ≡ value }
 {
@@ -15,6 +16,7 @@ pub(crate) fn put<T: Drop>(slot: &mut T, value: T)
 pub(crate) fn forget<T: Drop>(value: T) {}
 
 /// Takes a value out, and leaves another in its place.
+#[inline(always)]
 pub(crate) fn take<T: Drop>(slot: &mut T, other: T) -> T
     ensures taken { result ≡ slot.old }
     ensures left { slot.new ≡ other }

@@ -30,6 +30,7 @@ fn last_want(conn: u32, full: bool, is_empty: bool, shut: bool) -> Option<Want>
 
 /// The first want of a connection that can be served, under its number, where its link is due to be read or not, and full or
 /// not. What comes after that is not looked at.
+#[inline(always)]
 pub fn next_want(conn: &Conn, number: u32, due: bool, full: bool) -> Option<Want>
     ensures { (site : _) → result ≡ first_doable due full
         (wants_at number (view_of site conn.now)) }

@@ -1,4 +1,4 @@
--- What a `Civil` stands for.
+-- What a `Civil` means.
 use Rattle.httpdate.specs.declared.parts.Parts.{Parts}
 use Rattle.http_moment.specs.declared.calendar.Civil.{Civil}
 

@@ -253,7 +253,7 @@ pub fn is_time_format(format: &[u8]) -> bool
 }
 
 /// Appends the format with each conversion in place of its `%` and letter, at a second of UTC: those of C's strftime
-/// that SSI documents use, with English names. Past the year 9999 its last second stands for the second.
+/// that SSI documents use, with English names. Past the year 9999 its last second is taken in its place.
 ///
 /// It answers false exactly at a `%` that begins no conversion, and has then appended what comes before it. After want
 /// of memory `out` has some part of the text.

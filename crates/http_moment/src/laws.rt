@@ -1,7 +1,7 @@
 // What holds of every second, and of every date that is read.
 ghost use Rattle.http_moment.specs.Moment.{CalendarIsRight, DateIsVisible, DateReadsBack};
 
-/// The date that stands for a second, by whole years and then whole months from 1970 on, is one of the Gregorian calendar, and
+/// The date of a second, by whole years and then whole months from 1970 on, is one of the Gregorian calendar, and
 /// the seconds from the beginning of 1970 to it are that number.
 pub fn calendar_is_right()
     ensures { CalendarIsRight }

@@ -75,6 +75,7 @@ fn nearest_to(entries: &[PrefixEntry], text: &[u8]) -> Option<usize>
 }
 
 // The longest entry that a path begins with, by steps that nobody asks about.
+#[inline(always)]
 fn find_by<L: Ledger>(
     entries: &[PrefixEntry],
     common: usize,
@@ -147,6 +148,7 @@ impl Prefixes {
     }
 
     /// The same, where nobody asks about the steps.
+    #[inline(always)]
     pub fn find(&self, path: &[u8]) -> Option<usize>
         ensures some { IfSome result (IsLongest self.now.texts path.now) }
         ensures none { IfNone result (FitsNone self.now.texts path.now) }
@@ -168,6 +170,7 @@ impl Prefixes {
     }
 
     /// The number of the location with the longest text that a path begins with.
+    #[inline(always)]
     pub fn longest_number(&self, path: &[u8]) -> Option<u32>
         ensures { IsLongestOf (λ text. fits path.now text) (number_of self.now) result }
     {
@@ -186,6 +189,7 @@ impl Prefixes {
     }
 
     /// The number of the location with exactly this text.
+    #[inline(always)]
     pub fn number(&self, text: &[u8]) -> Option<u32>
         ensures { result ≡ number_of self.now text.now }
     {

@@ -144,6 +144,7 @@ pub(crate) fn longest_from<L: Ledger>(
 }
 
 /// The longest entry that a path begins with, where all of them share some bytes.
+#[inline(always)]
 pub fn longest_in<L: Ledger>(
     entries: &[PrefixEntry],
     common: usize,

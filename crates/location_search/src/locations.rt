@@ -73,6 +73,7 @@ impl Locations {
 
     /// The location that holds for a path, and none where the server's own level does. Where a regular expression matched,
     /// the spans of its groups are left, which lie within the path. It takes no memory.
+    #[inline(always)]
     pub fn find(
         &self,
         path: &[u8],

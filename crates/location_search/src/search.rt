@@ -66,6 +66,7 @@ fn below_bound(number: Option<u32>, bound: u32) -> Option<u32>
 }
 
 // The location with the longest prefix that the path begins with. One in a location has a lower number.
+#[inline(always)]
 fn prefix_in(list: &LocationList, bound: u32, path: &[u8]) -> Option<u32>
     ensures inside { IfSome result (λ number. number < bound) }
     ensures longest { (number : Option ℕ)
@@ -98,6 +99,7 @@ fn goes_on(sought: &Sought, firm: bool) -> bool
 }
 
 // The first of the regular expressions that matches the path.
+#[inline(always)]
 fn first_match(
     list: &[PatternLocation],
     path: &[u8],
@@ -120,6 +122,7 @@ fn first_match(
 }
 
 // The number of the location by the first regular expression that matches the path.
+#[inline(always)]
 fn matching_in(
     list: &LocationList,
     bound: u32,

@@ -107,7 +107,7 @@ world s = record { server = s; finds = no_pattern; members = members; length = 0
 
 abbrev pub main_with : Method → List ℕ → Entries FieldValue → Main
 main_with method target fields = record {
-  received = [];
+  asked = method;
   method = method;
   version = V11;
   target = target;

@@ -3,7 +3,7 @@ use Rattle.std.specs.Prelude.{◌≡◌, ◌≢◌, ℕ, ◌==◌, ◌≤◌, Li
 use Rattle.file_tree.specs.Tree.{Tree, IsChild, child_path}
 use Rattle.memory_outside.specs.declared.files.Stored.{Stored}
 
--- what stands before the slash of a folder's children: the root's path is a slash alone
+-- what is before the slash of a folder's children: the root's path is a slash alone
 abbrev pub front_of : List ℕ → List ℕ
 front_of [] = []
 front_of (b ∷ []) = if b == 47 then [] else b ∷ []
@@ -20,7 +20,7 @@ pub record AddsNames (tree : Tree) (folder : List ℕ) (old new : List (List ℕ
   pub all : new ≡ old ++ added
   pub names : (name : List ℕ) → Contains added name ↔ IsChild tree folder name
 
--- Behind the start names of the folder were added, those of this path among them.
+-- After the start, names of the folder were added, those of this path among them.
 pub record AddsName (tree : Tree) (folder path : List ℕ) (start : ℕ)
     (old new : List (List ℕ)) : Type 0 where
   pub added : List (List ℕ)

@@ -1,4 +1,4 @@
--- What stands where in the files of memory.
+-- What is where in the files of memory.
 use Rattle.std.specs.Prelude.{◌≡◌, ℕ, nat_le, Bool, true, ◌&&◌, List, [], ◌∷◌, Option, if◌then◌else◌}
 use Rattle.std.specs.Str.{bytes_eq}
 use Rattle.ngx_outside.specs.Records.{FileAnswer}
@@ -17,11 +17,11 @@ item_of stored.Folder = AFolder
 item_of stored.Locked = ALocked
 item_of stored.Missing = Nothing
 
--- it stands at this path in the tree of this number
+-- it is at this path in the tree of this number
 abbrev pub is_at : ℕ → List ℕ → Stored → Bool
 is_at of path s = nat_le s.from of && bytes_eq s.path path
 
--- the last of a path that is as old as the number, or what stood there before; the newest stand
+-- the last of a path that is as old as the number, or what was there before; the newest are
 -- last
 unfoldable pub item_over : Item → List Stored → ℕ → List ℕ → Item
 item_over below [] of path = below
@@ -32,7 +32,7 @@ item_over below (s ∷ items) of path = item_over
 abbrev pub item_in : List Stored → Trees
 item_in items = item_over Nothing items
 
--- from this number on the item stands at the path, and all else stays
+-- from this number on the item is at the path, and all else stays
 abbrev pub Replaces : ℕ → List ℕ → StoredItem → Trees → Trees → Type 0
 Replaces from path item old new = (of : ℕ) (q : List ℕ) →
     new of q ≡ (if nat_le from of && bytes_eq path q then item_of item else old of q)

@@ -6,7 +6,7 @@ use ngx_outside::Clock;
 use std::marker::Model;
 use std::sync::ledger::{Blank, Book, Ledger, Share};
 
-/// A clock that stands at a moment. It tells nothing of its calls: a clock of one moment that does is a `ListClock`.
+/// A clock that stays at a moment. It tells nothing of its calls: a clock of one moment that does is a `ListClock`.
 #[derive(Clone, Copy, Debug)]
 pub struct FixedClock {
     pub moment: u64,

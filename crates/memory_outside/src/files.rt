@@ -14,7 +14,7 @@ use file_tree::Node;
 use ngx_outside::{Failed, FileFault, Files, Listing};
 use std::alloc::Global;
 
-/// What stands at a path.
+/// What is at a path.
 #[derive(Clone, Debug, Drop)]
 pub enum StoredItem {
     /// A file with its date in seconds since 1970.
@@ -25,7 +25,7 @@ pub enum StoredItem {
     Missing,
 }
 
-// What stands at a path from the tree with the number `from` on, as far as no later one of the path says otherwise.
+// What is at a path from the tree with the number `from` on, as far as no later one of the path says otherwise.
 #[derive(Clone, Debug, Drop)]
 pub(crate) struct Stored {
     pub(crate) path: ByteText,
@@ -58,14 +58,14 @@ pub struct MemoryFiles {
     block: ByteText,
 }
 
-// Whether it stands at a path in the tree of a number.
+// Whether it is at a path in the tree of a number.
 fn is_at(stored: &Stored, path: &[u8], of: u64) -> bool
     ensures { result ≡ is_stored_at of path.now stored.now }
 {
     stored.from <= of && stored.path.as_slice() == path
 }
 
-// What stands at a path in the tree of a number.
+// What is at a path in the tree of a number.
 fn find<'a>(items: &'a [Stored], path: &[u8], of: u64) -> Option<&'a StoredItem>
     ensures { MatchOption result (item_in items.now of path.now ≡ Nothing)
         (λ item. item_in items.now of path.now ≡ item_of item.now) }
@@ -96,7 +96,7 @@ fn node_at(items: &[Stored], path: &[u8], of: u64) -> Node
     }
 }
 
-/// Whether something stands at a path.
+/// Whether something is at a path.
 pub(crate) fn is_there(items: &[Stored], path: &[u8], of: u64) -> bool
     ensures { IsTrue result ↔ (item_in items.now of path.now ≢ Nothing) }
 {
@@ -121,7 +121,7 @@ fn is_folder(items: &[Stored], path: &[u8], of: u64) -> bool
     }
 }
 
-// The bytes of a file, where a file stands there.
+// The bytes of a file, where a file is there.
 fn bytes_at<'a>(items: &'a [Stored], path: &[u8], of: u64) -> Option<&'a [u8]>
     ensures { MatchOption result ((bytes : List ℕ) (date : ℕ) →
         item_in items.now of path.now ≢ AFile bytes date)
@@ -136,7 +136,7 @@ fn bytes_at<'a>(items: &'a [Stored], path: &[u8], of: u64) -> Option<&'a [u8]>
     }
 }
 
-// The part of a file, where it holds so many bytes from there on.
+// The part of a file, where it holds `count` bytes from there on.
 fn part(bytes: &[u8], start: u64, count: u64) -> Option<&[u8]>
     ensures { MatchOption result (¬ (start + count ≤ length bytes.now))
         (λ p. (start + count ≤ length bytes.now) × (p.now ≡ take count (drop start bytes.now))) }
@@ -208,7 +208,7 @@ impl MemoryFiles {
         Ok(())
     }
 
-    /// Puts an item at a path in the newest tree, in place of what stands there.
+    /// Puts an item at a path in the newest tree, in place of what is there.
     pub fn put(&mut self, path: ByteText, item: StoredItem) -> Result<(), OutOfMemory>
         ensures stored { OnOk result (Replaces (newest_of self.old) path item (trees_of self.old)
             (trees_of self.new)) }
@@ -222,7 +222,7 @@ impl MemoryFiles {
         self.store(path, item, from)
     }
 
-    /// Makes a new tree, which is the newest one but for what stands at a path. The trees before it stay as they are.
+    /// Makes a new tree, which is the newest one but for what is at a path. The trees before it stay as they are.
     pub fn change(&mut self, path: ByteText, item: StoredItem) -> Result<(), OutOfMemory>
         requires { newest_of self.old < 2 ^ 64 - 1 }
         ensures stored { OnOk result (Replaces (newest_of self.old + 1) path item

@@ -8,7 +8,7 @@ use crate::files::{Stored, is_there};
 use byte_text::{ByteText, ByteTexts, OutOfMemory};
 use std::alloc::Global;
 
-// What stands before the slash of a folder's children.
+// What is before the slash of a folder's children.
 fn front(folder: &[u8]) -> &[u8]
     ensures { result.now ≡ front_of folder.now }
 {
@@ -24,7 +24,7 @@ fn is_name(bytes: &[u8]) -> bool
     !bytes.is_empty() && !bytes.contains(&b'/')
 }
 
-// What stands behind a prefix.
+// What is after a prefix.
 fn after<'a>(prefix: &[u8], bytes: &'a [u8]) -> Option<&'a [u8]>
     ensures { MatchOption result ((rest : List ℕ) → bytes.now ≢ prefix.now ++ rest)
         (λ r. bytes.now ≡ prefix.now ++ r.now) }

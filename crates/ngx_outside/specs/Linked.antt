@@ -104,7 +104,7 @@ set_ended v = record {
 abbrev pub Unchanged : (ℕ → LinkView) → (ℕ → LinkView) → Type 0
 Unchanged old new = (c : ℕ) → new c ≡ old c
 
--- what a notice says of the links, of which so many are open
+-- what a notice says of the links, of which this many are open
 abbrev pub Noticed : Notice → ℕ → (ℕ → LinkView) → (ℕ → LinkView) → Type 0
 Noticed (Opened id local peer) crowd old new = Updated id (begun local peer crowd) old new
 Noticed (Readable id) crowd old new = Updated id (set_due true) old new

@@ -14,14 +14,14 @@ pub record Grow (version later : ℕ) (old new : Trees) : Type 0 where
 abbrev pub Stats : {E : Type 0} → Bool → Tree → List ℕ → Result Node E → Type 0
 Stats tells tree path result = IfOk result (λ node. tells ≡ true → node ≡ node_of (tree path))
 
--- the block that a read lends has exactly so many bytes, those that the file has there where files
+-- the block that a read lends has exactly `count` bytes, those that the file has there where files
 -- tell
 abbrev pub Lends : {E : Type 0} → Bool → Tree → List ℕ → ℕ → ℕ → List ℕ →
     Result (Unit {0}) E → Type 0
 Lends tells tree path start count block result = OnOk result ((length block ≡ count) ×
     (tells ≡ true → HoldsBytes (tree path) start count block))
 
--- A read adds exactly so many bytes, those that the file has there where files tell; one that fails
+-- A read adds exactly `count` bytes, those that the file has there where files tell; one that fails
 -- adds nothing.
 pub record Reads {E : Type 0} (tells : Bool) (tree : Tree) (path : List ℕ) (start count : ℕ)
     (old new : List ℕ) (result : Result (Unit {0}) E) : Type 0 where
@@ -38,7 +38,7 @@ pub record Names (tells : Bool) (tree : Tree) (folder : List ℕ)
   pub there : tells ≡ true → tree folder ≡ AFolder
   pub names : tells ≡ true → (name : List ℕ) → Contains added name ↔ IsChild tree folder name
 
--- no folder stands there
+-- no folder is there
 pub record NoFolder (tells : Bool) (tree : Tree) (folder : List ℕ)
     (old new : List (List ℕ)) : Type 0 where
   pub same : new ≡ old

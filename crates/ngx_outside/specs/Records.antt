@@ -70,7 +70,7 @@ got_of input.NotYet buf = []
 got_of input.End buf = []
 got_of input.Failed buf = []
 
--- the events that stand beside an answer of the links
+-- the events that are beside an answer of the links
 abbrev pub beside_link : LinkAnswer → List Given
 beside_link (Noticed (notice.Opened id local peer)) = Opened id local peer ∷ []
 beside_link (Noticed (notice.Readable id)) = []

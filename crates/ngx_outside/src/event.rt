@@ -62,7 +62,7 @@ pub enum Event<'a> {
 /// What became of an event.
 #[derive(Clone, Copy, Debug, PartialEq, Eq)]
 pub enum StepAnswer {
-    /// It was done. Of bytes that arrived so many were taken; `taken` is 0 for any other event.
+    /// It was done. Of bytes that arrived this many were taken; `taken` is 0 for any other event.
     Done { taken: usize },
     /// It doesn't apply, and nothing changed.
     Skipped,

@@ -40,7 +40,7 @@ impl From<Failed> for FileFault {
 pub enum Listing {
     /// The names of the folder were added.
     Done,
-    /// No folder stands there.
+    /// No folder is there.
     Missing,
 }
 

@@ -30,7 +30,7 @@ pub enum Notice {
 /// What a read gave.
 #[derive(Clone, Copy, Debug, PartialEq, Eq)]
 pub enum Input {
-    /// So many bytes, at least one.
+    /// This many bytes, at least one.
     Got(usize),
     NotYet,
     /// The peer sends no more.
@@ -41,7 +41,7 @@ pub enum Input {
 /// What a write gave.
 #[derive(Clone, Copy, Debug, PartialEq, Eq)]
 pub enum Output {
-    /// So many bytes were taken.
+    /// This many bytes were taken.
     Put(usize),
     NotYet,
     Failed,

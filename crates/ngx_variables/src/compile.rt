@@ -136,7 +136,7 @@ fn dashed(alloc: Global, name: &[u8]) -> Result<ByteText, OutOfMemory>
     Ok(text)
 }
 
-/// What a name in lower case stands for.
+/// What a name in lower case means.
 #[tactic(auto, unfolding(crate::specs::Grammar::piece_named))]
 pub fn piece_named(alloc: Global, name: ByteText) -> Result<Piece, OutOfMemory>
     ensures { IfOk result (λ piece. piece ≡ piece_named name) }
@@ -239,7 +239,7 @@ fn read_piece(alloc: Global, text: &[u8]) -> Result<Step, ValueFault>
 }
 
 impl Value {
-    /// Reads a text: `$name` and `${name}` stand for variables, and all other bytes for themselves. A name is of
+    /// Reads a text: `$name` and `${name}` name variables, and all other bytes mean themselves. A name is of
     /// letters, digits and `_`, in any case; `$1` to `$9` take one digit. A text of literals alone has no fault.
     ///
     /// A name that is no built-in variable's is read as one that some `set` gives a value: whether any does is the

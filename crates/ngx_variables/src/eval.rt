@@ -2,7 +2,7 @@
 ghost use Rattle.std.specs.Prelude.{◌≡◌, ℕ, ◌+◌, ◌-◌, ◌<◌, ◌≤◌, Bool, true, false, List, [], ◌∷◌, ◌++◌, length, decimal, OnOk, OnErr, IfOk, IfSome, Err, option_map};
 ghost use Rattle.std.specs.Net.Text.{ip_text};
 ghost use Rattle.ngx_variables.specs.Words.{protocol_name, question_mark, or_else, behind_host, without_host};
-ghost use Rattle.ngx_variables.specs.Texts.{variable_text, piece_text, pieces_text, no_paths, paths_at, is_too_long, value_text, asks_for_paths, literal_of, IsText};
+ghost use Rattle.ngx_variables.specs.Texts.{line_text, variable_text, piece_text, pieces_text, no_paths, paths_at, is_too_long, value_text, asks_for_paths, literal_of, IsText};
 
 use crate::argument::argument;
 use crate::fault::EvalFault;
@@ -96,6 +96,19 @@ fn append_number(alloc: Global, number: u16, out: &mut ByteText) -> Result<(), O
     Ok(())
 }
 
+/// Writes the request line as it was received (RFC 9112, section 3).
+#[tactic(auto, unfolding(crate::specs::Texts::line_text))]
+fn append_line(main: &Main, out: &mut ByteText) -> Result<(), OutOfMemory>
+    ensures { OnOk result (out.new ≡ out.old ++ line_text main.now) }
+{
+    out.extend(method_name(&main.asked))?;
+    out.push(b' ')?;
+    out.extend(main.target.as_slice())?;
+    out.push(b' ')?;
+    out.extend(protocol_name(main.version))?;
+    Ok(())
+}
+
 /// Writes a built-in variable's text.
 #[tactic(auto, unfolding(crate::specs::Texts::variable_text))]
 fn append_variable(
@@ -120,7 +133,7 @@ fn append_variable(
         Variable::RequestUri => out.extend(without_host(main.target.as_slice()))?,
         Variable::RequestMethod => out.extend(method_name(&main.method))?,
         Variable::ServerProtocol => out.extend(protocol_name(main.version))?,
-        Variable::RequestLine => out.extend(main.received.as_slice())?,
+        Variable::RequestLine => append_line(main, out)?,
         Variable::Host => out.extend(or_else(main.host.as_slice(), main.server_name.as_slice()))?,
         Variable::ContentLength => out.extend(first_field(&main.fields, b"content-length"))?,
         Variable::ContentType => out.extend(first_field(&main.fields, b"content-type"))?,

@@ -10,6 +10,7 @@ use std::alloc::Global;
 
 impl FileRoot {
     /// The same place once more.
+    #[inline(always)]
     pub fn copy(&self, alloc: Global) -> Result<FileRoot, OutOfMemory>
         ensures { IfOk result (λ copy. copy ≡ self.now) }
     {
@@ -111,12 +112,33 @@ fn merge_from(alloc: Global, at: usize, out: &mut ByteText) -> Result<(), OutOfM
 }
 
 /// Drops a slash that is the last byte, from `at` on.
-fn drop_last_slash(at: usize, out: &mut ByteText)
+#[inline(always)]
+pub fn drop_last_slash(at: usize, out: &mut ByteText)
     requires { at ≤ length out.old }
     ensures { out.new ≡ take at out.old ++ without_last_slash (drop at out.old) }
 {
     let size = without_last_slash(&out.as_slice()[at..]).len();
     out.truncate(at + size);
+}
+
+/// Writes the path of a file as `joined` does, but with all its slashes. After want of memory `out` is fit to be dropped
+/// alone.
+#[inline(always)]
+pub fn append_whole(
+    place: &FileRoot,
+    text: &[u8],
+    path: &[u8],
+    folder: &[u8],
+    out: &mut ByteText,
+) -> Result<(), OutOfMemory>
+    ensures { OnOk result (out.new ≡ out.old
+        ++ (start folder.now text.now ++ behind_start place.now text.now path.now)) }
+{
+    let size = folder.len().saturating_add(text.len());
+    out.reserve(size.saturating_add(path.len()).saturating_add(1))?;
+    append_start(folder, text, out)?;
+    append_behind(place, text, path, out)?;
+    Ok(())
 }
 
 /// Writes the path of a file: `text` is what the text of `root` or `alias` evaluates to, `path` the request's path, and
@@ -136,15 +158,13 @@ pub fn joined(
     ensures { OnOk result (out.new ≡ out.old ++ joined place.now text.now path.now folder.now) }
 {
     let at = out.len();
-    let size = folder.len().saturating_add(text.len());
-    out.reserve(size.saturating_add(path.len()).saturating_add(1))?;
-    append_start(folder, text, out)?;
-    append_behind(place, text, path, out)?;
+    append_whole(place, text, path, folder, out)?;
     merge_from(alloc, at, out)?;
     drop_last_slash(at, out);
     Ok(())
 }
 
+#[inline(always)]
 fn append_start(folder: &[u8], text: &[u8], out: &mut ByteText) -> Result<(), OutOfMemory>
     ensures { OnOk result (out.new ≡ out.old ++ start folder.now text.now) }
 {
@@ -155,6 +175,7 @@ fn append_start(folder: &[u8], text: &[u8], out: &mut ByteText) -> Result<(), Ou
     Ok(())
 }
 
+#[inline(always)]
 fn append_behind(
     place: &FileRoot,
     text: &[u8],

@@ -19,7 +19,7 @@ pub use argument::{without_first_spaces, without_last_spaces};
 pub use compile::{Reference, lowercase, piece_named, reference_at};
 pub use date::LocalDate;
 pub use fault::{EvalFault, ValueFault};
-pub use joining::joined;
+pub use joining::{append_whole, drop_last_slash, joined};
 pub use laws::{builtin_is_not_set, settles_behind_value, value_settles};
 pub use request::{FileRoot, Groups, Main, Request, Role, method_name};
 pub use value::{Piece, Value};

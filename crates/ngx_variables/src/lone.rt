@@ -33,7 +33,7 @@ fn held_variable<'a>(variable: Variable, main: &'a Main, request: &'a Request) -
         Variable::RequestUri => Some(without_host(main.target.as_slice())),
         Variable::RequestMethod => Some(method_name(&main.method)),
         Variable::ServerProtocol => Some(protocol_name(main.version)),
-        Variable::RequestLine => Some(main.received.as_slice()),
+        Variable::RequestLine => None,
         Variable::Host => Some(or_else(main.host.as_slice(), main.server_name.as_slice())),
         Variable::ContentLength => Some(first_field(&main.fields, b"content-length")),
         Variable::ContentType => Some(first_field(&main.fields, b"content-type")),

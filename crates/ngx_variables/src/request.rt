@@ -125,8 +125,8 @@ fn write_empty(
 /// What a main request and all its subrequests share. It is there once, beside the requests that refer to it.
 #[derive(Drop)]
 pub struct Main {
-    /// The request line as received: method, target and version.
-    pub received: ByteText,
+    /// The method of the request line.
+    pub asked: Method,
     /// The main request's method now.
     pub method: Method,
     pub version: Version,

@@ -10,7 +10,7 @@ use std::rc::Rc;
 /// A piece of a text with variables.
 #[derive(Drop)]
 pub enum Piece {
-    /// Bytes that stand for themselves.
+    /// Bytes that are taken as they are.
     Literal(ByteText),
     /// `$1` to `$9`: a group of the request's last match.
     Group(u8),
@@ -74,6 +74,7 @@ fn copied(alloc: Global, text: &ByteText) -> Result<ByteText, OutOfMemory>
 }
 
 /// Copies of pieces, one by one.
+#[inline(never)]
 fn copies(alloc: Global, pieces: &[Piece]) -> Result<Vec<Piece>, OutOfMemory>
     ensures { IfOk result (λ copies. copies.items ≡ pieces.now) }
 {
@@ -113,6 +114,7 @@ impl Value {
     }
 
     /// The same value once more. What `compile` read takes no memory for it.
+    #[inline(always)]
     pub fn copy(&self, alloc: Global) -> Result<Value, OutOfMemory>
         ensures { IfOk result (λ copy. copy ≡ self.now) }
     {

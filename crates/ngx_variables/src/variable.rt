@@ -136,7 +136,7 @@ fn variable_in(variables: &[Variable], name: &[u8]) -> Option<Variable>
     None
 }
 
-/// The number of the group that a name of one digit from 1 to 9 stands for.
+/// The number of the group that a name of one digit from 1 to 9 means.
 pub(crate) fn group_numbered(name: &[u8]) -> Option<u8>
     ensures { result ≡ group_numbered name.now }
 {

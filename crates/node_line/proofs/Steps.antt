@@ -11,7 +11,7 @@ use Rattle.family_meaning.specs.Line.{Line, has_node, joined, opened, reply_of, 
 use Rattle.family_meaning.specs.Line.Line.{Nil, Held, Gives, Waits, Stubs}
 use Rattle.family_meaning.specs.Moves.{Quiet, Moves, AllEnd, IsGood, KeepsBody, Thinks as LineThinks}
 use Rattle.family_meaning.specs.Moves.Thinks.{Here, Reads as LineReads, ThereHeld, InWait, InStub}
-use Rattle.family_meaning.specs.Moves.Quiet.{Learns as LineLearns, Places as LinePlaces, Placed as LinePlaced, Merges as LineMerges, Opens as LineOpens, Asks as LineAsks, Hears as LineHears, Leaves as LineLeaves, Keeps as LineKeeps, PastHeld, Within as WithinWait, WithinStub as WithinLineStub}
+use Rattle.family_meaning.specs.Moves.Quiet.{Learns as LineLearns, Places as LinePlaces, Placed as LinePlaced, Merges as LineMerges, Opens as LineOpens, Asks as LineAsks, Hears as LineHears, Leaves as LineLeaves, Chooses as LineChooses, Parts as LineParts, Gone as LineGone, PastHeld, Within as WithinWait, WithinStub as WithinLineStub}
 use Rattle.family_meaning.specs.Moves.Moves.{Quietly, ByTable}
 use Rattle.family_order.specs.Acts.{Does, Acts, Goes}
 use Rattle.family_order.specs.Acts.Acts.{Thinks, Reads, Learns, Places, Placed, Merges, Opens, Asks, Within, Hears, Ends, WithinStub, Decides}
@@ -19,7 +19,7 @@ use Rattle.family_order.specs.Acts.Goes.{Stays, Acting, Alike, Leaving}
 use Rattle.family_order.specs.Items.{Stance, stance_by, Family, IsWell, IsAlike, with_stance, doing, placing, opening, ending}
 use Rattle.family_order.specs.Items.Stance.{Going, Waiting, Apart}
 use Rattle.family_order.specs.Laws.{ShowsTheSame}
-use Rattle.node_line.proofs.Joins.{joins, joins_under, under_front}
+use Rattle.node_line.proofs.Joins.{joins, joins_under}
 use Rattle.family_order.proofs.Wells.{well-doing}
 use Rattle.family_rest.specs.Laws.{IsQuiet}
 use Rattle.family_rest.specs.Opened.{opened_by, opened_going, opened_move, opened_quietly}
@@ -112,12 +112,6 @@ pub under_both : (first second : List ℕ) (line : Line) → under first (under 
 unfolding under
 under_both [] second line = refl
 under_both (b ∷ first) second line = ap (Held (b ∷ [])) (under_both first second line)
-
--- before more
-under_joined : (text : List ℕ) (node left : ℕ) (m : Serving Answer) (rest : Line) → joined (under text (Gives node left m Nil)) rest ≡ under text (Gives node left m rest)
-unfolding under joined
-under_joined [] node left m rest = refl
-under_joined (b ∷ text) node left m rest = ap (Held (b ∷ [])) (under_joined text node left m rest)
 
 -- the reply of one node that has come to its answer
 line_ended : (node left : ℕ) (text : List ℕ) (answer : Answer) → line_reply (under text (Gives node left (Done answer) Nil)) None ≡ Some (reply_of answer text)
@@ -328,15 +322,33 @@ module _ (w : World) (tree : Tree) (laws : ShowsTheSame) (h at left : ℕ) (f : 
       subst (λ n. Opening w tree 1 (doing h (owned own (filling spot (Gives at n (Call child k) rest))) f) vars (doing h (owned own (filling spot (Waits at (opened w number l child Nil) n k rest))) f) vars) (sym deep)
       (own_quiet w tree laws h f goes_on 1 own spot (Gives at (suc l) (Call child k) rest) (Waits at (opened w number l child Nil) (suc l) k rest) vars (record { quiet = LineAsks number; counts = refl }))
 
-  -- its body is kept, and is in the place of its stub
-  pub keeps_inside : (stub text : List ℕ) (answer : Answer) (vars : Vars) → text ≢ [] → IsGood answer →
+  -- bytes that wait after others, with a line after them
+  waiting : (text more : List ℕ) → Line → Family
+  waiting text more line = doing h (owned own (filling (Behind text spot) (Held more line))) f
+
+  -- they wait one by one
+  parts : (text more : List ℕ) (line : Line) (vars : Vars) → Opening w tree 0 (waiting text more line) vars (doing h (owned own (filling (Behind (text ++ more) spot) line)) f) vars
+  unfolding waiting under
+  parts text [] line vars =
+      subst (λ t. Opening w tree 0 (waiting text [] line) vars (doing h (owned own (filling (Behind t spot) line)) f) vars) (sym (append-nil text))
+      (own_quiet w tree laws h f goes_on 0 own (Behind text spot) (Held [] line) line vars (record { quiet = LineGone; counts = refl }))
+  parts text (b ∷ more) line vars =
+      then (own_quiet w tree laws h f goes_on 0 own (Behind text spot) (Held (b ∷ more) line) (Held (b ∷ []) (Held more line)) vars (record { quiet = LineParts {some = b ∷ []} {more = more}; counts = refl }))
+      (subst (λ x. Opening w tree 0 (doing h (owned own (filling spot x)) f) vars (doing h (owned own (filling (Behind (text ++ (b ∷ more)) spot) line)) f) vars) (sym (under_both text (b ∷ []) (Held more line)))
+      (subst (λ t. Opening w tree 0 (waiting (text ++ b ∷ []) more line) vars (doing h (owned own (filling (Behind t spot) line)) f) vars) (append_assoc text (b ∷ []) more)
+      (parts (text ++ b ∷ []) more line vars)))
+
+  -- it has come to its answer, and its body or its stub is in its place
+  pub chosen_inside : (stub text : List ℕ) (answer : Answer) (vars : Vars) →
       Opening w tree 0 (doing h (owned own (filling spot (Stubs (under text (Gives at left (Done answer) Nil)) stub rest))) f) vars
-      (doing h (owned own (filling spot (under text (Gives at left (Done answer) rest)))) f) vars
-  keeps_inside stub text answer vars some good =
+      (doing h (owned own (filling spot (under (or_stub (Some stub) answer.status text) (Gives at left (Done answer) rest)))) f) vars
+  unfolding waiting under
+  chosen_inside stub text answer vars =
       let line = under text (Gives at left (Done answer) Nil) in
-      subst (λ x. Opening w tree 0 (doing h (owned own (filling spot (Stubs line stub rest))) f) vars (doing h (owned own (filling spot x)) f) vars) (under_joined text at left (Done answer) rest)
-      (own_quiet w tree laws h f goes_on 0 own spot (Stubs line stub rest) (joined line rest) vars
-      (record { quiet = LineKeeps (keeps_under w tree text at left (Done answer) good) (under_front w tree f vars at left stub (Done answer) text some); counts = refl }))
+      let chosen = or_stub (Some stub) answer.status text in
+      then (own_quiet w tree laws h f goes_on 0 own spot (Stubs line stub rest) (Held chosen (Gives at left (Done answer) rest)) vars
+      (record { quiet = LineChooses at left (reply_of answer text) (line_ended at left text answer); counts = refl }))
+      (parts [] chosen (Gives at left (Done answer) rest) vars)
 
   -- it asks for the reply of one
   pub asks_inside : (number l : ℕ) (child : Child) (k : Reply → Serving Answer) (vars : Vars) → left ≡ suc l → child.stub ≡ None →

@@ -9,6 +9,7 @@ use Rattle.ngx_variables.specs.declared.request.Main.{Main}
 use Rattle.site_model.specs.declared.site.Site.{Site}
 use Rattle.postpone_filter.specs.Row.{Row as Order, appended, ended, is_open}
 use Rattle.request_meaning.specs.Serving.{World, Serving, Answer, Reply}
+use Rattle.request_meaning.specs.Replies.{or_stub}
 use Rattle.family_meaning.specs.Line.{Line, has_node}
 use Rattle.family_meaning.specs.Line.Line.{Nil, Gives, Waits}
 use Rattle.family_order.specs.Items.{Stance, Family, IsWell, doing, is_shown}
@@ -103,24 +104,25 @@ module _ (d : Doing) (nodes : List Node) (d' : Doing) (nodes' : List Node) (par 
 
 -- ---- the steps
 
--- it is in the place of its stub
-keeps_part : (w : World) (tree : Tree) (laws : ShowsTheSame) (h at left : ℕ) (f : Family) (goes_on : is_open h f.row.pieces ≡ true) (own : Own) (spot : Spot) (rest : Line) (stub : Option (List ℕ)) (text : List ℕ) (answer : Answer) (vars : Vars) →
-    (is_some stub ≡ true → (text ≢ []) × IsGood answer) →
-    Opening w tree 0 (doing h (owned own (filling spot (waits_too.part stub text at left (Done answer) rest))) f) vars (doing h (owned own (filling spot (under text (Gives at left (Done answer) rest)))) f) vars
-keeps_part w tree laws h at left f goes_on own spot rest None text answer vars shown = steps.stays
-keeps_part w tree laws h at left f goes_on own spot rest (Some stub) text answer vars shown =
-    let is = shown refl in
-    steps.keeps_inside w tree laws h at left f goes_on own spot rest stub text answer vars is.0 is.1
+-- its body or its stub is in its place
+chosen_part : (w : World) (tree : Tree) (laws : ShowsTheSame) (h at left : ℕ) (f : Family) (goes_on : is_open h f.row.pieces ≡ true) (own : Own) (spot : Spot) (rest : Line) (stub : Option (List ℕ)) (text : List ℕ) (answer : Answer) (vars : Vars) →
+    Opening w tree 0 (doing h (owned own (filling spot (waits_too.part stub text at left (Done answer) rest))) f) vars (doing h (owned own (filling spot (under (or_stub stub answer.status text) (Gives at left (Done answer) rest)))) f) vars
+chosen_part w tree laws h at left f goes_on own spot rest None text answer vars = steps.stays
+chosen_part w tree laws h at left f goes_on own spot rest (Some stub) text answer vars = steps.chosen_inside w tree laws h at left f goes_on own spot rest stub text answer vars
 
 module _ (laws : ShowsTheSame) (w : World) (patterns : List SetPattern) (site : Site) (main : Main) (row : Order) (nodes nodes' : List Node) (texts : ℕ → List ℕ) (par at : ℕ) (p p' old : Node)
     (r : Waits_too (doing_by w patterns site main texts) nodes' (doing_by w patterns site main texts) nodes par at p' p old) (like : StandsAs p' p) (up : ℕ) (heard_so : is_heard up nodes' par p' ≡ true)
     (tree : Tree) (vars : Vars) (open_at : is_open at row.pieces ≡ true) (well : IsWell (seen w patterns site main row nodes texts))
-    (closed : (j : ℕ) → is_open j (ended at row).pieces ≡ cond (j == at) false (is_open j row.pieces)) (answer : Answer) (done : node_act w patterns site main old (texts at) ≡ Done answer) (is_shown_so : is_some (stub_in old.place) ≡ true → (held_text old.place ≢ []) × IsGood answer) (same_left : p'.left ≡ p.left) where
+    (closed : (j : ℕ) → is_open j (ended at row).pieces ≡ cond (j == at) false (is_open j row.pieces)) (answer : Answer) (done : node_act w patterns site main old (texts at) ≡ Done answer) (same_left : p'.left ≡ p.left) where
   abbrev before : Family
   before = seen w patterns site main row nodes texts
 
   abbrev after : Family
   after = seen w patterns site main (ended at row) nodes' texts
+
+  -- the bytes that are in its place
+  abbrev chosen : List ℕ
+  chosen = or_stub (stub_in old.place) answer.status (held_text old.place)
 
   abbrev act : Node → Serving Answer
   act n = node_act w patterns site main n (texts par)
@@ -146,31 +148,31 @@ module _ (laws : ShowsTheSame) (w : World) (patterns : List SetPattern) (site : 
     alone_then = waits_too.alone_is (doing_by w patterns site main texts) nodes' (doing_by w patterns site main texts) nodes par at p' p old r most_levels up 1 q like
 
     -- its bytes come after those of the node
-    pub leaves : is_capturing p.stage ≡ false → held_text p'.place ≡ held_text p.place ++ held_text old.place → act p' ≡ act p → Opening w tree 0 before vars after vars
+    pub leaves : is_capturing p.stage ≡ false → held_text p'.place ≡ held_text p.place ++ chosen → act p' ≡ act p → Opening w tree 0 before vars after vars
     unfolding has_node
     leaves e held does =
         let rest = Gives par p.left (act p) q.rest in
         let line : List ℕ → ℕ → Serving Answer → Stance = λ t l m. owned q.own (filling (Behind t q.spot) (Gives par l m q.rest)) in
-        let then = held_text p.place ++ held_text old.place in
+        let then = held_text p.place ++ chosen in
         steps.alike (framing.begins laws w patterns site main row nodes texts q.h (owned q.own (filling (Behind (held_text p.place) q.spot) (waits_too.part (stub_in old.place) (held_text old.place) at old.left (Done answer) rest)))
         (waits_too.included_is (doing_by w patterns site main texts) nodes' (doing_by w patterns site main texts) nodes par at p' p old r most_levels up 1 q like e
         ∙ ap (λ m. owned q.own (filling (Behind (held_text p.place) q.spot) (waits_too.part (stub_in old.place) (held_text old.place) at old.left m rest))) done))
-        (steps.then (keeps_part w tree laws q.h at old.left before open_h q.own (Behind (held_text p.place) q.spot) rest (stub_in old.place) (held_text old.place) answer vars is_shown_so)
-        (steps.then (steps.leaves_inside w tree laws q.h at old.left before open_h q.own q.spot rest (held_text p.place) (held_text old.place) answer vars refl)
+        (steps.then (chosen_part w tree laws q.h at old.left before open_h q.own (Behind (held_text p.place) q.spot) rest (stub_in old.place) (held_text old.place) answer vars)
+        (steps.then (steps.leaves_inside w tree laws q.h at old.left before open_h q.own q.spot rest (held_text p.place) chosen answer vars refl)
         (framing.ends laws w patterns site main row nodes texts nodes' q.h others_then at (line then p.left (act p)) (shown q.own (filling (Behind then q.spot) rest))
         (sym (alone_then ∙ ap (λ t. line t p'.left (act p')) held ∙ ap (λ l. line then l (act p')) same_left ∙ ap (line then p.left) does))
         well open_at hidden other closed tree vars)))
 
     -- the node hears its reply
-    pub told : is_capturing p.stage ≡ true → held_text p'.place ≡ held_text p.place → act p' ≡ node_heard w patterns site main p (texts par) (held_text old.place) → Opening w tree 0 before vars after vars
+    pub told : is_capturing p.stage ≡ true → held_text p'.place ≡ held_text p.place → act p' ≡ node_heard w patterns site main p (texts par) chosen → Opening w tree 0 before vars after vars
     told e held does =
         let line : List ℕ → ℕ → Serving Answer → Stance = λ t l m. owned q.own (filling (Behind t q.spot) (Gives par l m q.rest)) in
-        let now = node_heard w patterns site main p (texts par) (held_text old.place) in
+        let now = node_heard w patterns site main p (texts par) chosen in
         steps.alike (framing.begins laws w patterns site main row nodes texts q.h (owned q.own (filling (Behind (held_text p.place) q.spot) (Waits par (waits_too.part (stub_in old.place) (held_text old.place) at old.left (Done answer) Nil) p.left heard q.rest)))
         (waits_too.asked_is (doing_by w patterns site main texts) nodes' (doing_by w patterns site main texts) nodes par at p' p old r most_levels up 1 q like e
         ∙ ap (λ m. owned q.own (filling (Behind (held_text p.place) q.spot) (Waits par (waits_too.part (stub_in old.place) (held_text old.place) at old.left m Nil) p.left heard q.rest))) done))
-        (steps.then (keeps_part w tree laws q.h at old.left before open_h q.own (For par p.left heard q.rest (Behind (held_text p.place) q.spot)) Nil (stub_in old.place) (held_text old.place) answer vars is_shown_so)
-        (steps.then (steps.hears_inside w tree laws q.h par p.left before open_h q.own (Behind (held_text p.place) q.spot) q.rest at old.left (held_text old.place) answer heard vars)
+        (steps.then (chosen_part w tree laws q.h at old.left before open_h q.own (For par p.left heard q.rest (Behind (held_text p.place) q.spot)) Nil (stub_in old.place) (held_text old.place) answer vars)
+        (steps.then (steps.hears_inside w tree laws q.h par p.left before open_h q.own (Behind (held_text p.place) q.spot) q.rest at old.left chosen answer heard vars)
         (framing.ends laws w patterns site main row nodes texts nodes' q.h others_then at (line (held_text p.place) p.left now) (shown q.own (filling (Behind (held_text p.place) q.spot) (Gives par p.left now q.rest)))
         (sym (alone_then ∙ ap (λ t. line t p'.left (act p')) held ∙ ap (λ l. line (held_text p.place) l (act p')) same_left ∙ ap (line (held_text p.place) p.left) does))
         well open_at hidden other closed tree vars)))
@@ -178,15 +180,15 @@ module _ (laws : ShowsTheSame) (w : World) (patterns : List SetPattern) (site : 
   -- ---- in the row
 
   module _ (is_row : p.place ≡ Row) (row_then : p'.place ≡ Row) (open_par : is_open par row.pieces ≡ true) (other : (at == par) ≡ false) where
-    pub row_told : act p' ≡ node_heard w patterns site main p (texts par) (held_text old.place) → Opening w tree 0 before vars after vars
+    pub row_told : act p' ≡ node_heard w patterns site main p (texts par) chosen → Opening w tree 0 before vars after vars
     row_told does =
-        let now : Stance = Going p.left (node_heard w patterns site main p (texts par) (held_text old.place)) in
+        let now : Stance = Going p.left (node_heard w patterns site main p (texts par) chosen) in
         let f = doing par now before in
         steps.alike (framing.begins laws w patterns site main row nodes texts par (Waiting (waits_too.part (stub_in old.place) (held_text old.place) at old.left (Done answer) Nil) p.left heard)
         (waits_too.row_asked_is (doing_by w patterns site main texts) nodes' (doing_by w patterns site main texts) nodes par at p' p old r most_levels is_row
         ∙ ap (λ m. Waiting (waits_too.part (stub_in old.place) (held_text old.place) at old.left m Nil) p.left heard) done))
-        (steps.then (keeps_part w tree laws par at old.left before open_par (Below p.left heard) Whole Nil (stub_in old.place) (held_text old.place) answer vars is_shown_so)
-        (steps.then (steps.heard w tree laws par at old.left before open_par p.left heard (held_text old.place) answer vars f (laws.others f f.stance (λ j e. refl)))
+        (steps.then (chosen_part w tree laws par at old.left before open_par (Below p.left heard) Whole Nil (stub_in old.place) (held_text old.place) answer vars)
+        (steps.then (steps.heard w tree laws par at old.left before open_par p.left heard chosen answer vars f (laws.others f f.stance (λ j e. refl)))
         (framing.ends laws w patterns site main row nodes texts nodes' par
         (λ j e. sym (waits_too.row_others_same (doing_by w patterns site main texts) nodes' (doing_by w patterns site main texts) nodes par at p' p old r most_levels up heard_so like.captured like.parent (ap is_captured row_then) j e))
         at now refl
@@ -198,9 +200,9 @@ module _ (laws : ShowsTheSame) (w : World) (patterns : List SetPattern) (site : 
 module _ (laws : ShowsTheSame) (w : World) (patterns : List SetPattern) (site : Site) (main : Main) (row : Order) (nodes nodes' : List Node) (texts : ℕ → List ℕ) (par at : ℕ) (p p' old : Node)
     (r : Waits_too (doing_by w patterns site main texts) nodes' (doing_by w patterns site main texts) nodes par at p' p old) (same_parent : p.parent ≡ p'.parent) (up : ℕ) (heard_so : is_heard up nodes' par p' ≡ true)
     (tree : Tree) (vars : Vars) (open_at : is_open at row.pieces ≡ true) (open_par : is_open par row.pieces ≡ true) (well : IsWell (seen w patterns site main row nodes texts))
-    (opened : (j : ℕ) → is_open j (appended par (held_text old.place) row).pieces ≡ is_open j row.pieces)
-    (closed : (j : ℕ) → is_open j (ended at (appended par (held_text old.place) row)).pieces ≡ cond (j == at) false (is_open j row.pieces)) (answer : Answer) (done : node_act w patterns site main old (texts at) ≡ Done answer) (is_shown_so : is_some (stub_in old.place) ≡ true → (held_text old.place ≢ []) × IsGood answer)
-    (stub : List ℕ) (place : p.place ≡ Stub stub []) (row_then : p'.place ≡ Row) (free : is_capturing p.stage ≡ false) (good : AllEnd IsGood (node_act w patterns site main p (texts par))) (some : held_text old.place ≢ [])
+    (answer : Answer) (opened : (j : ℕ) → is_open j (appended par (or_stub (stub_in old.place) answer.status (held_text old.place)) row).pieces ≡ is_open j row.pieces)
+    (closed : (j : ℕ) → is_open j (ended at (appended par (or_stub (stub_in old.place) answer.status (held_text old.place)) row)).pieces ≡ cond (j == at) false (is_open j row.pieces)) (done : node_act w patterns site main old (texts at) ≡ Done answer)
+    (stub : List ℕ) (place : p.place ≡ Stub stub []) (row_then : p'.place ≡ Row) (free : is_capturing p.stage ≡ false) (good : AllEnd IsGood (node_act w patterns site main p (texts par))) (some : or_stub (stub_in old.place) answer.status (held_text old.place) ≢ [])
     (same_left : p'.left ≡ p.left) (does : node_act w patterns site main p' (texts par) ≡ node_act w patterns site main p (texts par)) (other : (at == par) ≡ false) where
   abbrev then_seen : Family
   then_seen = seen w patterns site main row nodes texts
@@ -220,23 +222,24 @@ module _ (laws : ShowsTheSame) (w : World) (patterns : List SetPattern) (site : 
       ∙ ap (λ q. line (under (held_text q) (waits_too.part (stub_in old.place) (held_text old.place) at old.left (node_act w patterns site main old (texts at)) (Gives par p.left (node_act w patterns site main p (texts par)) Nil)))) place
       ∙ ap (λ m. line (waits_too.part (stub_in old.place) (held_text old.place) at old.left m (Gives par p.left (node_act w patterns site main p (texts par)) Nil))) done
 
-  pub shows : Opening w tree 0 (seen w patterns site main row nodes texts) vars (seen w patterns site main (ended at (appended par (held_text old.place) row)) nodes' texts) vars
+  pub shows : Opening w tree 0 (seen w patterns site main row nodes texts) vars (seen w patterns site main (ended at (appended par (or_stub (stub_in old.place) answer.status (held_text old.place)) row)) nodes' texts) vars
   unfolding has_node under
   shows =
       let text = held_text old.place in
+      let chosen = or_stub (stub_in old.place) answer.status text in
       let act = node_act w patterns site main p (texts par) in
       let rest = Gives par p.left act Nil in
       let now : Stance = Going p.left act in
-      let row' = appended par text row in
+      let row' = appended par chosen row in
       steps.alike (framing.begins laws w patterns site main row nodes texts par (Apart (waits_too.part (stub_in old.place) text at old.left (Done answer) rest) stub) waits_so)
-      (steps.then (keeps_part w tree laws par at old.left then_seen open_par (Beside stub) Whole rest (stub_in old.place) text answer vars is_shown_so)
-      (steps.then (steps.leaves_inside w tree laws par at old.left then_seen open_par (Beside stub) Whole rest [] text answer vars refl)
-      (steps.then (steps.joins_held w tree laws par p.left then_seen open_par stub text act vars some good well (opened par ∙ open_par))
+      (steps.then (chosen_part w tree laws par at old.left then_seen open_par (Beside stub) Whole rest (stub_in old.place) text answer vars)
+      (steps.then (steps.leaves_inside w tree laws par at old.left then_seen open_par (Beside stub) Whole rest [] chosen answer vars refl)
+      (steps.then (steps.joins_held w tree laws par p.left then_seen open_par stub chosen act vars some good well (opened par ∙ open_par))
       (framing.ends laws w patterns site main row' nodes texts nodes' par
       (λ j e. sym (waits_too.row_others_same (doing_by w patterns site main texts) nodes' (doing_by w patterns site main texts) nodes par at p' p old r most_levels up heard_so
       (ap is_captured place ∙ sym (ap is_captured row_then)) same_parent (ap is_captured row_then) j e))
       at now refl
       (sym (in_row_is (doing_by w patterns site main texts) nodes' most_levels par p' r.there row_then r.free ∙ ap (λ l. Going l (node_act w patterns site main p' (texts par))) same_left ∙ ap (Going p.left) does))
-      (well-append par text then_seen well) (opened at ∙ open_at)
+      (well-append par chosen then_seen well) (opened at ∙ open_at)
       (waits_too.member_hidden (doing_by w patterns site main texts) nodes' (doing_by w patterns site main texts) nodes par at p' p old r most_levels) other
       (λ j. closed j ∙ ap (cond (j == at) false) (sym (opened j))) tree vars))))

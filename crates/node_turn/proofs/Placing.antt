@@ -1,5 +1,5 @@
 -- Bytes of a node that are placed.
-use Rattle.std.proofs.Common.{◌≤◌, ℕ, ◌+◌, List, [], ◌++◌, length, take, drop, Option, None, Some, refl, sym, ap, ◌∙◌, append-nil, append_assoc, take-append-drop, drop-drop, drop_of_length-le}
+use Rattle.std.proofs.Common.{◌≡◌, ◌≤◌, ◌∷◌, arith, ℕ, ◌+◌, List, [], ◌++◌, length, take, drop, Option, None, Some, refl, sym, ap, ◌∙◌, append-nil, append_assoc, take-append-drop, drop-drop, drop_of_length-le}
 use Rattle.acts.specs.Vars.{Vars}
 use Rattle.acts.specs.Act.{Done, Write}
 use Rattle.site_model.specs.declared.site.Site.{Site}
@@ -7,7 +7,9 @@ use Rattle.request_meaning.specs.Serving.{World, Serving, Answer}
 use Rattle.request_phases.specs.declared.state.Phases.{Phases}
 use Rattle.std.specs.Global.{Box}
 use Rattle.page_body.specs.declared.page.Page.{Page}
-use Rattle.node_turn.specs.Nodes.{page_at, placed_act, served_act}
+use Rattle.node_turn.specs.Nodes.{later, padded, page_at, placed_act, served_act}
+use Rattle.node_turn.specs.declared.node.Body.{Body}
+use Rattle.node_turn.proofs.Phased.{none_behind}
 use Rattle.node_turn.specs.Turns.{Works, PlacesAs}
 use Rattle.node_turn.specs.Turns.Works.{Rests, Placed}
 use Rattle.node_turn.proofs.Serving.{same_work, both}
@@ -57,6 +59,21 @@ module _ (w : World) (site : Site) (p : Phases) (left : ℕ) (answer : Answer) w
   all_so None bytes from later vars e = same_work (ap (λ t. Write (t ++ later) (Done answer)) (drop_of_length-le bytes e))
   all_so (Some page) bytes from later vars e =
       both (same_work (ap (λ t. Write t (page_at w site p left answer page.value later)) (drop_of_length-le bytes e))) (Placed Rests)
+
+  -- and nothing more comes
+  pub over_so : (page : Option (Box Page)) (bytes : List ℕ) (from : ℕ) (later : List ℕ) (vars : Vars) → length bytes ≤ from → page ≡ None → later ≡ [] →
+      Works vars (placed_act w site p left answer page (drop from bytes) later) (Done answer)
+  over_so page bytes from later vars e none h =
+      both (same_work (ap (λ y. placed_act w site p left answer y (drop from bytes) later) none
+      ∙ (ap (λ t. Write (t ++ later) (Done answer)) (drop_of_length-le bytes e) ∙ ap (λ t. Write t (Done answer)) h))) (Placed Rests)
+
+-- nothing more comes of a source with no text and no bytes of a file
+pub nothing_later : (b : Body) (text : List ℕ) → length b.source.text ≡ 0 → b.source.left ≡ 0 → later b text ≡ []
+nothing_later b text t n = ap (λ m. b.source.text ++ padded m text) n ∙ (none_behind b.source.text text ∙ nil b.source.text t)
+  where
+    nil : (xs : List ℕ) → length xs ≡ 0 → xs ≡ []
+    nil [] h = refl
+    nil (x ∷ xs) h = absurd (omega (arith, h))
 
 -- and then the node goes on
 pub then_works : (some : List ℕ) (old mid new : Serving Answer) → PlacesAs some old mid → ((vars : Vars) → Works vars mid new) → PlacesAs some old new

@@ -159,7 +159,7 @@ unfoldable pub page_at : World → Site → Phases → (left : ℕ) → Answer �
 page_at w site p left answer page bytes =
     document_rest w answer (doc_at site p left page.document) (marks (waiting page)) (machines w page.facts) (stages_of page) bytes
 
--- the same behind a subrequest whose body goes into the variable of this name
+-- the same after a subrequest whose body goes into the variable of this name
 unfoldable pub captured_at : World → Site → Phases → (left : ℕ) → Answer → Page → (bytes name text : List ℕ) → Serving Answer
 captured_at w site p left answer page bytes name text = do
   doc ← captured (doc_at site p left page.document) name text
@@ -205,7 +205,7 @@ stage_act w patterns site p left path (Captures c) text =
     captured_act w site p left (answer_seen site p c.body.value.answered) c.body.value.page (later c.body.value text) c.name c.text
 stage_act w patterns site p left path (Ends b) text = Done (answer_seen site p b.value.answered)
 
--- the same behind a subrequest for whose body the node waits
+-- the same after a subrequest for whose body the node waits
 abbrev pub stage_heard : World → List SetPattern → Site → Phases → (left : ℕ) → (path : List ℕ) → Stage → (text body : List ℕ) → Serving Answer
 stage_heard w patterns site p left path (Begins ssi) text body = stage_act w patterns site p left path (Begins ssi) text
 stage_heard w patterns site p left path (Asks wait ssi) text body = stage_act w patterns site p left path (Asks wait ssi) text

@@ -125,7 +125,7 @@ held_more bytes (Captured stub text) = Captured stub (text ++ bytes)
 abbrev pub node_act : World → List SetPattern → Site → Main → Node → (text : List ℕ) → Serving Answer
 node_act w patterns site main n text = stage_act w patterns site (lent main n.phases) n.left (asked_path n.ask) n.stage text
 
--- and behind a subrequest for whose body it waits
+-- and after a subrequest for whose body it waits
 abbrev pub node_heard : World → List SetPattern → Site → Main → Node → (text body : List ℕ) → Serving Answer
 node_heard w patterns site main n text body = stage_heard w patterns site (lent main n.phases) n.left (asked_path n.ask) n.stage text body
 

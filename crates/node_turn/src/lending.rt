@@ -12,8 +12,27 @@ pub fn lend(main: &mut Main, phases: &mut Phases)
     ensures main { main.new ≡ of_method main.old.method phases.old.main }
     ensures phases { phases.new ≡ lent main.old phases.old }
 {
-    swap(main, &mut phases.main);
-    swap(&mut main.method, &mut phases.main.method);
+    swap_parts(main, &mut phases.main);
+}
+
+/// Lets all parts of two main requests change places, but for their methods: part by part, since
+/// each is small.
+fn swap_parts(one: &mut Main, other: &mut Main)
+    ensures one { one.new ≡ of_method one.old.method other.old }
+    ensures other { other.new ≡ of_method other.old.method one.old }
+{
+    swap(&mut one.asked, &mut other.asked);
+    swap(&mut one.version, &mut other.version);
+    swap(&mut one.target, &mut other.target);
+    swap(&mut one.host, &mut other.host);
+    swap(&mut one.server_name, &mut other.server_name);
+    swap(&mut one.local, &mut other.local);
+    swap(&mut one.peer, &mut other.peer);
+    swap(&mut one.moment, &mut other.moment);
+    swap(&mut one.tree, &mut other.tree);
+    swap(&mut one.date, &mut other.date);
+    swap(&mut one.fields, &mut other.fields);
+    swap(&mut one.folder, &mut other.folder);
 }
 
 /// Lets the methods alone of the two change places: so what a node's phases see of the main request

@@ -11,28 +11,29 @@ ghost use Rattle.ssi_exec.specs.declared.document.Scene.{Scene as SceneView};
 ghost use Rattle.acts.specs.Act.{Done};
 ghost use Rattle.page_body.specs.Pages.{Does, page_rest, stop_of, waits};
 ghost use Rattle.node_turn.specs.Nodes.{answer_seen, captured_act, captured_at, hand, later, page_at, served_act};
-ghost use Rattle.node_turn.specs.Served.{ServesTo, is_spent as source_spent};
+ghost use Rattle.node_turn.specs.Served.{ServesTo, WaitsAt, is_spent as source_spent};
 ghost use Rattle.node_turn.specs.Turns.{IsSceneOf};
 
 use crate::node::{Body, Capture, Source, Stage};
-use crate::slot::take;
+use crate::slot::{put, take};
 use byte_text::{ByteText, OutOfMemory};
 use ngx_variables::VarTable;
 use page_body::{Doing, Page};
 use ssi_exec::{Child, Scene};
 use std::alloc::Global;
 
-/// What a body comes to where its next part is taken up.
+/// What a node comes to where the next part of its body is taken up: how far it is then is put at
+/// its stage.
 #[derive(Drop)]
 pub(crate) enum Served {
     /// The node goes on.
-    On(Stage),
+    On,
     /// The body of a subrequest comes here, and the node goes on with its page.
-    Opens(Child, Box<Body>),
+    Opens(Child),
     /// A subrequest is asked for, whose body goes into a variable.
-    Asks(Child, Capture),
+    Asks(Child),
     /// A block of its file is to be asked.
-    Wants(Box<Body>),
+    Wants,
 }
 
 /// A body of which these bytes are placed next, with its page again.
@@ -102,45 +103,54 @@ fn finished(alloc: Global, page: Box<Page>) -> Result<Box<Page>, OutOfMemory>
 }
 
 /// More of what a page is made of: its text; else a block of its file is to be asked; else it has
-/// come to its end.
+/// come to its end. It is rare, and isn't inlined: its values are large.
+#[inline(never)]
 fn more(
     alloc: Global,
     scene: &Scene<'_>,
+    stage: &mut Stage,
     body: Box<Body>,
     page: Box<Page>,
 ) -> Result<Served, OutOfMemory>
     requires { waits page.value ≡ false }
-    ensures { IfOk result (λ served. (g : GroundView) (p : PhasesView) (levels : ℕ)
+    ensures acts { IfOk result (λ served. (g : GroundView) (p : PhasesView) (levels : ℕ)
         (patterns : List SetPattern) (path file : List ℕ) (vars : Vars)
         → IsSceneOf g p levels scene.now
         → ServesTo g p levels patterns path file vars
         (page_at (world_in patterns g shipped) g.site.now p levels
         (answer_seen g.site.now p body.value.answered) page.value
-        (later body.value file)) served) }
+        (later body.value file)) stage.new served) }
+    ensures waits { IfOk result (λ served. WaitsAt served stage.new) }
 {
     let none = ByteText::new(alloc);
     if !body.source.text.is_empty() {
         let page = fed(alloc, page, body.source.text.as_slice())?;
         let body = with_bytes(without_text(alloc, body), none, Some(page));
-        return Ok(Served::On(Stage::Serves(body)));
+        put(stage, Stage::Serves(body));
+        return Ok(Served::On);
     }
     if !is_spent(&body.source) {
-        return Ok(Served::Wants(with_bytes(body, none, Some(page))));
+        let body = with_bytes(body, none, Some(page));
+        put(stage, Stage::Serves(body));
+        return Ok(Served::Wants);
     }
     let page = finished(alloc, page)?;
-    Ok(Served::On(Stage::Serves(with_bytes(body, none, Some(page)))))
+    let body = with_bytes(body, none, Some(page));
+    put(stage, Stage::Serves(body));
+    Ok(Served::On)
 }
 
 /// What is done for the next part of a page.
 fn done(
     alloc: Global,
     scene: &Scene<'_>,
+    stage: &mut Stage,
     body: Box<Body>,
     page: Box<Page>,
     doing: Doing,
 ) -> Result<Served, OutOfMemory>
     requires { stop_of doing ≡ Some false → waits page.value ≡ false }
-    ensures { IfOk result (λ served. (g : GroundView) (p : PhasesView) (levels : ℕ)
+    ensures acts { IfOk result (λ served. (g : GroundView) (p : PhasesView) (levels : ℕ)
         (patterns : List SetPattern) (path file : List ℕ) (vars : Vars) (old : Serving Answer)
         → IsSceneOf g p levels scene.now
         → let w = world_in patterns g shipped in
@@ -149,20 +159,24 @@ fn done(
         Does p.main vars doing old new
         (captured_at w g.site.now p levels answer page.value (later body.value file))
         → (stop_of doing ≡ Some true → source_spent body.value.source ≡ true → old ≡ Done answer)
-        → ServesTo g p levels patterns path file vars old served) }
+        → ServesTo g p levels patterns path file vars old stage.new served) }
+    ensures waits { IfOk result (λ served. WaitsAt served stage.new) }
 {
     match doing {
         Doing::Nothing => {
             let body = with_bytes(body, ByteText::new(alloc), Some(page));
-            Ok(Served::On(Stage::Serves(body)))
+            put(stage, Stage::Serves(body));
+            Ok(Served::On)
         }
         Doing::Writes(text) => {
             let body = with_bytes(body, text, Some(page));
-            Ok(Served::On(Stage::Places(body)))
+            put(stage, Stage::Places(body));
+            Ok(Served::On)
         }
         Doing::Includes(child) => {
             let body = with_bytes(body, ByteText::new(alloc), Some(page));
-            Ok(Served::Opens(child, body))
+            put(stage, Stage::Serves(body));
+            Ok(Served::Opens(child))
         }
         Doing::Captures { name, child } => {
             let none = ByteText::new(alloc);
@@ -172,14 +186,16 @@ fn done(
                 name,
                 text: none,
             };
-            Ok(Served::Asks(child, capture))
+            put(stage, Stage::Captures(capture));
+            Ok(Served::Asks(child))
         }
-        Doing::NeedsMore => Ok(more(alloc, scene, body, page)?),
+        Doing::NeedsMore => Ok(more(alloc, scene, stage, body, page)?),
         Doing::Over => {
             if !is_spent(&body.source) {
                 return Err(OutOfMemory);
             }
-            Ok(Served::On(Stage::Ends(body)))
+            put(stage, Stage::Ends(body));
+            Ok(Served::On)
         }
     }
 }
@@ -189,19 +205,21 @@ fn page_serves(
     alloc: Global,
     scene: &Scene<'_>,
     vars: &VarTable,
+    stage: &mut Stage,
     body: Box<Body>,
     page: Box<Page>,
 ) -> Result<Served, OutOfMemory>
-    ensures { IfOk result (λ served. (g : GroundView) (p : PhasesView) (levels : ℕ)
+    ensures acts { IfOk result (λ served. (g : GroundView) (p : PhasesView) (levels : ℕ)
         (patterns : List SetPattern) (path file : List ℕ) → IsSceneOf g p levels scene.now
         → ServesTo g p levels patterns path file vars.now
         (page_at (world_in patterns g shipped) g.site.now p levels
         (answer_seen g.site.now p body.value.answered) page.value
-        (later body.value file)) served) }
+        (later body.value file)) stage.new served) }
+    ensures waits { IfOk result (λ served. WaitsAt served stage.new) }
 {
     let mut page = page;
     let doing = page.next(alloc, scene, vars)?;
-    Ok(done(alloc, scene, body, page, doing)?)
+    Ok(done(alloc, scene, stage, body, page, doing)?)
 }
 
 /// Goes on with a body of which nothing is at hand.
@@ -209,23 +227,27 @@ pub(crate) fn serves(
     alloc: Global,
     scene: &Scene<'_>,
     vars: &VarTable,
+    stage: &mut Stage,
     body: Box<Body>,
 ) -> Result<Served, OutOfMemory>
-    ensures { IfOk result (λ served. (g : GroundView) (p : PhasesView) (levels : ℕ)
+    ensures acts { IfOk result (λ served. (g : GroundView) (p : PhasesView) (levels : ℕ)
         (patterns : List SetPattern) (path file : List ℕ) → IsSceneOf g p levels scene.now
         → ServesTo g p levels patterns path file vars.now
         (served_act (world_in patterns g shipped) g.site.now p levels
         (answer_seen g.site.now p body.value.answered) body.value.page (later body.value file))
-        served) }
+        stage.new served) }
+    ensures waits { IfOk result (λ served. WaitsAt served stage.new) }
 {
     let (body, page) = apart(body);
     match page {
-        Some(page) => Ok(page_serves(alloc, scene, vars, body, page)?),
+        Some(page) => Ok(page_serves(alloc, scene, vars, stage, body, page)?),
         None => {
             if is_spent(&body.source) {
-                return Ok(Served::On(Stage::Ends(body)));
+                put(stage, Stage::Ends(body));
+                return Ok(Served::On);
             }
-            Ok(Served::Wants(body))
+            put(stage, Stage::Serves(body));
+            Ok(Served::Wants)
         }
     }
 }
@@ -234,14 +256,16 @@ pub(crate) fn serves(
 pub(crate) fn hears(
     alloc: Global,
     scene: &Scene<'_>,
+    stage: &mut Stage,
     capture: Capture,
 ) -> Result<Served, OutOfMemory>
-    ensures { IfOk result (λ served. (g : GroundView) (p : PhasesView) (levels : ℕ)
+    ensures acts { IfOk result (λ served. (g : GroundView) (p : PhasesView) (levels : ℕ)
         (patterns : List SetPattern) (path file : List ℕ) (vars : Vars)
         → IsSceneOf g p levels scene.now → ServesTo g p levels patterns path file vars
         (captured_act (world_in patterns g shipped) g.site.now p levels
         (answer_seen g.site.now p capture.body.value.answered) capture.body.value.page
-        (later capture.body.value file) capture.name capture.text) served) }
+        (later capture.body.value file) capture.name capture.text) stage.new served) }
+    ensures waits { IfOk result (λ served. WaitsAt served stage.new) }
 {
     let Capture { body, name, text } = capture;
     let (body, page) = apart(body);
@@ -252,11 +276,13 @@ pub(crate) fn hears(
     match page.captured(alloc, scene, name.as_slice(), text)? {
         Some(text) => {
             let body = with_bytes(body, text, Some(page));
-            Ok(Served::On(Stage::Places(body)))
+            put(stage, Stage::Places(body));
+            Ok(Served::On)
         }
         None => {
             let body = with_bytes(body, ByteText::new(alloc), Some(page));
-            Ok(Served::On(Stage::Serves(body)))
+            put(stage, Stage::Serves(body));
+            Ok(Served::On)
         }
     }
 }

@@ -134,7 +134,12 @@ fn plain(
         },
         page: None,
     };
-    Ok(Stage::Places(Box::new(alloc, body)?))
+    let none = body.bytes.is_empty();
+    let body = Box::new(alloc, body)?;
+    if none {
+        return Ok(Stage::Serves(body));
+    }
+    Ok(Stage::Places(body))
 }
 
 /// A body on which filters act, from this source.

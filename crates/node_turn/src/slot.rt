@@ -1,10 +1,11 @@
-// Values that are put in place of others: in functions of their own, so that to a caller the drop
-// of a value of many parts is one step.
+// Values that are put in place of others: in functions of their own, so that to a caller's proof the drop
+// of a value of many parts is one step. They are inlined, since a large value that is passed is copied.
 ghost use Rattle.std.specs.Prelude.{◌≡◌};
 
 use std::mem;
 
 /// Takes a value out, and puts another in its place.
+#[inline(always)]
 pub fn take<T: Drop>(slot: &mut T, value: T) -> T
     ensures taken { result ≡ slot.old }
     ensures put { slot.new ≡ value }
@@ -21,6 +22,7 @@ pub(crate) fn swap<T: Drop>(one: &mut T, other: &mut T)
 }
 
 /// Puts a value in the place of another, which goes.
+#[inline(always)]
 pub fn put<T: Drop>(slot: &mut T, value: T)
     ensures put { slot.new ≡ value }
 {

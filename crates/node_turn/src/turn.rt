@@ -14,7 +14,7 @@ ghost use Rattle.request_phases.specs.declared.state.Phases.{Phases as PhasesVie
 ghost use Rattle.site_model.specs.declared.site.Site.{Site as SiteRow};
 ghost use Rattle.node_turn.specs.Stages.{IsSameNode, ask_or, block_of, hand_at, held_more, is_asking, is_placing, is_serving, is_turning, item_asked, main_of, node_act, node_heard, start_or, can_run};
 ghost use Rattle.node_turn.specs.Nodes.{answer_seen, asked_path, captured_act, hand, later, lent, placed_act, served_act, stage_act, with_main};
-ghost use Rattle.node_turn.specs.Served.{ServesTo};
+ghost use Rattle.node_turn.specs.Served.{ServesTo, WaitsAt};
 ghost use Rattle.node_turn.specs.Taken.{TakesTo, WaitsBy};
 ghost use Rattle.node_turn.specs.Turns.{PlacesAs, Works};
 ghost use Rattle.node_turn.specs.declared.node.Stage.TheVariants.{Places as PlacesView, Reads as ReadsView};
@@ -137,6 +137,26 @@ fn advanced(body: Box<Body>, count: usize) -> Box<Body>
     body
 }
 
+/// Whether nothing more comes of a body of which no byte is at hand.
+fn is_all(body: &Body) -> bool
+    ensures page { result ≡ true → body.now.page ≡ None }
+    ensures text { result ≡ true → length body.now.source.text ≡ 0 }
+    ensures left { result ≡ true → body.now.source.left ≡ 0 }
+{
+    match &body.page {
+        Some(_) => false,
+        None => { body.source.text.is_empty() && body.source.left == 0 && !body.source.unread }
+    }
+}
+
+/// Whether a body that is sent as it is needs a block of its file.
+fn needs_block(body: &Body) -> bool {
+    match &body.page {
+        Some(_) => false,
+        None => !is_all(body),
+    }
+}
+
 /// How far a node is with a body of which bytes were placed.
 fn stage_after(body: Box<Body>) -> Stage
     ensures works { (w : World) (patterns : List SetPattern) (site : SiteRow) (p : PhasesView)
@@ -148,6 +168,9 @@ fn stage_after(body: Box<Body>) -> Stage
         → result ≡ PlacesView body }
 {
     if body.from == body.bytes.len() {
+        if is_all(&body) {
+            return Stage::Ends(body);
+        }
         return Stage::Serves(body);
     }
     Stage::Places(body)
@@ -299,78 +322,99 @@ fn put_block(alloc: Global, node: &mut Node, body: Box<Body>)
 /// The next part of the page of a request in its phases, whose main request is this one.
 fn served(
     alloc: Global,
-    ground: &Ground<'_>,
+    footing: Footing<'_>,
     main: &Main,
     phases: &Phases,
-    left: u32,
     vars: &VarTable,
+    stage: &mut Stage,
     body: Box<Body>,
 ) -> Result<Served, OutOfMemory>
-    ensures { IfOk result (λ served. (patterns : List SetPattern) (path file : List ℕ) →
-        let p = with_main main.now phases.now in
-        ServesTo ground.now p left patterns path file vars.now
-        (served_act (world_in patterns ground.now shipped) ground.now.site.now p left
-        (answer_seen ground.now.site.now p body.value.answered) body.value.page
-        (later body.value file)) served) }
+    ensures acts { IfOk result (λ served. (patterns : List SetPattern) (path file : List ℕ) →
+        let p = with_main main.now phases.now in let g = footing.entry.ground.now in
+        let left = footing.entry.left in
+        ServesTo g p left patterns path file vars.now
+        (served_act (world_in patterns g shipped) g.site.now p left
+        (answer_seen g.site.now p body.value.answered) body.value.page
+        (later body.value file)) stage.new served) }
+    ensures waits { IfOk result (λ served. WaitsAt served stage.new) }
 {
+    let Footing { ground, left } = footing;
     let scene = scene_of(ground, main, phases, left);
-    Ok(serves(alloc, &scene, vars, body)?)
+    Ok(serves(alloc, &scene, vars, stage, body)?)
 }
 
 /// The page of a request in its phases, whose main request is this one and which has the body of a
-/// subrequest now.
+/// subrequest now. It is rare, and isn't inlined: its values are large.
+#[inline(never)]
 fn heard(
     alloc: Global,
-    ground: &Ground<'_>,
+    footing: Footing<'_>,
     main: &Main,
     phases: &Phases,
-    left: u32,
+    stage: &mut Stage,
     capture: Capture,
 ) -> Result<Served, OutOfMemory>
-    ensures { IfOk result (λ served. (patterns : List SetPattern) (path file : List ℕ)
+    ensures acts { IfOk result (λ served. (patterns : List SetPattern) (path file : List ℕ)
         (vars : Vars) → let p = with_main main.now phases.now in
-        ServesTo ground.now p left patterns path file vars
-        (captured_act (world_in patterns ground.now shipped) ground.now.site.now p left
-        (answer_seen ground.now.site.now p capture.body.value.answered)
+        let g = footing.entry.ground.now in let left = footing.entry.left in
+        ServesTo g p left patterns path file vars
+        (captured_act (world_in patterns g shipped) g.site.now p left
+        (answer_seen g.site.now p capture.body.value.answered)
         capture.body.value.page (later capture.body.value file) capture.name capture.text)
-        served) }
+        stage.new served) }
+    ensures waits { IfOk result (λ served. WaitsAt served stage.new) }
 {
+    let Footing { ground, left } = footing;
     let scene = scene_of(ground, main, phases, left);
-    Ok(hears(alloc, &scene, capture)?)
+    Ok(hears(alloc, &scene, stage, capture)?)
 }
 
-/// What a node comes to by the next part of its page.
-fn put_served(alloc: Global, node: &mut Node, served: Served) -> Turn
-    ensures acts { (g : GroundView) (patterns : List SetPattern) (main : MainView)
-        (text : List ℕ) (vars : Vars) (old : Serving Answer) →
+/// A node at its page asks for the next block of its file.
+fn asks_block(alloc: Global, node: &mut Node) -> Result<(), OutOfMemory>
+    ensures acts { OnOk result ((w : World) (patterns : List SetPattern) (site : SiteRow)
+        (main : MainView) (text : List ℕ) → node_act w patterns site main node.new text
+        ≡ node_act w patterns site main node.old text) }
+    ensures node { OnOk result (node.new ≡ record node.old {
+      stage = node.new.stage;
+      ask = node.new.ask;
+    }) }
+    ensures file { OnOk result ((trees : Trees) →
+        item_asked trees node.new.ask ≡ item_asked trees node.old.ask) }
+{
+    match stage_of(alloc, node) {
+        Stage::Serves(body) => {
+            put_block(alloc, node, body);
+            Ok(())
+        }
+        _ => Err(OutOfMemory),
+    }
+}
+
+/// What a node comes to by the next part of its page, at whose stage it is.
+fn turn_of(alloc: Global, node: &mut Node, served: Served) -> Result<Turn, OutOfMemory>
+    ensures acts { IfOk result (λ turn. (g : GroundView) (patterns : List SetPattern)
+        (main : MainView) (text : List ℕ) (vars : Vars) (old : Serving Answer) →
         ServesTo g (lent main node.old.phases) node.old.left patterns (asked_path node.old.ask) text
-        vars old served
+        vars old node.old.stage served
         → TakesTo (main_of main node.old) vars old
         (node_act (world_in patterns g shipped) patterns g.site.now main node.new text)
-        (node_heard (world_in patterns g shipped) patterns g.site.now main node.new text) result }
-    ensures node { IsSameNode node.old node.new }
-    ensures place { node.new.place ≡ node.old.place }
-    ensures phases { node.new.phases ≡ node.old.phases }
-    ensures waits { WaitsBy result node.new.stage }
-    ensures start { node.new.start ≡ node.old.start }
-    ensures file { (trees : Trees) → item_asked trees node.new.ask ≡ item_asked trees node.old.ask }
+        (node_heard (world_in patterns g shipped) patterns g.site.now main node.new text) turn) }
+    ensures node { OnOk result (node.new ≡ record node.old {
+      stage = node.new.stage;
+      ask = node.new.ask;
+    }) }
+    ensures waits { IfOk result (λ turn. WaitsAt served node.old.stage
+        → WaitsBy turn node.new.stage) }
+    ensures file { OnOk result ((trees : Trees) →
+        item_asked trees node.new.ask ≡ item_asked trees node.old.ask) }
 {
     match served {
-        Served::On(stage) => {
-            put(&mut node.stage, stage);
-            Turn::On
-        }
-        Served::Opens(child, body) => {
-            put(&mut node.stage, Stage::Serves(body));
-            Turn::Opens(child)
-        }
-        Served::Asks(child, capture) => {
-            put(&mut node.stage, Stage::Captures(capture));
-            Turn::Asks(child)
-        }
-        Served::Wants(body) => {
-            put_block(alloc, node, body);
-            Turn::On
+        Served::On => Ok(Turn::On),
+        Served::Opens(child) => Ok(Turn::Opens(child)),
+        Served::Asks(child) => Ok(Turn::Asks(child)),
+        Served::Wants => {
+            asks_block(alloc, node)?;
+            Ok(Turn::On)
         }
     }
 }
@@ -404,16 +448,30 @@ pub fn takes(
 {
     match stage_of(alloc, node) {
         Stage::Serves(body) => {
+            if needs_block(&body) {
+                put_block(alloc, node, body);
+                return Ok(Turn::On);
+            }
+            let footing = Footing {
+                ground,
+                left: node.left,
+            };
             lend_method(main, &mut node.phases);
-            let served = served(alloc, ground, main, &node.phases, node.left, vars, body)?;
+            let (phases, stage) = (&node.phases, &mut node.stage);
+            let served = served(alloc, footing, main, phases, vars, stage, body)?;
             lend_method(main, &mut node.phases);
-            Ok(put_served(alloc, node, served))
+            Ok(turn_of(alloc, node, served)?)
         }
         Stage::Captures(capture) => {
+            let footing = Footing {
+                ground,
+                left: node.left,
+            };
             lend_method(main, &mut node.phases);
-            let served = heard(alloc, ground, main, &node.phases, node.left, capture)?;
+            let (phases, stage) = (&node.phases, &mut node.stage);
+            let served = heard(alloc, footing, main, phases, stage, capture)?;
             lend_method(main, &mut node.phases);
-            Ok(put_served(alloc, node, served))
+            Ok(turn_of(alloc, node, served)?)
         }
         _ => unreachable!(),
     }

@@ -122,7 +122,7 @@ fn includes_are_put_in_place(rt: HostRuntime) -> Result<(), Fail> {
     )
 }
 
-/// A text so many times.
+/// A text, `count` times.
 fn times(alloc: Global, text: &[u8], count: usize) -> Result<ByteText, OutOfMemory> {
     let mut all = ByteText::new(alloc);
     for _ in 0..count {
@@ -131,7 +131,7 @@ fn times(alloc: Global, text: &[u8], count: usize) -> Result<ByteText, OutOfMemo
     Ok(all)
 }
 
-/// What becomes of so many includes of an empty file.
+/// What becomes of `count` includes of an empty file.
 fn after_includes(alloc: Global, count: usize) -> Result<ByteText, OutOfMemory> {
     let main = times(alloc, b"include none;\n", count)?;
     let mut files = some_files(alloc, main.as_slice(), &[])?;

@@ -27,7 +27,7 @@ fn end_at(port: u16) -> Addr {
     }
 }
 
-// A peer connects that sends this, then ends or not, and has room for so many bytes.
+// A peer connects that sends this, then ends or not, and has room for `window` bytes.
 fn opened(
     alloc: Global,
     input: &[u8],
@@ -84,7 +84,7 @@ fn some_links(alloc: Global, failing: &[LinkCall]) -> Result<MemoryLinks, OutOfM
     Ok(MemoryLinks::new(alloc, script, failing.to_vec(alloc)?))
 }
 
-// What is sent to the first peer after so many turns.
+// What is sent to the first peer after `turns` turns.
 fn sent(rt: &HostRuntime, failing: &[LinkCall], turns: u64) -> Result<(Ending, MemoryLinks), Fail> {
     let alloc = rt.alloc();
     let mut core = core(alloc)?;
@@ -191,7 +191,7 @@ fn line_of(alloc: Global, event: &GivenEvent) -> Result<String, Fail> {
 }
 
 // Serves a core that was given nothing yet, over links that answered nothing yet. Of what it was given, what comes of the
-// links is what stands beside their answers; and its moments are those of a clock that tells, and had told none.
+// links is what is beside their answers; and its moments are those of a clock that tells, and had told none.
 fn serve_from_start<C: Clock>(
     alloc: Global,
     core: &mut TellingCore<PlainCore>,

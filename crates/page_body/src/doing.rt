@@ -31,7 +31,7 @@ pub enum Doing {
     Over,
 }
 
-/// The text of a part that stands for itself.
+/// The text of a part that is taken as it is.
 fn own_text(alloc: Global, part: Part) -> ByteText
     ensures { result ≡ text_of part }
 {

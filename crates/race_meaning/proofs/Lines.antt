@@ -9,7 +9,7 @@ use Rattle.request_meaning.specs.Replies.{Came, run, script, or_stub}
 use Rattle.family_meaning.specs.Line.{Line, Left, rest, before, reply_of, status_of, joined, opened, with_stub, begun}
 use Rattle.family_meaning.specs.Line.Line.{Nil, Held, Gives, Waits, Stubs}
 use Rattle.family_meaning.specs.Moves.{Quiet, Thinks, Moves, Runs}
-use Rattle.family_meaning.specs.Moves.Quiet.{Learns, Places, Placed, Merges, Opens, Asks, Hears, Leaves, Keeps, Decides, PastHeld, PastNode, PastWait, Within, PastStub, WithinStub}
+use Rattle.family_meaning.specs.Moves.Quiet.{Learns, Places, Placed, Merges, Opens, Asks, Hears, Leaves, Keeps, Decides, Chooses, Parts, Gone, PastHeld, PastNode, PastWait, Within, PastStub, WithinStub}
 use Rattle.family_meaning.specs.Moves.Thinks.{Here, Reads, ThereHeld, ThereNode, ThereWait, InWait, ThereStub, InStub}
 use Rattle.family_meaning.specs.Moves.Moves.{Quietly, ByTable}
 use Rattle.family_meaning.specs.Moves.Runs.{Ends, Steps}
@@ -144,6 +144,9 @@ module _ (s : Shared) where
     quiet_steady _ _ (Leaves e) h = h.1
     quiet_steady _ _ (Keeps {own} {line} k f) h = steady_joined own line h.0 h.1
     quiet_steady _ _ (Decides reply e n) h = h.1
+    quiet_steady _ _ (Chooses node left reply e) h = (tt, h.1)
+    quiet_steady _ _ Parts h = h
+    quiet_steady _ _ Gone h = h
     quiet_steady _ _ (PastHeld {line} {line'} q) h = quiet_steady line line' q h
     quiet_steady _ _ (PastNode {line} {line'} q) h = (h.0, quiet_steady line line' q h.1)
     quiet_steady _ _ (PastWait {line} {line'} q) h = (h.0, (h.1.0, quiet_steady line line' q h.1.1))

@@ -13,7 +13,7 @@ use Rattle.request_meaning.specs.Replies.{Came, run, script, or_stub}
 use Rattle.family_meaning.specs.Line.{Line, Left, rest, before, reply_of, status_of, joined, opened, with_stub, begun, has_node}
 use Rattle.family_meaning.specs.Line.Line.{Nil, Held, Gives, Waits, Stubs}
 use Rattle.family_meaning.specs.Moves.{Quiet, Thinks, Moves, Runs}
-use Rattle.family_meaning.specs.Moves.Quiet.{Learns, Places, Placed, Merges, Opens, Asks, Hears, Leaves, Keeps, Decides, PastHeld, PastNode, PastWait, Within, PastStub, WithinStub}
+use Rattle.family_meaning.specs.Moves.Quiet.{Learns, Places, Placed, Merges, Opens, Asks, Hears, Leaves, Keeps, Decides, Chooses, Parts, Gone, PastHeld, PastNode, PastWait, Within, PastStub, WithinStub}
 use Rattle.family_meaning.specs.Moves.Thinks.{Here, Reads, ThereHeld, ThereNode, ThereWait, InWait, ThereStub, InStub}
 use Rattle.family_meaning.specs.Moves.Moves.{Quietly, ByTable}
 use Rattle.family_meaning.specs.Moves.Runs.{Ends, Steps}
@@ -221,6 +221,9 @@ module _ (w : World) where
   alone_quiet tree main _ _ (Leaves {line} e) h = no_node line h.1 e
   alone_quiet tree main _ _ (Keeps {own} {line} k f) h = alone_joined main own line h.1 h.0
   alone_quiet tree main _ _ (Decides {line} reply e n) h = no_node line h.1 n
+  alone_quiet tree main _ _ (Chooses node left reply e) h = (tt, h.1)
+  alone_quiet tree main _ _ Parts h = h
+  alone_quiet tree main _ _ Gone h = h
   alone_quiet tree main _ _ (PastHeld {line} {line'} q) h = alone_quiet tree main line line' q h
   alone_quiet tree main _ _ (PastNode {line} {line'} q) h = no_quiet tree line line' q h.1
   alone_quiet tree main _ _ (PastWait q) h = absurd h
@@ -344,6 +347,9 @@ module _ (w : World) where
     solo_quiet _ _ v (Leaves {line} n) (h, e) = no_node line e n
     solo_quiet _ _ v (Keeps k f) h = absurd h
     solo_quiet _ _ v (Decides reply e n) h = absurd h
+    solo_quiet _ _ v (Chooses node left reply e) h = absurd h
+    solo_quiet _ _ v Parts h = inl h
+    solo_quiet _ _ v Gone h = inl h
     solo_quiet _ _ v (PastHeld {bytes} {line} {line'} q) h = past bytes line' v (solo_quiet line line' v q h)
     solo_quiet _ _ v (PastNode {line} {line'} q) (h, e) = no_quiet tree line line' q e
     solo_quiet _ _ v (PastWait {line} {line'} q) (h, e) = no_quiet tree line line' q e

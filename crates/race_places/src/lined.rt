@@ -67,7 +67,7 @@ pub struct LinedLevel {
 }
 
 /// The lines of a server's levels: its own, those of its locations, and those of its locations `@name`, each in the order of
-/// the text; and the lists that the numbers in them stand for, which levels share.
+/// the text; and the lists that the numbers in them mean, which levels share.
 #[derive(Drop)]
 pub struct ServerLines {
     pub lists: Vec<LineList>,

@@ -10,7 +10,7 @@ use Rattle.ngx_outside.specs.Runs.{Agree}
 use Rattle.ngx_outside.specs.Seen.{FilesSeen}
 use Rattle.ready_loop.specs.Seen.{Grown}
 use Rattle.ready_loop.specs.Turns.{Gives}
-use Rattle.ready_loop.specs.declared.jobs.Found.TheVariants as found
+use Rattle.ready_loop.specs.declared.jobs.JobResult.TheVariants as found
 use Rattle.ready_loop.proofs.AccountLemmas.{agree_narrow}
 
 pub node_from : (tells : Bool) (files files' : FilesSeen) (trees : Trees) (q : Ask) (node : Node) (block : List ℕ) → tells ≡ true → Grown files files' → Agree files'.trees files'.newest trees → tree_of q ≤ files.newest → Gives tells files.trees q (found.Node node) block → IsFrom trees q (answer.Stat node)

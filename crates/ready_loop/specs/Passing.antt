@@ -22,7 +22,7 @@ abbrev pub Foreseen : ConnView → List Start → Type 0
 Foreseen v started = v.raceless ≡ true → (trees : Trees) (more : List ℕ) (later : List Start) →
     v.course.heavy trees more (started ++ later) ≡ true
 
--- Such an event goes on by a ground, or stops its connection for a cause with this behind it.
+-- Such an event goes on by a ground, or stops its connection for a cause that comes of this.
 pub data Passed (now : Start) (ground : Ground) (link files refused : Type 0) (old new : ConnView)
     (came went : List ℕ) : Type 0 where
   Goes : (started : List Start) → IsStart now started → Went ground old new came went started →
@@ -32,7 +32,7 @@ pub data Passed (now : Start) (ground : Ground) (link files refused : Type 0) (o
       Stopped cause old new started →
       Passed now ground link files refused old new came went
 
--- a count of refused events stands still or rises
+-- a count of refused events stays the same or rises
 abbrev pub Counts : ℕ → ℕ → Type 0
 Counts old new = (new ≡ old) ⊎ Rose old new
 

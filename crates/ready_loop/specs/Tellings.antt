@@ -1,8 +1,8 @@
 -- The events that a core was given, beside what its links, its files and its clock answered.
 use Rattle.std.specs.Prelude.{◌≡◌, ℕ, Bool, if◌then◌else◌, List, [], ◌∷◌, ◌++◌, flat_map, Option, None, Some}
 use Rattle.ngx_outside.specs.Records.{Given, LinkAnswer, FileAnswer, Stood, Held, beside_link, of_links, of_files, of_clock}
-use Rattle.ready_loop.specs.declared.jobs.Found.{Found}
-use Rattle.ready_loop.specs.declared.jobs.Found.TheVariants as found
+use Rattle.ready_loop.specs.declared.jobs.JobResult.{JobResult}
+use Rattle.ready_loop.specs.declared.jobs.JobResult.TheVariants as found
 
 -- a list that is told now was told before, and is longer by this
 pub record Grew {A : Type 0} (before : Option (List A)) (now since : List A) : Type 0 where
@@ -11,7 +11,7 @@ pub record Grew {A : Type 0} (before : Option (List A)) (now since : List A) : T
   pub longer : now ≡ earlier ++ since
 
 -- The events that were given and the answers since an earlier moment: those of the events that come
--- of the answers are those that stand beside them, in their order.
+-- of the answers are those that are beside them, in their order.
 pub record Matched {A B : Type 0} (come_of : Given → List B) (beside : A → List B)
     (events_before : Option (List Given)) (answers_before : Option (List A)) (given : List Given)
     (answered : List A) : Type 0 where
@@ -21,8 +21,8 @@ pub record Matched {A B : Type 0} (come_of : Given → List B) (beside : A → L
   pub answers : Grew answers_before answered answers_since
   pub same : flat_map come_of events_since ≡ flat_map beside answers_since
 
--- From a moment to a later one: where the events of a core and the answers of one of what it stands
--- among are told at the later one, they were told at the earlier one, and what came since matches.
+-- From a moment to a later one: where the events of a core and the answers of one thing around it
+-- are told at the later one, they were told at the earlier one, and what came since matches.
 pub record Beside {A B : Type 0} (come_of : Given → List B) (beside : A → List B)
     (events events' : Option (List Given)) (answers answers' : Option (List A)) : Type 0 where
   pub matched : (given : List Given) (answered : List A) → events' ≡ Some given →
@@ -39,7 +39,7 @@ alone a = a ∷ []
 abbrev pub moments_told : Bool → List ℕ → Option (List ℕ)
 moments_told tells told = if tells then Some told else None
 
--- The events of a core stand beside what its links answered, what its files answered, and what its
+-- The events of a core are beside what its links answered, what its files answered, and what its
 -- clock told: of each, as far as both are told. No other events were given than these, and runs,
 -- trees and closings.
 pub record StandBeside (events events' : Option (List Given))
@@ -50,6 +50,6 @@ pub record StandBeside (events events' : Option (List Given))
   pub clock_beside : Beside of_clock alone events events' clock clock'
 
 -- what the files answered, by what was found
-abbrev pub answer_found : Found → List ℕ → FileAnswer
+abbrev pub answer_found : JobResult → List ℕ → FileAnswer
 answer_found (found.Node node) block = Stood node
 answer_found found.Block block = Held block

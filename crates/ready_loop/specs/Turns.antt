@@ -19,8 +19,8 @@ use Rattle.ready_loop.specs.declared.ticks.Told.{Told}
 use Rattle.ready_loop.specs.declared.service.Ending.{Ending}
 use Rattle.ready_loop.specs.declared.service.Ending.TheVariants as ending
 use Rattle.ready_loop.specs.declared.ids.Ids.{Ids}
-use Rattle.ready_loop.specs.declared.jobs.Found.{Found}
-use Rattle.ready_loop.specs.declared.jobs.Found.TheVariants as found
+use Rattle.ready_loop.specs.declared.jobs.JobResult.{JobResult}
+use Rattle.ready_loop.specs.declared.jobs.JobResult.TheVariants as found
 
 -- the measure of what is left: a read may raise what the core has left by so much at most
 abbrev pub work : ℕ → ℕ → Bool → Bool → ℕ → ℕ
@@ -96,8 +96,8 @@ ChangedAs heard.Nothing old new = (c : ℕ) → new c ≡ old c
 ChangedAs heard.Ended old new = (c : ℕ) → new c ≡ old c
 ChangedAs heard.Failed old new = (c : ℕ) → new c ≡ old c
 
--- what files gave a job: what stands at its path, or these bytes of it
-abbrev pub Gives : Bool → Trees → Ask → Found → List ℕ → Type 0
+-- what files gave a job: what is at its path, or these bytes of it
+abbrev pub Gives : Bool → Trees → Ask → JobResult → List ℕ → Type 0
 Gives tells trees (AskStat path of) (found.Node node) block = tells ≡ true →
     node ≡ node_of (trees of path)
 Gives tells trees (AskRead path start count of) found.Block block = (length block ≡ count) ×

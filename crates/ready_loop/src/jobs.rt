@@ -34,15 +34,15 @@ pub fn run_one<E: EventCore>(core: &mut E, conn: u32, node: u32)
     ran(core, conn, node);
 }
 
-/// What the files have for a job: what stands at its path, or a block of a file.
+/// What the files have for a job: what is at its path, or a block of a file.
 #[derive(Clone, Copy, Debug, PartialEq, Eq)]
-pub enum Found {
+pub enum JobResult {
     Node(Node),
     Block,
 }
 
 // Asks the files, which lend a block of a file.
-fn find<F: Files>(files: &mut F, ask: &Ask) -> Result<Found, FileFault>
+fn find<F: Files>(files: &mut F, ask: &Ask) -> Result<JobResult, FileFault>
     requires { tree_of ask.now ≤ (F.seen files.old).newest }
     ensures gives { IfOk result (λ found.
         Gives (F.seen files.old).tells (F.seen files.old).trees ask.now found
@@ -61,7 +61,7 @@ fn find<F: Files>(files: &mut F, ask: &Ask) -> Result<Found, FileFault>
     match ask {
         Ask::Stat { path, of } => {
             let node = files.stat(path.as_slice(), *of)?;
-            Ok(Found::Node(node))
+            Ok(JobResult::Node(node))
         }
         Ask::Read {
             path,
@@ -70,7 +70,7 @@ fn find<F: Files>(files: &mut F, ask: &Ask) -> Result<Found, FileFault>
             of,
         } => {
             files.read_block(path.as_slice(), *start, *count, *of)?;
-            Ok(Found::Block)
+            Ok(JobResult::Block)
         }
     }
 }
@@ -103,11 +103,11 @@ pub fn job_one<E: EventCore, F: Files>(
         return Ok(());
     };
     match find(files, ask) {
-        Ok(Found::Node(node_there)) => {
+        Ok(JobResult::Node(node_there)) => {
             file_done(core, conn, node, JobAnswer::Stat(node_there));
             Ok(())
         }
-        Ok(Found::Block) => {
+        Ok(JobResult::Block) => {
             file_done(core, conn, node, JobAnswer::Read(files.block()));
             Ok(())
         }

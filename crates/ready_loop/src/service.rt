@@ -72,7 +72,7 @@ fn ending_by(heard: Heard) -> Option<Ending>
     }
 }
 
-// Takes so many turns, or until no notice will come any more or the call for one failed.
+// Takes this many turns, or until no notice will come any more or the call for one failed.
 fn take_turns<E: TimedCore, F: Files, L: Links, C: Clock>(
     core: &mut E,
     files: &mut F,
@@ -124,7 +124,7 @@ fn take_turns<E: TimedCore, F: Files, L: Links, C: Clock>(
     Ok(Ending::TurnsUsed)
 }
 
-// Serves what there is to do, then so many turns, and what a last tick left.
+// Serves what there is to do, then this many turns, and what a last tick left.
 fn serve_turns<E: TimedCore, F: Files, L: Links, C: Clock>(
     alloc: Global,
     core: &mut E,
@@ -176,7 +176,7 @@ fn serve_turns<E: TimedCore, F: Files, L: Links, C: Clock>(
     Ok(ending)
 }
 
-/// Serves a core's connections over links, for so many turns. It listens on each address first. A turn is one notice,
+/// Serves a core's connections over links, for this many turns. It listens on each address first. A turn is one notice,
 /// handled with all runs, file jobs, reads and writes that it makes possible; before it the core is told the clock's
 /// moment, and the number of the newest tree of the files where it rose. A link is read once for each report that it is
 /// readable, and one that was open at the call's start once besides; a turn looks at the connection of its notice alone.

@@ -5,7 +5,7 @@ use ngx_outside::EventCore;
 
 /// A core that says until when ticks give no connection up, so that nobody needs to look at each of them after a tick.
 pub trait TimedCore: EventCore {
-    /// A moment before which no connection is given up, as all of them stand now. The type's last moment where none is
+    /// A moment before which no connection is given up, as all of them are now. The type's last moment where none is
     /// ever given up.
     fn quiet_until(&self) -> u64
         ensures { IsQuiet result (Self.seen self.now).view };

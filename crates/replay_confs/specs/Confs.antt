@@ -13,7 +13,7 @@ abbrev pub text_at : List Conf → List ℕ → Option (List ℕ)
 text_at [] path = None
 text_at (conf ∷ confs) path = if bytes_eq conf.path path then Some conf.bytes else text_at confs path
 
--- a section's path stands below this one
+-- a section's path lies below this one
 abbrev pub has_below : List Conf → List ℕ → Bool
 has_below confs folder = list_any (λ (conf : Conf). is_some (below folder conf.path)) confs
 
@@ -22,8 +22,8 @@ item_at (Some bytes) folder = AFile bytes 0
 item_at None true = AFolder
 item_at None false = Nothing
 
--- What stands where in a script's configuration: at the path of each `conf` section a file of its text, with date 0; at each
--- other path below which one stands a folder; and nothing else.
+-- What is where in a script's configuration: at the path of each `conf` section a file of its text, with date 0; at each
+-- other path below which one lies, a folder; and nothing else.
 abbrev pub conf_tree : List Conf → Tree
 conf_tree confs path = item_at (text_at confs path) (has_below confs path)
 

@@ -1,13 +1,13 @@
--- Paths that stand in folders.
+-- Paths that lie in folders.
 use Rattle.std.specs.Prelude.{ℕ, ◌==◌, List, [], ◌∷◌, ◌++◌, Option, None, Some, if◌then◌else◌}
 
--- what stands behind a front, where the text begins with it
+-- what is after a front, where the text begins with it
 abbrev pub behind : List ℕ → List ℕ → Option (List ℕ)
 behind [] text = Some text
 behind (b ∷ front) [] = None
 behind (b ∷ front) (c ∷ text) = if b == c then behind front text else None
 
--- what stands before the slash of a folder's children: the root's path is a slash alone
+-- what is before the slash of a folder's children: the root's path is a slash alone
 abbrev pub front_of : List ℕ → List ℕ
 front_of [] = []
 front_of (b ∷ []) = if b == 47 then [] else b ∷ []

@@ -1,4 +1,4 @@
-// What stands where in the configuration of a script.
+// What is where in the configuration of a script.
 ghost use Rattle.std.specs.Prelude.{◌≡◌, ◌++◌, ◌+◌, ◌≤◌, ℕ, List, MatchOption, OnOk, option_map, length, take, drop};
 ghost use Rattle.file_tree.specs.Tree.{node_of};
 ghost use Rattle.replay_confs.specs.Confs.{text_at, has_below, conf_tree, names_in, next_name};
@@ -22,7 +22,7 @@ pub fn text_at<'a>(confs: &'a [Conf], path: &[u8]) -> Option<&'a [u8]>
     None
 }
 
-// Whether a section's path stands below this one.
+// Whether a section's path lies below this one.
 fn has_below(confs: &[Conf], folder: &[u8]) -> bool
     ensures { result ≡ has_below confs.now folder.now }
 {
@@ -34,7 +34,7 @@ fn has_below(confs: &[Conf], folder: &[u8]) -> bool
     false
 }
 
-/// What stands at a path.
+/// What is at a path.
 pub fn node_at(confs: &[Conf], path: &[u8]) -> Node
     ensures { result ≡ node_of (conf_tree confs.now path.now) }
 {
@@ -53,7 +53,7 @@ pub fn node_at(confs: &[Conf], path: &[u8]) -> Node
     }
 }
 
-/// So many bytes of a text from there on, where it holds them.
+/// The `count` bytes of a text from `start` on, where it holds them.
 pub fn part(bytes: &[u8], start: u64, count: u64) -> Option<&[u8]>
     ensures { MatchOption result (¬ (start + count ≤ length bytes.now)) (λ p. (start + count ≤ length bytes.now) × (p.now ≡ take count (drop start bytes.now))) }
 {

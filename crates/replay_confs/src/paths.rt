@@ -1,15 +1,15 @@
-// Paths that stand in folders.
+// Paths that lie in folders.
 ghost use Rattle.std.specs.Prelude.{◌≡◌, ◌≢◌, ◌++◌, ℕ, List, MatchOption, option_map};
 ghost use Rattle.replay_confs.specs.Paths.{behind as text_behind, front_of, below, first_name};
 
-// What stands behind a front, where the text begins with it.
+// What is after a front, where the text begins with it.
 fn behind<'a>(front: &[u8], text: &'a [u8]) -> Option<&'a [u8]>
     ensures { option_map (λ t. t.now) result ≡ text_behind front.now text.now }
 {
     text.strip_prefix(front)
 }
 
-// What stands before the slash of a folder's children.
+// What is before the slash of a folder's children.
 fn front_of(folder: &[u8]) -> &[u8]
     ensures { result.now ≡ front_of folder.now }
 {

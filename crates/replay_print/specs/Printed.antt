@@ -20,7 +20,7 @@ use Rattle.replay_words.specs.Numbers.{most_id, most_room, last_second}
 use Rattle.replay_words.specs.Sums.{most_bytes}
 use Rattle.replay_text.specs.Grammar.{is_path_among}
 
--- what stands for itself: graphic bytes, but for `%`, and for `-`, which alone would be no bytes
+-- what is written as it is: graphic bytes, but for `%`, and for `-`, which alone would be no bytes
 abbrev pub is_plain : ℕ → Bool
 is_plain b = is_graphic b && (not (b == 37) && not (b == 45))
 

@@ -11,16 +11,16 @@ use Rattle.ngx_outside.specs.Views.{ConnView, Course, Start, StepsOwn, LeftBy, a
 use Rattle.ngx_outside.specs.declared.event.Event.TheVariants as ev
 use Rattle.ngx_outside.specs.declared.event.StepAnswer.{StepAnswer}
 use Rattle.ngx_outside.specs.declared.event.StepAnswer.TheVariants.{Done, Skipped, OutOfMemory}
-use Rattle.replay_run.specs.declared.jobs.Found.TheVariants as found
+use Rattle.replay_run.specs.declared.jobs.JobResult.TheVariants as found
 use Rattle.replay_run.specs.Scene.{IsFound}
 
-pub stands_from : (trees : Trees) (a : Ask) (node : Node) (block : List ℕ) → IsFound trees a (found.Stands node) block → IsFrom trees a (answer.Stat node)
-stands_from trees (ask.Stat path of) node block f = f
-stands_from trees (ask.Read path start count of) node block f = absurd f
+pub node_from : (trees : Trees) (a : Ask) (node : Node) (block : List ℕ) → IsFound trees a (found.Node node) block → IsFrom trees a (answer.Stat node)
+node_from trees (ask.Stat path of) node block f = f
+node_from trees (ask.Read path start count of) node block f = absurd f
 
-pub stands_fits : (trees : Trees) (a : Ask) (node : Node) (block : List ℕ) → IsFound trees a (found.Stands node) block → is_fitting a (answer.Stat node) ≡ true
-stands_fits trees (ask.Stat path of) node block f = refl
-stands_fits trees (ask.Read path start count of) node block f = absurd f
+pub node_fits : (trees : Trees) (a : Ask) (node : Node) (block : List ℕ) → IsFound trees a (found.Node node) block → is_fitting a (answer.Stat node) ≡ true
+node_fits trees (ask.Stat path of) node block f = refl
+node_fits trees (ask.Read path start count of) node block f = absurd f
 
 pub block_from : (trees : Trees) (a : Ask) (bytes : Bor (List ℕ)) (block : List ℕ) → bytes.now ≡ block → IsFound trees a found.Block block → IsFrom trees a (answer.Read bytes)
 block_from trees (ask.Stat path of) bytes block e f = absurd f

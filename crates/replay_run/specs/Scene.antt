@@ -18,8 +18,8 @@ use Rattle.ngx_outside.specs.declared.event.StepAnswer.TheVariants.{Done, Skippe
 use Rattle.ngx_outside.specs.declared.event.Want.{Want}
 use Rattle.ngx_outside.specs.declared.event.Want.TheVariants as want
 use Rattle.replay_run.specs.Told.{Told}
-use Rattle.replay_run.specs.declared.jobs.Found.{Found}
-use Rattle.replay_run.specs.declared.jobs.Found.TheVariants as found
+use Rattle.replay_run.specs.declared.jobs.JobResult.{JobResult}
+use Rattle.replay_run.specs.declared.jobs.JobResult.TheVariants as found
 use Rattle.replay_run.specs.declared.lane.InputEnd.{InputEnd}
 use Rattle.replay_run.specs.declared.lane.InputEnd.TheVariants as input
 use Rattle.replay_run.specs.declared.lane.Lane.{Lane as LaneOf}
@@ -180,7 +180,7 @@ pub record Openable (terms : Terms) (c : ℕ) (ends : LinkEnds) (a : StepAnswer)
   pub held : AreHeld conns view
   pub opens : OpensIf (can_open terms conns view) (Opened c ends.local ends.peer) a
 
--- Bytes are put behind those that wait, and all are offered; then the input ends where it is due.
+-- Bytes are put after those that wait, and all are offered; then the input ends where it is due.
 pub record Sends (fresh : Addr → Addr → Course) (c : ℕ) (bytes : List ℕ) (a : StepAnswer)
     (view : ℕ → ConnView) (now : Start) (view' : ℕ → ConnView) (now' : Start)
     (lane lane' : Lane) : Type 0 where
@@ -201,7 +201,7 @@ due_after input.Given = input.Given
 abbrev pub due_lane : Lane → Lane
 due_lane l = record { queue = l.queue; tail = due_after l.tail; went = l.went; ends = l.ends }
 
--- At most so many of the pending bytes are written.
+-- At most this many of the pending bytes are written.
 pub record Writes (fresh : Addr → Addr → Course) (c most : ℕ) (a : StepAnswer) (view : ℕ → ConnView)
     (now : Start) (view' : ℕ → ConnView) (now' : Start) (lane lane' : Lane) : Type 0 where
   pub count : ℕ
@@ -238,11 +238,11 @@ WritesLine fresh c most a old new = OnLane c
 
 -- What the files found for a job, with the bytes of a block that was read; nothing where the trees
 -- have no answer to it.
-abbrev pub IsFound : Trees → Ask → Found → List ℕ → Type 0
-IsFound trees (ask.Stat path of) (found.Stands node) block = node ≡ node_of (trees of path)
+abbrev pub IsFound : Trees → Ask → JobResult → List ℕ → Type 0
+IsFound trees (ask.Stat path of) (found.Node node) block = node ≡ node_of (trees of path)
 IsFound trees (ask.Stat path of) found.Block block = ⊥
 IsFound trees (ask.Stat path of) found.Nothing block = ⊥
-IsFound trees (ask.Read path start count of) (found.Stands node) block = ⊥
+IsFound trees (ask.Read path start count of) (found.Node node) block = ⊥
 IsFound trees (ask.Read path start count of) found.Block block = HoldsBytes
     (trees of path) start count block × (length block ≡ count)
 IsFound trees (ask.Read path start count of) found.Nothing block = (bytes : List ℕ) →
@@ -374,7 +374,7 @@ abbrev pub has_lane : ℕ → List LaneOf → Bool
 has_lane c [] = false
 has_lane c (l ∷ lanes) = l.conn == c || has_lane c lanes
 
--- the first lane of a connection stands at i
+-- the first lane of a connection is at i
 pub record LaneAt (c : ℕ) (lanes : List LaneOf) (i : ℕ) : Type 0 where
   pub front : List LaneOf
   pub here : LaneOf

@@ -20,7 +20,7 @@ item_of (entry.File path date bytes) = AFile bytes date
 item_of (entry.Folder path) = AFolder
 item_of (entry.Locked path) = ALocked
 
--- what stands at a path by these lines: what the last of them puts there, or what stood there
+-- what is at a path by these lines: what the last of them puts there, or what was there
 -- before
 abbrev pub item_by : Item → List TreeLine → List ℕ → Item
 item_by below [] path = below
@@ -43,11 +43,11 @@ told_of f = record { trees = trees_of f; newest = newest_of f }
 abbrev pub told_first : List TreeLine → Told
 told_first lines = record { trees = λ of. tree_by lines; newest = 0 }
 
--- the number behind this one, which stands still at its type's end
+-- the number after this one, or this one at its type's end
 unfoldable pub next_number : ℕ → ℕ
 next_number n = max n (min (n + 1) (2 ^ 64 - 1))
 
--- from this number on the item stands at the path, and all else stays
+-- from this number on the item is at the path, and all else stays
 abbrev pub changed : ℕ → List ℕ → Item → Trees → Trees
 changed from path item old of q = if nat_le from of && bytes_eq path q then item else old of q
 
@@ -62,13 +62,13 @@ told_next path item told =
     }
     else told
 
--- what the files tell behind a line
+-- what the files tell after a line
 abbrev pub told_after : EventLine → Told → Told
 told_after (line.Tree change) told = told_next (path_of change) (item_of change) told
 told_after (line.TreeGone path) told = told_next path Nothing told
 told_after l told = told
 
--- and behind all lines
+-- and after all lines
 abbrev pub told_in : List EventLine → Told → Told
 told_in [] told = told
 told_in (l ∷ lines) told = told_in lines (told_after l told)

@@ -14,9 +14,9 @@ use ngx_outside::{Event, EventCore, FileFault, Files, StepAnswer};
 
 /// What the files found for a job.
 #[derive(Clone, Copy, Debug)]
-pub(crate) enum Found {
-    /// What stands at a path.
-    Stands(Node),
+pub(crate) enum JobResult {
+    /// What is at a path.
+    Node(Node),
     /// The bytes of a file, which are the files' block.
     Block,
     /// No such bytes.
@@ -24,7 +24,7 @@ pub(crate) enum Found {
 }
 
 // Looks a job up in the tree that it asks of. The bytes of a file are lent as the files' block.
-fn find(files: &mut MemoryFiles, ask: &Ask) -> Result<Found, OutOfMemory>
+fn find(files: &mut MemoryFiles, ask: &Ask) -> Result<JobResult, OutOfMemory>
     requires known { tree_of ask.now ≤ newest_of files.old }
     requires sure { failing_of files.old ≡ [] }
     ensures found { IfOk result (λ found. IsFound (trees_of files.old) ask.now found
@@ -34,8 +34,8 @@ fn find(files: &mut MemoryFiles, ask: &Ask) -> Result<Found, OutOfMemory>
 {
     match ask {
         Ask::Stat { path, of } => match files.stat(path.as_slice(), *of) {
-            Ok(node) => Ok(Found::Stands(node)),
-            Err(_) => Ok(Found::Nothing),
+            Ok(node) => Ok(JobResult::Node(node)),
+            Err(_) => Ok(JobResult::Nothing),
         },
         Ask::Read {
             path,
@@ -43,8 +43,8 @@ fn find(files: &mut MemoryFiles, ask: &Ask) -> Result<Found, OutOfMemory>
             count,
             of,
         } => match files.read_block(path.as_slice(), *start, *count, *of) {
-            Ok(()) => Ok(Found::Block),
-            Err(FileFault::Failed) => Ok(Found::Nothing),
+            Ok(()) => Ok(JobResult::Block),
+            Err(FileFault::Failed) => Ok(JobResult::Nothing),
             Err(FileFault::OutOfMemory) => Err(OutOfMemory),
         },
     }
@@ -55,7 +55,7 @@ fn give_found<E: EventCore>(
     core: &mut E,
     conn: u32,
     node: u32,
-    found: Found,
+    found: JobResult,
     block: &[u8],
 ) -> StepAnswer
     ensures answers { (told : Told) (ask : AskOf) →
@@ -69,17 +69,17 @@ fn give_found<E: EventCore>(
     ensures steady { (E.seen core.new).terms ≡ (E.seen core.old).terms }
 {
     match found {
-        Found::Stands(stands) => core.step(Event::FileDone {
+        JobResult::Node(node_there) => core.step(Event::FileDone {
             conn,
             node,
-            answer: JobAnswer::Stat(stands),
+            answer: JobAnswer::Stat(node_there),
         }),
-        Found::Block => core.step(Event::FileDone {
+        JobResult::Block => core.step(Event::FileDone {
             conn,
             node,
             answer: JobAnswer::Read(block),
         }),
-        Found::Nothing => core.step(Event::JobFailed { conn, node }),
+        JobResult::Nothing => core.step(Event::JobFailed { conn, node }),
     }
 }
 

@@ -13,7 +13,7 @@ use memory_outside::{MemoryFiles, StoredItem};
 use ngx_outside::{Event, EventCore, Files, StepAnswer};
 use replay_text::EventLine;
 
-// The number behind this one.
+// The number after this one.
 #[tactic(auto, unfolding(crate::specs::Told::next_number))]
 fn next_of(number: u64) -> u64
     ensures { result ≡ next_number number }

@@ -55,7 +55,7 @@ fn either(first: StepAnswer, second: StepAnswer) -> StepAnswer
     }
 }
 
-// Bytes are put behind those that wait, and all are offered; then the input ends where it is due.
+// Bytes are put after those that wait, and all are offered; then the input ends where it is due.
 fn send_on<E: EventCore>(
     core: &mut E,
     lane: &mut Lane,
@@ -238,7 +238,7 @@ impl Player {
         Ok(answer)
     }
 
-    /// Puts bytes behind those that wait on a connection, and offers it all; its input ends then where that is due.
+    /// Puts bytes after those that wait on a connection, and offers it all; its input ends then where that is due.
     pub fn send<E: EventCore>(
         &mut self,
         core: &mut E,
@@ -273,7 +273,7 @@ impl Player {
         Ok(answer)
     }
 
-    /// Writes at most so many of the pending bytes of a connection.
+    /// Writes at most this many of the pending bytes of a connection.
     pub fn write<E: EventCore>(
         &mut self,
         core: &mut E,

@@ -111,7 +111,7 @@ fn keep_front<E: EventCore>(core: &E, lane: &mut Lane, most: u64) -> Result<usiz
     Ok(count)
 }
 
-/// Writes at most so many of the pending bytes.
+/// Writes at most this many of the pending bytes.
 pub fn write<E: EventCore>(
     core: &mut E,
     lane: &mut Lane,

@@ -1,4 +1,4 @@
--- What the words of paths and bytes stand for.
+-- What the words of paths and bytes spell.
 use Rattle.std.specs.Prelude.{◌≡◌, ℕ, ◌+◌, ◌*◌, List, [], ◌∷◌, ◌++◌, length, ◌==◌, Bool, true, false, ◌&&◌, ◌||◌, nat_lt, Result, Ok, Err, if◌then◌else◌}
 use Rattle.std.specs.Char.{digit_value}
 use Rattle.std.specs.List.{list_all}
@@ -18,7 +18,7 @@ abbrev pub with_byte : ℕ → Result (List ℕ) FaultKind → Result (List ℕ)
 with_byte b (Ok bs) = Ok (b ∷ bs)
 with_byte b (Err kind) = Err kind
 
--- `%` and two hexadecimal digits stand for that byte, each other byte for itself
+-- `%` and two hexadecimal digits spell that byte, each other byte spells itself
 unfoldable mutual
   pub unescaped : List ℕ → Result (List ℕ) FaultKind
   unescaped [] = Ok []

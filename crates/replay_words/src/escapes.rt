@@ -1,4 +1,4 @@
-// What the words of paths and bytes stand for.
+// What the words of paths and bytes spell.
 ghost use Rattle.std.specs.Prelude.{◌≡◌, ℕ, ◌<◌, ◌+◌, ◌*◌, ◌&&◌, false, true, length, MatchOption, IfSome};
 ghost use Rattle.std.specs.Char.{digit_value};
 ghost use Rattle.std.specs.Option.{SomeIff};
@@ -34,7 +34,7 @@ fn hex_byte(high: u8, low: u8) -> Option<u8>
     Some(16 * high + low)
 }
 
-/// The byte that the digits after a `%` stand for, and what comes after them.
+/// The byte that the digits after a `%` spell, and what comes after them.
 fn escaped_byte(text: &[u8]) -> Option<(u8, &[u8])>
     ensures value { MatchOption result (behind_percent text.now ≡ Err FaultKind.Escape)
         (λ x. behind_percent text.now ≡ with_byte x.0 (unescaped x.1.now)) }
@@ -49,7 +49,7 @@ fn escaped_byte(text: &[u8]) -> Option<(u8, &[u8])>
     }
 }
 
-/// Appends what a word stands for to these bytes.
+/// Appends the bytes that a word spells to these.
 pub fn unescape_onto(out: &mut Vec<u8>, word: &[u8]) -> Result<(), LineError>
     ensures { LineGives (λ _. out.new.items) result (onto out.old.items (unescaped word.now)) }
 {
@@ -68,7 +68,7 @@ pub fn unescape_onto(out: &mut Vec<u8>, word: &[u8]) -> Result<(), LineError>
     }
 }
 
-/// How many bytes a word stands for.
+/// How many bytes a word spells.
 pub fn unescaped_len(word: &[u8]) -> Result<usize, LineError>
     ensures { LineGives (λ n. n) result (measured 0 (unescaped word.now)) }
 {
@@ -88,7 +88,7 @@ pub fn unescaped_len(word: &[u8]) -> Result<usize, LineError>
     }
 }
 
-/// What a word stands for.
+/// What a word spells.
 pub fn unescaped(alloc: Global, word: &[u8]) -> Result<ByteText, LineError>
     ensures { LineGives (λ t. t) result (unescaped word.now) }
 {

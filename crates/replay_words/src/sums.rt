@@ -156,7 +156,7 @@ fn repeat_from(out: &mut Vec<u8>, start: usize, count: u64) -> Result<(), LineEr
     Ok(())
 }
 
-/// Appends what a word stands for to these bytes, `count` times.
+/// Appends the bytes that a word spells to these, `count` times.
 fn term_onto(out: &mut Vec<u8>, word: &[u8], count: u64) -> Result<(), LineError>
     ensures { LineGives (λ _. out.new.items) result
         (onto out.old.items (times_text count (unescaped word.now))) }

@@ -22,7 +22,7 @@ BytesReadBack =
 unfoldable pub behind_sent : List ℕ → Option (List ℕ)
 behind_sent line = if starts_with nat_eq line (codes "sent ") then Some (drop 5 line) else None
 
--- the bytes that the word after `sent ` stands for: none for `-`
+-- the bytes that the word after `sent ` spells: none for `-`
 unfoldable pub bytes_of : List ℕ → Result (List ℕ) FaultKind
 bytes_of word = if is_dash word then Ok [] else unescaped word
 

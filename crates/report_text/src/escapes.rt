@@ -5,7 +5,7 @@ ghost use Rattle.report_text.specs.Escapes.{is_plain as has_plain_form, escaped}
 use byte_text::{ByteText, OutOfMemory};
 use percent_encoding::percent_encode_byte;
 
-/// Whether the byte stands for itself: a printable one of ASCII, other than `%`.
+/// Whether the byte is written as it is: a printable one of ASCII, other than `%`.
 #[inline]
 fn is_plain(byte: u8) -> bool
     ensures { result ≡ has_plain_form byte }
@@ -13,7 +13,7 @@ fn is_plain(byte: u8) -> bool
     b' ' <= byte && byte <= b'~' && byte != b'%'
 }
 
-/// How many bytes at the front stand for themselves.
+/// How many bytes at the front are written as they are.
 fn plain_len(bytes: &[u8]) -> usize
     ensures within { result ≤ length bytes.now }
     ensures plain { escaped bytes.now ≡ take result bytes.now ++ escaped (drop result bytes.now) }

@@ -57,6 +57,7 @@ ghost use Rattle.req_head.specs.Known.{IsKnown};
 ghost use Rattle.req_head.specs.Step.{head_step, looked, step_of};
 
 /// The head with these parts.
+#[inline(always)]
 fn make_head(
     texts: &mut SpareTexts,
     method: &[u8],
@@ -103,6 +104,7 @@ fn wait(seen: &[u8]) -> HeadStep
 }
 
 /// What the head decides that the spans show in the lines.
+#[inline(always)]
 fn test_head(
     texts: &mut SpareTexts,
     seen: &[u8],
@@ -178,6 +180,7 @@ fn read_long(room: &mut HeadRoom, bytes: &[u8]) -> Result<HeadStep, OutOfMemory>
 /// # Errors
 ///
 /// Want of memory alone.
+#[inline(always)]
 pub fn read_head_in(room: &mut HeadRoom, bytes: &[u8]) -> Result<HeadStep, OutOfMemory>
     ensures { IfOk result (λ step. step ≡ head_step bytes.now) }
 {

@@ -20,7 +20,7 @@ use Rattle.request_flow.specs.declared.flow.Stage.TheVariants.{Asked, Told, Read
 use Rattle.request_flow.specs.declared.flow.Flow.{Flow}
 use Rattle.request_flow.specs.Padded.{padded}
 use Rattle.request_flow.specs.Rests.{Rest, no_rest, closes_after, Follows}
-use Rattle.request_flow.specs.Flows.{told_item, file_rest, told_rest, flow_rest, item_asked, stage_fits, is_block, placed_most, block_most, file_length}
+use Rattle.request_flow.specs.Flows.{told_item, file_rest, told_rest, one_rest, item_asked, stage_fits, is_block, placed_most, block_most, file_length}
 use Rattle.request_flow.proofs.Padding.{padded_length, padded_split, padded_within, padded_whole, padded_none}
 
 abbrev flow_at : Ask → Stage → Flow
@@ -59,26 +59,26 @@ told_text node.Missing item = sym (padded_none (text_of item))
 module _ (w : World) (patterns : List SetPattern) (site : Site) (trees : Trees) where
   pub asked_follows : (job : Ask) (stage : Stage) (request : _) (wait : Wait) (node : Node) (given : JobAnswer) (out : List ℕ) (closing : Bool) →
       stage ≡ Asked request wait → given ≡ answer.Stat node → IsFrom trees job given →
-      Follows site (flow_rest w patterns site (Some (flow_at job stage)) trees) (flow_rest w patterns site (Some (flow_at job (Told request wait node))) trees) out out closing closing None None
+      Follows site (one_rest w patterns site (flow_at job stage) trees) (one_rest w patterns site (flow_at job (Told request wait node)) trees) out out closing closing None None
   asked_follows (ask.Stat path of) stage request wait node given out closing es eg from =
       let same = told_same (trees of path) node (subst (λ a. IsFrom trees (ask.Stat path of) a) eg from) in
       same_follows site _ _ out closing
-      (ap (told_rest w patterns site (trees of) request.value wait) same ∙ sym (ap (λ s. flow_rest w patterns site (Some (flow_at (ask.Stat path of) s)) trees) es))
+      (ap (told_rest w patterns site (trees of) request.value wait) same ∙ sym (ap (λ s. one_rest w patterns site (flow_at (ask.Stat path of) s) trees) es))
   asked_follows (ask.Read path start count of) stage request wait node given out closing es eg from =
       absurd (subst (λ a. IsFrom trees (ask.Read path start count of) a) eg from)
 
   -- the next block is asked, or what came isn't all placed
   pub block_follows : (job job' : Ask) (sending : Sending) (left placed : ℕ) (out : List ℕ) (closing : Bool) → item_asked trees job' ≡ item_asked trees job →
-      Follows site (flow_rest w patterns site (Some (flow_at job (Came sending left placed))) trees) (flow_rest w patterns site (Some (flow_at job' (Reading sending left))) trees) out out closing closing None None
+      Follows site (one_rest w patterns site (flow_at job (Came sending left placed)) trees) (one_rest w patterns site (flow_at job' (Reading sending left)) trees) out out closing closing None None
   block_follows job job' sending left placed out closing e = same_follows site _ _ out closing (ap (file_rest sending left) e)
 
   pub placed_follows : (job : Ask) (sending : Sending) (left placed placed' : ℕ) (out : List ℕ) (closing : Bool) →
-      Follows site (flow_rest w patterns site (Some (flow_at job (Came sending left placed))) trees) (flow_rest w patterns site (Some (flow_at job (Came sending left placed'))) trees) out out closing closing None None
+      Follows site (one_rest w patterns site (flow_at job (Came sending left placed)) trees) (one_rest w patterns site (flow_at job (Came sending left placed')) trees) out out closing closing None None
   placed_follows job sending left placed placed' out closing = same_follows site _ _ out closing refl
 
   -- all of a file is placed
   pub sent_follows : (job : Ask) (sending : Sending) (left placed : ℕ) (out : List ℕ) (closing : Bool) → left ≡ 0 →
-      Follows site (flow_rest w patterns site (Some (flow_at job (Came sending left placed))) trees) no_rest out out closing closing (Some (sending.status, sending.len)) None
+      Follows site (one_rest w patterns site (flow_at job (Came sending left placed)) trees) no_rest out out closing closing (Some (sending.status, sending.len)) None
   sent_follows job sending left placed out closing e = record {
     bytes =
         ap (λ x. out ++ x) (sym (ap (λ n. padded n (drop (sending.len - n) (text_of (item_asked trees job)))) e
@@ -148,14 +148,14 @@ came_rest Nothing len left start count bytes b n h = absurd h
 
 pub reading_follows : (w : World) (patterns : List SetPattern) (site : Site) (trees : Trees) (job : Ask) (stage : Stage) (sending : Sending) (left placed size : ℕ) (bytes : Bor (List ℕ)) (given : JobAnswer) (out out' : List ℕ) (closing : Bool) →
     stage ≡ Reading sending left → given ≡ answer.Read bytes → out' ≡ out ++ bytes.now → stage_fits job stage size ≡ true → is_fitting job given ≡ true → IsFrom trees job given →
-    Follows site (flow_rest w patterns site (Some (flow_at job stage)) trees) (flow_rest w patterns site (Some (flow_at job (Came sending (left - length bytes.now) placed))) trees) out out' closing closing None None
+    Follows site (one_rest w patterns site (flow_at job stage) trees) (one_rest w patterns site (flow_at job (Came sending (left - length bytes.now) placed)) trees) out out' closing closing None None
 reading_follows w patterns site trees (ask.Read path start count of) stage sending left placed size bytes given out out' closing es eg eo fits fitting from =
     let job : Ask = ask.Read path start count of in
     let item = trees of path in
     let len = sending.len in
     let b = block_of sending left size start count of path (subst (λ s. stage_fits job s size ≡ true) es fits) in
     let n = same_number (length bytes.now) count (subst (λ a. is_fitting job a ≡ true) eg fitting) in
-    subst (λ s. Follows site (flow_rest w patterns site (Some (flow_at job s)) trees) (flow_rest w patterns site (Some (flow_at job (Came sending (left - length bytes.now) placed))) trees) out out' closing closing None None) (sym es)
+    subst (λ s. Follows site (one_rest w patterns site (flow_at job s) trees) (one_rest w patterns site (flow_at job (Came sending (left - length bytes.now) placed)) trees) out out' closing closing None None) (sym es)
     (record {
       bytes =
           ap (λ o. o ++ padded (left - length bytes.now) (drop (len - (left - length bytes.now)) (text_of item))) eo

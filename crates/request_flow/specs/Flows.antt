@@ -1,4 +1,5 @@
 -- A request in flight: what is still to come of its response, and how far it is.
+use Rattle.std.specs.Global.{Box}
 use Rattle.std.specs.Prelude.{◌≡◌, ℕ, ◌+◌, ◌-◌, ◌*◌, ◌^◌, ◌==◌, min, nat_le, nat_lt, Bool, true, false, not, ◌&&◌, List, [], ◌∷◌, length, drop, Option, None, Some, if◌then◌else◌}
 use Rattle.file_tree.specs.Tree.{Item, AFile, AFolder, ALocked, Nothing, Tree, Trees, text_of, tree_of}
 use Rattle.file_tree.specs.declared.job.Node.{Node}
@@ -60,11 +61,15 @@ abbrev pub item_asked : Trees → Ask → Item
 item_asked trees (ask.Stat path of) = trees of path
 item_asked trees (ask.Read path start count of) = trees of path
 
--- what is still to come of the response to a request in flight
-abbrev pub flow_rest : World → List SetPattern → Site → Option Flow → Trees → Rest
-flow_rest w patterns site None trees = no_rest
-flow_rest w patterns site (Some flow) trees =
+-- what is still to come of the response to a request
+abbrev pub one_rest : World → List SetPattern → Site → Flow → Trees → Rest
+one_rest w patterns site flow trees =
     stage_rest w patterns site (trees (tree_of flow.ask)) flow.stage (item_asked trees flow.ask)
+
+-- what is still to come of the response to a request in flight
+abbrev pub flow_rest : World → List SetPattern → Site → Option (Box Flow) → Trees → Rest
+flow_rest w patterns site None trees = no_rest
+flow_rest w patterns site (Some flow) trees = one_rest w patterns site flow.value trees
 
 -- ---- how far it is
 
@@ -105,14 +110,14 @@ is_sending (Reading sending left) = false
 is_sending (Came sending left placed) = true
 
 -- a request that goes on in its place, or is over where it is logged
-abbrev pub going_on : Flow → Option (ℕ × ℕ) → Option Flow
+abbrev pub going_on : Box Flow → Option (ℕ × ℕ) → Option (Box Flow)
 going_on flow None = Some flow
 going_on flow (Some log) = None
 
 -- the jobs of a request
-abbrev pub jobs_of : Option Flow → List Job
+abbrev pub jobs_of : Option (Box Flow) → List Job
 jobs_of None = []
-jobs_of (Some flow) = if waits flow.stage then record { node = 0; ask = flow.ask } ∷ [] else []
+jobs_of (Some flow) = if waits flow.value.stage then record { node = 0; ask = flow.value.ask } ∷ [] else []
 
 -- how many of the bytes for a peer are shown as pending: those that are placed
 abbrev pub shown_by : Stage → ℕ
@@ -151,14 +156,14 @@ stage_fits job (Came sending left placed) size =
     ((nat_le placed size && nat_le placed placed_most) && nat_le size kept_most)
 
 -- where none is in flight, no more bytes are kept than may be placed
-abbrev pub flow_fits : Option Flow → (size : ℕ) → Bool
+abbrev pub flow_fits : Option (Box Flow) → (size : ℕ) → Bool
 flow_fits None size = nat_le size placed_most
-flow_fits (Some flow) size = stage_fits flow.ask flow.stage size
+flow_fits (Some flow) size = stage_fits flow.value.ask flow.value.stage size
 
 -- the number of the tree of which a request's job asks
-abbrev pub tree_asked : Option Flow → ℕ
+abbrev pub tree_asked : Option (Box Flow) → ℕ
 tree_asked None = 0
-tree_asked (Some flow) = tree_of flow.ask
+tree_asked (Some flow) = tree_of flow.value.ask
 
 -- ---- what is left to do
 
@@ -178,9 +183,9 @@ stage_left (Reading sending left) size = 8 * left + 2
 stage_left (Came sending left placed) size =
     (size - placed) + (8 * left + (if left == 0 then 1 else 3))
 
-abbrev pub flow_left : Option Flow → (size : ℕ) → ℕ
+abbrev pub flow_left : Option (Box Flow) → (size : ℕ) → ℕ
 flow_left None size = 0
-flow_left (Some flow) size = stage_left flow.stage size
+flow_left (Some flow) size = stage_left flow.value.stage size
 
 -- ---- a request that was told what is at its path
 
@@ -218,6 +223,6 @@ StageBy server length (Told request wait node) =
 StageBy server length (Reading sending left) = Unit {0}
 StageBy server length (Came sending left placed) = Unit {0}
 
-abbrev pub IsServedBy : (server length : ℕ) → Option Flow → Type 0
+abbrev pub IsServedBy : (server length : ℕ) → Option (Box Flow) → Type 0
 IsServedBy server length None = Unit {0}
-IsServedBy server length (Some flow) = StageBy server length flow.stage
+IsServedBy server length (Some flow) = StageBy server length flow.value.stage

@@ -49,7 +49,8 @@ start_rest w patterns site trees p = page_rest w patterns site (trees (known_tre
 -- it goes on, as much being still to come as before
 abbrev pub GoesTo : World → List SetPattern → Site → Trees → Rest → (out out' : List ℕ) → (closing : Bool) → Went → Type 0
 GoesTo w patterns site trees before out out' closing (On o) = Follows site before (flow_rest w patterns site o.flow trees) out out' closing o.closing o.log o.level
-GoesTo w patterns site trees before out out' closing (Page p) = Follows site before (start_rest w patterns site trees p) out out' closing p.closing None (Some p.level)
+GoesTo w patterns site trees before out out' closing (Page p) =
+    Follows site before (start_rest w patterns site trees p.value) out out' closing p.value.closing None (Some p.value.level)
 
 -- a property of what went on alone, or of a page
 abbrev pub IfOn : Went → (Onward → Type 0) → Type 0
@@ -58,20 +59,21 @@ IfOn (Page p) P = Unit {0}
 
 abbrev pub IfPage : Went → (PageStart → Type 0) → Type 0
 IfPage (On o) P = Unit {0}
-IfPage (Page p) P = P p
+IfPage (Page p) P = P p.value
 
 -- by what it is served, the tree that it asks, and whether the connection closes after it
 abbrev pub IsServed : (server length : ℕ) → Went → Type 0
 IsServed server length (On o) = IsServedBy server length o.flow
-IsServed server length (Page p) = (p.request.value.server ≡ server) × (p.request.value.length ≡ length)
+IsServed server length (Page p) =
+    (p.value.request.value.server ≡ server) × (p.value.request.value.length ≡ length)
 
 abbrev pub tree_of_went : Went → ℕ
 tree_of_went (On o) = tree_asked o.flow
-tree_of_went (Page p) = known_tree p.page.known
+tree_of_went (Page p) = known_tree p.value.page.known
 
 abbrev pub closing_of : Went → Bool
 closing_of (On o) = o.closing
-closing_of (Page p) = p.closing
+closing_of (Page p) = p.value.closing
 
 -- an answer with a file has the length that was told of it
 abbrev pub IsTold : PageHead → Type 0

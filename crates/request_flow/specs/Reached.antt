@@ -1,4 +1,5 @@
 -- Main requests that steps have led to, from their start on, whatever trees answered them.
+use Rattle.std.specs.Global.{Box}
 use Rattle.std.specs.Prelude.{◌≡◌, ℕ, List, Option, None, Some}
 use Rattle.acts.specs.Act.{Stat, settled}
 use Rattle.acts.specs.Vars.{Vars}
@@ -56,9 +57,12 @@ StageReached w patterns site path (Told request wait node) =
 StageReached w patterns site path (Reading sending left) = Unit {0}
 StageReached w patterns site path (Came sending left placed) = Unit {0}
 
-abbrev pub FlowReached : World → List SetPattern → Site → Option Flow → Type 0
+abbrev pub OneReached : World → List SetPattern → Site → Flow → Type 0
+OneReached w patterns site flow = StageReached w patterns site (path_asked flow.ask) flow.stage
+
+abbrev pub FlowReached : World → List SetPattern → Site → Option (Box Flow) → Type 0
 FlowReached w patterns site None = Unit {0}
-FlowReached w patterns site (Some flow) = StageReached w patterns site (path_asked flow.ask) flow.stage
+FlowReached w patterns site (Some flow) = OneReached w patterns site flow.value
 
 -- steps have led to a request that made this step of its phases, whatever text the file has that was told
 abbrev pub StepReached : World → List SetPattern → Site → InPhases → Step → (len : ℕ) → Type 0
@@ -72,4 +76,4 @@ PageReached w patterns site p =
 
 abbrev pub WentReached : World → List SetPattern → Site → Went → Type 0
 WentReached w patterns site (went.On o) = FlowReached w patterns site o.flow
-WentReached w patterns site (went.Page p) = PageReached w patterns site p
+WentReached w patterns site (went.Page p) = PageReached w patterns site p.value

@@ -103,7 +103,7 @@ pub struct Flow {
 /// of the level that answers where its head was put now.
 #[derive(Drop)]
 pub struct Onward {
-    pub flow: Option<Flow>,
+    pub flow: Option<Box<Flow>>,
     pub closing: bool,
     pub log: Option<(u16, u64)>,
     pub level: Option<u32>,
@@ -238,10 +238,13 @@ pub fn shown_by(stage: &Stage) -> usize
 }
 
 /// The first of the bytes for the peer were written, of those that are placed.
-pub fn wrote(flow: &mut Flow, count: usize)
-    requires { count ≤ shown_at flow.old.stage }
-    ensures { flow.new ≡ record flow.old { stage = stage_written flow.old.stage count } }
+pub fn wrote(flow: &mut Box<Flow>, count: usize)
+    requires { count ≤ shown_at flow.old.value.stage }
+    ensures { flow.new.value ≡ record flow.old.value {
+      stage = stage_written flow.old.value.stage count;
+    } }
 {
+    let flow = &mut **flow;
     match &mut flow.stage {
         Stage::Asked {
             request: _,

@@ -48,7 +48,7 @@ pub struct PageStart {
 pub enum Went {
     On(Onward),
     /// Filters act on its body: a family of nodes makes that.
-    Page(PageStart),
+    Page(Box<PageStart>),
 }
 
 /// Whether server side includes or additions are named at a level
@@ -82,19 +82,30 @@ fn copied(alloc: Global, outcome: &Outcome) -> Result<Outcome, OutOfMemory>
     }
 }
 
+/// Whether a filter acts on the body of what phases decided, where its level names some. It is a function of its own since few levels do.
+#[inline(never)]
+fn is_filtered(
+    alloc: Global,
+    ground: &Ground<'_>,
+    request: &InPhases,
+    outcome: &Outcome,
+) -> Result<bool, OutOfMemory> {
+    let reply = reply_of(alloc, ground.site, &request.phases, copied(alloc, outcome)?)?;
+    Ok(reply.facts.is_some())
+}
+
 /// Whether a filter acts on the body of what phases decided.
+#[inline(always)]
 pub(crate) fn composes(
     alloc: Global,
     ground: &Ground<'_>,
     request: &InPhases,
     outcome: &Outcome,
 ) -> Result<bool, OutOfMemory> {
-    let level = ground.site.level(request.phases.at.level);
-    if !names_filters(level) {
+    if !names_filters(ground.site.level(request.phases.at.level)) {
         return Ok(false);
     }
-    let reply = reply_of(alloc, ground.site, &request.phases, copied(alloc, outcome)?)?;
-    Ok(reply.facts.is_some())
+    is_filtered(alloc, ground, request, outcome)
 }
 
 /// Whether a body comes in chunks (RFC 9112, section 7.1).
@@ -127,6 +138,7 @@ pub(crate) struct Composed {
 
 /// Makes the head of the response to what phases decided, whose body filters make. Where no body is
 /// sent there is no page: there is no memory for it.
+#[inline(never)]
 pub(crate) fn compose(
     space: &mut Workspace,
     ground: &Ground<'_>,

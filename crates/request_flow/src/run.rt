@@ -6,13 +6,12 @@ ghost use Rattle.site_model.specs.declared.site.Site.{Site as SiteRow};
 ghost use Rattle.request_meaning.specs.Laws.{shipped};
 ghost use Rattle.request_meaning.specs.Serving.{World};
 ghost use Rattle.request_phases.specs.Rounds.{IsGround, world_in};
-ghost use Rattle.request_flow.specs.Flows.{waits as waits_for, may_run as can_run, is_sending as sends, going_on, stage_fits, flow_rest, flow_fits, flow_left, stage_left, flow_most, tree_asked, heard_flow, file_length, stage_server, stage_length, IsServedBy};
+ghost use Rattle.request_flow.specs.Flows.{waits as waits_for, may_run as can_run, is_sending as sends, going_on, one_rest, flow_rest, flow_fits, flow_left, flow_most, tree_asked, heard_flow, file_length, stage_server, stage_length, IsServedBy};
 ghost use Rattle.request_flow.specs.Rests.{Follows};
 ghost use Rattle.request_flow.specs.Pages.{GoesTo, IfOn, IfPage, IsServed, IsTold, closing_of, tree_of_went};
-ghost use Rattle.request_flow.specs.Reached.{FlowReached, WentReached};
-ghost use Rattle.request_flow.specs.declared.flow.Stage.TheVariants.{Came as AtCame};
+ghost use Rattle.request_flow.specs.Reached.{FlowReached, OneReached, WentReached};
 
-use crate::blocks::{Sending, next_block, to_next_block};
+use crate::blocks::{Sending, to_next_block};
 use crate::flow::{Flow, InPhases, Onward, Stage};
 use crate::page::Went;
 use crate::reply::Workspace;
@@ -61,11 +60,11 @@ fn run_told(
         let w = world_in space.old.patterns ground.now shipped in
         let site = ground.now.site.now in
         IfOk result (λ went. GoesTo w space.old.patterns site trees
-        (flow_rest w space.old.patterns site (Some (heard_flow heard)) trees)
+        (one_rest w space.old.patterns site (heard_flow heard) trees)
         out.old out.new closing went) }
     ensures reached { let w = world_in space.old.patterns ground.now shipped in
         let site = ground.now.site.now in
-        FlowReached w space.old.patterns site (Some (heard_flow heard))
+        OneReached w space.old.patterns site (heard_flow heard)
         → IfOk result (WentReached w space.old.patterns site) }
     ensures over { IfOk result (λ went. IfOn went (λ o. is_some o.log ≡ not (is_some o.flow))) }
     ensures fits { IfOk result (λ went. IfOn went (λ o. flow_fits o.flow (length out.new) ≡ true)) }
@@ -101,69 +100,6 @@ fn run_told(
     }
 }
 
-/// A block of its file came: as many of its bytes are placed as there is room for. Once all are,
-/// the next block is asked, or the file is sent.
-#[tactic(auto, unfolding(crate::specs::Flows::placed_most))]
-fn run_came(
-    ask: Ask,
-    sending: Sending,
-    left: u64,
-    placed: usize,
-    size: usize,
-    closing: bool,
-) -> Onward
-    requires fits { stage_fits ask (AtCame sending left placed) size ≡ true }
-    requires runs { can_run (AtCame sending left placed) ≡ true }
-    ensures goes { (w : World) (patterns : List SetPattern) (site : SiteRow) (trees : Trees)
-        (out : List ℕ) → Follows site
-        (flow_rest w patterns site
-        (Some (record { ask = ask; stage = AtCame sending left placed })) trees)
-        (flow_rest w patterns site result.flow trees) out out closing result.closing
-        result.log result.level }
-    ensures over { is_some result.log ≡ not (is_some result.flow) }
-    ensures fits { flow_fits result.flow size ≡ true }
-    ensures lowers { flow_left result.flow size < stage_left (AtCame sending left placed) size }
-    ensures by { (server length : ℕ) → IsServedBy server length result.flow }
-    ensures asked { tree_asked result.flow ≤ tree_of ask }
-    ensures reached { (w : World) (patterns : List SetPattern) (site : SiteRow) →
-        FlowReached w patterns site result.flow }
-    ensures closes { closing ≡ true → result.closing ≡ true }
-{
-    let placed = placed + (size - placed).min(PLACED - placed);
-    if placed < size {
-        return Onward {
-            flow: Some(Flow {
-                ask,
-                stage: Stage::Came {
-                    sending,
-                    left,
-                    placed,
-                },
-            }),
-            closing,
-            log: None,
-            level: None,
-        };
-    }
-    if left == 0 {
-        return Onward {
-            flow: None,
-            closing,
-            log: Some((sending.status, sending.len)),
-            level: None,
-        };
-    }
-    Onward {
-        flow: Some(Flow {
-            ask: next_block(ask, sending.len, left),
-            stage: Stage::Reading { sending, left },
-        }),
-        closing,
-        log: None,
-        level: None,
-    }
-}
-
 /// Whether a block of its file came.
 pub fn is_sending(flow: &Flow) -> bool
     ensures { result ≡ sends flow.now.stage }
@@ -194,10 +130,10 @@ pub fn is_sending(flow: &Flow) -> bool
 /// all are, the next block is asked, in its place; or the file is sent: its status and its length,
 /// and the request is not to go on.
 #[tactic(auto, unfolding(crate::specs::Flows::placed_most))]
-pub fn sends_on(flow: &mut Flow, size: usize) -> Option<(u16, u64)>
+pub fn sends_on(flow: &mut Box<Flow>, size: usize) -> Option<(u16, u64)>
     requires fits { flow_fits (Some flow.old) size ≡ true }
-    requires sends { sends flow.old.stage ≡ true }
-    requires runs { can_run flow.old.stage ≡ true }
+    requires sends { sends flow.old.value.stage ≡ true }
+    requires runs { can_run flow.old.value.stage ≡ true }
     ensures goes { (w : World) (patterns : List SetPattern) (site : SiteRow) (trees : Trees)
         (out : List ℕ) (closing : Bool) → Follows site
         (flow_rest w patterns site (Some flow.old) trees)
@@ -207,10 +143,12 @@ pub fn sends_on(flow: &mut Flow, size: usize) -> Option<(u16, u64)>
     ensures lowers { flow_left (going_on flow.new result) size
         < flow_left (Some flow.old) size }
     ensures by { (server length : ℕ) → IsServedBy server length (going_on flow.new result) }
-    ensures asked { tree_asked (going_on flow.new result) ≤ tree_of flow.old.ask }
+    ensures asked { tree_asked (going_on flow.new result)
+        ≤ tree_of flow.old.value.ask }
     ensures reached { (w : World) (patterns : List SetPattern) (site : SiteRow) →
         FlowReached w patterns site (going_on flow.new result) }
 {
+    let flow = &mut **flow;
     let Stage::Came {
         sending,
         left,
@@ -241,6 +179,27 @@ pub fn sends_on(flow: &mut Flow, size: usize) -> Option<(u16, u64)>
     None
 }
 
+/// What became of a request in its place: it goes on, or is over where it is logged.
+fn sent_on(flow: Box<Flow>, closing: bool, log: Option<(u16, u64)>) -> Onward
+    ensures { result ≡ record {
+      flow = going_on flow log;
+      closing = closing;
+      log = log;
+      level = None;
+    } }
+{
+    let flow = match log {
+        Some(_) => None,
+        None => Some(flow),
+    };
+    Onward {
+        flow,
+        closing,
+        log,
+        level: None,
+    }
+}
+
 /// Runs a request on, to its next job or its end, or to its page.
 ///
 /// # Errors
@@ -248,13 +207,13 @@ pub fn sends_on(flow: &mut Flow, size: usize) -> Option<(u16, u64)>
 pub fn run_on(
     space: &mut Workspace,
     ground: &Ground<'_>,
-    flow: Flow,
+    flow: Box<Flow>,
     out: &mut ByteQueue,
     closing: bool,
 ) -> Result<Went, OutOfMemory>
     requires ground { IsGround ground.now }
     requires fits { flow_fits (Some flow) (length out.old) ≡ true }
-    requires runs { can_run flow.stage ≡ true }
+    requires runs { can_run flow.value.stage ≡ true }
     ensures goes { (trees : Trees) →
         let w = world_in space.old.patterns ground.now shipped in
         let site = ground.now.site.now in
@@ -269,14 +228,20 @@ pub fn run_on(
     ensures lowers { IfOk result (λ went. IfOn went (λ o.
         length out.new + flow_left o.flow (length out.new)
         < length out.old + flow_left (Some flow) (length out.old))) }
-    ensures by { IfOk result (IsServed (stage_server flow.stage) (stage_length flow.stage)) }
-    ensures asked { IfOk result (λ went. tree_of_went went ≤ tree_of flow.ask) }
+    ensures by { IfOk result (IsServed (stage_server flow.value.stage)
+        (stage_length flow.value.stage)) }
+    ensures asked { IfOk result (λ went. tree_of_went went ≤ tree_of flow.value.ask) }
     ensures put { IfOk result (λ went. IfPage went (λ p. out.new ≡ [])) }
     ensures told { IfOk result (λ went. IfPage went (λ p. IsTold p.page)) }
     ensures closes { IfOk result (λ went. closing ≡ true → closing_of went ≡ true) }
     ensures kept { space.new.patterns ≡ space.old.patterns }
 {
-    let Flow { ask, stage } = flow;
+    if is_sending(&*flow) {
+        let mut flow = flow;
+        let log = sends_on(&mut flow, out.len());
+        return Ok(Went::On(sent_on(flow, closing, log)));
+    }
+    let Flow { ask, stage } = Box::into_inner(flow);
     match stage {
         Stage::Told {
             request,
@@ -292,13 +257,10 @@ pub fn run_on(
             Ok(run_told(space, ground, heard, out, closing)?)
         }
         Stage::Came {
-            sending,
-            left,
-            placed,
-        } => {
-            let onward = run_came(ask, sending, left, placed, out.len(), closing);
-            Ok(Went::On(onward))
-        }
+            sending: _,
+            left: _,
+            placed: _,
+        } => unreachable!(),
         Stage::Asked {
             request: _,
             wait: _,
@@ -330,27 +292,28 @@ fn take_stage(stage: &mut Stage) -> Stage
 /// `OutOfMemory` where a block doesn't fit; the request is then not to be answered.
 #[tactic(auto, unfolding(crate::specs::Flows::placed_most, crate::specs::Flows::block_most, crate::specs::Flows::kept_most))]
 pub fn answered(
-    flow: &mut Flow,
+    flow: &mut Box<Flow>,
     out: &mut ByteQueue,
     answer: JobAnswer<'_>,
 ) -> Result<(), OutOfMemory>
     requires fits { flow_fits (Some flow.old) (length out.old) ≡ true }
-    requires waits { waits_for flow.old.stage ≡ true }
-    requires fitting { fits_job flow.old.ask answer ≡ true }
+    requires waits { waits_for flow.old.value.stage ≡ true }
+    requires fitting { fits_job flow.old.value.ask answer ≡ true }
     ensures goes { (w : World) (patterns : List SetPattern) (site : SiteRow) (trees : Trees)
-        (closing : Bool) → IsFrom trees flow.old.ask answer.entry →
+        (closing : Bool) → IsFrom trees flow.old.value.ask answer.entry →
         OnOk result (Follows site (flow_rest w patterns site (Some flow.old) trees)
         (flow_rest w patterns site (Some flow.new) trees) out.old out.new closing closing None None) }
     ensures fits { OnOk result (flow_fits (Some flow.new) (length out.new) ≡ true) }
     ensures lowers { OnOk result (length out.new + flow_left (Some flow.new) (length out.new)
         < length out.old + flow_left (Some flow.old) (length out.old)) }
-    ensures by { OnOk result (IsServedBy (stage_server flow.old.stage)
-        (stage_length flow.old.stage) (Some flow.new)) }
-    ensures asked { OnOk result (tree_of flow.new.ask ≡ tree_of flow.old.ask) }
+    ensures by { OnOk result (IsServedBy (stage_server flow.old.value.stage)
+        (stage_length flow.old.value.stage) (Some flow.new)) }
+    ensures asked { OnOk result (tree_of flow.new.value.ask ≡ tree_of flow.old.value.ask) }
     ensures reached { (w : World) (patterns : List SetPattern) (site : SiteRow) →
         FlowReached w patterns site (Some flow.old)
         → OnOk result (FlowReached w patterns site (Some flow.new)) }
 {
+    let flow = &mut **flow;
     match (take_stage(&mut flow.stage), answer) {
         (Stage::Asked { request, wait }, JobAnswer::Stat(node)) => {
             put(

@@ -3,6 +3,7 @@
 ghost use Rattle.std.specs.Prelude.{◌≡◌};
 
 /// Puts a value in place of another.
+#[inline(always)]
 pub(crate) fn put<T: Drop>(slot: &mut T, value: T)
     ensures { slot.new ≡ value }
 {

@@ -31,6 +31,7 @@ use ngx_variables::VarTable;
 use request_opening::{Opening, put_phases};
 use request_phases::{Ground, Outcome, Step, Wait, begin};
 use request_reply::{Body, Reply, reply_of};
+use std::alloc::Global;
 
 /// What a job told of its path, and how many bytes of it are a file's.
 #[derive(Drop)]
@@ -146,34 +147,43 @@ fn over(number: u32, status: u16, size: u64, closing: bool) -> Onward
 
 /// A request whose head was put, and whose file is read from now on.
 #[tactic(auto, unfolding(crate::specs::Flows::flow_most, crate::specs::Flows::placed_most))]
-fn reading(number: u32, status: u16, file: FileAt, closing: bool) -> Onward
+fn reading(
+    alloc: Global,
+    number: u32,
+    status: u16,
+    file: FileAt,
+    closing: bool,
+) -> Result<Onward, OutOfMemory>
     ensures rest { (w : World) (patterns : List SetPattern) (site : SiteRow) (trees : Trees) →
-        flow_rest w patterns site result.flow trees
+        IfOk result (λ o. flow_rest w patterns site o.flow trees
         ≡ file_rest (record { status = status; len = file.len }) file.len
-        (item_asked trees file.ask) }
-    ensures flow { is_some result.flow ≡ true }
-    ensures others { (result.closing ≡ closing) × (result.log ≡ None) ×
-        (result.level ≡ Some number) }
-    ensures fits { (count : ℕ) → count ≤ 65536 → flow_fits result.flow count ≡ true }
-    ensures lowers { (count : ℕ) → count ≤ 65536 → count + flow_left result.flow count < flow_most }
-    ensures by { (server length : ℕ) → IsServedBy server length result.flow }
-    ensures asked { tree_asked result.flow ≡ tree_of file.ask }
+        (item_asked trees file.ask)) }
+    ensures flow { IfOk result (λ o. is_some o.flow ≡ true) }
+    ensures others { IfOk result (λ o. (o.closing ≡ closing) × (o.log ≡ None) ×
+        (o.level ≡ Some number)) }
+    ensures fits { (count : ℕ) → count ≤ 65536 → IfOk result (λ o.
+        flow_fits o.flow count ≡ true) }
+    ensures lowers { (count : ℕ) → count ≤ 65536 → IfOk result (λ o.
+        count + flow_left o.flow count < flow_most) }
+    ensures by { (server length : ℕ) → IfOk result (λ o. IsServedBy server length o.flow) }
+    ensures asked { IfOk result (λ o. tree_asked o.flow ≡ tree_of file.ask) }
     ensures reached { (w : World) (patterns : List SetPattern) (site : SiteRow) →
-        FlowReached w patterns site result.flow }
+        IfOk result (λ o. FlowReached w patterns site o.flow) }
 {
     let FileAt { ask, len } = file;
-    Onward {
-        flow: Some(Flow {
-            ask: next_block(ask, len, len),
-            stage: Stage::Reading {
-                sending: Sending { status, len },
-                left: len,
-            },
-        }),
+    let flow = Flow {
+        ask: next_block(ask, len, len),
+        stage: Stage::Reading {
+            sending: Sending { status, len },
+            left: len,
+        },
+    };
+    Ok(Onward {
+        flow: Some(Box::new(alloc, flow)?),
         closing,
         log: None,
         level: Some(number),
-    }
+    })
 }
 
 /// Puts the head of the response to what phases decided, and its body where that isn't a file.
@@ -221,7 +231,7 @@ fn answer(
     let closing = closes(closing, keep);
     match file {
         None => Ok(over(number, status, size, closing)),
-        Some(file) => Ok(reading(number, status, file, closing)),
+        Some(file) => Ok(reading(space.alloc, number, status, file, closing)?),
     }
 }
 
@@ -237,6 +247,7 @@ fn spent(request: Box<InPhases>) -> Box<InPhases>
 
 /// A request that asks the files what is at a path.
 fn asks(
+    alloc: Global,
     request: Box<InPhases>,
     wait: Wait,
     path: ByteText,
@@ -264,11 +275,12 @@ fn asks(
     }
     let request = spent(request);
     let of = tree_in(&known);
+    let flow = Flow {
+        ask: Ask::Stat { path, of },
+        stage: Stage::Asked { request, wait },
+    };
     Ok(Onward {
-        flow: Some(Flow {
-            ask: Ask::Stat { path, of },
-            stage: Stage::Asked { request, wait },
-        }),
+        flow: Some(Box::new(alloc, flow)?),
         closing,
         log: None,
         level: None,
@@ -313,12 +325,15 @@ fn answers(
             Ok(Went::On(onward?))
         }
         Ok(true) => match compose(space, ground, &*request, outcome, known, closing) {
-            Ok(composed) => Ok(Went::Page(PageStart {
-                request,
-                page: composed.page,
-                closing: composed.closing,
-                level: composed.level,
-            })),
+            Ok(composed) => {
+                let start = PageStart {
+                    request,
+                    page: composed.page,
+                    closing: composed.closing,
+                    level: composed.level,
+                };
+                Ok(Went::Page(Box::new(space.alloc, start)?))
+            }
             Err(OutOfMemory) => {
                 drop(request);
                 Err(OutOfMemory)
@@ -364,7 +379,14 @@ pub(crate) fn go_on(
     ensures kept { space.new.patterns ≡ space.old.patterns }
 {
     match step {
-        Step::Asks { wait, path } => Ok(Went::On(asks(request, wait, path, known, closing)?)),
+        Step::Asks { wait, path } => Ok(Went::On(asks(
+            space.alloc,
+            request,
+            wait,
+            path,
+            known,
+            closing,
+        )?)),
         Step::Calls(_) => {
             drop(request);
             Err(OutOfMemory)

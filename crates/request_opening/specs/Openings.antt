@@ -11,7 +11,7 @@ use Rattle.pattern_search.specs.Found.{patterns_seen, found}
 use Rattle.site_model.specs.declared.site.Site.{Site}
 use Rattle.site_whole.specs.Whole.{whole}
 use Rattle.request_meaning.specs.Laws.{shipped}
-use Rattle.answers_meaning.specs.Asking.{Service, received}
+use Rattle.answers_meaning.specs.Asking.{Service}
 use Rattle.request_phases.specs.declared.ground.Ground.{Ground}
 use Rattle.request_phases.specs.declared.state.Phases.{Phases}
 use Rattle.request_opening.specs.declared.asked.Opening.{Opening}
@@ -34,7 +34,7 @@ start_at o = record { moment = o.moment; tree = o.tree }
 unfoldable pub main_at : Ground → Opening → Main
 main_at g o =
     record {
-      received = received o.head;
+      asked = o.head.method;
       method = o.head.method;
       version = o.head.version;
       target = o.head.target;

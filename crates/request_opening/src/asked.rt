@@ -1,16 +1,15 @@
 // What a request's head asks for.
 ghost use Rattle.std.specs.Prelude.{◌≡◌, OnOk, List, ℕ};
 ghost use Rattle.ngx_pattern.specs.Pattern.{Pattern as SetPattern};
-ghost use Rattle.ngx_variables.specs.Words.{protocol_name as name_of_version};
 ghost use Rattle.pattern_search.specs.Found.{patterns_seen};
 ghost use Rattle.site_whole.specs.Whole.{server_whole};
-ghost use Rattle.answers_meaning.specs.Asking.{received as received_line, target_of as target_meant, request_of};
+ghost use Rattle.answers_meaning.specs.Asking.{target_of as target_meant, request_of};
 ghost use Rattle.request_opening.specs.Openings.{main_at, phases_at, main_with};
 
 use crate::slot::put;
 use byte_text::{ByteText, OutOfMemory};
 use http_types::{Addr, Method, Version};
-use ngx_variables::{Groups, LocalDate, Main, Request, Role, method_name};
+use ngx_variables::{Groups, LocalDate, Main, Request, Role};
 use req_head::{Head, HeadFields, HeadRoom};
 use request_phases::{Ground, Phases};
 use rewrite_code::Progress;
@@ -30,31 +29,6 @@ pub struct Opening {
     pub moment: u64,
     pub tree: u64,
     pub before: u64,
-}
-
-/// The name of a version (RFC 9112, section 2.3).
-#[tactic(auto, unfolding(ngx_variables::specs::Words::protocol_name))]
-fn protocol_name(version: Version) -> &'static [u8]
-    ensures { result.now ≡ name_of_version version }
-{
-    match version {
-        Version::V10 => b"HTTP/1.0",
-        Version::V11 => b"HTTP/1.1",
-    }
-}
-
-/// Writes a request line as received, in place of another text.
-#[tactic(auto, unfolding(answers_meaning::specs::Asking::received))]
-fn put_received(head: &Head, line: &mut ByteText) -> Result<(), OutOfMemory>
-    ensures { OnOk result (line.new ≡ received_line head.now) }
-{
-    line.clear();
-    line.extend(method_name(&head.method))?;
-    line.push(b' ')?;
-    line.extend(head.target.as_slice())?;
-    line.push(b' ')?;
-    line.extend(protocol_name(head.version))?;
-    Ok(())
 }
 
 /// Writes a text in place of another.
@@ -103,12 +77,13 @@ fn put_request(server: &Server, head: &Head, request: &mut Request) -> Result<()
 /// What the variables of a main request mean, in place of those of another: what is made anew of it.
 fn put_texts(ground: &Ground<'_>, head: &Head, main: &mut Main) -> Result<(), OutOfMemory>
     ensures { OnOk result (main.new ≡ record main.old {
-      received = received_line head.now;
+      asked = head.now.method;
       server_name = ground.now.server.now.first_name;
       folder = ground.now.site.now.folder;
     }) }
 {
-    put_received(head, &mut main.received)?;
+    let asked = head.method.clone()?;
+    put(&mut main.asked, asked);
     put_text(&mut main.server_name, ground.server.first_name.as_slice())?;
     put_text(&mut main.folder, ground.site.folder.as_slice())?;
     Ok(())
@@ -175,7 +150,7 @@ pub fn blank(alloc: Global) -> Phases {
     };
     Phases {
         main: Main {
-            received: ByteText::new(alloc),
+            asked: Method::Get,
             method: Method::Get,
             version: Version::V11,
             target: ByteText::new(alloc),

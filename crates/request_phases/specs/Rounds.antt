@@ -82,7 +82,7 @@ asked_from p from =
       closes = p.closes;
     }
 
--- Of the request with which it began a round looks no more but at its role, so that the present one may stand for it.
+-- Of the request with which it began a round looks no more but at its role, so that the present one may take its place.
 abbrev pub asked_in : Phases → Asked
 asked_in p = record (asked_from p Find) { request = record (p.at.request) { role = p.role } }
 

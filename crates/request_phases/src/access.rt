@@ -34,6 +34,7 @@ pub(crate) enum Verdict<'a> {
 
 #[tactic(auto, unfolding(request_meaning::specs::Access::auth_verdict))]
 /// Where the list lets in or denies, the subrequest decides, if one is to be asked.
+#[inline(always)]
 fn auth_verdict(auth: &Option<ByteText>, denied: bool) -> Verdict<'_>
     ensures { (main : MainView) (values : Values) → values.auth ≡ auth.now
         → auth_verdict_of main values denied values.auth ≡ verdict_act main values result }
@@ -51,6 +52,7 @@ fn auth_verdict(auth: &Option<ByteText>, denied: bool) -> Verdict<'_>
 
 /// Address rules come first. With `satisfy all` a denial ends; with `satisfy any` a rule that allows ends.
 #[tactic(auto, unfolding(request_meaning::specs::Access::verdict))]
+#[inline(always)]
 fn judge<'a>(rules: &[Rule], any: bool, auth: &'a Option<ByteText>, peer: IpAddr) -> Verdict<'a>
     ensures { (main : MainView) (values : Values) → main.peer.ip ≡ peer
         → values.rules ≡ rules.now → values.any ≡ any → values.auth ≡ auth.now
@@ -74,6 +76,7 @@ fn judge<'a>(rules: &[Rule], any: bool, auth: &'a Option<ByteText>, peer: IpAddr
 }
 
 /// The access phase of a main request, and what follows it.
+#[inline(always)]
 fn guarded(
     alloc: Global,
     ground: &Ground<'_>,
@@ -98,6 +101,7 @@ fn guarded(
 
 /// The access phase, which subrequests skip, and what follows it.
 #[tactic(auto, unfolding(request_meaning::specs::Phases::access))]
+#[inline(always)]
 pub(crate) fn access(
     alloc: Global,
     ground: &Ground<'_>,

@@ -57,6 +57,7 @@ pub(crate) enum Sought {
 }
 
 /// Where the level puts a path of the site.
+#[inline(always)]
 fn seek(
     alloc: Global,
     site: &Site,
@@ -117,6 +118,7 @@ pub(crate) fn on_node(alloc: Global, request: &Request, node: Node) -> Result<De
 }
 
 /// The request's own file, for a method that files are served to.
+#[inline(always)]
 fn file(
     alloc: Global,
     ground: &Ground<'_>,
@@ -142,6 +144,7 @@ fn file(
 }
 
 /// Whether the folder is there, of which no index was found.
+#[inline(never)]
 fn folder(
     alloc: Global,
     ground: &Ground<'_>,
@@ -166,6 +169,7 @@ fn folder(
 }
 
 /// The names of `index` that come next, by what is at the path of the last.
+#[inline(never)]
 pub(crate) fn index(
     alloc: Global,
     ground: &Ground<'_>,
@@ -216,6 +220,7 @@ fn ends_in_slash(path: &[u8]) -> bool
 }
 
 /// The content phase: the method is asked before any file; a path that ends in a slash names a folder.
+#[inline(always)]
 pub(crate) fn content(
     alloc: Global,
     ground: &Ground<'_>,
@@ -239,6 +244,7 @@ pub(crate) fn content(
 }
 
 /// The names of `try_files` that come next, by what is at the path of the last.
+#[inline(never)]
 pub(crate) fn try_names(
     alloc: Global,
     ground: &Ground<'_>,
@@ -284,6 +290,7 @@ pub(crate) fn try_names(
 }
 
 /// The precontent phase, and the content phase after it.
+#[inline(always)]
 pub(crate) fn precontent(
     alloc: Global,
     ground: &Ground<'_>,

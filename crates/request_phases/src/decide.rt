@@ -37,6 +37,7 @@ fn too_many(phases: &mut Phases) -> Outcome
 }
 
 /// What is answered where no change is left.
+#[inline(always)]
 pub(crate) fn last_of(phases: &mut Phases, decision: Decision) -> Outcome
     ensures answer { result ≡ last_outcome decision }
     ensures phases { phases.new ≡ last_phases phases.old decision }
@@ -109,6 +110,7 @@ impl Phases {
 }
 
 /// An error goes to its page, or is answered by the built-in one.
+#[inline(never)]
 fn fail(
     alloc: Global,
     ground: &Ground<'_>,
@@ -169,6 +171,7 @@ fn fail(
 }
 
 /// What becomes of a decision where a change is left.
+#[inline(always)]
 pub(crate) fn next_of(
     alloc: Global,
     ground: &Ground<'_>,

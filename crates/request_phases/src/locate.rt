@@ -38,6 +38,7 @@ use site_model::{Level, Site};
 use std::alloc::Global;
 
 /// Takes a request into a level: its files are where the level says.
+#[inline(always)]
 fn enter(alloc: Global, site: &Site, number: u32, at: &mut Progress) -> Result<(), OutOfMemory>
     ensures { OnOk result (at.new ≡ moved_into site.now number at.old) }
 {
@@ -48,6 +49,7 @@ fn enter(alloc: Global, site: &Site, number: u32, at: &mut Progress) -> Result<(
 }
 
 /// What `return` comes to without a text: from 400 on an error, else nothing is sent with the code.
+#[inline(always)]
 fn bare(alloc: Global, code: u16) -> Decision
     ensures { result ≡ (if nat_le 400 code then CodeError code else CodeText code []) }
 {
@@ -61,6 +63,7 @@ fn bare(alloc: Global, code: u16) -> Decision
 }
 
 /// A text that is too long in the `set`s that begin the server's program is answered by the built-in page.
+#[inline(always)]
 fn failure(at_once: bool) -> Decision
     ensures { result ≡ (if at_once then CodePage 500 else CodeError 500) }
 {
@@ -71,6 +74,7 @@ fn failure(at_once: bool) -> Decision
 }
 
 /// What a program decides by its end, and nothing where it came to its end alone.
+#[inline(always)]
 fn decision_of(alloc: Global, ending: Ending, at_server: bool) -> Option<Decision>
     ensures { result ≡ ended_as at_server ending }
 {
@@ -88,6 +92,7 @@ fn decision_of(alloc: Global, ending: Ending, at_server: bool) -> Option<Decisio
 
 /// What follows as far as a location's program came: a location is sought again where it changed the path, else the access
 /// phase comes.
+#[inline(always)]
 pub(crate) fn after_location(
     alloc: Global,
     ground: &Ground<'_>,
@@ -125,6 +130,7 @@ pub(crate) fn after_location(
 }
 
 /// Runs the program of a location in whose level the request is.
+#[inline(always)]
 fn run_location(
     alloc: Global,
     ground: &Ground<'_>,
@@ -153,6 +159,7 @@ fn run_location(
 
 /// Why a level turns a request away: it is asked from inside alone (`internal`), or the request's body is longer than it
 /// allows (`client_max_body_size`).
+#[inline(always)]
 fn refusal(level: &Level, length: u64, at: &Progress) -> Option<u16>
     ensures { (w : World) (values : Values) → w.length ≡ length
         → values.internal ≡ level.now.internal
@@ -175,6 +182,7 @@ fn refusal(level: &Level, length: u64, at: &Progress) -> Option<u16>
 }
 
 /// The groups of the match by which a location was found.
+#[inline(always)]
 fn take_groups(
     alloc: Global,
     found: FoundLocation,
@@ -196,6 +204,7 @@ fn take_groups(
 }
 
 /// A request comes into the level of a location, or is turned away there.
+#[inline(always)]
 fn in_location(
     alloc: Global,
     ground: &Ground<'_>,
@@ -220,6 +229,7 @@ fn in_location(
 }
 
 /// A request comes into the server's own level, whose program isn't run again, or is turned away there.
+#[inline(always)]
 fn in_server(
     alloc: Global,
     ground: &Ground<'_>,
@@ -242,6 +252,7 @@ fn in_server(
 }
 
 /// The location that holds for the request's path, and what follows there.
+#[inline(always)]
 pub(crate) fn find_config(
     alloc: Global,
     ground: &Ground<'_>,
@@ -269,6 +280,7 @@ pub(crate) fn find_config(
 }
 
 /// What follows as far as the server's program came.
+#[inline(always)]
 pub(crate) fn after_server(
     alloc: Global,
     ground: &Ground<'_>,
@@ -303,6 +315,7 @@ pub(crate) fn after_server(
 }
 
 /// Runs the server's program, in whose level the request is.
+#[inline(always)]
 fn run_server(
     alloc: Global,
     ground: &Ground<'_>,
@@ -330,6 +343,7 @@ fn run_server(
 }
 
 /// A location `@name`; a name that no location has is an error of the level that it was asked from.
+#[inline(never)]
 fn in_named(
     alloc: Global,
     ground: &Ground<'_>,

@@ -39,6 +39,7 @@ fn without_index(node: Node) -> Decision
 }
 
 /// Goes on with a search of `try_files`.
+#[inline(never)]
 fn tried(
     alloc: Global,
     ground: &Ground<'_>,
@@ -68,6 +69,7 @@ fn tried(
 }
 
 /// Goes on with a round that waited, by what is at the path for which it asked.
+#[inline(always)]
 fn told(
     alloc: Global,
     ground: &Ground<'_>,
@@ -117,6 +119,7 @@ fn told(
 }
 
 /// Works rounds off, as long as each is decided at once and makes a change.
+#[inline(always)]
 fn settle(
     alloc: Global,
     ground: &Ground<'_>,
@@ -169,6 +172,7 @@ fn settle(
 ///
 /// # Errors
 /// `OutOfMemory`; `phases` and `vars` are then fit to be dropped alone.
+#[inline(always)]
 pub fn begin(
     alloc: Global,
     ground: &Ground<'_>,

@@ -69,6 +69,7 @@ fn acts(facts: &Facts) -> bool
 }
 
 /// What the filters are told of a body with this status and media type, where one acts on it.
+#[inline(always)]
 pub(crate) fn facts_if(site: &Site, phases: &Phases, status: u16, kind: &[u8]) -> Option<Facts>
     ensures { let facts = facts_of (standing_seen site.now phases.now.at) status kind.now in
         result ≡ (if acts_on facts then Some facts else None) }

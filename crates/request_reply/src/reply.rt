@@ -108,6 +108,7 @@ fn closed() -> Reply<'static>
 }
 
 /// The status, or 304 where a file on which no filter acts was not modified since the date that the request names.
+#[inline(always)]
 fn status_of(phases: &Phases, shown: u16, filtered: bool, date: Option<u64>) -> u16
     ensures { result ≡ status_in phases.now shown filtered date }
 {
@@ -177,6 +178,7 @@ fn read_unless(nothing: bool, date: Option<u64>, len: u64) -> Option<u64>
 }
 
 /// A text or a file, of this length, that is answered with a status of its own.
+#[inline(always)]
 fn sent<'a>(
     site: &'a Site,
     phases: &Phases,
@@ -214,6 +216,7 @@ fn sent<'a>(
 }
 
 /// What a request is replied for what its phases decided.
+#[inline(always)]
 pub fn reply_of<'a>(
     alloc: Global,
     site: &'a Site,

@@ -11,6 +11,7 @@ use itoa::Buffer;
 
 /// The end of a line: two bytes that are pushed cost less than a text of two.
 #[tactic(auto, unfolding(crate::specs::Head::crlf))]
+#[inline(always)]
 fn put_crlf(out: &mut ByteText) -> Result<(), OutOfMemory>
     ensures { OnOk result (out.new ≡ out.old ++ crlf) }
 {
@@ -44,6 +45,7 @@ pub fn put_date(date: &[u8; 29], out: &mut ByteText) -> Result<(), OutOfMemory>
 }
 
 #[tactic(auto, unfolding(crate::specs::Head::field_line, crate::specs::Head::type_field, crate::specs::Head::crlf))]
+#[inline(always)]
 pub fn put_type(kind: &[u8], out: &mut ByteText) -> Result<(), OutOfMemory>
     ensures { OnOk result (out.new ≡ out.old ++ field_line (type_field kind.now)) }
 {
@@ -54,6 +56,7 @@ pub fn put_type(kind: &[u8], out: &mut ByteText) -> Result<(), OutOfMemory>
 }
 
 #[tactic(auto, unfolding(crate::specs::Head::field_line, crate::specs::Head::length_field, crate::specs::Head::crlf))]
+#[inline(always)]
 pub fn put_length(length: u64, out: &mut ByteText) -> Result<(), OutOfMemory>
     ensures { OnOk result (out.new ≡ out.old ++ field_line (length_field length)) }
 {
@@ -64,6 +67,7 @@ pub fn put_length(length: u64, out: &mut ByteText) -> Result<(), OutOfMemory>
 }
 
 #[tactic(auto, unfolding(crate::specs::Head::field_line, crate::specs::Head::modified_field, crate::specs::Head::crlf))]
+#[inline(always)]
 pub fn put_modified(date: &[u8; 29], out: &mut ByteText) -> Result<(), OutOfMemory>
     ensures { (secs : ℕ) → date.now ≡ date_of secs
         → OnOk result (out.new ≡ out.old ++ field_line (modified_field secs)) }
@@ -94,6 +98,7 @@ pub fn put_chunked(out: &mut ByteText) -> Result<(), OutOfMemory>
 
 /// Connection, and the empty line that ends the head.
 #[tactic(auto, unfolding(crate::specs::Head::field_line, crate::specs::Head::connection_field, crate::specs::Head::crlf))]
+#[inline(always)]
 pub fn put_end(keep: bool, out: &mut ByteText) -> Result<(), OutOfMemory>
     ensures { OnOk result (out.new ≡ out.old ++ field_line (connection_field keep) ++ crlf) }
 {

@@ -19,6 +19,7 @@ use Rattle.page_response.specs.declared.pages.Pages.{Pages}
 use Rattle.request_flow.specs.Rests.{Follows, Rest, no_rest}
 use Rattle.request_flow.specs.Flows.{flow_fits, placed_most}
 use Rattle.request_flow.specs.declared.flow.Flow.{Flow}
+use Rattle.std.specs.Global.{Box}
 use Rattle.response_flow.specs.Continues.{Continues, IfOn, is_over}
 use Rattle.response_flow.specs.Flights.{FlightFits, most_kept, page_left}
 use Rattle.response_flow.specs.declared.flight.Flight.{Flight}
@@ -91,7 +92,7 @@ pub said : (site : Site) (before before' r r' : Rest) (out out' : List ℕ) (clo
 said site before before' r r' out out' closing c c' log log' number number' eb er ec el en f =
     rw eb (rw er (rw ec (rw el (rw en (follows_continues site before r out out' closing c log number f)))))
 
-pub fits_alone : (flow : Option Flow) (size : ℕ) → flow_fits flow size ≡ true → FlightFits (option_map (λ f. Alone f) flow) size
+pub fits_alone : (flow : Option (Box Flow)) (size : ℕ) → flow_fits flow size ≡ true → FlightFits (option_map (λ f. Alone f) flow) size
 unfolding placed_most most_kept
 fits_alone None size h = few size h
   where

@@ -14,6 +14,7 @@ use Rattle.subrequests.proofs.Numbers.{job_is}
 use Rattle.page_response.specs.declared.pages.Pages.{Pages}
 use Rattle.request_flow.specs.Flows.{jobs_of, waits}
 use Rattle.request_flow.specs.declared.flow.Flow.{Flow}
+use Rattle.std.specs.Global.{Box}
 use Rattle.response_flow.specs.Flights.{ends_first, page_ready}
 
 -- ---- what can run
@@ -57,14 +58,14 @@ alone_runs false at e = absurd (never (sym (no_ready at) ∙ e))
 
 -- ---- jobs
 
-pub alone_ask : (flow : Flow) (at : ℕ) (job : Ask) → ask_in (jobs_of (Some flow)) at ≡ Some job → flow.ask ≡ job
-alone_ask flow at job e = by (waits flow.stage) e
+pub alone_ask : (flow : Box Flow) (at : ℕ) (job : Ask) → ask_in (jobs_of (Some flow)) at ≡ Some job → flow.value.ask ≡ job
+alone_ask flow at job e = by (waits flow.value.stage) e
   where
-    named : (b : Bool) → cond b (Some flow.ask) None ≡ Some job → flow.ask ≡ job
-    named true h = let s : flow.ask ≡ job = cc in s
+    named : (b : Bool) → cond b (Some flow.value.ask) None ≡ Some job → flow.value.ask ≡ job
+    named true h = let s : flow.value.ask ≡ job = cc in s
     named false h = cc
 
-    by : (b : Bool) → ask_in (cond b (record { node = 0; ask = flow.ask } ∷ []) []) at ≡ Some job → flow.ask ≡ job
+    by : (b : Bool) → ask_in (cond b (record { node = 0; ask = flow.value.ask } ∷ []) []) at ≡ Some job → flow.value.ask ≡ job
     by true h = named (0 == at) h
     by false h = cc
 

@@ -1,5 +1,5 @@
 -- Bytes of a response were written.
-use Rattle.std.proofs.Common.{◌≡◌, ℕ, zero, suc, ◌+◌, ◌-◌, ◌<◌, ◌≤◌, Bool, true, false, ◌&&◌, cond, List, [], ◌∷◌, ◌++◌, length, take, drop, None, Some, refl, sym, ap, ◌∙◌, subst, append_assoc, length-drop, arith}
+use Rattle.std.proofs.Common.{◌≡◌, ℕ, zero, suc, ◌+◌, ◌-◌, ◌<◌, ◌≤◌, Bool, true, false, ◌&&◌, cond, List, [], ◌∷◌, ◌++◌, length, take, drop, None, refl, sym, ap, ◌∙◌, subst, append_assoc, length-drop, arith}
 use Rattle.std.specs.Prelude.{◌==◌, nat_le, nat_lt}
 use Rattle.std.proofs.lemmas.List.{length-take}
 use Rattle.std.proofs.lemmas.Bool.Decides.{nat_tests}
@@ -10,7 +10,7 @@ use Rattle.request_meaning.specs.Serving.{World}
 use Rattle.request_flow.specs.declared.flow.Flow.{Flow}
 use Rattle.request_flow.specs.declared.flow.Stage.{Stage}
 use Rattle.request_flow.specs.declared.flow.Stage.TheVariants.{Asked, Told, Reading, Came}
-use Rattle.request_flow.specs.Flows.{StageBy, flow_left, flow_rest, kept_most, placed_most, shown_by, shown_most, stage_fits, stage_rest, stage_written}
+use Rattle.request_flow.specs.Flows.{StageBy, kept_most, one_rest, placed_most, shown_by, shown_most, stage_fits, stage_left, stage_rest, stage_written}
 use Rattle.request_flow.specs.Reached.{StageReached}
 use Rattle.request_flow.specs.Rests.{Rest}
 use Rattle.page_response.specs.Pages.{bytes_left, nodes_asked, whole_length}
@@ -59,10 +59,10 @@ parts (suc count) (suc n) (b ∷ out) h = ap (λ r. b ∷ r) (parts count n out 
 abbrev pub flow_after : Flow → ℕ → Flow
 flow_after flow n = record { ask = flow.ask; stage = stage_written flow.stage n }
 
-stage_falls : (flow : Flow) (n size : ℕ) → 0 < n → n ≤ size → n ≤ shown_by flow.stage → stage_fits flow.ask flow.stage size ≡ true → size - n + flow_left (Some (flow_after flow n)) (size - n) < size + flow_left (Some flow) size
+stage_falls : (flow : Flow) (n size : ℕ) → 0 < n → n ≤ size → n ≤ shown_by flow.stage → stage_fits flow.ask flow.stage size ≡ true → size - n + stage_left (flow_after flow n).stage (size - n) < size + stage_left flow.stage size
 stage_falls flow n size some within shown fits = by flow.stage shown fits
   where
-    by : (stage : Stage) → n ≤ shown_by stage → stage_fits flow.ask stage size ≡ true → size - n + flow_left (Some (record { ask = flow.ask; stage = stage_written stage n })) (size - n) < size + flow_left (Some (record { ask = flow.ask; stage = stage })) size
+    by : (stage : Stage) → n ≤ shown_by stage → stage_fits flow.ask stage size ≡ true → size - n + stage_left (stage_written stage n) (size - n) < size + stage_left stage size
     by (Asked request wait) h f = omega (arith, some, within)
     by (Told request wait node) h f = omega (arith, some, within)
     by (Reading sending left) h f = omega (arith, some, within)
@@ -121,17 +121,17 @@ kept_writes r out out' n count e h = record {
 }
 
 pub flow_writes : (w : World) (patterns : List SetPattern) (site : Site) (trees : Trees) (flow : Flow) (out out' : List ℕ) (count : ℕ) → out' ≡ drop count out → count ≤ length (take (shown_by flow.stage) out) →
-    Writes (flow_rest w patterns site (Some flow) trees) (flow_rest w patterns site (Some (flow_after flow count)) trees) out out' (take count (take (shown_by flow.stage) out))
+    Writes (one_rest w patterns site flow trees) (one_rest w patterns site (flow_after flow count) trees) out out' (take count (take (shown_by flow.stage) out))
 flow_writes w patterns site trees flow out out' count e h =
-    subst (λ r. Writes (flow_rest w patterns site (Some flow) trees) r out out' (take count (take (shown_by flow.stage) out))) (sym (same_stage w patterns site _ flow.stage count _))
-    (kept_writes (flow_rest w patterns site (Some flow) trees) out out' (shown_by flow.stage) count e h)
+    subst (λ r. Writes (one_rest w patterns site flow trees) r out out' (take count (take (shown_by flow.stage) out))) (sym (same_stage w patterns site _ flow.stage count _))
+    (kept_writes (one_rest w patterns site flow trees) out out' (shown_by flow.stage) count e h)
 
 pub flow_falls : (flow : Flow) (out out' : List ℕ) (count : ℕ) → 0 < count → out' ≡ drop count out → count ≤ length (take (shown_by flow.stage) out) → stage_fits flow.ask flow.stage (length out) ≡ true →
-    length out' + flow_left (Some (flow_after flow count)) (length out') < length out + flow_left (Some flow) (length out)
+    length out' + stage_left (flow_after flow count).stage (length out') < length out + stage_left flow.stage (length out)
 flow_falls flow out out' count some e h fits =
     let s = shown_within count (shown_by flow.stage) out h in
     let size : length out' ≡ length out - count = ap length e ∙ length-drop count out in
-    subst (λ k. k + flow_left (Some (flow_after flow count)) k < length out + flow_left (Some flow) (length out)) (sym size) (stage_falls flow count (length out) some s.1 s.0 fits)
+    subst (λ k. k + stage_left (flow_after flow count).stage k < length out + stage_left flow.stage (length out)) (sym size) (stage_falls flow count (length out) some s.1 s.0 fits)
 
 pub flow_stands : (flow : Flow) (out out' : List ℕ) (count : ℕ) → 0 < count → out' ≡ drop count out → count ≤ length (take (shown_by flow.stage) out) → stage_fits flow.ask flow.stage (length out) ≡ true →
     stage_fits flow.ask (stage_written flow.stage count) (length out') ≡ true

@@ -55,7 +55,7 @@ FlightReached w patterns site (Some flight) = IsReachedBy w patterns site flight
 
 -- the bytes that are written next, where these are kept for the peer
 abbrev pub pending_by : Flight → List ℕ → List ℕ
-pending_by (Alone flow) out = take (shown_by flow.stage) out
+pending_by (Alone flow) out = take (shown_by flow.value.stage) out
 pending_by (Page p) out = p.pages.value.outgoing.pending
 
 abbrev pub pending_of : Option Flight → List ℕ → List ℕ
@@ -91,7 +91,7 @@ abbrev pub page_ready : Pages → List ℕ
 page_ready p = if ends_first p then 0 ∷ [] else family.ready_of p.family
 
 abbrev pub ready_by : Flight → List ℕ
-ready_by (Alone flow) = if may_run flow.stage then 0 ∷ [] else []
+ready_by (Alone flow) = if may_run flow.value.stage then 0 ∷ [] else []
 ready_by (Page p) = page_ready p.pages.value
 
 abbrev pub ready_of : Option Flight → List ℕ
@@ -101,7 +101,7 @@ ready_of (Some flight) = ready_by flight
 -- a block of the file of a request alone came
 abbrev pub sends_alone : Option Flight → Bool
 sends_alone None = false
-sends_alone (Some (Alone flow)) = is_sending flow.stage
+sends_alone (Some (Alone flow)) = is_sending flow.value.stage
 sends_alone (Some (Page p)) = false
 
 -- ---- what fits
@@ -146,11 +146,11 @@ flight_left (Some flight) size = left_by flight size
 -- ---- by what it is served
 
 abbrev pub flight_server : Flight → ℕ
-flight_server (Alone flow) = stage_server flow.stage
+flight_server (Alone flow) = stage_server flow.value.stage
 flight_server (Page p) = p.server
 
 abbrev pub flight_length : Flight → ℕ
-flight_length (Alone flow) = stage_length flow.stage
+flight_length (Alone flow) = stage_length flow.value.stage
 flight_length (Page p) = p.length
 
 abbrev pub IsServed : (server length : ℕ) → Flight → Type 0

@@ -18,7 +18,7 @@ pub struct PageFlow {
 #[derive(Drop)]
 pub enum Flight {
     /// Its request has no subrequest.
-    Alone(Flow),
+    Alone(Box<Flow>),
     /// Filters make its body of parts.
     Page(PageFlow),
 }

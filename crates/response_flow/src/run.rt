@@ -47,7 +47,7 @@ use subrequests::Ran as FamilyRan;
 /// No more bytes are kept for a peer once a response is over.
 const MOST_KEPT: usize = 67108864;
 
-fn alone_flight(flow: Option<Flow>) -> Option<Flight>
+fn alone_flight(flow: Option<Box<Flow>>) -> Option<Flight>
     ensures { result ≡ option_map (λ flow. AloneFlight flow) flow }
 {
     match flow {
@@ -269,7 +269,7 @@ pub fn start(
 {
     match flow_start(space, ground, server, opening, out)? {
         Went::On(onward) => Ok(Ran::On(alone(onward))),
-        Went::Page(page) => Ok(opens(space, ground, page, out)?),
+        Went::Page(page) => Ok(opens(space, ground, Box::into_inner(page), out)?),
     }
 }
 
@@ -315,7 +315,7 @@ pub fn run_on(
     match flight {
         Flight::Alone(flow) => match flow_run_on(space, ground, flow, out, closing)? {
             Went::On(onward) => Ok(Ran::On(alone(onward))),
-            Went::Page(page) => Ok(opens(space, ground, page, out)?),
+            Went::Page(page) => Ok(opens(space, ground, Box::into_inner(page), out)?),
         },
         Flight::Page(page) => Ok(run_page(space, ground, page, at, out, closing, None)?),
     }
@@ -409,7 +409,7 @@ fn is_sending(flight: &Option<Flight>) -> bool
     ensures { result ≡ sends_alone flight.now }
 {
     match flight {
-        Some(Flight::Alone(flow)) => is_flow_sending(flow),
+        Some(Flight::Alone(flow)) => is_flow_sending(&**flow),
         Some(Flight::Page(_)) => false,
         None => false,
     }

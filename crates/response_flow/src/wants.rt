@@ -120,6 +120,7 @@ fn is_stuck(pages: &Pages) -> bool
 }
 
 /// Whether the first node of a page is the one that can run.
+#[inline(always)]
 fn ends_first(pages: &Pages) -> bool
     requires { IsWhole pages.now.family }
     ensures { result ≡ ends_first_page pages.now }

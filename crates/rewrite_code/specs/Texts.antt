@@ -30,7 +30,7 @@ target_of main request vars text = cut_text main request vars (cut text)
 abbrev pub aim_seen : Aim → Target
 aim_seen a = record { path = a.path; args = a.args }
 
--- what comes before the first `?`, if there is one; and the same in a piece that stands for itself
+-- what comes before the first `?`, if there is one; and the same in a piece that is taken as it is
 abbrev pub before_question : List ℕ → Option (List ℕ)
 before_question bytes = if list_any is_question bytes then Some (before_first is_question bytes) else None
 

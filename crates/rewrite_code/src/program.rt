@@ -115,6 +115,7 @@ fn advance(
 }
 
 /// Works a program off from a place on.
+#[inline(always)]
 fn run_from(
     setting: &Setting<'_>,
     program: &[RewriteStep],

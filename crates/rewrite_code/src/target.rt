@@ -42,7 +42,7 @@ fn before_question(bytes: &[u8]) -> Option<&[u8]>
     }
 }
 
-/// The same in a piece that stands for itself.
+/// The same in a piece that is taken as it is.
 fn path_in(piece: &Piece) -> Option<&[u8]>
     ensures { option_map (λ text. text.now) result ≡ path_in piece.now }
 {

@@ -146,7 +146,7 @@ pub fn main_request(alloc: Global) -> Result<Main, Fail> {
         port: 80,
     };
     Ok(Main {
-        received: text(alloc, b"GET /o/z?y=2 HTTP/1.1")?,
+        asked: Method::Get,
         method: Method::Get,
         version: Version::V11,
         target: text(alloc, b"/o/z?y=2")?,

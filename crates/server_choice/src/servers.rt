@@ -239,6 +239,7 @@ fn entry_on_all(entries: &[Entry], local: Addr) -> Option<&Entry>
 }
 
 // The entry of a local end: that of the very address, or else of its wildcard.
+#[inline(always)]
 fn entry_for(entries: &[Entry], local: Addr) -> Option<&Entry>
     ensures { option_copied result ≡ entry_of entries.now local }
 {

@@ -1,4 +1,4 @@
--- What the numbers of levels and of lists of media types stand for.
+-- What the numbers of levels and of lists of media types mean.
 use Rattle.std.specs.Prelude.{ℕ, slice_get, unwrap_or}
 use Rattle.file_type.specs.Types.{TypeList}
 use Rattle.site_model.specs.declared.site.Level.{Level}

@@ -1,5 +1,5 @@
 //! The site that a configuration describes: its servers, the values that hold in their levels, and what the numbers of
-//! its levels stand for.
+//! its levels mean.
 #![tactic(auto)]
 
 mod listen;

@@ -128,7 +128,7 @@ pub struct Rules {
 }
 
 /// A site: its servers in the order of the text, and the levels and the lists of media types that they name by number, so
-/// that levels which inherit a list share it. A number that is none of the lists' stands for `outside` or `plain`.
+/// that levels which inherit a list share it. A number that is none of the lists' means `outside` or `plain`.
 #[derive(Drop)]
 pub struct Site {
     /// The folder at which relative paths start: that of the main file.

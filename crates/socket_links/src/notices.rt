@@ -135,7 +135,7 @@ pub fn notice_of(
             },
         );
         if ready.reads {
-            // There is room, since this event stood there.
+            // There is room, since this event was there.
             let _kept = batch.push(Ready {
                 writes: false,
                 ..ready

@@ -96,7 +96,7 @@ each_written (b ∷ bytes) act = Write (b ∷ []) (each_written bytes act)
 abbrev pub bytes_then : {A : Type 0} → (live : Bool) → List ℕ → Serving A → Serving A
 bytes_then live bytes act = if live then each_written bytes act else act
 
--- the text of a part that stands for itself
+-- the text of a part that is taken as it is
 abbrev pub own_text : Part → List ℕ
 own_text (parts.Text text) = text
 own_text other = []

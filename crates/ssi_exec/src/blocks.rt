@@ -89,6 +89,7 @@ impl Document {
     }
 
     /// A command inside a block: all but `endblock` add the error text to it.
+    #[inline(never)]
     pub(crate) fn block_command(
         &mut self,
         alloc: Global,

@@ -17,7 +17,7 @@ use crate::words::{has, is_word, param, text_of};
 use byte_text::{ByteText, OutOfMemory};
 use ngx_variables::VarTable;
 use ssi_text::Param;
-use ssi_values::{Table, filled_settles, lowercase};
+use ssi_values::{Table, filled_settles, is_of_itself, lowercase};
 use std::alloc::Global;
 use uri_text::{UriFault, normal};
 
@@ -99,18 +99,6 @@ fn begins_with_slash(text: &[u8]) -> bool
     }
 }
 
-/// A path that doesn't begin with a slash is in the folder of the document's.
-fn in_folder(alloc: Global, path: &[u8], text: ByteText) -> Result<ByteText, OutOfMemory>
-    ensures { IfOk result (λ whole. whole ≡ folder_path path.now text) }
-{
-    if begins_with_slash(text.as_slice()) {
-        return Ok(text);
-    }
-    let mut whole = ByteText::from_slice(alloc, folder_of(path))?;
-    whole.extend(text.as_slice())?;
-    Ok(whole)
-}
-
 /// No target: the text names no path, unless it is want of memory.
 fn no_target(fault: UriFault) -> Result<Option<Target>, OutOfMemory>
     ensures { IfOk result (λ target. (target ≡ None) × (fault ≢ UriFault.OutOfMemory)) }
@@ -125,6 +113,7 @@ fn no_target(fault: UriFault) -> Result<Option<Target>, OutOfMemory>
 }
 
 /// The path and the arguments that a text names, if it names a path.
+#[inline(always)]
 fn target_of(alloc: Global, text: &[u8], merge: bool) -> Result<Option<Target>, OutOfMemory>
     ensures { IfOk result (λ target. option_map (λ t. (t.path, t.args)) target
         ≡ result_ok (normal_of text.now merge)) }
@@ -138,6 +127,36 @@ fn target_of(alloc: Global, text: &[u8], merge: bool) -> Result<Option<Target>, 
             Ok(none)
         }
     }
+}
+
+/// A path that doesn't begin with a slash is in the folder of the document's.
+#[inline(never)]
+fn in_folder(alloc: Global, path: &[u8], text: &[u8]) -> Result<ByteText, OutOfMemory>
+    ensures { IfOk result (λ whole. whole ≡ folder_of path.now ++ text.now) }
+{
+    let mut whole = ByteText::from_slice(alloc, folder_of(path))?;
+    whole.extend(text)?;
+    Ok(whole)
+}
+
+/// The path and the arguments that a text in a document at this path names, if it names a path.
+#[inline(always)]
+fn target_in(
+    alloc: Global,
+    path: &[u8],
+    text: &[u8],
+    merge: bool,
+) -> Result<Option<Target>, OutOfMemory>
+    ensures { IfOk result (λ target. option_map (λ t. (t.path, t.args)) target
+        ≡ result_ok (normal_of (folder_path path.now text.now) merge)) }
+{
+    if begins_with_slash(text) {
+        let target = target_of(alloc, text, merge)?;
+        return Ok(target);
+    }
+    let whole = in_folder(alloc, path, text)?;
+    let target = target_of(alloc, whole.as_slice(), merge)?;
+    Ok(target)
 }
 
 fn copied(alloc: Global, text: Option<&[u8]>) -> Result<Option<ByteText>, OutOfMemory>
@@ -189,6 +208,7 @@ impl Document {
     }
 
     /// The subrequest of an include, whose document begins with this one's variables.
+    #[inline(always)]
     fn child_of(&self, alloc: Global, ps: &[Param], target: Target) -> Result<Child, OutOfMemory>
         ensures { IfOk result (λ child. (scene : SceneView) → child_seen scene.main.now child
             ≡ child_of (doc_seen scene self.now) ps.now target.path target.args) }
@@ -217,6 +237,7 @@ impl Document {
 
     /// An include of a path: its body is put here, or with `set` goes into a variable of the document.
     #[tactic(auto, unfolding(request_meaning::specs::Commands::include_child))]
+    #[inline(always)]
     fn include_child(
         &self,
         alloc: Global,
@@ -240,21 +261,22 @@ impl Document {
     }
 
     /// An include of what a text names, unless no level of subrequests is left.
+    #[inline(always)]
     fn include_at(
         &self,
         alloc: Global,
         scene: &Scene<'_>,
         ps: &[Param],
-        text: ByteText,
+        text: &[u8],
     ) -> Result<Served, OutOfMemory>
         ensures { IfOk result (λ served. (part : PartView)
             → include_at (doc_seen scene.now self.now) ps.now
-            (normal_of (at_folder (doc_seen scene.now self.now) text)
+            (normal_of (at_folder (doc_seen scene.now self.now) text.now)
             scene.now.server.now.merge)
             ≡ served_act part served (doc_seen scene.now self.now)) }
     {
-        let path = in_folder(alloc, scene.request.path.as_slice(), text)?;
-        let target = target_of(alloc, path.as_slice(), scene.server.merge)?;
+        let path = scene.request.path.as_slice();
+        let target = target_in(alloc, path, text, scene.server.merge)?;
         match target {
             Some(target) => {
                 if scene.left == 0 {
@@ -272,6 +294,7 @@ impl Document {
     }
 
     /// The command `include`.
+    #[inline(never)]
     pub(crate) fn include(
         &self,
         alloc: Global,
@@ -287,10 +310,15 @@ impl Document {
             let served = self.fails(alloc, scene)?;
             return Ok(served);
         }
-        let text = self.filled_in(alloc, scene, vars, included_name(ps))?;
+        let name = included_name(ps);
+        if is_of_itself(name) {
+            let child = self.include_at(alloc, scene, ps, name)?;
+            return Ok(child);
+        }
+        let text = self.filled_in(alloc, scene, vars, name)?;
         match text {
             Some(text) => {
-                let child = self.include_at(alloc, scene, ps, text)?;
+                let child = self.include_at(alloc, scene, ps, text.as_slice())?;
                 Ok(child)
             }
             None => {
@@ -324,6 +352,7 @@ impl Document {
 
     /// The body of an addition, unless no level of subrequests is left.
     #[tactic(auto, unfolding(request_meaning::specs::Bodies::added_part, request_meaning::specs::Bodies::added_at))]
+    #[inline(never)]
     pub(crate) fn added(
         &self,
         alloc: Global,

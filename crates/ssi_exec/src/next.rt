@@ -54,6 +54,7 @@ fn same(live: bool) -> Served
 
 impl Document {
     /// A command, whether text is live or not: what it writes.
+    #[inline(never)]
     fn written_by(
         &mut self,
         alloc: Global,

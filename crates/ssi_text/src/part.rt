@@ -81,7 +81,7 @@ impl Params {
 /// A part of a body that filters hand on.
 #[derive(Clone, Debug, Drop)]
 pub enum Part {
-    /// Bytes that stand for themselves. Neighbours count as one.
+    /// Bytes that are taken as they are. Neighbours count as one.
     Text(ByteText),
     /// A command of a document, its name in lower case.
     Command { name: ByteText, params: Params },

@@ -6,7 +6,7 @@ use Rattle.ngx_variables.specs.declared.request.Request.{Request}
 use Rattle.ngx_variables.specs.declared.value.Piece.{Piece}
 use Rattle.ngx_variables.specs.declared.value.Piece.TheVariants.{Builtin}
 use Rattle.ngx_variables.specs.declared.variable.Variable.TheVariants.{DateGmt, DateLocal, DocumentRoot, RequestFilename}
-use Rattle.ngx_variables.specs.Texts.{no_paths, place_paths, piece_text, pieces_text, value_text, variable_text}
+use Rattle.ngx_variables.specs.Texts.{line_text, no_paths, place_paths, piece_text, pieces_text, value_text, variable_text}
 use Rattle.ssi_values.specs.Known.{Known}
 use Rattle.ssi_values.specs.Dated.{special_of, piece_value, inner_value, paths_of}
 use Rattle.ssi_values.specs.declared.dated.Special.TheVariants as special
@@ -60,7 +60,7 @@ module _ (k : Known) where
 -- the others don't speak of the date
 module _ (main : Main) (date : List ℕ) (request : Request) (vars : Vars) where
   pub undated : (p : Piece) → special_of p ≡ None → value_text main request vars (p ∷ []) ≡ value_text (record main { date = date }) request vars (p ∷ [])
-  unfolding value_text pieces_text piece_text variable_text
+  unfolding value_text pieces_text piece_text variable_text line_text
   undated (Builtin DateGmt) e = cc
   undated (Builtin DateLocal) e = cc
   undated (Builtin DocumentRoot) e = cc
@@ -68,7 +68,7 @@ module _ (main : Main) (date : List ℕ) (request : Request) (vars : Vars) where
   undated other e = refl
 
   undated_inside : (p : Piece) → special_of p ≡ None → piece_text (place_paths main request vars request.place) main request vars p ≡ piece_text no_paths (record main { date = date }) request vars p
-  unfolding piece_text variable_text
+  unfolding piece_text variable_text line_text
   undated_inside (Builtin DateGmt) e = cc
   undated_inside (Builtin DateLocal) e = cc
   undated_inside (Builtin DocumentRoot) e = cc

@@ -1,5 +1,5 @@
 -- A text with variables, read from its front.
-use Rattle.std.proofs.Common.{◌≡◌, ℕ, zero, suc, ◌<◌, ◌≤◌, ◌&&◌, eqb, true, false, cond, List, [], ◌∷◌, ◌++◌, length, drop, Option, Some, None, unwrap_or, Result, Ok, Err, refl, sym, ◌∙◌, ap, append_assoc, append-nil, length-append, arith}
+use Rattle.std.proofs.Common.{◌≡◌, ℕ, zero, suc, ◌<◌, ◌≤◌, ◌&&◌, eqb, true, false, cond, List, [], ◌∷◌, ◌++◌, length, drop, Bool, ◌||◌, Option, Some, None, unwrap_or, Result, Ok, Err, refl, sym, ◌∙◌, ap, append_assoc, append-nil, length-append, arith}
 use Rattle.std.proofs.lemmas.Bool.{cond-true, cond-false, lt-ltb, le-ltb}
 use Rattle.ngx_variables.specs.declared.compile.Reference.{Reference}
 use Rattle.ngx_variables.specs.declared.fault.ValueFault.{ValueFault}
@@ -7,7 +7,8 @@ use Rattle.ngx_variables.specs.Grammar.{Token, begins_with, onto_bytes, referenc
 use Rattle.ngx_variables.specs.Grammar.Token.{Bytes, Name}
 use Rattle.ngx_variables.specs.Texts.{is_too_long}
 use Rattle.request_meaning.specs.Documents.{byte_onto, fit, name_onto, onto, token_at, tokens}
-use Rattle.ssi_values.specs.Known.{Known, named_text, name_of, tokens_value, read_value, rest_value, fit_value, filled_text, behind}
+use Rattle.std.specs.List.{list_any}
+use Rattle.ssi_values.specs.Known.{Known, is_mark, named_text, name_of, tokens_value, read_value, rest_value, fit_value, filled_text, behind}
 
 skipped : (n : ℕ) (bs : List ℕ) → tokens n bs ≡ tokens 0 (drop n bs)
 unfolding tokens
@@ -115,3 +116,24 @@ module _ (k : Known) where
   pub overfull : (out text : List ℕ) (rest : Option (List ℕ)) → behind out rest ≡ behind [] (rest_value k text) → 16384 < length out → None ≡ filled_text k text
   unfolding filled_text
   overfull out text rest e h = sym (longer out rest h) ∙ ap fit_value (e ∙ whole (rest_value k text))
+
+left_off : (a b : Bool) → (a || b) ≡ false → a ≡ false
+left_off true b e = e
+left_off false b e = refl
+
+right_off : (a b : Bool) → (a || b) ≡ false → b ≡ false
+right_off true b e = grind (arith, e)
+right_off false b e = e
+
+-- a text without a mark is read as it is
+no_mark : (k : Known) (text : List ℕ) → list_any is_mark text ≡ false → rest_value k text ≡ Some text
+unfolding rest_value tokens tokens_value
+no_mark k [] e = refl
+no_mark k (b ∷ bs) e =
+    let here = left_off _ _ e in
+    plain_read k b bs (ap (λ t. t && begins_with 36 bs) (right_off _ _ here)) (left_off _ _ here) ∙ ap (λ o. behind (b ∷ []) o) (no_mark k bs (right_off _ _ e))
+
+pub of_itself : (text : List ℕ) → length text ≤ 16384 → list_any is_mark text ≡ false → (k : Known) → filled_text k text ≡ Some text
+of_itself text fits e k =
+    let none : rest_value k [] ≡ Some [] = no_mark k [] refl in
+    sym (all_read k text text (ap (λ o. behind text o) none ∙ (ap (λ t. Some t) (append-nil text) ∙ sym (ap (λ o. behind [] o) (no_mark k text e)))) fits)

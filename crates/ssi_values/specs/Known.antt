@@ -1,6 +1,6 @@
 -- What the acts of a document's values come to, at the variables that are set: the values of names, texts with variables, and
 -- conditions (https://nginx.org/en/docs/http/ngx_http_ssi_module.html).
-use Rattle.std.specs.Prelude.{◌≡◌, ℕ, nat_eq, Bool, List, [], ◌∷◌, ◌++◌, Option, None, Some, unwrap_or, Result, Ok, Err, if◌then◌else◌}
+use Rattle.std.specs.Prelude.{◌≡◌, ℕ, nat_eq, ◌==◌, ◌||◌, Bool, List, [], ◌∷◌, ◌++◌, Option, None, Some, unwrap_or, Result, Ok, Err, if◌then◌else◌}
 use Rattle.std.specs.List.{list_any, before_first, after_first, ends_with}
 use Rattle.acts.specs.Vars.{Vars, look}
 use Rattle.acts.specs.Act.{Done, settled}
@@ -94,6 +94,10 @@ fit_value (Some text) = fit text
 
 unfoldable pub filled_text : Known → List ℕ → Option (List ℕ)
 filled_text k text = fit_value (rest_value k text)
+
+-- a byte that a variable or an escape begins with
+abbrev pub is_mark : ℕ → Bool
+is_mark b = (b == 36) || (b == 92)
 
 -- bytes before a text, if there is one
 abbrev pub behind : List ℕ → Option (List ℕ) → Option (List ℕ)

@@ -17,4 +17,4 @@ pub use laws::{filled_settles, named_settles, truth_settles};
 pub use ngx_variables::lowercase;
 pub use sight::Sight;
 pub use table::Table;
-pub use values::{filled, named_value};
+pub use values::{filled, is_of_itself, named_value};

@@ -3,7 +3,7 @@ ghost use Rattle.std.specs.Prelude.{◌≡◌, ℕ, ◌+◌, ◌<◌, ◌≤◌,
 ghost use Rattle.std.specs.List.{list_any};
 ghost use Rattle.ngx_variables.specs.Grammar.{begins_with, reference_at};
 ghost use Rattle.request_meaning.specs.Documents.{is_visible as sees, name_onto, tokens};
-ghost use Rattle.ssi_values.specs.Known.{known_seen, named_text, seen_value, site_text, read_value, rest_value, filled_text, behind};
+ghost use Rattle.ssi_values.specs.Known.{Known, is_mark, known_seen, named_text, seen_value, site_text, read_value, rest_value, filled_text, behind};
 
 use crate::dated::{TEXT_LIMIT, append_dated};
 use crate::names::name_at;
@@ -183,8 +183,35 @@ fn front(text: &[u8]) -> Option<(u8, &[u8])>
     }
 }
 
-/// A text with its variables filled in: `$name` and `${name}` stand for variables, `\$` for a `$`, and all other bytes for
-/// themselves. None where a `$` has no name, or the text has more than 16384 bytes then.
+/// Whether a byte is one that a text's variables or its escapes begin with.
+fn is_mark(byte: u8) -> bool
+    ensures { result ≡ is_mark byte }
+{
+    byte == b'$' || byte == b'\\'
+}
+
+fn has_mark(text: &[u8]) -> bool
+    ensures { result ≡ list_any is_mark text.now }
+{
+    text.iter().any(|byte| is_mark(*byte))
+}
+
+/// Whether a text with its variables filled in is known to be itself: it has neither a `$` nor a backslash, and at most
+/// 16384 bytes.
+pub fn is_of_itself(text: &[u8]) -> bool
+    ensures { result ≡ true → (k : Known) → filled_text k text.now ≡ Some text.now }
+{
+    if text.len() > TEXT_LIMIT {
+        return false;
+    }
+    if has_mark(text) {
+        return false;
+    }
+    true
+}
+
+/// A text with its variables filled in: `$name` and `${name}` name variables, `\$` means a `$`, and all other bytes
+/// mean themselves. None where a `$` has no name, or the text has more than 16384 bytes then.
 pub fn filled(
     alloc: Global,
     sight: &Sight<'_>,

@@ -19,13 +19,13 @@ use std::{fs, io, str};
 // The number of the error that the host has no descriptor left (errno(3)).
 const ENFILE: i32 = 23;
 
-// So many files are kept open at most where the limit of descriptors isn't known, and so many descriptors are neither a
+// This many files are kept open at most where the limit of descriptors isn't known, and this many descriptors are neither a
 // file's nor a link's.
 const FEW: usize = 16;
 
 const DESCRIPTORS_BESIDE: u64 = 8;
 
-// What stands at a path: its date is in seconds since 1970, and 0 where the host doesn't say it or it was before. What is
+// What is at a path: its date is in seconds since 1970, and 0 where the host doesn't say it or it was before. What is
 // neither a file nor a folder, as a socket, can't be read.
 fn node_of(found: &Metadata) -> Node {
     if found.is_dir() {
@@ -71,8 +71,9 @@ fn open_file<R: Host>(host: &R, kept: &mut KeptFiles<R::File>, path: &str) -> io
     }
 }
 
-// Opens a file for the tree of a number, and keeps it open. What is told is told of what was opened, whatever stands at
+// Opens a file for the tree of a number, and keeps it open. What is told is told of what was opened, whatever has been at
 // the path since.
+#[inline(never)]
 fn keep_file<R: Host>(
     alloc: Global,
     host: &R,
@@ -100,8 +101,9 @@ fn keep_file<R: Host>(
     }
 }
 
-// What stands at a path where no kept file does. Only a file that can be opened is one that can be read. Nothing but a file
+// What is at a path where no kept file is. Only a file that can be opened is one that can be read. Nothing but a file
 // is opened, since to open what isn't one may have to wait.
+#[inline(never)]
 fn look_anew<R: Host>(
     alloc: Global,
     host: &R,
@@ -121,7 +123,7 @@ fn look_anew<R: Host>(
     }
 }
 
-// Whether a kept file still is what stands at its path, with the rights that it had.
+// Whether a kept file is still the one at its path, with the rights that it had.
 fn is_still_there<R: Host>(host: &R, kept: &KeptFile<R::File>) -> bool {
     match fs::metadata(host, kept.path.as_str()) {
         Ok(found) => Identity::of(&found) == kept.identity,
@@ -129,8 +131,9 @@ fn is_still_there<R: Host>(host: &R, kept: &KeptFile<R::File>) -> bool {
     }
 }
 
-// What the tree of a number shows at a path: the file that it showed there before, and else what stands there now. Where
-// it can show the file that stood there last, it has shown no other.
+// What the tree of a number shows at a path: the file that it showed there before, and else what is there now. Where
+// it can show the file that was there last, it has shown no other.
+#[inline(always)]
 fn look<R: Host>(
     alloc: Global,
     host: &R,
@@ -171,7 +174,7 @@ pub(crate) fn has_same_bytes<F: OpenFile>(file: &F, identity: &Identity) -> bool
 }
 
 // Reads bytes of the file that the tree of a number showed at a path, which are lent. One that isn't kept any more can't be
-// read: another may stand there.
+// read: another may be there.
 fn read_file<F: FileExt + OpenFile + Drop>(
     kept: &mut KeptFiles<F>,
     room: &mut Room,
@@ -212,9 +215,9 @@ fn most_kept() -> usize {
 
 /// The files of the host. It tells nothing of what the host holds. Each failing call raises the count of faults.
 ///
-/// Files stay open after they were found, and a request reads the file that its tree showed first, whatever stands at the
+/// Files stay open after they were found, and a request reads the file that its tree showed first, whatever has been at the
 /// path since. So the number of the newest tree rises whenever that tree has shown a file: a request that starts later asks
-/// of a tree that has shown none yet, and is told what stands there then. A read fails where its file isn't open any more,
+/// of a tree that has shown none yet, and is told what is there then. A read fails where its file isn't open any more,
 /// or was written since.
 #[derive(Drop)]
 pub struct HostFiles<R: Host + AllocGlobal + Clone + Drop> {

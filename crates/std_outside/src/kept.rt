@@ -8,10 +8,10 @@ use std::alloc::{AllocError, Global};
 use std::fs::Metadata;
 use std::os::unix::fs::MetadataExt;
 
-/// So many files are kept open at most.
+/// This many files are kept open at most.
 pub const MOST: usize = 1024;
 
-/// In so many buckets they lie, by the hashes of their paths.
+/// They lie in this many buckets, by the hashes of their paths.
 const BUCKETS: usize = 256;
 
 /// A file that is longer, in bytes, is closed once it was read to its end.
@@ -47,7 +47,7 @@ impl Identity {
         self.len == earlier.len && self.written == earlier.written
     }
 
-    /// What stands where the file does: its date is in seconds since 1970, and 0 where it was before.
+    /// What is where the file is: its date is in seconds since 1970, and 0 where it was before.
     fn node(&self) -> Node {
         Node::File {
             len: self.len,
@@ -56,7 +56,7 @@ impl Identity {
     }
 }
 
-/// A file that is open: what it was when it was opened, the path where it stood, and the first and the last tree that show
+/// A file that is open: what it was when it was opened, the path where it was, and the first and the last tree that show
 /// it there.
 #[derive(Drop)]
 pub struct KeptFile<F: Drop> {
@@ -109,7 +109,7 @@ impl<F: Drop> KeptFile<F> {
         self.identity.node()
     }
 
-    /// Whether so many bytes from `start` on are all that it has.
+    /// Whether `count` bytes from `start` on are all that it has.
     pub fn is_whole(&self, start: u64, count: u64) -> bool {
         start == 0 && count == self.identity.len
     }
@@ -128,6 +128,7 @@ impl<F: Drop> KeptFile<F> {
     }
 
     // Whether it is the file of a path that is sought.
+    #[inline(always)]
     fn is_sought(&self, path: &[u8], sought: Sought) -> bool
         ensures path { result ≡ true → string_bytes self.now.path ≡ path.now }
         ensures tree { result ≡ true → (of : ℕ) → sought ≡ ShownIn of →
@@ -148,7 +149,7 @@ pub struct Slot {
     at: usize,
 }
 
-/// Which file of a path is sought: the one that the tree of a number shows, or the one that stood there last, if that tree can
+/// Which file of a path is sought: the one that the tree of a number shows, or the one that was there last, if that tree can
 /// show it, and all trees from its own to that one.
 #[derive(Clone, Copy)]
 pub enum Sought {
@@ -210,7 +211,7 @@ pub struct KeptFiles<F: Drop> {
 }
 
 impl<F: Drop> KeptFiles<F> {
-    /// None, of which so many may be kept.
+    /// None yet, and at most `most` may be kept.
     pub fn new(alloc: Global, most: usize) -> Result<Self, OutOfMemory> {
         Ok(KeptFiles {
             buckets: empty_buckets(alloc)?,
@@ -230,6 +231,7 @@ impl<F: Drop> KeptFiles<F> {
     }
 
     /// The file of a path that is sought, and where it lies. Where the last one lay is looked at first.
+    #[inline(always)]
     pub fn find(&self, path: &[u8], sought: Sought) -> Option<(Slot, &KeptFile<F>)>
         ensures path { IfSome result (λ found. string_bytes found.1.now.path ≡ path.now) }
         ensures tree { IfSome result (λ found. (of : ℕ) → sought ≡ ShownIn of →
@@ -272,7 +274,7 @@ impl<F: Drop> KeptFiles<F> {
         }
     }
 
-    /// Something else stands at the path of a place now, which later trees show. Who reads the file reads on.
+    /// Something else is at the path of a place now, which later trees show. Who reads the file reads on.
     pub fn pass(&mut self, place: Slot) {
         let mut is_read = true;
         if let Some(bucket) = self.buckets.get_mut(place.bucket) {
@@ -286,7 +288,7 @@ impl<F: Drop> KeptFiles<F> {
         }
     }
 
-    /// So many bytes were read of the file of a place, from `start` on, for the tree of a number. Who began at the start
+    /// This many bytes were read of the file of a place, from `start` on, for the tree of a number. Who began at the start
     /// reads it until its end was read. Then nobody may need it open any more.
     pub fn read(&mut self, place: Slot, start: u64, count: u64, of: u64) {
         let mut is_done = false;

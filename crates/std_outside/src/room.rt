@@ -9,11 +9,13 @@ use std::fs::OpenFile;
 use std::marker::Model;
 use std::os::unix::fs::FileExt;
 
-/// A file of no more bytes than this is read at once, and its parts are lent: so the host is asked once, and all are of one state.
+/// No more bytes than these are read of a file at once: all of a small one, and what comes next of one that is read on. So the host
+/// is asked once for several parts, which are then of one state.
 const MOST: u64 = 65536;
 
-// Reads so many bytes that a file has from a place on into the front of a room. One that is too small grows, and none is cleared
+// Reads this many bytes that a file has from a place on into the front of a room. One that is too small grows, and none is cleared
 // again, so that a server which reads on clears nothing.
+#[inline(always)]
 fn read_front<F: FileExt + OpenFile + Drop>(
     kept: &KeptFile<F>,
     start: u64,
@@ -37,14 +39,16 @@ fn read_front<F: FileExt + OpenFile + Drop>(
 /// Room for the bytes that were read of a file last, of which a part is lent. Contracts see it as the list of the bytes that
 /// are lent.
 ///
-/// They are all bytes of a small file that was read at once, as the tree of a number shows it, or some bytes of any file.
+/// All that was read at once lies here, all bytes of a small file or some of any file, and may be lent later too.
 #[derive(Drop)]
 pub struct Room {
     bytes: Vec<u8>,
-    /// How many bytes the file has that was read at once.
-    len: usize,
-    /// The number of that file and of that tree, where its bytes lie here.
+    /// The number of the file and of the tree that shows it, where bytes of it lie here.
     of: Option<(u64, u64)>,
+    /// From which place of the file on they lie here, and how many.
+    from: u64,
+    len: usize,
+    /// Which of them are lent.
     start: usize,
     count: usize,
 }
@@ -64,8 +68,9 @@ impl Room {
     {
         Room {
             bytes: Vec::new(alloc),
-            len: 0,
             of: None,
+            from: 0,
+            len: 0,
             start: 0,
             count: 0,
         }
@@ -78,9 +83,31 @@ impl Room {
         &self.bytes.as_slice()[self.start..][..self.count]
     }
 
-    // Whether the parts of a file from a place on are lent of all its bytes: of a small one, from its start on, or where it was read.
-    fn has<F: Drop>(&self, kept: &KeptFile<F>, start: u64, of: u64) -> bool {
-        (start == 0 && kept.len() <= MOST) || self.of == Some((kept.number(), of))
+    // Whether bytes of this file, as the tree of a number shows it, lie here.
+    fn is_of<F: Drop>(&self, kept: &KeptFile<F>, of: u64) -> bool {
+        self.of == Some((kept.number(), of))
+    }
+
+    // Whether these bytes of a file lie here.
+    fn has<F: Drop>(&self, kept: &KeptFile<F>, start: u64, count: u64, of: u64) -> bool {
+        let Some(at) = start.checked_sub(self.from) else {
+            return false;
+        };
+        let Some(left) = (self.len as u64).checked_sub(at) else {
+            return false;
+        };
+        self.is_of(kept, of) && count <= left
+    }
+
+    // How many bytes of a file are read from a place on, where this many are asked: more where those before them were read last.
+    fn ahead<F: Drop>(&self, kept: &KeptFile<F>, start: u64, count: u64, of: u64) -> u64
+        ensures { count ≤ result }
+    {
+        let end = self.from.saturating_add(self.len as u64);
+        if !self.is_of(kept, of) || start != end {
+            return count;
+        }
+        kept.len().saturating_sub(start).min(MOST).max(count)
     }
 
     // Reads all of a file. Where others began to read it, it has to be as it was opened: else their parts could be of two states.
@@ -95,14 +122,35 @@ impl Room {
         if kept.is_read() && !has_same_bytes(&kept.file, &kept.identity) {
             return Err(FileFault::Failed);
         }
+        self.from = 0;
         self.len = len;
         self.of = Some((kept.number(), of));
         Ok(())
     }
 
-    // Lends a part of a file of which all bytes are read. What was read for the same tree before is not read again: so all parts
-    // that it shows are of one state.
-    fn lend<F: FileExt + OpenFile + Drop>(
+    // Lends bytes that lie here. What was read for the same tree before is not read again: so all parts that it shows are of one
+    // state.
+    fn lend(&mut self, start: u64, count: u64) -> Result<(), FileFault>
+        ensures { OnOk result (length self.new ≡ count) }
+    {
+        let Some(at) = start.checked_sub(self.from) else {
+            return Err(FileFault::Failed);
+        };
+        let Some(end) = at.checked_add(count) else {
+            return Err(FileFault::Failed);
+        };
+        if end > self.len as u64 {
+            return Err(FileFault::Failed);
+        }
+        self.start = at as usize;
+        self.count = count as usize;
+        Ok(())
+    }
+
+    // Reads bytes of a file from a place on, and lends those that are asked. Where they aren't all of the file, it fails if the file
+    // was written since it was opened: else a response could have bytes of two states of it.
+    #[inline(always)]
+    fn read_on<F: FileExt + OpenFile + Drop>(
         &mut self,
         kept: &KeptFile<F>,
         start: u64,
@@ -111,41 +159,21 @@ impl Room {
     ) -> Result<(), FileFault>
         ensures { OnOk result (length self.new ≡ count) }
     {
-        if self.of != Some((kept.number(), of)) {
-            self.fill(kept, of)?;
-        }
-        let Some(end) = start.checked_add(count) else {
-            return Err(FileFault::Failed);
-        };
-        if end > self.len as u64 {
-            return Err(FileFault::Failed);
-        }
-        self.start = start as usize;
-        self.count = count as usize;
-        Ok(())
-    }
-
-    // Reads a part of a file alone, and lends it. Where it isn't all of the file, it fails if the file was written since it was
-    // opened: else a response could have bytes of two states of it.
-    fn read_alone<F: FileExt + OpenFile + Drop>(
-        &mut self,
-        kept: &KeptFile<F>,
-        start: u64,
-        count: u64,
-    ) -> Result<(), FileFault>
-        ensures { OnOk result (length self.new ≡ count) }
-    {
+        let len = self.ahead(kept, start, count, of) as usize;
         self.of = None;
-        read_front(kept, start, count as usize, &mut self.bytes)?;
+        read_front(kept, start, len, &mut self.bytes)?;
         if !kept.is_whole(start, count) && !has_same_bytes(&kept.file, &kept.identity) {
             return Err(FileFault::Failed);
         }
+        self.from = start;
+        self.len = len;
+        self.of = Some((kept.number(), of));
         self.start = 0;
         self.count = count as usize;
         Ok(())
     }
 
-    /// Lends so many bytes that a file has from a place on, as the tree of a number shows it: those of a small file from all its
+    /// Lends this many bytes that a file has from a place on, as the tree of a number shows it: those of a small file from all its
     /// bytes, which were read at once, unless they are all of it. After a failure none are lent.
     pub fn read<F: FileExt + OpenFile + Drop>(
         &mut self,
@@ -157,11 +185,20 @@ impl Room {
         ensures { OnOk result (length self.new ≡ count) }
     {
         self.count = 0;
-        if !kept.is_whole(start, count) && self.has(kept, start, of) {
-            self.lend(kept, start, count, of)?;
+        if kept.is_whole(start, count) {
+            self.read_on(kept, start, count, of)?;
             return Ok(());
         }
-        self.read_alone(kept, start, count)?;
+        if self.has(kept, start, count, of) {
+            self.lend(start, count)?;
+            return Ok(());
+        }
+        if start == 0 && kept.len() <= MOST {
+            self.fill(kept, of)?;
+            self.lend(start, count)?;
+            return Ok(());
+        }
+        self.read_on(kept, start, count, of)?;
         Ok(())
     }
 }

@@ -1,5 +1,5 @@
 -- Answers to the jobs of a node.
-use Rattle.std.proofs.Common.{◌≡◌, ℕ, zero, suc, ◌+◌, ◌-◌, ◌≤◌, true, List, [], ◌∷◌, ◌++◌, length, take, drop, None, Some, refl, sym, ap, ◌∙◌, subst, append_assoc, take-append-drop, drop-drop, length-drop, arith}
+use Rattle.std.proofs.Common.{◌≡◌, ℕ, zero, suc, ◌+◌, ◌-◌, ◌≤◌, true, List, [], ◌∷◌, ◌++◌, length, take, drop, Option, None, refl, sym, ap, ◌∙◌, subst, append_assoc, take-append-drop, drop-drop, length-drop, arith}
 use Rattle.std.proofs.lemmas.Bool.{eqb-true}
 use Rattle.std.specs.Borrow.{Bor}
 use Rattle.acts.specs.Act.{Done, Write, ◌>>=◌}
@@ -20,7 +20,8 @@ use Rattle.request_phases.specs.declared.state.Phases.{Phases}
 use Rattle.std.specs.Global.{Box}
 use Rattle.page_body.specs.declared.page.Page.{Page}
 use Rattle.node_turn.specs.Stages.{asks_from, item_asked, node_act, text_in}
-use Rattle.node_turn.specs.Nodes.{asked_path, lent, page_at, padded, placed_act, served_act, served_as, stage_act, told_item}
+use Rattle.node_turn.specs.Nodes.{answer_seen, asked_path, hand, later, lent, padded, placed_act, served_act, served_as, stage_act, told_item}
+use Rattle.node_turn.specs.declared.answered.Answered.{Answered}
 use Rattle.subrequests.specs.Told.{Hears}
 use Rattle.subrequests.specs.Told.Hears.{Learned, Came}
 use Rattle.node_turn.specs.declared.node.Body.{Body}
@@ -36,15 +37,34 @@ padded_front n [] text h = ap (λ m. padded m text) (let e : n ≡ n - 0 = omega
 padded_front zero (b ∷ bytes) text h = absurd (omega (arith, h))
 padded_front (suc n) (b ∷ bytes) text h = ap (λ t. b ∷ t) (padded_front n bytes text (omega (arith, h)) ∙ ap (λ m. bytes ++ padded m text) (let e : n - length bytes ≡ suc n - suc (length bytes) = omega arith in e))
 
-module _ (w : World) (site : Site) (p : Phases) (left : ℕ) (answer : Answer) (before bytes : List ℕ) (n : ℕ) (text : List ℕ) (few : length bytes ≤ n) where
+module _ (before bytes : List ℕ) (n : ℕ) (text : List ℕ) (few : length bytes ≤ n) where
   moved : before ++ padded n (bytes ++ text) ≡ (before ++ bytes) ++ padded (n - length bytes) text
   moved = ap (λ t. before ++ t) (padded_front n bytes text few) ∙ sym (append_assoc before bytes (padded (n - length bytes) text))
 
-  pub plain_came : served_act w site p left answer None (before ++ padded n (bytes ++ text)) ≡ placed_act w site p left answer None (before ++ bytes) (padded (n - length bytes) text)
-  plain_came = ap (λ t. Write t (Done answer)) moved
+module _ (w : World) (site : Site) (p : Phases) (left : ℕ) (text : List ℕ) where
+  -- a body to which bytes came goes on as it did before they came
+  pub more_came : (a b : Body) (bytes : List ℕ) → length bytes ≤ a.source.left → b.source.text ≡ a.source.text ++ bytes →
+      b.source.left + length bytes ≡ a.source.left → b.answered ≡ a.answered → b.page ≡ a.page →
+      served_act w site p left (answer_seen site p a.answered) a.page (later a (bytes ++ text)) ≡ served_act w site p left (answer_seen site p b.answered) b.page (later b text)
+  more_came a b bytes few t n an pg =
+      let act = λ (x : Answered) (y : Option (Box Page)) (z : List ℕ). served_act w site p left (answer_seen site p x) y z in
+      ap (act a.answered a.page) (moved a.source.text bytes a.source.left text few)
+      ∙ (ap (λ z. act a.answered a.page (z ++ padded (a.source.left - length bytes) text)) (sym t)
+      ∙ (ap (λ m. act a.answered a.page (b.source.text ++ padded m text)) (let e : a.source.left - length bytes ≡ b.source.left = omega (arith, n, few) in e)
+      ∙ (ap (λ y. act a.answered y (later b text)) (sym pg)
+      ∙ ap (λ x. act x b.page (later b text)) (sym an))))
 
-  pub page_came : (page : Box Page) → served_act w site p left answer (Some page) (before ++ padded n (bytes ++ text)) ≡ served_act w site p left answer (Some page) ((before ++ bytes) ++ padded (n - length bytes) text)
-  page_came page = ap (λ t. page_at w site p left answer page.value t) moved
+  -- one without a page places the text of its source next
+  pub places_text : (b c : Body) → b.page ≡ None → hand c ≡ b.source.text → c.source.text ≡ [] → c.source.left ≡ b.source.left → c.answered ≡ b.answered → c.page ≡ b.page →
+      served_act w site p left (answer_seen site p b.answered) b.page (later b text) ≡ placed_act w site p left (answer_seen site p c.answered) c.page (hand c) (later c text)
+  places_text b c none h t n an pg =
+      let answer = answer_seen site p b.answered in
+      ap (λ y. served_act w site p left answer y (later b text)) none
+      ∙ (ap (λ z. Write (z ++ padded b.source.left text) (Done answer)) (sym h)
+      ∙ (ap (λ m. Write (hand c ++ padded m text) (Done answer)) (sym n)
+      ∙ (ap (λ z. Write (hand c ++ (z ++ padded c.source.left text)) (Done answer)) (sym t)
+      ∙ (ap (λ (x : Answered). Write (hand c ++ later c text) (Done (answer_seen site p x))) (sym an)
+      ∙ ap (λ y. placed_act w site p left (answer_seen site p c.answered) y (hand c) (later c text)) (sym (pg ∙ none))))))
 
 -- it is a part of its file
 held : (file bytes : List ℕ) (start count : ℕ) → start + count ≤ length file → bytes ≡ take count (drop start file) → bytes ++ drop (start + length bytes) file ≡ drop start file

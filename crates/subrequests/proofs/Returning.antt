@@ -1,5 +1,5 @@
 -- A node is over for whose body its parent waits.
-use Rattle.std.proofs.Common.{◌≡◌, ◌≢◌, ℕ, suc, ◌+◌, ◌==◌, ◌&&◌, is_none, Bool, not, true, false, cond, List, [], ◌++◌, get_or, length, set, slice_get, None, Some, refl, sym, ap, ◌∙◌, subst, zero, take, ◌≤◌, ◌∷◌, arith, is_some, nat_lt, nat_le, Option}
+use Rattle.std.proofs.Common.{◌≡◌, ◌≢◌, ℕ, suc, ◌+◌, ◌==◌, ◌&&◌, ◌||◌, is_none, Bool, not, true, false, cond, List, [], ◌++◌, get_or, length, set, slice_get, None, Some, refl, sym, ap, ◌∙◌, subst, zero, take, ◌≤◌, ◌∷◌, arith, nat_le, Option}
 use Rattle.std.proofs.lemmas.Bool.Decides.{nat_tests}
 use Rattle.acts.specs.Vars.{Vars}
 use Rattle.acts.specs.Act.{Done}
@@ -9,9 +9,9 @@ use Rattle.ngx_variables.specs.declared.request.Main.{Main}
 use Rattle.site_model.specs.declared.site.Site.{Site}
 use Rattle.postpone_filter.specs.Row.{Row, appended, ended, is_open}
 use Rattle.request_meaning.specs.Serving.{World, Serving, Answer}
+use Rattle.request_meaning.specs.Replies.{or_stub}
 use Rattle.family_order.specs.Items.{IsWell}
 use Rattle.family_order.specs.Items.{IsWellRow}
-use Rattle.family_meaning.specs.Moves.{IsGood}
 use Rattle.family_order.specs.Laws.{ShowsTheSame}
 use Rattle.node_turn.specs.Stages.{held_more, is_ending, is_in_row, node_act, node_heard}
 use Rattle.node_turn.specs.Nodes.{answer_seen, asked_path, lent, stage_act}
@@ -28,7 +28,7 @@ use Rattle.node_seats.proofs.Located.{Located, StandsAs, above_is, locate}
 use Rattle.node_seats.proofs.Others.{SameOrMore, is_its}
 use Rattle.node_seats.proofs.Others.SameOrMore.{Same, Its}
 use Rattle.node_seats.proofs.Returned as returned
-use Rattle.subrequests.specs.Families.{HasReply, IsSound, IsTaken, is_good_end, goes_on_at, texts_of}
+use Rattle.subrequests.specs.Families.{HasReply, IsSound, IsTaken, end_status, goes_on_at, texts_of}
 use Rattle.subrequests.specs.Families.HasReply.{Hears, Holds}
 use Rattle.subrequests.specs.Moved.{SameTexts, is_at}
 use Rattle.subrequests.proofs.Members as members
@@ -42,24 +42,37 @@ taken_all (suc n) [] h = refl
 taken_all zero (b ∷ text) h = absurd (omega (arith, h))
 taken_all (suc n) (b ∷ text) h = ap (λ t. b ∷ t) (taken_all n text (omega (arith, h)))
 
--- some are held
-pub some_held : (old : Node) (stub : Option (List ℕ)) (text : List ℕ) → old.place ≡ Captured stub text → (length text == 0) ≡ false → held_text old.place ≢ []
-some_held old stub text place some none = no (sym some ∙ ap (λ (t : List ℕ). length t == 0) (sym (ap held_text place) ∙ none))
+-- there are some
+pub some_is : (text : List ℕ) → (length text == 0) ≡ false → text ≢ []
+some_is text some none = no (sym some ∙ ap (λ (t : List ℕ). length t == 0) none)
   where
     no : false ≡ true → ⊥
     no e = cc
 
--- a good answer
-good_end : (w : World) (patterns : List SetPattern) (site : Site) (main : Main) (n : Node) (text : List ℕ) (answer : Answer) → is_good_end n.stage ≡ true → node_act w patterns site main n text ≡ Done answer → IsGood answer
-good_end w patterns site main n text answer e done = by n.stage e done
-  where
-    low : (status : ℕ) → nat_lt status 400 ≡ true → nat_le 400 status ≡ false
-    low status f = grind (arith, nat_tests)
+-- a body with a byte isn't empty
+not_none : (n : ℕ) → (suc n == 0) ≡ false
+not_none n = grind (arith, nat_tests)
 
+tested : (n : ℕ) (bad chosen : Bool) → ((suc n == 0) || bad) ≡ chosen → bad ≡ chosen
+tested n bad chosen e = sym (ap (λ none. none || bad) (not_none n)) ∙ e
+
+-- its stub takes the place of a body, or doesn't
+pub stub_so : (stub body : List ℕ) (status : ℕ) → ((length body == 0) || nat_le 400 status) ≡ true → or_stub (Some stub) status body ≡ stub
+stub_so stub [] status e = refl
+stub_so stub (b ∷ body) status e = ap (λ c. cond c stub (b ∷ body)) (tested (length body) (nat_le 400 status) true e)
+
+pub body_so : (stub body : List ℕ) (status : ℕ) → ((length body == 0) || nat_le 400 status) ≡ false → or_stub (Some stub) status body ≡ body
+body_so stub [] status e = cc
+body_so stub (b ∷ body) status e = ap (λ c. cond c stub (b ∷ body)) (tested (length body) (nat_le 400 status) false e)
+
+-- the status to which it has come
+end_is : (w : World) (patterns : List SetPattern) (site : Site) (main : Main) (n : Node) (text : List ℕ) (answer : Answer) → is_ending n.stage ≡ true → node_act w patterns site main n text ≡ Done answer → end_status n.stage ≡ answer.status
+end_is w patterns site main n text answer e done = by n.stage e done
+  where
     done_is : (x : Serving Answer) (a b : Answer) → x ≡ Done a → x ≡ Done b → a ≡ b
     done_is x a b f g = cc
 
-    by : (s : Stage) → is_good_end s ≡ true → stage_act w patterns site (lent main n.phases) n.left (asked_path n.ask) s text ≡ Done answer → IsGood answer
+    by : (s : Stage) → is_ending s ≡ true → stage_act w patterns site (lent main n.phases) n.left (asked_path n.ask) s text ≡ Done answer → end_status s ≡ answer.status
     by (stages.Begins ssi) f g = cc
     by (stages.Asks wait ssi) f g = cc
     by (stages.Told wait file ssi) f g = cc
@@ -67,7 +80,8 @@ good_end w patterns site main n text answer e done = by n.stage e done
     by (stages.Serves b) f g = cc
     by (stages.Reads b) f g = cc
     by (stages.Captures c) f g = cc
-    by (stages.Ends b) f g = subst IsGood (done_is (stage_act w patterns site (lent main n.phases) n.left (asked_path n.ask) (stages.Ends b) text) (answer_seen site (lent main n.phases) b.value.answered) answer refl g) (low b.value.answered.status f)
+    by (stages.Ends b) f g =
+        ap (λ (a : Answer). a.status) (done_is (stage_act w patterns site (lent main n.phases) n.left (asked_path n.ask) (stages.Ends b) text) (answer_seen site (lent main n.phases) b.value.answered) answer refl g)
 
 -- the levels above it
 levels_are : most_levels ≡ suc 49
@@ -229,11 +243,15 @@ module _ (row : Row) (nodes : List Node) (at : ℕ) (old gone p p' : Node) (text
             (ap (λ i. is_its old.parent (slice_get nodes i)) (members.same_number j at f) ∙ ap (is_its old.parent) r.there ∙ its old (ap is_captured r.taken.place) refl r.none)
         others j e false f = Same (get_set_other (set nodes at gone) old.parent j p' (members.other_number j old.parent e) ∙ get_set_other nodes at j gone (members.other_number j at f))
 
-    -- where it has a stub its body is shown
-    shown_so : (texts : ℕ → List ℕ) (answer : Answer) → node_act w patterns site main old (texts at) ≡ Done answer → is_some (stub_in old.place) ≡ true → (held_text old.place ≢ []) × IsGood answer
-    shown_so texts answer done e =
-        let is = r.taken.shown (sym (ap (λ q. is_some (stub_in q)) r.taken.place) ∙ e) in
-        (some_held old r.taken.stub text r.taken.place is.0, good_end w patterns site main old (texts at) answer is.1 done)
+    -- what comes to its parent
+    abbrev chosen : Answer → List ℕ
+    chosen answer = or_stub (stub_in old.place) answer.status (held_text old.place)
+
+    chosen_is : (texts : ℕ → List ℕ) (answer : Answer) → node_act w patterns site main old (texts at) ≡ Done answer → text ≡ chosen answer
+    chosen_is texts answer done =
+        r.taken.chosen
+        ∙ ap (λ n. or_stub r.taken.stub n r.taken.body) (end_is w patterns site main old (texts at) answer r.ending done)
+        ∙ ap (λ q. or_stub (stub_in q) answer.status (held_text q)) (sym r.taken.place)
 
     pub opening : HasReply text p p' → (texts : ℕ → List ℕ) (row' : Row) → row' ≡ ended at row → ((j : ℕ) → is_open j row'.pieces ≡ cond (j == at) false (is_open j row.pieces)) →
         Opening w tree 0 (seen w patterns site main row nodes texts) vars (seen w patterns site main row' nodes_then texts) vars
@@ -283,37 +301,40 @@ module _ (row : Row) (nodes : List Node) (at : ℕ) (old gone p p' : Node) (text
             IsSound row' (set (set nodes at gone) old.parent p') → (b : Bool) → is_in_row p.place ≡ b → HasReply text p p' → Goal
         by answer done closed' sound' true e (Hears capturing same place file acts) =
             let row_is = wholes.row_is p.place e in
-            returned.row_told laws w patterns site main row nodes (set (set nodes at gone) old.parent p') texts old.parent at p p' old (waits texts) like 49 heard_so tree vars r.is_open_too well closed' answer done (shown_so texts answer done) same.left
+            returned.row_told laws w patterns site main row nodes (set (set nodes at gone) old.parent p') texts old.parent at p p' old (waits texts) like 49 heard_so tree vars r.is_open_too well closed' answer done same.left
             row_is (place ∙ row_is) r.goes_on (members.apart_number at old.parent (λ f. r.apart (sym f)))
-            (acts w patterns site main (texts old.parent) ∙ ap (node_heard w patterns site main p (texts old.parent)) (ap held_text (sym r.taken.place)))
+            (acts w patterns site main (texts old.parent) ∙ ap (node_heard w patterns site main p (texts old.parent)) (chosen_is texts answer done))
         by answer done closed' sound' false e (Hears capturing same place file acts) =
             let q = located (sym like.row ∙ e) in
             let part = parts sound' q.h q.host q.there q.goes_on in
-            returned.told laws w patterns site main row nodes (set (set nodes at gone) old.parent p') texts old.parent at p p' old (waits texts) like 49 heard_so tree vars r.is_open_too well closed' answer done (shown_so texts answer done) same.left
+            returned.told laws w patterns site main row nodes (set (set nodes at gone) old.parent p') texts old.parent at p p' old (waits texts) like 49 heard_so tree vars r.is_open_too well closed' answer done same.left
             q part.0 part.1 capturing (ap held_text place)
-            (acts w patterns site main (texts old.parent) ∙ ap (node_heard w patterns site main p (texts old.parent)) (ap held_text (sym r.taken.place)))
+            (acts w patterns site main (texts old.parent) ∙ ap (node_heard w patterns site main p (texts old.parent)) (chosen_is texts answer done))
         by answer done closed' sound' b e (Holds free apart is) =
             let q = located (sym like.row ∙ apart) in
             let part = parts sound' q.h q.host q.there q.goes_on in
-            returned.leaves laws w patterns site main row nodes (set (set nodes at gone) old.parent p') texts old.parent at p p' old (waits texts) like 49 heard_so tree vars r.is_open_too well closed' answer done (shown_so texts answer done) (ap (λ (n : Node). n.left) is)
+            returned.leaves laws w patterns site main row nodes (set (set nodes at gone) old.parent p') texts old.parent at p p' old (waits texts) like 49 heard_so tree vars r.is_open_too well closed' answer done (ap (λ (n : Node). n.left) is)
             q part.0 part.1 free
-            (ap (λ (n : Node). held_text n.place) is ∙ more_held p.place apart ∙ ap (λ t. held_text p.place ++ t) (ap held_text (sym r.taken.place)))
+            (ap (λ (n : Node). held_text n.place) is ∙ more_held p.place apart ∙ ap (λ t. held_text p.place ++ t) (chosen_is texts answer done))
             (ap (λ (n : Node). node_act w patterns site main n (texts old.parent)) is)
 
     -- the parent has a stub, and is shown from now on
-    pub shown : IsKept p → p' ≡ record p { asks = None; place = InRow } → held_text old.place ≢ [] → (texts : ℕ → List ℕ) (mid row' : Row) → mid ≡ appended old.parent (held_text old.place) row → row' ≡ ended at mid →
+    pub shown : IsKept p → p' ≡ record p { asks = None; place = InRow } → text ≢ [] → (texts : ℕ → List ℕ) (mid row' : Row) → mid ≡ appended old.parent text row → row' ≡ ended at mid →
         ((j : ℕ) → is_open j mid.pieces ≡ is_open j row.pieces) → ((j : ℕ) → is_open j row'.pieces ≡ cond (j == at) false (is_open j row.pieces)) →
         Opening w tree 0 (seen w patterns site main row nodes texts) vars (seen w patterns site main row' nodes_then texts) vars
     shown kept is some texts mid row' placed rows opened closed =
         let done = wholes.ended_act w patterns site main old (texts at) r.ending in
-        let both : row' ≡ ended at (appended old.parent (held_text old.place) row) = rows ∙ ap (ended at) placed in
+        let same = chosen_is texts done.0 done.1 in
+        let now : mid ≡ appended old.parent (chosen done.0) row = placed ∙ ap (λ t. appended old.parent t row) same in
+        let both : row' ≡ ended at (appended old.parent (chosen done.0) row) = rows ∙ ap (ended at) now in
         subst (λ (x : Row). Opening w tree 0 (seen w patterns site main row nodes texts) vars (seen w patterns site main x nodes_then texts) vars) (sym both)
         (returned.shows laws w patterns site main row nodes (set (set nodes at gone) old.parent p') texts old.parent at p p' old (waits texts) r.reply.parent 49
         (returned.parent_heard (doing_by w patterns site main texts) nodes (doing_by w patterns site main texts) (set (set nodes at gone) old.parent p') old.parent at p p' old (waits texts) 49 r.reply.captured r.reply.parent r.heard)
         tree vars r.is_open_too r.goes_on (members.seen_well w patterns site main row nodes texts sound)
-        (λ j. ap (λ (x : Row). is_open j x.pieces) (sym placed) ∙ opened j)
+        done.0
+        (λ j. ap (λ (x : Row). is_open j x.pieces) (sym now) ∙ opened j)
         (λ j. ap (λ (x : Row). is_open j x.pieces) (sym both) ∙ closed j)
-        done.0 done.1 (shown_so texts done.0 done.1) kept.stub kept.place (ap (λ (n : Node). n.place) is) kept.free (kept.good w patterns site main (texts old.parent)) some
+        done.1 kept.stub kept.place (ap (λ (n : Node). n.place) is) kept.free (kept.good w patterns site main (texts old.parent)) (λ none. some (same ∙ none))
         (ap (λ (n : Node). n.left) is) (ap (λ (n : Node). node_act w patterns site main n (texts old.parent)) is) (members.apart_number at old.parent (λ f. r.apart (sym f))))
 
 -- it goes on in the row

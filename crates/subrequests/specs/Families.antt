@@ -1,12 +1,12 @@
 -- A family as its nodes keep it.
-use Rattle.std.specs.Prelude.{◌≡◌, ℕ, ◌-◌, ◌≤◌, Bool, true, false, not, List, [], ◌∷◌, ◌++◌, length, slice_get, Option, None, Some, nat_lt, is_some, ◌==◌}
+use Rattle.std.specs.Prelude.{◌≡◌, ℕ, ◌-◌, ◌≤◌, Bool, true, false, not, List, [], ◌∷◌, ◌++◌, length, slice_get, Option, None, Some, nat_le, ◌==◌, ◌||◌}
 use Rattle.std.specs.List.{list_all}
 use Rattle.file_tree.specs.Tree.{Trees}
 use Rattle.ngx_pattern.specs.Pattern.{Pattern as SetPattern}
 use Rattle.ngx_variables.specs.declared.request.Main.{Main}
 use Rattle.site_model.specs.declared.site.Site.{Site}
 use Rattle.postpone_filter.specs.Row.{Row, is_open}
-use Rattle.request_meaning.specs.Replies.{script}
+use Rattle.request_meaning.specs.Replies.{or_stub, script}
 use Rattle.request_meaning.specs.Serving.{World}
 use Rattle.family_order.specs.Items.{IsWellRow}
 use Rattle.ssi_exec.specs.Scenes.{child_seen}
@@ -66,23 +66,28 @@ abbrev pub AreDone : List Node → Type 0
 AreDone [] = ⊥
 AreDone (n ∷ nodes) = ((is_ending n.stage ≡ true) × (n.over ≡ false) × (is_in_row n.place ≡ true) × (n.asks ≡ None)) × (list_all over_node nodes ≡ true)
 
--- the node has come to an answer below 400
-abbrev pub is_good_end : Stage → Bool
-is_good_end (Begins ssi) = false
-is_good_end (Asks wait ssi) = false
-is_good_end (Told wait file ssi) = false
-is_good_end (Places b) = false
-is_good_end (Serves b) = false
-is_good_end (Reads b) = false
-is_good_end (Captures c) = false
-is_good_end (Ends b) = nat_lt b.value.answered.status 400
+-- the status of the answer to which the node has come, and 0 where it has come to none
+abbrev pub end_status : Stage → ℕ
+end_status (Begins ssi) = 0
+end_status (Asks wait ssi) = 0
+end_status (Told wait file ssi) = 0
+end_status (Places b) = 0
+end_status (Serves b) = 0
+end_status (Reads b) = 0
+end_status (Captures c) = 0
+end_status (Ends b) = b.value.answered.status
 
--- All bytes of a node are taken, which come to its parent; where it has a stub they are some, and its answer is below 400.
+-- the stub of a node takes the place of this body
+abbrev pub is_stubbed : Stage → (body : List ℕ) → Bool
+is_stubbed stage body = (length body == 0) || nat_le 400 (end_status stage)
+
+-- The bytes that come to a node's parent are taken: its body, or its stub, if it has one that takes the place of that.
 pub record IsTaken (stage : Stage) (text : List ℕ) (old new : Place) : Type 0 where
   pub stub : Option (List ℕ)
-  pub place : old ≡ Captured stub text
-  pub then : new ≡ Captured stub []
-  pub shown : is_some stub ≡ true → ((length text == 0) ≡ false) × (is_good_end stage ≡ true)
+  pub body : List ℕ
+  pub place : old ≡ Captured stub body
+  pub then : new ≡ Captured None []
+  pub chosen : text ≡ or_stub stub (end_status stage) body
 
 -- A node has the bytes for which it waited: as those of a reply, with which it goes on; or after its own that are held,
 -- in whose place they are.

@@ -35,7 +35,7 @@ pub(crate) fn blank_main(alloc: Global, method: Method) -> Main
         port: 0,
     };
     Main {
-        received: ByteText::new(alloc),
+        asked: Method::Get,
         method,
         version: Version::V11,
         target: ByteText::new(alloc),

@@ -9,7 +9,7 @@ ghost use Rattle.request_phases.specs.declared.ground.Ground.{Ground as GroundVi
 ghost use Rattle.site_model.specs.declared.site.Site.{Site as SiteRow};
 ghost use Rattle.node_turn.specs.Stages.{is_ending, is_in_row as in_row, is_placing, is_serving, is_turning, item_asked};
 ghost use Rattle.node_turn.specs.declared.node.Place.TheVariants.{Row as RowView};
-ghost use Rattle.subrequests.specs.Families.{AreDone, HasReply, IsTaken, captured_at, goes_on_at, in_row_at, is_good_end, over_node};
+ghost use Rattle.subrequests.specs.Families.{AreDone, HasReply, IsTaken, captured_at, end_status, goes_on_at, in_row_at, is_stubbed as stubbed, over_node};
 ghost use Rattle.node_seats.specs.Seats.{is_seated as has_seat};
 ghost use Rattle.std.specs.List.{list_all};
 ghost use Rattle.subrequests.specs.Moved.{AsksAt, BeginsWith, Comes, IsDone, IsFromAt, IsWhole, Keeps, OpensAt, OverrunsBy, SameFiles, Steps, files, fits_at, meant, stands};
@@ -146,39 +146,59 @@ fn are_done(nodes: &[Node]) -> bool
     }
 }
 
-/// Whether a node has come to an answer below 400.
-fn ends_well(stage: &Stage) -> bool
-    ensures { result ≡ is_good_end stage.now }
+/// The status of the answer to which a node has come; 0 where it has come to none.
+fn status_at(stage: &Stage) -> u16
+    ensures { result ≡ end_status stage.now }
 {
     match stage {
-        Stage::Begins(_) => false,
-        Stage::Asks { wait: _, ssi: _ } => false,
+        Stage::Begins(_) => 0,
+        Stage::Asks { wait: _, ssi: _ } => 0,
         Stage::Told {
             wait: _,
             file: _,
             ssi: _,
-        } => false,
-        Stage::Places(_) => false,
-        Stage::Serves(_) => false,
-        Stage::Reads(_) => false,
-        Stage::Captures(_) => false,
-        Stage::Ends(body) => body.answered.status < 400,
+        } => 0,
+        Stage::Places(_) => 0,
+        Stage::Serves(_) => 0,
+        Stage::Reads(_) => 0,
+        Stage::Captures(_) => 0,
+        Stage::Ends(body) => body.answered.status,
     }
 }
 
-/// The bytes of a node for whose body its parent waits: all that came. Where its stub would come in their place there
-/// is no memory.
+/// Whether the stub of a node takes the place of this body: it is empty, or its status is 400 or more.
+fn is_stubbed(stage: &Stage, body: &ByteText) -> bool
+    ensures { result ≡ stubbed stage.now body.now }
+{
+    body.is_empty() || status_at(stage) >= 400
+}
+
+/// The bytes of a node for whose body its parent waits: all that came, or its stub in their place.
 fn taken(alloc: Global, stage: &Stage, place: &mut Place) -> Result<ByteText, OutOfMemory>
     ensures { IfOk result (λ text. IsTaken stage.now text place.old place.new) }
 {
     match place {
         Place::Captured { stub, text } => {
-            if stub.is_some() && (text.is_empty() || !ends_well(stage)) {
-                return Err(OutOfMemory);
+            let body = take(text, ByteText::new(alloc));
+            match take(stub, None) {
+                None => Ok(body),
+                Some(stub) => {
+                    if is_stubbed(stage, &body) {
+                        return Ok(stub);
+                    }
+                    Ok(body)
+                }
             }
-            Ok(take(text, ByteText::new(alloc)))
         }
         _ => Err(OutOfMemory),
+    }
+}
+
+/// Whether some bytes come to the parent of a node that has come to its answer.
+fn comes_some(stage: &Stage, stub: &Option<ByteText>, body: &ByteText) -> bool {
+    match stub {
+        Some(stub) if is_stubbed(stage, body) => !stub.is_empty(),
+        _ => !body.is_empty(),
     }
 }
 
@@ -351,6 +371,7 @@ impl Family {
     }
 
     /// Bytes of a node with a stub come.
+    #[inline(never)]
     fn come_at(&mut self, alloc: Global, at: u32) -> Result<(), OutOfMemory>
         requires whole { IsWhole self.old }
         requires there { stands is_placing self.old at }
@@ -455,6 +476,7 @@ impl Family {
 
     /// A subrequest of a node opens for whose body it waits, where the node has come to. It has a
     /// place in the order at which nothing is placed.
+    #[inline(never)]
     fn ask_at(
         &mut self,
         alloc: Global,
@@ -501,6 +523,7 @@ impl Family {
     }
 
     /// A node with a stub that has come to its answer is over: the number of its parent.
+    #[inline(never)]
     fn decide_at(&mut self, at: u32) -> Result<u32, OutOfMemory>
         requires whole { IsWhole self.old }
         requires there { stands is_ending self.old at }
@@ -522,7 +545,8 @@ impl Family {
     }
 
     /// A node for whose body its parent waits has come to its answer: it is over, and its parent,
-    /// whose number this is, has its bytes.
+    /// whose number this is, has its bytes, or its stub in their place.
+    #[inline(never)]
     fn return_at(&mut self, alloc: Global, at: u32) -> Result<u32, OutOfMemory>
         requires whole { IsWhole self.old }
         requires there { stands is_ending self.old at }
@@ -560,8 +584,8 @@ impl Family {
             return false;
         };
         match &node.place {
-            Place::Captured { stub: _, text } => {
-                !text.is_empty()
+            Place::Captured { stub, text } => {
+                comes_some(&node.stage, stub, text)
                     && match self.nodes.as_slice().get(node.parent as usize) {
                         Some(parent) => is_kept(parent),
                         None => false,
@@ -572,7 +596,9 @@ impl Family {
     }
 
     /// A node for whose body its parent waits, which has a stub, has come to its answer: it is over,
-    /// and its parent, whose number this is, has placed its bytes and goes on in the row.
+    /// and its parent, whose number this is, has placed its bytes, or its stub in their place, and
+    /// goes on in the row.
+    #[inline(never)]
     fn show_at(&mut self, alloc: Global, at: u32) -> Result<u32, OutOfMemory>
         requires whole { IsWhole self.old }
         requires there { stands is_ending self.old at }
@@ -662,7 +688,8 @@ impl Family {
         next_of(self.nodes.as_slice(), at)
     }
 
-    /// A node does this, where it goes on by itself.
+    /// A node does this, where it goes on by itself. Steps that are rare aren't inlined here: their
+    /// values would cost the others.
     fn goes(
         &mut self,
         alloc: Global,
@@ -732,13 +759,13 @@ impl Family {
         ensures kept { patterns.new ≡ patterns.old }
     {
         let next = self.next_at(at);
-        if is_seated(self.nodes.as_slice(), at) {
-            return Ok(self.goes(alloc, ground, patterns, at, next)?);
+        if let Next::Waits = next {
+            return Ok(Stepped::Rests);
         }
-        match next {
-            Next::Waits => Ok(Stepped::Rests),
-            _ => Err(OutOfMemory),
+        if !is_seated(self.nodes.as_slice(), at) {
+            return Err(OutOfMemory);
         }
+        Ok(self.goes(alloc, ground, patterns, at, next)?)
     }
 
     /// A node rests: what is known of it is kept; and of its parent, if that was told of its end.

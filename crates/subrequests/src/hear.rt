@@ -1,5 +1,5 @@
 // A node is told what it asked for.
-ghost use Rattle.std.specs.Prelude.{◌≡◌, ◌≤◌, ◌+◌, ◌++◌, ◌||◌, List, ℕ, IfOk, IfSome, OnOk, true, length};
+ghost use Rattle.std.specs.Prelude.{◌≡◌, ◌≤◌, ◌+◌, ◌++◌, ◌||◌, List, ℕ, [], IfOk, IfSome, None, OnOk, true, false, length};
 ghost use Rattle.file_tree.specs.Tree.{IsFrom, Trees, is_fitting};
 ghost use Rattle.file_tree.specs.declared.job.JobAnswer.TheVariants.{Read as ReadView};
 ghost use Rattle.ngx_pattern.specs.Pattern.{Pattern as SetPattern};
@@ -8,13 +8,13 @@ ghost use Rattle.request_meaning.specs.Serving.{World};
 ghost use Rattle.request_phases.specs.declared.state.Phases.{Phases as PhasesView};
 ghost use Rattle.site_model.specs.declared.site.Site.{Site as SiteRow};
 ghost use Rattle.node_turn.specs.Stages.{IsSameNode, asks_from, is_asking, is_reading, node_act, text_in};
-ghost use Rattle.node_turn.specs.Nodes.{asked_path, lent, stage_act};
+ghost use Rattle.node_turn.specs.Nodes.{asked_path, hand, lent, stage_act};
 ghost use Rattle.subrequests.specs.Told.{Hears};
 ghost use Rattle.node_turn.specs.declared.node.Stage.TheVariants.{Reads as ReadsView, Told as ToldView};
 
 use byte_text::{ByteText, OutOfMemory};
 use file_tree::{Ask, JobAnswer, Node as FileNode};
-use node_turn::{Body, Node, Source, Stage, put, take};
+use node_turn::{Body, Node, Stage, put, take};
 use request_phases::Wait;
 use ssi_values::Table;
 use std::alloc::Global;
@@ -54,6 +54,47 @@ fn reads_from(ask: &Ask, start: u64) -> bool
     }
 }
 
+/// A body to which these bytes of its file came.
+fn with_more(body: Box<Body>, bytes: &[u8]) -> Result<Box<Body>, OutOfMemory>
+    requires { length bytes.now ≤ body.value.source.left }
+    ensures text { IfOk result (λ b. b.value.source.text ≡ body.value.source.text ++ bytes.now) }
+    ensures left { IfOk result (λ b. b.value.source.left + length bytes.now
+        ≡ body.value.source.left) }
+    ensures others { IfOk result (λ b. (b.value.answered ≡ body.value.answered)
+        × (b.value.page ≡ body.value.page)) }
+{
+    let mut body = body;
+    body.source.text.extend(bytes)?;
+    body.source.left -= bytes.len() as u64;
+    body.source.unread = false;
+    Ok(body)
+}
+
+/// A body whose bytes that are placed next are the text of its source.
+fn placing(alloc: Global, body: Box<Body>) -> Box<Body>
+    ensures hand { hand result.value ≡ body.value.source.text }
+    ensures text { result.value.source.text ≡ [] }
+    ensures left { result.value.source.left ≡ body.value.source.left }
+    ensures others { (result.value.answered ≡ body.value.answered)
+        × (result.value.page ≡ body.value.page) }
+{
+    let mut body = body;
+    let text = take(&mut body.source.text, ByteText::new(alloc));
+    body.from = 0;
+    body.bytes = text;
+    body
+}
+
+/// Whether filters make a page of a body.
+fn has_page(body: &Body) -> bool
+    ensures { result ≡ false → body.now.page ≡ None }
+{
+    match &body.page {
+        Some(_) => true,
+        None => false,
+    }
+}
+
 /// Where these bytes of its file came to a body that asked for them: bytes that are placed next, or
 /// that its page takes up.
 fn came(alloc: Global, body: Box<Body>, bytes: &[u8]) -> Result<Stage, OutOfMemory>
@@ -63,51 +104,11 @@ fn came(alloc: Global, body: Box<Body>, bytes: &[u8]) -> Result<Stage, OutOfMemo
         stage_act w patterns site p levels path (ReadsView body) (bytes.now ++ text)
         ≡ stage_act w patterns site p levels path stage text) }
 {
-    let Body {
-        answered,
-        bytes: _,
-        from: _,
-        source,
-        page,
-    } = Box::into_inner(body);
-    let Source {
-        mut text,
-        left,
-        unread: _,
-    } = source;
-    text.extend(bytes)?;
-    let left = left - bytes.len() as u64;
-    let none = ByteText::new(alloc);
-    match page {
-        None => {
-            let body = Body {
-                answered,
-                bytes: text,
-                from: 0,
-                source: Source {
-                    text: none,
-                    left,
-                    unread: false,
-                },
-                page: None,
-            };
-            Ok(Stage::Places(Box::new(alloc, body)?))
-        }
-        Some(page) => {
-            let body = Body {
-                answered,
-                bytes: none,
-                from: 0,
-                source: Source {
-                    text,
-                    left,
-                    unread: false,
-                },
-                page: Some(page),
-            };
-            Ok(Stage::Serves(Box::new(alloc, body)?))
-        }
+    let body = with_more(body, bytes)?;
+    if has_page(&body) {
+        return Ok(Stage::Serves(body));
     }
+    Ok(Stage::Places(placing(alloc, body)))
 }
 
 /// The sum of two numbers, where that is one.

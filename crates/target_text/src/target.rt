@@ -19,7 +19,7 @@ pub struct Target {
     pub args: Option<ByteText>,
 }
 
-/// What is before the first `?` of a piece that stands for itself, if it has one.
+/// What is before the first `?` of a piece that is taken as it is, if it has one.
 fn before_question(piece: &Piece) -> Option<&[u8]>
     ensures { option_map (λ bytes. bytes.now) result ≡ literal_before piece.now }
 {

@@ -1,9 +1,11 @@
 -- The parts of a target.
-use Rattle.std.proofs.Common.{◌≡◌, ℕ, ◌+◌, ◌-◌, ◌<◌, ◌≤◌, min, Bool, true, false, ◌==◌, List, [], ◌∷◌, Option, None, Some, Result, Ok, Err, length, take, drop, refl, sym, ap, ◌∙◌}
+use Rattle.std.proofs.Common.{◌≡◌, ℕ, ◌+◌, ◌-◌, ◌<◌, ◌≤◌, min, Bool, true, false, ◌==◌, ◌||◌, List, [], ◌∷◌, get_or, Option, None, Some, Result, Ok, Err, length, take, drop, refl, sym, ap, ap₂, ◌∙◌, arith}
 use Rattle.std.specs.Prelude.{nat_eq, codes, is_ok, unwrap_or, option_map}
 use Rattle.std.specs.List.{prefix_len, position_or_len, before_first, after_first, starts_with}
 use Rattle.std.proofs.lemmas.Bool.{lt-ltb, le-ltb, and_from, and_left, and_right, cond-true, cond-false, cond_both, eqb-true, eq-eqb, ne_eqb}
-use Rattle.std.proofs.lemmas.List.{take_rest, drop_min}
+use Rattle.std.proofs.lemmas.List.{take_rest, drop_min, take_all}
+use Rattle.std.proofs.lemmas.List.Sums.{position_or_len_is, fails_before_first}
+use Rattle.std.proofs.Math.ListN.{drop_of_length-le}
 use Rattle.std.proofs.lemmas.Option.{none-some}
 use Rattle.uri_text.specs.declared.fault.UriFault.{UriFault}
 use Rattle.uri_text.specs.declared.fault.UriFault.TheVariants.{NotAPath}
@@ -52,6 +54,29 @@ behind_root-host target host rest stripped none is slash =
     ap (behind_or_host target) none ∙ ap (option_map (λ (form : List ℕ × List ℕ). unwrap_or (strip_slash form.1) form.1)) is ∙ ap (λ o. Some (unwrap_or o rest)) slash
 
 -- ---- the query
+
+left_false : (a b : Bool) → (a || b) ≡ false → a ≡ false
+left_false true b e = e
+left_false false b e = refl
+
+right_false : (a b : Bool) → (a || b) ≡ false → b ≡ false
+right_false true b e = grind (arith, e)
+right_false false b e = e
+
+-- a text without `#` and `?`
+pub unmarked : (text : List ℕ) → position_or_len (λ b. (b == 35) || (b == 63)) text ≡ length text → path_and_query text ≡ (text, [])
+unfolding path_and_query
+unmarked text h =
+    let none : (k : ℕ) → k < length text → ((get_or text k 0 == 35) || (get_or text k 0 == 63)) ≡ false
+    = λ k low. fails_before_first (λ b. (b == 35) || (b == 63)) text k 0 (omega (arith, h, low)) in
+    let no_hash : position_or_len (λ b. b == 35) text ≡ length text
+    = position_or_len_is (λ b. b == 35) text (length text) 0 (omega arith) (λ k low. left_false _ _ (none k low)) (λ low. absurd (omega (arith, low))) in
+    let no_question : position_or_len (λ b. b == 63) text ≡ length text
+    = position_or_len_is (λ b. b == 63) text (length text) 0 (omega arith) (λ k low. right_false _ _ (none k low)) (λ low. absurd (omega (arith, low))) in
+    let whole : before_first (λ b. b == 35) text ≡ text = ap (λ n. take n text) no_hash ∙ take_all (length text) text (omega arith) in
+    let path : before_first (λ b. b == 63) text ≡ text = ap (λ n. take n text) no_question ∙ take_all (length text) text (omega arith) in
+    let query : after_first (λ b. b == 63) text ≡ [] = ap (λ n. drop (n + 1) text) no_question ∙ drop_of_length-le text (omega arith) in
+    ap (λ l. (before_first (λ b. b == 63) l, after_first (λ b. b == 63) l)) whole ∙ ap₂ (λ a b. (a, b)) path query
 
 pub parts-are : (text : List ℕ) (n len from : ℕ) → n ≡ position_or_len (λ b. b == 35) text → len ≡ position_or_len (λ b. b == 63) (take n text) → from ≡ min (len + 1) (length (take n text)) → path_and_query text ≡ (take len (take n text), take (length (take n text) - from) (drop from (take n text)))
 unfolding path_and_query

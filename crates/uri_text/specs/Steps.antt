@@ -27,7 +27,7 @@ abbrev pub SpellsAll : Option (List (List ℕ)) → List ℕ → ℕ → Type 0
 SpellsAll None text start = ⊥
 SpellsAll (Some kept) text start = Stands kept [] text start
 
--- a byte that stands for itself and ends no segment
+-- a byte that spells itself and ends no segment
 abbrev pub is_plain : ℕ → Bool
 is_plain b = not (b == slash || b == percent)
 

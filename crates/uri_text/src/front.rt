@@ -51,7 +51,7 @@ pub fn plain_len(text: &[u8]) -> usize
     text.len()
 }
 
-/// The byte that two hexadecimal digits stand for.
+/// The byte that two hexadecimal digits spell.
 fn byte_of(high: u8, low: u8) -> Option<u8>
     ensures { result ≡ (if is_digit high 16 && is_digit low 16
         then Some (escape_value high low) else None) }

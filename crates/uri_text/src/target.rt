@@ -1,11 +1,11 @@
 // Whole targets.
-ghost use Rattle.std.specs.Prelude.{◌≡◌, ◌≢◌, ◌==◌, ℕ, ◌≤◌, [], Some, None, Ok, Err, length, is_ok, take, drop, IfErr, OnOk, OnErr, MatchOption};
+ghost use Rattle.std.specs.Prelude.{◌≡◌, ◌≢◌, ◌==◌, ◌||◌, ℕ, ◌≤◌, [], Some, None, Ok, Err, length, is_ok, take, drop, IfErr, OnOk, OnErr, MatchOption};
 ghost use Rattle.std.specs.List.{prefix_len, position_or_len};
 ghost use Rattle.uri_text.specs.Target.{is_host_byte, ends_host, absolute_of, strip_slash, behind_root, path_and_query, normal_of};
 
 use crate::UriFault;
 use crate::path::{is_path, write_path};
-use byte_text::ByteText;
+use byte_text::{ByteText, OutOfMemory};
 
 /// A target `http://host..` (RFC 9112, section 3.2.2).
 #[derive(Clone, Copy)]
@@ -103,15 +103,45 @@ struct Parts<'a> {
     query: &'a [u8],
 }
 
+/// How many bytes come before the first `#` or `?`.
+fn len_before_marks(text: &[u8]) -> usize
+    ensures within { result ≤ length text.now }
+    ensures value { result ≡ position_or_len (λ b. b == 35 || b == 63) text.now }
+{
+    for (i, &byte) in text.iter().enumerate() {
+        if byte == b'#' || byte == b'?' {
+            return i;
+        }
+    }
+    text.len()
+}
+
 fn parts_of(text: &[u8]) -> Parts<'_>
     ensures { path_and_query text.now ≡ (result.path.now, result.query.now) }
 {
+    if len_before_marks(text) == text.len() {
+        return Parts {
+            path: text,
+            query: &[],
+        };
+    }
     let whole = &text[..len_before(text, b'#')];
     let len = len_before(whole, b'?');
     Parts {
         path: &whole[..len],
         query: &whole[(len + 1).min(whole.len())..],
     }
+}
+
+/// Writes the arguments in place of what was there.
+fn set_args(query: &[u8], args: &mut ByteText) -> Result<(), OutOfMemory>
+    ensures { OnOk result (args.new ≡ query.now) }
+{
+    args.clear();
+    if !query.is_empty() {
+        args.extend(query)?;
+    }
+    Ok(())
 }
 
 fn fill(raw: &[u8], merge: bool, path: &mut ByteText, args: &mut ByteText) -> Result<(), UriFault>
@@ -123,8 +153,7 @@ fn fill(raw: &[u8], merge: bool, path: &mut ByteText, args: &mut ByteText) -> Re
     };
     let parts = parts_of(text);
     write_path(parts.path, merge, path)?;
-    args.clear();
-    args.extend(parts.query)?;
+    set_args(parts.query, args)?;
     Ok(())
 }
 
@@ -137,6 +166,7 @@ fn fill(raw: &[u8], merge: bool, path: &mut ByteText, args: &mut ByteText) -> Re
 /// # Errors
 ///
 /// The first fault in the text, or [`UriFault::OutOfMemory`]. Both texts are empty then.
+#[inline(always)]
 pub fn normal(
     raw: &[u8],
     merge: bool,

@@ -9,8 +9,8 @@ use Rattle.node_turn.proofs.Paged as paged
 use Rattle.node_turn.proofs.Serving as serving
 use Rattle.node_turn.proofs.page.page_serves.Goals as goal
 
-pub returns : goal.returns
-returns c = λ g p levels patterns path file is.
+pub returns-clause-acts : goal.returns-clause-acts
+returns-clause-acts c = λ g p levels patterns path file is.
     let w = world_in patterns g shipped in
     let site = g.site.now in
     let answer = answer_seen site p c.args.body.value.answered in
@@ -23,7 +23,7 @@ returns c = λ g p levels patterns path file is.
     let captures : List ℕ → List ℕ → Serving Answer = captured_at w site p levels answer now bytes in
     let old = page_at w site p levels answer c.args.page.value bytes in
     let does = c.in_ok-doing.ensures.does w answer bytes (paged.is_at g p levels scene is patterns) in
-    c.in_ok-done.ensures g p levels patterns path file vars old is
+    c.in_ok-done.ensures.acts g p levels patterns path file vars old is
     (subst (λ m. Does m vars doing old (page_at w site p levels answer now bytes) captures) is.main
     (subst (λ o. Does scene.main.now vars doing o (page_at w site p levels answer now bytes) captures) (paged.page_is g p levels scene is w answer c.args.page.value bytes)
     (subst (λ n. Does scene.main.now vars doing (page_rest w answer scene c.args.page.value bytes) n captures) (paged.page_is g p levels scene is w answer now bytes)

@@ -2,19 +2,19 @@ use Rattle.std.proofs.Common.{refl, subst}
 use Rattle.file_tree.specs.declared.job.JobAnswer.TheVariants as answer
 use Rattle.ngx_outside.specs.Views.{nobody}
 use Rattle.replay_run.specs.Scene.{IsFound, Answers, Fails}
-use Rattle.replay_run.proofs.Found.{stands_from, stands_fits, block_from, block_fits, nothing_from, done_falls}
+use Rattle.replay_run.proofs.Found.{node_from, node_fits, block_from, block_fits, nothing_from, done_falls}
 use Rattle.replay_run.proofs.jobs.give_found.Goals as goal
 
-pub returns-in-Stands-clause-answers : goal.returns-in-Stands-clause-answers
-returns-in-Stands-clause-answers g c = λ told a waits known f.
-    Answers a (answer.Stat c.in-Stands.stands) waits known (stands_from told.trees a c.in-Stands.stands c.args.block.now (subst (λ x. IsFound told.trees a x c.args.block.now) c.in-Stands.is f))
+pub returns-in-Node-clause-answers : goal.returns-in-Node-clause-answers
+returns-in-Node-clause-answers g c = λ told a waits known f.
+    Answers a (answer.Stat c.in-Node.node_there) waits known (node_from told.trees a c.in-Node.node_there c.args.block.now (subst (λ x. IsFound told.trees a x c.args.block.now) c.in-Node.is f))
     (record { steps = c.step.ensures.steps; moment = c.step.ensures.now; ended = c.step.ensures.ended })
 
-pub returns-in-Stands-clause-falls : goal.returns-in-Stands-clause-falls
-returns-in-Stands-clause-falls g c = λ told a waits f.
+pub returns-in-Node-clause-falls : goal.returns-in-Node-clause-falls
+returns-in-Node-clause-falls g c = λ told a waits f.
     let e = g.E.EventCore in
-    done_falls nobody.course (e.seen c.args.core.now).now (e.seen c.args.core.now).terms.price c.args.conn c.args.node a (answer.Stat c.in-Stands.stands) c.step.result ((e.seen c.args.core.now).view c.args.conn) ((e.seen c.step.new.self).view c.args.conn) (e.seen c.args.core.now).left (e.seen c.step.new.self).left
-    c.step.ensures.steps.own c.step.ensures.left waits (stands_fits told.trees a c.in-Stands.stands c.args.block.now (subst (λ x. IsFound told.trees a x c.args.block.now) c.in-Stands.is f))
+    done_falls nobody.course (e.seen c.args.core.now).now (e.seen c.args.core.now).terms.price c.args.conn c.args.node a (answer.Stat c.in-Node.node_there) c.step.result ((e.seen c.args.core.now).view c.args.conn) ((e.seen c.step.new.self).view c.args.conn) (e.seen c.args.core.now).left (e.seen c.step.new.self).left
+    c.step.ensures.steps.own c.step.ensures.left waits (node_fits told.trees a c.in-Node.node_there c.args.block.now (subst (λ x. IsFound told.trees a x c.args.block.now) c.in-Node.is f))
 
 pub returns-in-Block-clause-answers : goal.returns-in-Block-clause-answers
 returns-in-Block-clause-answers g c = λ told a waits known f.

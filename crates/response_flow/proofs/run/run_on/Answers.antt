@@ -8,6 +8,7 @@ use Rattle.request_flow.specs.Flows.{flow_rest, may_run}
 use Rattle.request_flow.specs.Pages.{GoesTo, IfPage, IsServed, start_rest}
 use Rattle.request_flow.specs.Reached.{PageReached, WentReached}
 use Rattle.request_flow.specs.Rests.{Follows}
+use Rattle.request_flow.specs.declared.page.PageStart.{PageStart}
 use Rattle.response_flow.specs.Continues.{RunsOn}
 use Rattle.response_flow.specs.Flights.{FlightServedBy, IsReachedBy, flight_length, flight_server, ready_by, rest_of}
 use Rattle.response_flow.specs.declared.flight.Flight.{Flight}
@@ -17,7 +18,7 @@ use Rattle.response_flow.proofs.run.run_on.Goals as goal
 
 pub run_on-requires-clause-runs : goal.run_on-requires-clause-runs
 run_on-requires-clause-runs c =
-    alone_runs (may_run c.in-Alone.flow.stage) c.args.at (subst (λ (f : Flight). is_among c.args.at (ready_by f) ≡ true) c.in-Alone.is c.requires.runs)
+    alone_runs (may_run c.in-Alone.flow.value.stage) c.args.at (subst (λ (f : Flight). is_among c.args.at (ready_by f) ≡ true) c.in-Alone.is c.requires.runs)
 
 pub returns-in-On-clause-runs : goal.returns-in-On-clause-runs
 returns-in-On-clause-runs c = λ trees raceless reached.
@@ -50,16 +51,18 @@ returns-in_ok-opens-in-Page-2-clause-runs c = λ trees raceless reached.
     let patterns = c.args.space.now.patterns in
     let w = world_in patterns g shipped in
     let flow = c.in-Alone.flow in
-    let p = c.in-Page-2.page in
+    let p = c.into_inner.result in
+    let same = sym c.into_inner.ensures in
     let out = c.args.out.now in
     let before = rest_of w patterns site trees c.args.flight in
     let ran = c.in_ok-onward-in-Alone.ensures in
     let put = subst (λ x. IfPage x (λ q. c.run_on.new.out ≡ [])) c.in-Page-2.is ran.put in
-    let follows = subst (λ x. GoesTo w patterns site trees (flow_rest w patterns site (Some flow) trees) out c.run_on.new.out c.args.closing x) c.in-Page-2.is (ran.goes trees) in
+    let follows = subst (λ (p : PageStart). Follows site (flow_rest w patterns site (Some flow) trees) (start_rest w patterns site trees p) out c.run_on.new.out c.args.closing p.closing None (Some p.level)) same
+    (subst (λ x. GoesTo w patterns site trees (flow_rest w patterns site (Some flow) trees) out c.run_on.new.out c.args.closing x) c.in-Page-2.is (ran.goes trees)) in
     subst (λ (ps : List SetPattern). IsRaceless (world_in ps g shipped).server → PageReached (world_in ps g shipped) ps site p
     → Follows site before (start_rest (world_in ps g shipped) ps site trees p) out [] c.args.closing p.closing None (Some p.level)
     → RunsOn (world_in ps g shipped) ps site trees before out c.opens.new.out c.args.closing c.in_ok-opens-in-Page-2.field-0) ran.kept
     (c.in_ok-opens-in-Page-2.ensures.runs trees before out c.args.closing)
-    raceless (subst (WentReached w patterns site) c.in-Page-2.is (ran.reached (subst (IsReachedBy w patterns site) c.in-Alone.is reached)))
+    raceless (subst (PageReached w patterns site) same (subst (WentReached w patterns site) c.in-Page-2.is (ran.reached (subst (IsReachedBy w patterns site) c.in-Alone.is reached))))
     (subst (λ r. Follows site r (start_rest w patterns site trees p) out [] c.args.closing p.closing None (Some p.level)) (ap (rest_of w patterns site trees) (sym c.in-Alone.is))
     (subst (λ o. Follows site (flow_rest w patterns site (Some flow) trees) (start_rest w patterns site trees p) out o c.args.closing p.closing None (Some p.level)) put follows))

@@ -1,9 +1,9 @@
-use Rattle.std.proofs.Common.{◌≡◌, Bool, true, false, List, Option, None, Some, is_some, option_map, refl, sym, ap, ◌∙◌, subst}
-use Rattle.ngx_pattern.specs.Pattern.{Pattern as SetPattern}
+use Rattle.std.proofs.Common.{◌≡◌, true, false, Option, None, Some, is_some, option_map, refl, sym, ap, ◌∙◌, subst}
 use Rattle.subrequests.specs.Wants.{is_among}
 use Rattle.request_flow.specs.Flows.{IsServedBy, flow_rest, going_on, may_run}
 use Rattle.request_flow.specs.Reached.{FlowReached}
 use Rattle.request_flow.specs.declared.flow.Flow.{Flow}
+use Rattle.std.specs.Global.{Box}
 use Rattle.response_flow.specs.Flights.{FlightFits, flight_rest, ready_of}
 use Rattle.response_flow.specs.declared.flight.Flight.{Flight}
 use Rattle.response_flow.specs.declared.flight.Flight.TheVariants.{Alone}
@@ -12,22 +12,22 @@ use Rattle.response_flow.proofs.Wanting.{alone_runs}
 use Rattle.response_flow.proofs.run.sends.Goals as goal
 
 -- it is over where it is logged, and goes on else
-over : (flow : Flow) (log : _) → is_some log ≡ true → going_on flow log ≡ None
+over : (flow : Box Flow) (log : _) → is_some log ≡ true → going_on flow log ≡ None
 over flow None e = cc
 over flow (Some l) e = refl
 
-still : (flow : Flow) (log : _) → is_some log ≡ false → going_on flow log ≡ Some flow
+still : (flow : Box Flow) (log : _) → is_some log ≡ false → going_on flow log ≡ Some flow
 still flow None e = refl
 still flow (Some l) e = cc
 
-is_alone : (flight : Option Flight) (f : Flight) (flow : Flow) → flight ≡ Some f → f ≡ Alone flow → flight ≡ Some (Alone flow)
+is_alone : (flight : Option Flight) (f : Flight) (flow : Box Flow) → flight ≡ Some f → f ≡ Alone flow → flight ≡ Some (Alone flow)
 is_alone flight f flow e d = e ∙ ap (λ x. Some x) d
 
 pub sends_on-log-requires-clause-runs : goal.sends_on-log-requires-clause-runs
 sends_on-log-requires-clause-runs c =
     let flow = c.in-Some-Alone.flow in
     let is = is_alone c.args.flight.now c.in-Some-Alone.field-0 flow c.in-Some-Alone.is c.in-Some-Alone.field-0-is in
-    alone_runs (may_run flow.stage) c.requires.runs.0 (subst (λ f. is_among c.requires.runs.0 (ready_of f) ≡ true) is c.requires.runs.1)
+    alone_runs (may_run flow.value.stage) c.requires.runs.0 (subst (λ f. is_among c.requires.runs.0 (ready_of f) ≡ true) is c.requires.runs.1)
 
 pub returns-then-is_some-clause-runs : goal.returns-then-is_some-clause-runs
 returns-then-is_some-clause-runs c = λ w patterns site trees out.

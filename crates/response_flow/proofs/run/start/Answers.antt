@@ -1,4 +1,4 @@
-use Rattle.std.proofs.Common.{◌≡◌, false, List, [], Some, None, refl, subst}
+use Rattle.std.proofs.Common.{◌≡◌, false, List, [], Some, None, refl, sym, subst}
 use Rattle.ngx_pattern.specs.Pattern.{Pattern as SetPattern}
 use Rattle.answers_meaning.specs.Asking.{request_of}
 use Rattle.pattern_search.specs.Found.{patterns_seen}
@@ -11,6 +11,7 @@ use Rattle.request_flow.specs.Terms.{terms_at}
 use Rattle.request_flow.specs.Pages.{GoesTo, IfPage, IsServed, start_rest}
 use Rattle.request_flow.specs.Reached.{PageReached, WentReached}
 use Rattle.request_flow.specs.Rests.{Follows, opened_rest}
+use Rattle.request_flow.specs.declared.page.PageStart.{PageStart}
 use Rattle.response_flow.specs.Continues.{RunsOn}
 use Rattle.response_flow.proofs.Goes as goes
 use Rattle.response_flow.proofs.run.start.Goals as goal
@@ -43,16 +44,18 @@ returns-in_ok-opens-in-Page-clause-runs c = λ trees raceless.
     let site = g.site.now in
     let patterns = c.args.space.now.patterns in
     let w = world_in patterns g shipped in
-    let p = c.in-Page.page in
+    let p = c.into_inner.result in
+    let same = sym c.into_inner.ensures in
     let opening = c.args.opening in
     let before = opened_rest w (trees opening.tree) (terms_at opening) (main_at g opening) (request_of (server_whole (patterns_seen patterns) site g.server.now) opening.head) in
     let out = c.args.out.now in
     let ran = c.in_ok-onward.ensures in
     let put = subst (λ x. IfPage x (λ q. c.start.new.out ≡ [])) c.in-Page.is ran.put in
-    let follows = subst (λ x. GoesTo w patterns site trees before out c.start.new.out false x) c.in-Page.is (ran.goes trees) in
+    let follows = subst (λ (p : PageStart). Follows site before (start_rest w patterns site trees p) out c.start.new.out false p.closing None (Some p.level)) same
+    (subst (λ x. GoesTo w patterns site trees before out c.start.new.out false x) c.in-Page.is (ran.goes trees)) in
     subst (λ (ps : List SetPattern). IsRaceless (world_in ps g shipped).server → PageReached (world_in ps g shipped) ps site p
     → Follows site before (start_rest (world_in ps g shipped) ps site trees p) out [] false p.closing None (Some p.level)
     → RunsOn (world_in ps g shipped) ps site trees before out c.opens.new.out false c.in_ok-opens-in-Page.field-0) ran.kept
     (c.in_ok-opens-in-Page.ensures.runs trees before out false)
-    raceless (subst (WentReached w patterns site) c.in-Page.is ran.reached)
+    raceless (subst (PageReached w patterns site) same (subst (WentReached w patterns site) c.in-Page.is ran.reached))
     (subst (λ o. Follows site before (start_rest w patterns site trees p) out o false p.closing None (Some p.level)) put follows)

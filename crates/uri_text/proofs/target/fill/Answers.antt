@@ -1,4 +1,4 @@
-use Rattle.std.proofs.Common.{◌++◌, Ok, sym, ap, ◌∙◌}
+use Rattle.std.proofs.Common.{Ok, sym, ap, ◌∙◌}
 use Rattle.std.proofs.lemmas.Result.{err_from_is_err_and}
 use Rattle.uri_text.specs.Target.{with_args}
 use Rattle.uri_text.proofs.Targets.{normal-none, normal-some}
@@ -17,4 +17,4 @@ pub returns-clause-ok : goal.returns-clause-ok
 returns-clause-ok c =
     normal-some c.args.raw.now c.args.merge c.in-Some.text.now _ _ c.in-Some.ensures c.parts_of-parts.ensures
     ∙ ap (with_args c.parts_of-parts.result.query.now) c.in_ok-write_path.ensures.ok
-    ∙ ap (λ args. Ok (c.write_path.new.path, args)) (sym (c.in_ok-extend.ensures.ok ∙ ap (λ t. t ++ c.parts_of-parts.result.query.now) c.clear.ensures))
+    ∙ ap (λ args. Ok (c.write_path.new.path, args)) (sym c.in_ok-set_args.ensures)

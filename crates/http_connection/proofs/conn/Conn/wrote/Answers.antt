@@ -1,6 +1,5 @@
-use Rattle.std.proofs.Common.{◌≡◌, Bool, true, false, inl, [], ◌<◌, ◌≤◌, ◌+◌, ap, sym, subst, ◌∙◌, length, refl, arith}
+use Rattle.std.proofs.Common.{◌≡◌, Bool, true, false, inl, [], ◌<◌, ◌≤◌, ap, sym, subst, length, refl, arith}
 use Rattle.std.specs.Prelude.{is_some}
-use Rattle.response_flow.specs.Flights.{flight_left, flight_tree}
 use Rattle.http_connection.proofs.Moves.{not_stopped, wrote_went, goes_left}
 use Rattle.http_connection.proofs.Writes.{wrote_rest, wrote_reached}
 use Rattle.http_connection.specs.Steps.{IsLogged}
