@@ -26,7 +26,7 @@ count() { # how many blocks
         sed -n 's/.*Collected : \([0-9]*\).*/\1/p'
 }
 # builds the program where it isn't built
-"$top/ngx" replay /dev/null >/dev/null 2>&1 || true
+"$top/ngx" prove >/dev/null 2>&1 || true
 none=$(count 0)
 for bytes in 65536 1048576; do
     blocks=$((bytes / size))

@@ -15,7 +15,7 @@ count() { # how many requests
     valgrind --tool=callgrind --callgrind-out-file="$work/out.$1" "$top/crates/ngx/out/ngx" replay "$work/$1.replay" 2>&1 >/dev/null |
         sed -n 's/.*Collected : \([0-9]*\).*/\1/p'
 }
-"$top/ngx" replay /dev/null >/dev/null 2>&1 || true
+"$top/ngx" prove >/dev/null 2>&1 || true
 few=$(count 100)
 many=$(count 900)
 echo "instructions a request: $(((many - few) / 800))"

@@ -1,8 +1,8 @@
 #!/bin/bash
-# Measures `ngx serve` and Debian's nginx (one worker, no access log) in turn on this machine, for `return 200 hi` or a file: wrk
-# with one thread over 1, 16 and 256 connections. Prints, as medians over the rounds, requests a second and microseconds of
-# processor time a request of both, and how many times nginx's ours are.
-# usage: bench/serve.sh [seconds of a measurement, 3] [rounds, 3] [hi, or the bytes of the file, hi]
+# Measures `ngx serve` and Debian's nginx (one worker, no access log) in turn on this machine, for `return 200 hi`, a file, or a
+# page with ten includes of 100 bytes each: wrk with one thread over 1, 16 and 256 connections. Prints, as medians over the
+# rounds, requests a second and microseconds of processor time a request of both, and how many times nginx's ours are.
+# usage: bench/serve.sh [seconds of a measurement, 3] [rounds, 3] [hi, page, or the bytes of the file, hi]
 set -eu
 top=$(cd "$(dirname "$0")/.." && pwd)
 seconds=${1:-3}
@@ -10,18 +10,27 @@ rounds=${2:-3}
 what=${3:-hi}
 work=$(mktemp -d)
 chmod 755 "$work"
-[ "$what" = hi ] || head -c "$what" /dev/zero | tr '\0' a >"$work/$what"
+case $what in
+    hi) ;;
+    page)
+        for i in $(seq 10); do
+            head -c 100 /dev/zero | tr '\0' a >"$work/part$i"
+            printf '<p>part %s</p><!--#include virtual="/part%s" -->\n' "$i" "$i" >>"$work/page"
+        done
+        ;;
+    *) head -c "$what" /dev/zero | tr '\0' a >"$work/$what" ;;
+esac
 server=
 trap 'stop; rm -rf "$work"' EXIT
 cat >"$work/ngx.conf" <<CONF
 http { default_type text/plain; keepalive_requests 1000000000;
-  server { listen 127.0.0.1:18089; root $work; location /hi { return 200 hi; } } }
+  server { listen 127.0.0.1:18089; root $work; location /hi { return 200 hi; } location = /page { default_type text/html; ssi on; } } }
 CONF
 cat >"$work/nginx.conf" <<CONF
 worker_processes 1; pid $work/nginx.pid; error_log $work/nginx.err; daemon off;
 events { worker_connections 1024; }
 http { default_type text/plain; access_log off; keepalive_requests 1000000000;
-  server { listen 127.0.0.1:18080; root $work; location /hi { return 200 hi; } } }
+  server { listen 127.0.0.1:18080; root $work; location /hi { return 200 hi; } location = /page { default_type text/html; ssi on; } } }
 CONF
 start() { # ngx or nginx
     case $1 in
@@ -56,7 +65,7 @@ measure() { # server, connections: requests a second, and microseconds a request
     awk -v t="$text" -v n="$requests" -v d=$((after - before)) -v s="$1 $2" \
         'BEGIN { match(t, /Requests\/sec: *[0-9.]+/); r = substr(t, RSTART, RLENGTH); sub(/.*: */, "", r); printf "%s %.0f %.2f\n", s, r, d * 10000 / n }'
 }
-"$top/ngx" replay /dev/null >/dev/null 2>&1 || true
+"$top/ngx" prove >/dev/null 2>&1 || true
 for _ in $(seq "$rounds"); do
     for name in nginx ngx; do
         start $name

@@ -27,7 +27,7 @@ heavy_at (Some f) trees = is_heavy f.world (trees f.tree) (f.flight (trees f.tre
 
 -- A connection: what it is served, the bytes for its peer that aren't written yet, the request in flight, how many were
 -- started, what is logged of those that are over, whether it closes after what is in flight, the body that is dropped, and
--- the bytes that are held.
+-- the bytes that are buffered.
 pub record ConnState : Type 0 where
   pub service : Service
   pub out : List ℕ
@@ -36,7 +36,7 @@ pub record ConnState : Type 0 where
   pub logs : List Log
   pub closing : Bool
   pub body : Option BodyState
-  pub held : List ℕ
+  pub buffered : List ℕ
 
 -- what comes after the body that is dropped: nothing yet where it isn't whole, and the connection closes where it is broken
 abbrev pub after_outcome : BodyOutcome → List ℕ → (List ℕ → List Answer) → List Answer
@@ -52,7 +52,7 @@ past_body (Some state) bytes following = after_outcome (rest_body state bytes) b
 unfoldable pub later_responses : ConnState → Trees → List ℕ → List Start → List Answer
 later_responses c trees more later =
     if c.closing || not (rest_at c.flight trees).stays then then_closes
-    else past_body c.body (c.held ++ more) (λ input. responses c.service c.started trees input later)
+    else past_body c.body (c.buffered ++ more) (λ input. responses c.service c.started trees input later)
 
 -- What is still to come: the bytes for the peer, the rest of the response in flight, and the answers after it; whether the
 -- connection closes after them; and whether a request asks for more subrequests than are started for one. There are no deadlines.

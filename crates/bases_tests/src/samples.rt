@@ -1,7 +1,8 @@
 // A request to `/d/` with the arguments `a=1`, whose files are below `/w`.
 use byte_text::ByteText;
+use http_moment::LocalDate;
 use http_types::{Addr, Method, Version};
-use ngx_variables::{FileRoot, Groups, LocalDate, Main, Request, Role, Value};
+use ngx_variables::{FileRoot, Groups, Main, Request, Role, Value};
 use req_head::HeadFields;
 use site_model::{Level, Program};
 use std::alloc::Global;

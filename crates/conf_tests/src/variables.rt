@@ -1,7 +1,8 @@
 use byte_text::{ByteText, OutOfMemory};
+use http_moment::LocalDate;
 use http_types::{Addr, Method, Version};
 use ngx_variables::{
-    FileRoot, Groups, LocalDate, Main, Request, Role, Value, ValueFault, VarTable, is_builtin,
+    FileRoot, Groups, Main, Request, Role, Value, ValueFault, VarTable, is_builtin,
 };
 use req_head::{HeadFields, HeadStep, read_head};
 use std::alloc::Global;

@@ -7,7 +7,7 @@ use Rattle.request_meaning.specs.Serving.{World, Serving, Child, Reply, Answer}
 use Rattle.request_meaning.specs.Replies
 use Rattle.request_meaning.specs.Replies.{Came, run, reply, script, or_stub, stubbed, main_script, main_came, main_reply, most_depth}
 use Rattle.family_meaning.specs.Line.{Line, Left, rest, joined, opened, with_stub, with_bytes, some_reply, done_of, ended, has_node, front, before, reply_of, status_of}
-use Rattle.family_meaning.specs.Line.Line.{Nil, Held, Gives, Waits, Stubs}
+use Rattle.family_meaning.specs.Line.Line.{Nil, Bytes, Gives, Waits, Stubs}
 use Rattle.family_meaning.specs.Exact.{Same, FirstIsExact}
 use Rattle.family_meaning.specs.Moves.{KeepsBody, IsGoodLeft}
 use Rattle.family_meaning.specs.Flight.{Terms, flight_rest, begun, whole_rest}
@@ -40,7 +40,7 @@ learns w tree node left path k line vars last = refl
 before_before : (a b : List ℕ) (l : Left) → before (a ++ b) l ≡ before a (before b l)
 before_before a b l = ap (λ body. record { answer = l.answer; body = body; vars = l.vars }) (append_assoc a b l.body)
 
-pub places : (w : World) (tree : Tree) (node left : ℕ) (some more : List ℕ) (m : Serving Answer) (line : Line) (vars : Vars) → Same w tree (Gives node left (Write (some ++ more) m) line) vars (Held some (Gives node left (Write more m) line)) vars
+pub places : (w : World) (tree : Tree) (node left : ℕ) (some more : List ℕ) (m : Serving Answer) (line : Line) (vars : Vars) → Same w tree (Gives node left (Write (some ++ more) m) line) vars (Bytes some (Gives node left (Write more m) line)) vars
 unfolding rest run
 places w tree node left some more m line vars last =
     let r = run tree (reply w tree left) m vars in
@@ -103,7 +103,7 @@ no_some e = cc
 last_lost : (w : World) (tree : Tree) (line : Line) (a b : Option Answer) (vars : Vars) → has_node line ≡ true → rest w tree line a vars ≡ rest w tree line b vars
 unfolding rest has_node
 last_lost w tree Nil a b vars h = cc
-last_lost w tree (Held bytes line) a b vars h = ap (before bytes) (last_lost w tree line a b vars h)
+last_lost w tree (Bytes bytes line) a b vars h = ap (before bytes) (last_lost w tree line a b vars h)
 last_lost w tree (Gives node left m line) a b vars h = refl
 last_lost w tree (Waits node own left k line) a b vars h = refl
 last_lost w tree (Stubs own stub line) a b vars h = refl
@@ -144,7 +144,7 @@ done_is (Inner child m) answer e = no_some e
 ended_rest : (w : World) (tree : Tree) (line : Line) (last : Option Answer) (vars : Vars) (said : Reply) → ended line last ≡ Some said → rest w tree line last vars ≡ left_by vars said
 unfolding rest ended run left_by
 ended_rest w tree Nil last vars said e = some_same last said vars e
-ended_rest w tree (Held bytes line) last vars said e =
+ended_rest w tree (Bytes bytes line) last vars said e =
     let p = prefixed bytes (ended line last) said e in
     ap (before bytes) (ended_rest w tree line last vars p.0 p.1) ∙ ap (left_by vars) p.2
 ended_rest w tree (Gives node left m line) last vars said e =
@@ -165,24 +165,24 @@ hears w tree node left own k line vars said e last =
     ]) (ended_rest w tree own None vars said e)
 
 pub decides : (w : World) (tree : Tree) (own : Line) (stub : List ℕ) (line : Line) (vars : Vars) (said : Reply) →
-    ended own None ≡ Some said → has_node line ≡ true → Same w tree (Stubs own stub line) vars (Held (or_stub (Some stub) said.answer.status said.body) line) vars
+    ended own None ≡ Some said → has_node line ≡ true → Same w tree (Stubs own stub line) vars (Bytes (or_stub (Some stub) said.answer.status said.body) line) vars
 unfolding rest left_by
 decides w tree own stub line vars said e h last =
     ap (λ (r : Left). before (or_stub (Some stub) (status_of r.answer) r.body) (rest w tree line r.answer r.vars)) (ended_rest w tree own None vars said e)
     ∙ ap (before (or_stub (Some stub) said.answer.status said.body)) (last_lost w tree line (Some said.answer) last vars h)
 
 pub chooses : (w : World) (tree : Tree) (own : Line) (stub : List ℕ) (node left : ℕ) (line : Line) (vars : Vars) (said : Reply) → ended own None ≡ Some said →
-    Same w tree (Stubs own stub line) vars (Held (or_stub (Some stub) said.answer.status said.body) (Gives node left (Done said.answer) line)) vars
+    Same w tree (Stubs own stub line) vars (Bytes (or_stub (Some stub) said.answer.status said.body) (Gives node left (Done said.answer) line)) vars
 unfolding rest run left_by
 chooses w tree own stub node left line vars said e last =
     ap (λ (r : Left). before (or_stub (Some stub) (status_of r.answer) r.body) (rest w tree line r.answer r.vars)) (ended_rest w tree own None vars said e)
 
 -- bytes that come first
-pub parts : (w : World) (tree : Tree) (some more : List ℕ) (line : Line) (vars : Vars) → Same w tree (Held (some ++ more) line) vars (Held some (Held more line)) vars
+pub parts : (w : World) (tree : Tree) (some more : List ℕ) (line : Line) (vars : Vars) → Same w tree (Bytes (some ++ more) line) vars (Bytes some (Bytes more line)) vars
 unfolding rest
 parts w tree some more line vars last = before_before some more (rest w tree line last vars)
 
-pub gone : (w : World) (tree : Tree) (line : Line) (vars : Vars) → Same w tree (Held [] line) vars line vars
+pub gone : (w : World) (tree : Tree) (line : Line) (vars : Vars) → Same w tree (Bytes [] line) vars line vars
 unfolding rest
 gone w tree line vars last = refl
 
@@ -208,7 +208,7 @@ waits_joined w tree a b left k ih (Some answer) body vars =
 joined_rest : (w : World) (tree : Tree) (a b : Line) (last : Option Answer) (vars : Vars) → rest w tree (joined a b) last vars ≡ (let r = rest w tree a last vars in before r.body (rest w tree b r.answer r.vars))
 unfolding rest joined
 joined_rest w tree Nil b last vars = refl
-joined_rest w tree (Held bytes a) b last vars =
+joined_rest w tree (Bytes bytes a) b last vars =
     let r = rest w tree a last vars in
     ap (before bytes) (joined_rest w tree a b last vars) ∙ sym (before_before bytes r.body (rest w tree b r.answer r.vars))
 joined_rest w tree (Gives node left m a) b last vars =
@@ -228,7 +228,7 @@ joined_rest w tree (Stubs own stub a) b last vars =
 front_first : (w : World) (tree : Tree) (line : Line) (last : Option Answer) (vars : Vars) → (more : List ℕ) × ((rest w tree line last vars).body ≡ front line ++ more)
 unfolding rest front
 front_first w tree Nil last vars = ([], refl)
-front_first w tree (Held bytes line) last vars =
+front_first w tree (Bytes bytes line) last vars =
     let p = front_first w tree line last vars in
     (p.0, ap (λ body. bytes ++ body) p.1 ∙ sym (append_assoc bytes (front line) p.0))
 front_first w tree (Gives node left m line) last vars = ((rest w tree (Gives node left m line) last vars).body, refl)

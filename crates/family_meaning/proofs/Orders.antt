@@ -9,7 +9,7 @@ use Rattle.request_meaning.specs.Replies.{run, or_stub}
 use Rattle.family_meaning.specs.Line.{Line, Left, rest, before, reply_of, status_of}
 use Rattle.family_meaning.specs.Line.Line.{Gives}
 use Rattle.family_meaning.specs.Moves.{Quiet, Quiets}
-use Rattle.family_meaning.specs.Moves.Quiet.{Learns, Places, Placed, Merges, Opens, Asks, Hears, Leaves, Keeps, Decides, Chooses, Parts, Gone, PastHeld, PastNode, PastWait, Within, PastStub, WithinStub}
+use Rattle.family_meaning.specs.Moves.Quiet.{Learns, Places, Placed, Merges, Opens, Asks, Hears, Leaves, Keeps, Decides, Chooses, Parts, Gone, PastBytes, PastNode, PastWait, Within, PastStub, WithinStub}
 use Rattle.family_meaning.specs.Moves.Quiets.{Rests, Goes}
 use Rattle.family_meaning.specs.Exact.{Same, OrderIsNoMatter}
 use Rattle.family_meaning.proofs.Exacts.{learns, places, merges, opens, asks, hears, leaves, keeps, decides, chooses, parts, gone}
@@ -50,7 +50,7 @@ quiet_same w tree _ _ (Decides {own} {line} {stub} said e h) vars last = decides
 quiet_same w tree _ _ (Chooses {own} {line} {stub} node left said e) vars last = chooses w tree own stub node left line vars said e last
 quiet_same w tree _ _ (Parts {some} {more} {line}) vars last = parts w tree some more line vars last
 quiet_same w tree _ _ (Gone {line}) vars last = gone w tree line vars last
-quiet_same w tree _ _ (PastHeld {bytes} {line} {line'} q) vars last = ap (before bytes) (quiet_same w tree line line' q vars last)
+quiet_same w tree _ _ (PastBytes {bytes} {line} {line'} q) vars last = ap (before bytes) (quiet_same w tree line line' q vars last)
 quiet_same w tree _ _ (PastNode {node} {left} {m} {line} {line'} q) vars last =
     let r = run tree (Replies.reply w tree left) m vars in
     ap (before r.body) (quiet_same w tree line line' q r.vars (Some r.result))

@@ -7,7 +7,7 @@ use Rattle.request_meaning.specs.Serving.{World, Serving, Child, Reply, Answer}
 use Rattle.request_meaning.specs.Replies.{or_stub}
 use Rattle.family_meaning.specs.Line.{Line, rest, opened, ended, front, joined, has_node}
 use Rattle.family_meaning.specs.Moves.{KeepsBody, Quiet, Quiets}
-use Rattle.family_meaning.specs.Line.Line.{Nil, Held, Gives, Waits, Stubs}
+use Rattle.family_meaning.specs.Line.Line.{Nil, Bytes, Gives, Waits, Stubs}
 
 -- two lines come to the same, whichever answer is before them
 abbrev pub Same : World → Tree → Line → Vars → Line → Vars → Type 0
@@ -21,7 +21,7 @@ pub record FirstIsExact : Type 0 where
   pub learns : (w : World) (tree : Tree) (node left : ℕ) (path : List ℕ) (k : Item → Serving Answer) (line : Line) (vars : Vars) →
       Same w tree (Gives node left (Stat path k) line) vars (Gives node left (k (tree path)) line) vars
   pub places : (w : World) (tree : Tree) (node left : ℕ) (some more : List ℕ) (m : Serving Answer) (line : Line) (vars : Vars) →
-      Same w tree (Gives node left (Write (some ++ more) m) line) vars (Held some (Gives node left (Write more m) line)) vars
+      Same w tree (Gives node left (Write (some ++ more) m) line) vars (Bytes some (Gives node left (Write more m) line)) vars
   pub merges : (w : World) (tree : Tree) (node left : ℕ) (first second : List ℕ) (m : Serving Answer) (line : Line) (vars : Vars) →
       Same w tree (Gives node left (Write first (Write second m)) line) vars (Gives node left (Write (first ++ second) m) line) vars
   pub opens : (w : World) (tree : Tree) (node left number : ℕ) (child : Child) (m : Serving Answer) (line : Line) (vars : Vars) →
@@ -35,12 +35,12 @@ pub record FirstIsExact : Type 0 where
   pub keeps : (w : World) (tree : Tree) (own : Line) (stub : List ℕ) (line : Line) (vars : Vars) →
       KeepsBody w tree own → front own ≢ [] → Same w tree (Stubs own stub line) vars (joined own line) vars
   pub decides : (w : World) (tree : Tree) (own : Line) (stub : List ℕ) (line : Line) (vars : Vars) (reply : Reply) →
-      ended own None ≡ Some reply → has_node line ≡ true → Same w tree (Stubs own stub line) vars (Held (or_stub (Some stub) reply.answer.status reply.body) line) vars
+      ended own None ≡ Some reply → has_node line ≡ true → Same w tree (Stubs own stub line) vars (Bytes (or_stub (Some stub) reply.answer.status reply.body) line) vars
   pub chooses : (w : World) (tree : Tree) (own : Line) (stub : List ℕ) (node left : ℕ) (line : Line) (vars : Vars) (reply : Reply) → ended own None ≡ Some reply →
-      Same w tree (Stubs own stub line) vars (Held (or_stub (Some stub) reply.answer.status reply.body) (Gives node left (Done reply.answer) line)) vars
+      Same w tree (Stubs own stub line) vars (Bytes (or_stub (Some stub) reply.answer.status reply.body) (Gives node left (Done reply.answer) line)) vars
   -- bytes that come first, taken apart; and where none are left
-  pub parts : (w : World) (tree : Tree) (some more : List ℕ) (line : Line) (vars : Vars) → Same w tree (Held (some ++ more) line) vars (Held some (Held more line)) vars
-  pub gone : (w : World) (tree : Tree) (line : Line) (vars : Vars) → Same w tree (Held [] line) vars line vars
+  pub parts : (w : World) (tree : Tree) (some more : List ℕ) (line : Line) (vars : Vars) → Same w tree (Bytes (some ++ more) line) vars (Bytes some (Bytes more line)) vars
+  pub gone : (w : World) (tree : Tree) (line : Line) (vars : Vars) → Same w tree (Bytes [] line) vars line vars
 
 -- Quiet steps make no difference to what is still to come, whatever the table is; so their order makes none.
 pub record OrderIsNoMatter : Type 0 where

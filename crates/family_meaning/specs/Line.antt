@@ -11,7 +11,7 @@ use Rattle.request_meaning.specs.Replies.{run, reply, script, or_stub}
 pub data Line : Type 0 where
   Nil : Line
   -- bytes that wait
-  Held : (bytes : List ℕ) → Line → Line
+  Bytes : (bytes : List ℕ) → Line → Line
   -- a node that goes on, by its number; its subrequests may nest this deep
   Gives : (node : ℕ) → (left : ℕ) → Serving Answer → Line → Line
   -- a node that waits for the reply of a subrequest, which has its own line
@@ -42,7 +42,7 @@ status_of (Some answer) = answer.status
 -- What is still to come of a line where its nodes run one by one, each in its place: `last` is the answer of the node before.
 unfoldable pub rest : World → Tree → Line → (last : Option Answer) → Vars → Left
 rest w tree Nil last vars = record { answer = last; body = []; vars = vars }
-rest w tree (Held bytes line) last vars = before bytes (rest w tree line last vars)
+rest w tree (Bytes bytes line) last vars = before bytes (rest w tree line last vars)
 rest w tree (Gives node left m line) last vars =
     let r = run tree (reply w tree left) m vars in
     before r.body (rest w tree line (Some r.result) r.vars)
@@ -60,7 +60,7 @@ rest w tree (Stubs own stub line) last vars =
 -- one line before another
 unfoldable pub joined : Line → Line → Line
 joined Nil other = other
-joined (Held bytes line) other = Held bytes (joined line other)
+joined (Bytes bytes line) other = Bytes bytes (joined line other)
 joined (Gives node left m line) other = Gives node left m (joined line other)
 joined (Waits node own left k line) other = Waits node own left k (joined line other)
 joined (Stubs own stub line) other = Stubs own stub (joined line other)
@@ -79,7 +79,7 @@ opened w node left c line = with_stub c.stub (begun w node left c) line
 -- a node is in the line
 unfoldable pub has_node : Line → Bool
 has_node Nil = false
-has_node (Held bytes line) = has_node line
+has_node (Bytes bytes line) = has_node line
 has_node (Gives node left m line) = true
 has_node (Waits node own left k line) = true
 has_node (Stubs own stub line) = true
@@ -104,7 +104,7 @@ done_of (Inner child m) = None
 
 unfoldable pub ended : Line → (last : Option Answer) → Option Reply
 ended Nil last = some_reply last
-ended (Held bytes line) last = with_bytes bytes (ended line last)
+ended (Bytes bytes line) last = with_bytes bytes (ended line last)
 ended (Gives node left m line) last = elim (done_of m) [
   | None ↦ None
   | Some answer ↦ ended line (Some answer)
@@ -115,7 +115,7 @@ ended (Stubs own stub line) last = None
 -- the bytes that wait before every node: they may leave
 unfoldable pub front : Line → List ℕ
 front Nil = []
-front (Held bytes line) = bytes ++ front line
+front (Bytes bytes line) = bytes ++ front line
 front (Gives node left m line) = []
 front (Waits node own left k line) = []
 front (Stubs own stub line) = []
@@ -123,7 +123,7 @@ front (Stubs own stub line) = []
 -- the line without this many of them
 unfoldable pub used : (count : ℕ) → Line → Line
 used count Nil = Nil
-used count (Held bytes line) = Held (drop count bytes) (used (count - length bytes) line)
+used count (Bytes bytes line) = Bytes (drop count bytes) (used (count - length bytes) line)
 used count (Gives node left m line) = Gives node left m line
 used count (Waits node own left k line) = Waits node own left k line
 used count (Stubs own stub line) = Stubs own stub line

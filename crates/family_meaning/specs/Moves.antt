@@ -6,7 +6,7 @@ use Rattle.acts.specs.Act.{Done, Get, Put, Stat, Call, Write, Inner, settled}
 use Rattle.request_meaning.specs.Serving.{World, Serving, Child, Reply, Answer}
 use Rattle.request_meaning.specs.Replies.{or_stub}
 use Rattle.family_meaning.specs.Line.{Line, Left, rest, opened, has_node, ended, front, joined}
-use Rattle.family_meaning.specs.Line.Line.{Nil, Held, Gives, Waits, Stubs}
+use Rattle.family_meaning.specs.Line.Line.{Nil, Bytes, Gives, Waits, Stubs}
 
 -- each way in which an act may end gives an answer of which this is so
 abbrev pub AllEnd : (Answer → Type 0) → Serving Answer → Type 0
@@ -39,7 +39,7 @@ pub data Quiet (w : World) (tree : Tree) : Line → Line → Type 0 where
       Quiet w tree (Gives node left (Stat path k) line) (Gives node left (k (tree path)) line)
   -- it places bytes, all at once or some of them
   Places : {node left : ℕ} {some more : List ℕ} {m : Serving Answer} {line : Line} →
-      Quiet w tree (Gives node left (Write (some ++ more) m) line) (Held some (Gives node left (Write more m) line))
+      Quiet w tree (Gives node left (Write (some ++ more) m) line) (Bytes some (Gives node left (Write more m) line))
   Placed : {node left : ℕ} {m : Serving Answer} {line : Line} → Quiet w tree (Gives node left (Write [] m) line) (Gives node left m line)
   -- two texts that it places next are one
   Merges : {node left : ℕ} {first second : List ℕ} {m : Serving Answer} {line : Line} →
@@ -58,15 +58,15 @@ pub data Quiet (w : World) (tree : Tree) : Line → Line → Type 0 where
   -- where every node of the subrequest is over.
   Keeps : {own line : Line} {stub : List ℕ} → KeepsBody w tree own → front own ≢ [] → Quiet w tree (Stubs own stub line) (joined own line)
   Decides : {own line : Line} {stub : List ℕ} (reply : Reply) → ended own None ≡ Some reply → has_node line ≡ true →
-      Quiet w tree (Stubs own stub line) (Held (or_stub (Some stub) reply.answer.status reply.body) line)
+      Quiet w tree (Stubs own stub line) (Bytes (or_stub (Some stub) reply.answer.status reply.body) line)
   -- so it is where the answer of its last node stays, which a node may wait for
   Chooses : {own line : Line} {stub : List ℕ} (node left : ℕ) (reply : Reply) → ended own None ≡ Some reply →
-      Quiet w tree (Stubs own stub line) (Held (or_stub (Some stub) reply.answer.status reply.body) (Gives node left (Done reply.answer) line))
+      Quiet w tree (Stubs own stub line) (Bytes (or_stub (Some stub) reply.answer.status reply.body) (Gives node left (Done reply.answer) line))
   -- bytes that wait are taken apart, and where none are left nothing waits
-  Parts : {some more : List ℕ} {line : Line} → Quiet w tree (Held (some ++ more) line) (Held some (Held more line))
-  Gone : {line : Line} → Quiet w tree (Held [] line) line
+  Parts : {some more : List ℕ} {line : Line} → Quiet w tree (Bytes (some ++ more) line) (Bytes some (Bytes more line))
+  Gone : {line : Line} → Quiet w tree (Bytes [] line) line
   -- at another place of the line
-  PastHeld : {bytes : List ℕ} {line line' : Line} → Quiet w tree line line' → Quiet w tree (Held bytes line) (Held bytes line')
+  PastBytes : {bytes : List ℕ} {line line' : Line} → Quiet w tree line line' → Quiet w tree (Bytes bytes line) (Bytes bytes line')
   PastNode : {node left : ℕ} {m : Serving Answer} {line line' : Line} → Quiet w tree line line' → Quiet w tree (Gives node left m line) (Gives node left m line')
   PastWait : {node left : ℕ} {own line line' : Line} {k : Reply → Serving Answer} →
       Quiet w tree line line' → Quiet w tree (Waits node own left k line) (Waits node own left k line')
@@ -82,7 +82,7 @@ pub data Thinks : Line → Vars → Line → Vars → Type 0 where
       Thinks (Gives node left m line) vars (Gives node left (settled m vars).0 line) (settled m vars).1
   Reads : {node left : ℕ} {name : List ℕ} {k : Option (List ℕ) → Serving Answer} {line : Line} {vars : Vars} →
       Thinks (Gives node left (Get name k) line) vars (Gives node left (k (look vars name)) line) vars
-  ThereHeld : {bytes : List ℕ} {line line' : Line} {vars vars' : Vars} → Thinks line vars line' vars' → Thinks (Held bytes line) vars (Held bytes line') vars'
+  ThereBytes : {bytes : List ℕ} {line line' : Line} {vars vars' : Vars} → Thinks line vars line' vars' → Thinks (Bytes bytes line) vars (Bytes bytes line') vars'
   ThereNode : {node left : ℕ} {m : Serving Answer} {line line' : Line} {vars vars' : Vars} →
       Thinks line vars line' vars' → Thinks (Gives node left m line) vars (Gives node left m line') vars'
   ThereWait : {node left : ℕ} {own line line' : Line} {k : Reply → Serving Answer} {vars vars' : Vars} →

@@ -4,10 +4,10 @@ use Rattle.file_tree.specs.Tree.{Tree}
 use Rattle.acts.specs.Vars.{Vars}
 use Rattle.request_meaning.specs.Serving.{World, Serving, Reply, Answer}
 use Rattle.family_meaning.specs.Line.{Line, joined}
-use Rattle.family_meaning.specs.Line.Line.{Nil, Held, Gives, Waits, Stubs}
+use Rattle.family_meaning.specs.Line.Line.{Nil, Bytes, Gives, Waits, Stubs}
 use Rattle.family_meaning.specs.Moves.{Quiet, Thinks, Moves}
-use Rattle.family_meaning.specs.Moves.Quiet.{PastHeld, PastNode, PastWait, Within, PastStub, WithinStub}
-use Rattle.family_meaning.specs.Moves.Thinks.{ThereHeld, ThereNode, ThereWait, InWait, ThereStub, InStub}
+use Rattle.family_meaning.specs.Moves.Quiet.{PastBytes, PastNode, PastWait, Within, PastStub, WithinStub}
+use Rattle.family_meaning.specs.Moves.Thinks.{ThereBytes, ThereNode, ThereWait, InWait, ThereStub, InStub}
 use Rattle.family_meaning.specs.Moves.Moves.{Quietly, ByTable}
 use Rattle.family_order.specs.Items.{Stance, is_shown, Item, items, stance_items}
 use Rattle.family_order.specs.Items.Stance.{Going, Waiting, Apart, Hidden}
@@ -21,7 +21,7 @@ tail_is e = cc
 
 -- the line with an item more before it, and with a node more
 abbrev pub item_line : Item → Line → Line
-item_line (Byte b) line = Held (b ∷ []) line
+item_line (Byte b) line = Bytes (b ∷ []) line
 item_line (Node n (Going left m)) line = Gives n left m line
 item_line (Node n (Waiting own left k)) line = Waits n own left k line
 item_line (Node n (Apart own stub)) line = line
@@ -96,9 +96,9 @@ pub place_item : (line : Line) (xs : List Item) (i : Item) (ys : List Item) → 
 unfolding items joined
 place_item Nil [] i ys k e = cc
 place_item Nil (x ∷ xs) i ys k e = cc
-place_item (Held bytes line) xs i ys k e =
+place_item (Bytes bytes line) xs i ys k e =
     let p = bytes_first bytes (items line) xs ys i k e in
-    past line (Held bytes) (map Byte bytes) xs p.0 i ys (λ before other. refl) (λ before. refl) p.1 (place_item line p.0 i ys k p.2)
+    past line (Bytes bytes) (map Byte bytes) xs p.0 i ys (λ before other. refl) (λ before. refl) p.1 (place_item line p.0 i ys k p.2)
 place_item (Gives node left m line) [] i ys k e = here line i (Node node (Going left m)) ys (head_is e) (tail_is e)
 place_item (Gives node left m line) (x ∷ xs) i ys k e =
     past line (Gives node left m) (Node node (Going left m) ∷ []) (x ∷ xs) xs i ys (λ before other. refl) (λ before. refl) (ap (λ y. y ∷ xs) (sym (head_is e))) (place_item line xs i ys k (tail_is e))
@@ -119,7 +119,7 @@ place line xs n Hidden ys h e = cc
 pub items-joined : (a b : Line) → items (joined a b) ≡ items a ++ items b
 unfolding items joined
 items-joined Nil b = refl
-items-joined (Held bytes a) b = ap (λ zs. map Byte bytes ++ zs) (items-joined a b) ∙ sym (append_assoc (map Byte bytes) (items a) (items b))
+items-joined (Bytes bytes a) b = ap (λ zs. map Byte bytes ++ zs) (items-joined a b) ∙ sym (append_assoc (map Byte bytes) (items a) (items b))
 items-joined (Gives node left m a) b = ap (λ zs. Node node (Going left m) ∷ zs) (items-joined a b)
 items-joined (Waits node own left k a) b = ap (λ zs. Node node (Waiting own left k) ∷ zs) (items-joined a b)
 items-joined (Stubs own stub a) b = ap (λ zs. Stub own stub ∷ zs) (items-joined a b)
@@ -130,7 +130,7 @@ module _ (w : World) (tree : Tree) where
   quiet_past : (a b c : Line) → Quiet w tree b c → Quiet w tree (joined a b) (joined a c)
   unfolding joined
   quiet_past Nil b c q = q
-  quiet_past (Held bytes a) b c q = PastHeld (quiet_past a b c q)
+  quiet_past (Bytes bytes a) b c q = PastBytes (quiet_past a b c q)
   quiet_past (Gives node left m a) b c q = PastNode (quiet_past a b c q)
   quiet_past (Waits node own left k a) b c q = PastWait (quiet_past a b c q)
   quiet_past (Stubs own stub a) b c q = PastStub (quiet_past a b c q)
@@ -138,7 +138,7 @@ module _ (w : World) (tree : Tree) where
   pub thinks_past : (a b c : Line) (vars vars' : Vars) → Thinks b vars c vars' → Thinks (joined a b) vars (joined a c) vars'
   unfolding joined
   thinks_past Nil b c vars vars' t = t
-  thinks_past (Held bytes a) b c vars vars' t = ThereHeld (thinks_past a b c vars vars' t)
+  thinks_past (Bytes bytes a) b c vars vars' t = ThereBytes (thinks_past a b c vars vars' t)
   thinks_past (Gives node left m a) b c vars vars' t = ThereNode (thinks_past a b c vars vars' t)
   thinks_past (Waits node own left k a) b c vars vars' t = ThereWait (thinks_past a b c vars vars' t)
   thinks_past (Stubs own stub a) b c vars vars' t = ThereStub (thinks_past a b c vars vars' t)

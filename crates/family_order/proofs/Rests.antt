@@ -8,7 +8,7 @@ use Rattle.request_meaning.specs.Replies
 use Rattle.request_meaning.specs.Replies.{run, or_stub, main_reply, main_script, most_depth}
 use Rattle.postpone_filter.specs.Row.{Piece, is_open}
 use Rattle.family_meaning.specs.Line.{Line, Left, rest, before, reply_of, status_of}
-use Rattle.family_meaning.specs.Line.Line.{Nil, Held, Gives, Waits, Stubs}
+use Rattle.family_meaning.specs.Line.Line.{Nil, Bytes, Gives, Waits, Stubs}
 use Rattle.family_order.specs.Items.{Item, Family, Shows, items, row_items}
 use Rattle.family_order.specs.Items.Stance.{Going, Waiting, Apart, Hidden}
 use Rattle.family_order.specs.Items.Item.{Byte, Node, Stub}
@@ -43,7 +43,7 @@ module _ (w : World) (tree : Tree) where
   pub line_rest : (line : Line) (last : Option Answer) (vars : Vars) → rest w tree line last vars ≡ items_rest (items line) last vars
   unfolding items_rest items rest
   line_rest Nil last vars = refl
-  line_rest (Held bytes line) last vars = ap (before bytes) (line_rest line last vars) ∙ sym (bytes_rest bytes (items line) last vars)
+  line_rest (Bytes bytes line) last vars = ap (before bytes) (line_rest line last vars) ∙ sym (bytes_rest bytes (items line) last vars)
   line_rest (Gives node left m line) last vars =
       let r = run tree (Replies.reply w tree left) m vars in
       ap (before r.body) (line_rest line (Some r.result) r.vars)

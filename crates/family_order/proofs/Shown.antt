@@ -11,7 +11,7 @@ use Rattle.postpone_filter.specs.Row.{Piece, Row, is_place, is_open, at_place, l
 use Rattle.postpone_filter.proofs.Places.{place-node}
 use Rattle.family_meaning.specs.Line
 use Rattle.family_meaning.specs.Line.{Line, joined, opened, with_stub, begun, has_node, front}
-use Rattle.family_meaning.specs.Line.Line.{Nil, Held, Gives, Waits, Stubs}
+use Rattle.family_meaning.specs.Line.Line.{Nil, Bytes, Gives, Waits, Stubs}
 use Rattle.family_meaning.specs.Moves.{Moves, KeepsBody}
 use Rattle.family_meaning.specs.Moves.Quiet.{Learns, Places, Placed, Merges, Opens, Asks, Hears, Leaves, Keeps, Decides}
 use Rattle.family_meaning.specs.Moves.Thinks.{Here, Reads}
@@ -111,11 +111,11 @@ pub decided_row : (stance : ℕ → Stance) (bytes : List ℕ) (p : Piece) → r
 unfolding row_items
 decided_row stance bytes p = append-nil (map Byte (p.bytes ++ bytes)) ∙ map-append p.bytes bytes
 
-pub decided_line : (bytes : List ℕ) (line : Line) → items (Held bytes line) ≡ map Byte bytes ++ items line
+pub decided_line : (bytes : List ℕ) (line : Line) → items (Bytes bytes line) ≡ map Byte bytes ++ items line
 unfolding items
 decided_line bytes line = refl
 
-pub placed_line : (bytes : List ℕ) (n : ℕ) (s : Stance) (line : Line) → items (Held bytes (stance_line n s line)) ≡ (map Byte bytes ++ stance_items n s) ++ items line
+pub placed_line : (bytes : List ℕ) (n : ℕ) (s : Stance) (line : Line) → items (Bytes bytes (stance_line n s line)) ≡ (map Byte bytes ++ stance_items n s) ++ items line
 unfolding items
 placed_line bytes n s line =
     ap (λ z. map Byte bytes ++ z) (items_stance n s line)
@@ -153,7 +153,7 @@ any_later (Stub own stub ∷ xs) ys e = refl
 pub any_line : (line : Line) → has_node line ≡ any_node (items line)
 unfolding has_node any_node items
 any_line Nil = refl
-any_line (Held bytes line) = any_line line ∙ sym (any_past bytes (items line))
+any_line (Bytes bytes line) = any_line line ∙ sym (any_past bytes (items line))
 any_line (Gives node left m line) = refl
 any_line (Waits node own left k line) = refl
 any_line (Stubs own stub line) = refl
@@ -266,7 +266,7 @@ module _ (w : World) (tree : Tree) (f : Family) (line : Line) (vars : Vars) (h :
       let now = Going left (Write more m) in
       let stance = with_stance n now f.stance in
       let t = seat f line n s h.row_is d refl e in
-      moved w tree f line n s t (appended n some f.row) stance (λ p. longer some p ∷ []) (map Byte some ++ stance_items n now) (Held some (Gives n left (Write more m) t.at.behind)) vars vars (Quietly Places)
+      moved w tree f line n s t (appended n some f.row) stance (λ p. longer some p ∷ []) (map Byte some ++ stance_items n now) (Bytes some (Gives n left (Write more m) t.at.behind)) vars vars (Quietly Places)
       (λ j u. stance_other n j now f.stance u)
       (λ p u. placed_row n stance now some p (stance_now n now f.stance) u)
       (placed_line some n now t.at.behind)
@@ -317,7 +317,7 @@ module _ (w : World) (tree : Tree) (f : Family) (line : Line) (vars : Vars) (h :
       let s = Apart own stub in
       let bytes = or_stub (Some stub) reply.answer.status reply.body in
       let t = seat f line n s h.row_is d refl e in
-      moved w tree f line n s t (ended n (appended n bytes f.row)) f.stance (λ p. closed (longer bytes p) ∷ []) (map Byte bytes) (Held bytes t.at.behind) vars vars
+      moved w tree f line n s t (ended n (appended n bytes f.row)) f.stance (λ p. closed (longer bytes p) ∷ []) (map Byte bytes) (Bytes bytes t.at.behind) vars vars
       (Quietly (Decides reply r (node_behind w tree f line n s t h k)))
       (λ j u. refl)
       (λ p u. decided_row f.stance bytes p)

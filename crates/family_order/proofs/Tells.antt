@@ -10,7 +10,7 @@ use Rattle.postpone_filter.specs.Row.{Piece, is_place, is_open, front_of}
 use Rattle.postpone_filter.specs.Runs.{filled}
 use Rattle.postpone_filter.proofs.Places.{place-node}
 use Rattle.family_meaning.specs.Line.{Line, Left, rest, before, reply_of, status_of, front, ended, with_bytes, some_reply, done_of}
-use Rattle.family_meaning.specs.Line.Line.{Nil, Held, Gives, Waits, Stubs}
+use Rattle.family_meaning.specs.Line.Line.{Nil, Bytes, Gives, Waits, Stubs}
 use Rattle.family_meaning.specs.Moves.{AllEnd, IsGood, IsGoodLeft, KeepsBody}
 use Rattle.family_order.specs.Items.{Stance, stance_items, Item, Family, Shows, IsWell, items, row_items, any_goes_on, goes_on_behind}
 use Rattle.family_order.specs.Items.Stance.{Going, Waiting, Apart, Hidden}
@@ -37,7 +37,7 @@ lead_bytes (b ∷ bytes) xs = ap (λ z. b ∷ z) (lead_bytes bytes xs)
 lead_line : (line : Line) → front line ≡ lead (items line)
 unfolding lead front items
 lead_line Nil = refl
-lead_line (Held bytes line) = ap (λ z. bytes ++ z) (lead_line line) ∙ sym (lead_bytes bytes (items line))
+lead_line (Bytes bytes line) = ap (λ z. bytes ++ z) (lead_line line) ∙ sym (lead_bytes bytes (items line))
 lead_line (Gives node left m line) = refl
 lead_line (Waits node own left k line) = refl
 lead_line (Stubs own stub line) = refl
@@ -84,7 +84,7 @@ bytes_ended (b ∷ bytes) xs last = ap (with_bytes (b ∷ [])) (bytes_ended byte
 line_ended : (line : Line) (last : Option Answer) → ended line last ≡ items_ended (items line) last
 unfolding items_ended items ended
 line_ended Nil last = refl
-line_ended (Held bytes line) last = ap (with_bytes bytes) (line_ended line last) ∙ sym (bytes_ended bytes (items line) last)
+line_ended (Bytes bytes line) last = ap (with_bytes bytes) (line_ended line last) ∙ sym (bytes_ended bytes (items line) last)
 line_ended (Gives node left m line) last = elim (done_of m) as (λ d. ◌≡◌ {A = Option Reply} (elim d [
   | None ↦ None
   | Some answer ↦ ended line (Some answer)

@@ -9,7 +9,7 @@ use Rattle.postpone_filter.specs.Row.{Piece, Row, is_place, is_open, fresh, fron
 use Rattle.postpone_filter.specs.Buffers.{IsLawful}
 use Rattle.family_meaning.specs.Line
 use Rattle.family_meaning.specs.Line.{Line}
-use Rattle.family_meaning.specs.Line.Line.{Nil, Held, Gives, Waits, Stubs}
+use Rattle.family_meaning.specs.Line.Line.{Nil, Bytes, Gives, Waits, Stubs}
 
 -- What a node of a row still does. A subrequest with a stub of which it isn't known yet which of the two is put there has a line of
 -- its own, which has all of its subrequests too: these have places in the row, but nothing in it is theirs.
@@ -40,7 +40,7 @@ pub data Item : Type 0 where
 
 unfoldable pub items : Line → List Item
 items Nil = []
-items (Held bytes line) = map Byte bytes ++ items line
+items (Bytes bytes line) = map Byte bytes ++ items line
 items (Gives node left m line) = Node node (Going left m) ∷ items line
 items (Waits node own left k line) = Node node (Waiting own left k) ∷ items line
 items (Stubs own stub line) = Stub own stub ∷ items line

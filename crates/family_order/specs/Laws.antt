@@ -7,7 +7,7 @@ use Rattle.postpone_filter.specs.Runs.{Call, step, filled}
 use Rattle.postpone_filter.specs.Runs.Call.{Append, AddChild, End, Use}
 use Rattle.request_meaning.specs.Serving.{World, Serving, Answer}
 use Rattle.family_meaning.specs.Line.{Line, front, ended, reply_of}
-use Rattle.family_meaning.specs.Line.Line.{Nil, Held, Gives}
+use Rattle.family_meaning.specs.Line.Line.{Nil, Bytes, Gives}
 use Rattle.family_meaning.specs.Moves.{Moves, Runs, KeepsBody, AllEnd, IsGood}
 use Rattle.family_order.specs.Items.{Stance, Family, Shows, IsWellRow, IsWell, IsAlike, alone, doing, placing, opening, ending, leaving}
 use Rattle.family_order.specs.Items.Stance.{Going, Apart, Hidden}
@@ -47,8 +47,8 @@ pub record RowShowsLine : Type 0 where
   pub alike : (f g : Family) (line : Line) → IsAlike f g → Shows f line → Shows g line
   pub goes : (w : World) (tree : Tree) (f : Family) (vars : Vars) (f' : Family) (vars' : Vars) (line : Line) → IsWell f → Goes w tree f vars f' vars' → Shows f line → Ran w tree line vars f' vars'
   -- a node with a stub joins the row where its own line is some bytes and the node alone
-  pub joins : (w : World) (tree : Tree) (f : Family) (vars : Vars) (n left : ℕ) (bytes stub : List ℕ) (m : Serving Answer) → IsWell f → Does f n (Apart (Held bytes (Gives n left m Nil)) stub)
-      → KeepsBody w tree (Held bytes (Gives n left m Nil)) → bytes ≢ [] → Acts w tree f vars (doing n (Going left m) (placing n bytes f)) vars
+  pub joins : (w : World) (tree : Tree) (f : Family) (vars : Vars) (n left : ℕ) (bytes stub : List ℕ) (m : Serving Answer) → IsWell f → Does f n (Apart (Bytes bytes (Gives n left m Nil)) stub)
+      → KeepsBody w tree (Bytes bytes (Gives n left m Nil)) → bytes ≢ [] → Acts w tree f vars (doing n (Going left m) (placing n bytes f)) vars
   -- steps and then others
   pub both : (w : World) (tree : Tree) (f : Family) (vars : Vars) (g : Family) (vars' : Vars) (h : Family) (vars'' : Vars) → Goes w tree f vars g vars' → Goes w tree g vars' h vars'' → Goes w tree f vars h vars''
 

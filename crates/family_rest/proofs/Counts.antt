@@ -8,10 +8,10 @@ use Rattle.request_meaning.specs.Replies
 use Rattle.request_meaning.specs.Replies.{Came, run, script, or_stub}
 use Rattle.request_meaning.specs.Counts.{subs_in, child_subs}
 use Rattle.family_meaning.specs.Line.{Line, Left, rest, before, joined, with_stub, with_bytes, some_reply, done_of, ended, reply_of}
-use Rattle.family_meaning.specs.Line.Line.{Nil, Held, Gives, Waits, Stubs}
+use Rattle.family_meaning.specs.Line.Line.{Nil, Bytes, Gives, Waits, Stubs}
 use Rattle.family_meaning.specs.Left.{subs_left, act_subs}
 use Rattle.family_meaning.specs.Moves.{Quiet}
-use Rattle.family_meaning.specs.Moves.Quiet.{Learns, Places, Placed, Merges, Opens, Asks, Hears, Leaves, Keeps, Decides, Chooses, Parts, Gone, PastHeld, PastNode, PastWait, Within, PastStub, WithinStub}
+use Rattle.family_meaning.specs.Moves.Quiet.{Learns, Places, Placed, Merges, Opens, Asks, Hears, Leaves, Keeps, Decides, Chooses, Parts, Gone, PastBytes, PastNode, PastWait, Within, PastStub, WithinStub}
 use Rattle.family_meaning.proofs.Exacts.{settled_run}
 use Rattle.family_meaning.proofs.Orders.{quiet_same}
 use Rattle.family_order.specs.Items.{Item, items}
@@ -83,7 +83,7 @@ module _ (w : World) (tree : Tree) where
   is_ended : (line : Line) (last : Option Answer) (vars : Vars) (said : Reply) → ended line last ≡ Some said → IsEnded line last vars said
   unfolding rest ended run left_by subs_left subs_in
   is_ended Nil last vars said e = record { comes = some_same last said vars e; none = refl }
-  is_ended (Held bytes line) last vars said e =
+  is_ended (Bytes bytes line) last vars said e =
       let p = prefixed bytes (ended line last) said e in
       let h = is_ended line last vars p.0 p.1 in
       record { comes = ap (before bytes) h.comes ∙ ap (left_by vars) p.2; none = h.none }
@@ -130,7 +130,7 @@ module _ (w : World) (tree : Tree) where
   joined_subs : (a b : Line) (last : Option Answer) (vars : Vars) → subs_left w tree (joined a b) vars ≡ subs_left w tree a vars + subs_left w tree b (rest w tree a last vars).vars
   unfolding rest joined subs_left
   joined_subs Nil b last vars = none_more (subs_left w tree b vars)
-  joined_subs (Held bytes a) b last vars = joined_subs a b last vars
+  joined_subs (Bytes bytes a) b last vars = joined_subs a b last vars
   joined_subs (Gives node left m a) b last vars =
       let r = run tree (Replies.reply w tree left) m vars in
       ap (λ z. act_subs w tree left m vars + z) (joined_subs a b (Some r.result) r.vars)
@@ -215,7 +215,7 @@ module _ (w : World) (tree : Tree) where
       ∙ ap (λ z. 0 + z) (none_more (subs_left w tree line vars))
   quiet_subs _ _ (Parts {line}) vars = none_more (subs_left w tree line vars)
   quiet_subs _ _ (Gone {line}) vars = none_more (subs_left w tree line vars)
-  quiet_subs _ _ (PastHeld {line} {line'} q) vars = quiet_subs line line' q vars
+  quiet_subs _ _ (PastBytes {line} {line'} q) vars = quiet_subs line line' q vars
   quiet_subs _ _ (PastNode {node} {left} {m} {line} {line'} q) vars =
       let r = run tree (Replies.reply w tree left) m vars in
       ap (λ z. act_subs w tree left m vars + z) (quiet_subs line line' q r.vars)
@@ -294,7 +294,7 @@ module _ (w : World) (tree : Tree) where
   pub line_subs : (line : Line) (vars : Vars) → subs_left w tree line vars ≡ items_subs (items line) vars
   unfolding items_subs items subs_left
   line_subs Nil vars = refl
-  line_subs (Held bytes line) vars = line_subs line vars ∙ sym (bytes_subs bytes (items line) vars)
+  line_subs (Bytes bytes line) vars = line_subs line vars ∙ sym (bytes_subs bytes (items line) vars)
   line_subs (Gives node left m line) vars =
       let r = run tree (Replies.reply w tree left) m vars in
       ap (λ z. act_subs w tree left m vars + z) (line_subs line r.vars)

@@ -9,7 +9,7 @@ use Rattle.request_meaning.specs.Replies.{run, or_stub}
 use Rattle.postpone_filter.specs.Row.{Piece, Row, is_place, is_open, at_place, longer, closed, fresh, appended, with_child, ended}
 use Rattle.family_meaning.specs.Line
 use Rattle.family_meaning.specs.Line.{Line, Left, rest, before, reply_of, status_of, joined, opened, has_node, front}
-use Rattle.family_meaning.specs.Line.Line.{Nil, Held, Gives, Waits, Stubs}
+use Rattle.family_meaning.specs.Line.Line.{Nil, Bytes, Gives, Waits, Stubs}
 use Rattle.family_meaning.specs.Moves.{Quiet, Moves, KeepsBody}
 use Rattle.family_meaning.specs.Moves.Quiet.{Learns as LineLearns, Places as LinePlaces, Placed as LinePlaced, Merges as LineMerges, Opens as LineOpens, Asks as LineAsks, Hears as LineHears, Leaves as LineLeaves, Keeps as LineKeeps, Decides as LineDecides, Within as LineWithin, WithinStub as LineWithinStub}
 use Rattle.family_meaning.specs.Moves.Moves.{Quietly, ByTable}
@@ -133,7 +133,7 @@ module _ (w : World) (tree : Tree) where
     places n left some more m d =
         let now = Going left (Write more m) in
         let stance = with_stance n now f.stance in
-        turned 0 n (Going left (Write (some ++ more) m)) (appended n some f.row) stance (λ p. longer some p ∷ []) (map Byte some ++ stance_items n now) (λ behind. Held some (stance_line n now behind)) d
+        turned 0 n (Going left (Write (some ++ more) m)) (appended n some f.row) stance (λ p. longer some p ∷ []) (map Byte some ++ stance_items n now) (λ behind. Bytes some (stance_line n now behind)) d
         (λ j u. stance_other n j now f.stance u)
         (λ p u. placed_row n stance now some p (stance_now n now f.stance) u)
         refl
@@ -155,7 +155,7 @@ module _ (w : World) (tree : Tree) where
         SameStill 0 (items_of f) (items_of (ending n (placing n (or_stub (Some stub) reply.answer.status reply.body) f)))
     decides n own stub reply d r k =
         let bytes = or_stub (Some stub) reply.answer.status reply.body in
-        turned 0 n (Apart own stub) (ended n (appended n bytes f.row)) f.stance (λ p. closed (longer bytes p) ∷ []) (map Byte bytes) (Held bytes) d
+        turned 0 n (Apart own stub) (ended n (appended n bytes f.row)) f.stance (λ p. closed (longer bytes p) ∷ []) (map Byte bytes) (Bytes bytes) d
         (λ j u. refl)
         (λ p u. decided_row f.stance bytes p)
         (row_items-clean f.stance (at_place n (λ p. closed p ∷ []) (at_place n (λ p. longer bytes p ∷ []) f.row.pieces)) ∙ ap (row_items f.stance) (at_place-both n bytes f.row.pieces))

@@ -10,10 +10,10 @@ use Rattle.request_meaning.specs.Replies
 use Rattle.request_meaning.specs.Replies.{Came, run, script, or_stub}
 use Rattle.request_meaning.specs.Counts.{subs_in, child_subs}
 use Rattle.family_meaning.specs.Line.{Line, Left, rest, before, status_of, reply_of}
-use Rattle.family_meaning.specs.Line.Line.{Nil, Held, Gives, Waits, Stubs}
+use Rattle.family_meaning.specs.Line.Line.{Nil, Bytes, Gives, Waits, Stubs}
 use Rattle.family_meaning.specs.Left.{subs_left, act_subs}
 use Rattle.family_meaning.specs.Moves.{Thinks}
-use Rattle.family_meaning.specs.Moves.Thinks.{Here, Reads, ThereHeld, ThereNode, ThereWait, InWait, ThereStub, InStub}
+use Rattle.family_meaning.specs.Moves.Thinks.{Here, Reads, ThereBytes, ThereNode, ThereWait, InWait, ThereStub, InStub}
 use Rattle.family_meaning.specs.Moves.Moves.{ByTable}
 use Rattle.family_meaning.specs.Moves.Runs.{Ends, Steps}
 use Rattle.family_meaning.proofs.Exacts.{thinks, reads}
@@ -113,7 +113,7 @@ module _ (s : Shared) where
     line_same : (line : Line) → SteadyLine s line → SameSubs line line
     unfolding subs_left
     line_same Nil h v u l r = refl
-    line_same (Held bytes line) h v u l r = line_same line h v u l r
+    line_same (Bytes bytes line) h v u l r = line_same line h v u l r
     line_same (Gives node left m line) h v u l r = behind_same left m line line h.0 (line_same line h.1) v u l r
     line_same (Waits node own left k line) h v u l r =
         let same = rest_same s w tree inner_same children own h.0 v u None l r in
@@ -143,7 +143,7 @@ module _ (s : Shared) where
         line_same (Gives node left (Get name k) line) h a vars l p
         ∙ reads_subs w tree node left name k line vars
         ∙ line_same (Gives node left (k (look vars name)) line) (h.0.1 (look vars name), h.1) vars b p r
-    thinks_subs _ _ _ _ (ThereHeld {bytes} {line} {line'} {vars} {vars'} t) h p a b l r = thinks_subs line line' vars vars' t h p a b l r
+    thinks_subs _ _ _ _ (ThereBytes {bytes} {line} {line'} {vars} {vars'} t) h p a b l r = thinks_subs line line' vars vars' t h p a b l r
     thinks_subs _ _ _ _ (ThereNode {node} {left} {m} {line} {line'} {vars} {vars'} t) h p a b l r =
         behind_same left m line line' h.0 (thinks_subs line line' vars vars' t h.1 p) a b l r
     thinks_subs _ _ _ _ (ThereWait {node} {left} {own} {line} {line'} {k} {vars} {vars'} t) h p a b l r =
@@ -165,7 +165,7 @@ module _ (s : Shared) where
 
 abbrev Single : Line → Type 0
 Single Nil = Unit {0}
-Single (Held bytes line) = Single line
+Single (Bytes bytes line) = Single line
 Single (Gives node left m line) = line ≡ Nil
 Single (Waits node own left k line) = Single own × (line ≡ Nil)
 Single (Stubs own stub line) = Single own × (line ≡ Nil)
@@ -173,14 +173,14 @@ Single (Stubs own stub line) = Single own × (line ≡ Nil)
 module _ (w : World) where
   alone_single : (main : Main) (line : Line) → AloneLine w main line → Single line
   alone_single main Nil h = tt
-  alone_single main (Held bytes line) h = alone_single main line h
+  alone_single main (Bytes bytes line) h = alone_single main line h
   alone_single main (Gives node left m line) h = h.1
   alone_single main (Waits node own left k line) h = absurd h
   alone_single main (Stubs own stub line) h = (alone_single main own h.0, h.1)
 
   solo_single : (line : Line) (v : Vars) → SoloLine w line v → Single line
   solo_single Nil v h = absurd h
-  solo_single (Held bytes line) v h = solo_single line v h
+  solo_single (Bytes bytes line) v h = solo_single line v h
   solo_single (Gives node left m line) v h = h.1
   solo_single (Waits node own left k line) v h = (alone_single h.0.main own h.0.alone, h.1)
   solo_single (Stubs own stub line) v h = absurd h
@@ -194,7 +194,7 @@ module _ (w : World) where
     unfolding rest subs_left
     single_thinks _ _ _ _ (Here {node} {left} {m} {line} {vars}) h = record { same = thinks w tree node left m line vars; subs = here_subs w tree node left m line vars }
     single_thinks _ _ _ _ (Reads {node} {left} {name} {k} {line} {vars}) h = record { same = reads w tree node left name k line vars; subs = reads_subs w tree node left name k line vars }
-    single_thinks _ _ _ _ (ThereHeld {bytes} {line} {line'} {vars} {vars'} t) h =
+    single_thinks _ _ _ _ (ThereBytes {bytes} {line} {line'} {vars} {vars'} t) h =
         let g = single_thinks line line' vars vars' t h in
         record { same = λ last. ap (before bytes) (g.same last); subs = g.subs }
     single_thinks _ _ _ _ (ThereNode {line} {line'} {vars} {vars'} t) h = no_thinks w line line' vars vars' t h

@@ -4,7 +4,7 @@ use Rattle.file_tree.specs.Tree.{Tree}
 use Rattle.acts.specs.Vars.{Vars}
 use Rattle.request_meaning.specs.Serving.{World}
 use Rattle.family_meaning.specs.Line.{Line, Left, rest}
-use Rattle.family_meaning.specs.Line.Line.{Nil, Held, Gives, Waits, Stubs}
+use Rattle.family_meaning.specs.Line.Line.{Nil, Bytes, Gives, Waits, Stubs}
 use Rattle.family_meaning.specs.Moves.{Moves}
 use Rattle.family_meaning.specs.Moves.Runs.{Ends, Steps}
 use Rattle.race_meaning.specs.Named.{IsRaceless}
@@ -34,7 +34,7 @@ module _ (s : Shared) where
   steady_made : (line : Line) → SteadyLine s line → SteadyLine s (line_of (items line))
   unfolding line_of items
   steady_made Nil h = h
-  steady_made (Held bytes line) h = steady_past bytes (items line) (steady_made line h)
+  steady_made (Bytes bytes line) h = steady_past bytes (items line) (steady_made line h)
   steady_made (Gives node left m line) h = (h.0, steady_made line h.1)
   steady_made (Waits node own left k line) h = (h.0, (h.1.0, steady_made line h.1.1))
   steady_made (Stubs own stub line) h = (h.0, steady_made line h.1)
@@ -61,7 +61,7 @@ module _ (w : World) where
   solo_made : (line : Line) (v : Vars) → SoloLine w line v → SoloLine w (line_of (items line)) v
   unfolding line_of items
   solo_made Nil v h = h
-  solo_made (Held bytes line) v h = solo_past bytes (items line) v (solo_made line v h)
+  solo_made (Bytes bytes line) v h = solo_past bytes (items line) v (solo_made line v h)
   solo_made (Gives node left m line) v h = (h.0, nil_made line h.1)
   solo_made (Waits node own left k line) v h = (h.0, nil_made line h.1)
   solo_made (Stubs own stub line) v h = absurd h

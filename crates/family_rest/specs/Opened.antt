@@ -5,7 +5,7 @@ use Rattle.acts.specs.Vars.{Vars}
 use Rattle.request_meaning.specs.Serving.{World}
 use Rattle.family_meaning.specs.Line.{Line}
 use Rattle.family_meaning.specs.Moves.{Quiet, Moves}
-use Rattle.family_meaning.specs.Moves.Quiet.{Learns as LineLearns, Places as LinePlaces, Placed as LinePlaced, Merges as LineMerges, Opens as LineOpens, Asks as LineAsks, Hears as LineHears, Leaves, Keeps as LineKeeps, Decides as LineDecides, Chooses, Parts, Gone, PastHeld, PastNode, PastWait, Within as LineWithin, PastStub, WithinStub as LineWithinStub}
+use Rattle.family_meaning.specs.Moves.Quiet.{Learns as LineLearns, Places as LinePlaces, Placed as LinePlaced, Merges as LineMerges, Opens as LineOpens, Asks as LineAsks, Hears as LineHears, Leaves, Keeps as LineKeeps, Decides as LineDecides, Chooses, Parts, Gone, PastBytes, PastNode, PastWait, Within as LineWithin, PastStub, WithinStub as LineWithinStub}
 use Rattle.family_meaning.specs.Moves.Moves.{Quietly, ByTable}
 use Rattle.family_order.specs.Items.{Family}
 use Rattle.family_order.specs.Acts.{Acts, Goes}
@@ -27,7 +27,7 @@ opened_quietly (LineDecides reply e h) = 0
 opened_quietly (Chooses node left reply e) = 0
 opened_quietly Parts = 0
 opened_quietly Gone = 0
-opened_quietly (PastHeld q) = opened_quietly q
+opened_quietly (PastBytes q) = opened_quietly q
 opened_quietly (PastNode q) = opened_quietly q
 opened_quietly (PastWait q) = opened_quietly q
 opened_quietly (LineWithin q) = opened_quietly q

@@ -4,7 +4,7 @@ use Rattle.file_tree.specs.Tree.{Tree}
 use Rattle.acts.specs.Vars.{Vars}
 use Rattle.request_meaning.specs.Serving.{World}
 use Rattle.family_meaning.specs.Line.{Line, Left, rest}
-use Rattle.family_meaning.specs.Line.Line.{Nil, Held, Gives, Waits, Stubs}
+use Rattle.family_meaning.specs.Line.Line.{Nil, Bytes, Gives, Waits, Stubs}
 use Rattle.family_meaning.specs.Left.{subs_left}
 use Rattle.family_order.specs.Items.{Item, Family, items_of}
 use Rattle.family_order.specs.Items.Stance.{Going, Waiting, Apart, Hidden}
@@ -13,7 +13,7 @@ use Rattle.family_order.specs.Items.Item.{Byte, Node, Stub}
 -- the line that has these, one after another
 unfoldable pub line_of : List Item → Line
 line_of [] = Nil
-line_of (Byte b ∷ xs) = Held (b ∷ []) (line_of xs)
+line_of (Byte b ∷ xs) = Bytes (b ∷ []) (line_of xs)
 line_of (Node n (Going left m) ∷ xs) = Gives n left m (line_of xs)
 line_of (Node n (Waiting own left k) ∷ xs) = Waits n own left k (line_of xs)
 line_of (Node n (Apart own stub) ∷ xs) = Stubs own stub (line_of xs)

@@ -108,7 +108,7 @@ impl Chain {
         let mut stages = Vec::new(alloc);
         for filter in &self.members {
             let state = FilterState {
-                held: ByteText::new(alloc),
+                undecided: ByteText::new(alloc),
                 count: 0,
             };
             stages.push(Stage {

@@ -18,6 +18,6 @@ pub struct Facts {
 /// What a filter keeps of a body between its parts: bytes, and a number, by a use of its own.
 #[derive(Clone, Debug, Drop)]
 pub struct FilterState {
-    pub held: ByteText,
+    pub undecided: ByteText,
     pub count: u64,
 }

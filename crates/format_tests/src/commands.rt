@@ -43,7 +43,7 @@ fn split(
     let mut out = Vec::new(alloc);
     let cut = first.min(document.len());
     state.feed(alloc, &document[..cut], &mut out)?;
-    let mut state = SsiState::from_held(alloc, state.held())?;
+    let mut state = SsiState::from_undecided(alloc, state.undecided())?;
     for block in document[cut..].chunks(size.max(1)) {
         state.feed(alloc, block, &mut out)?;
     }

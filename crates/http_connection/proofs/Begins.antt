@@ -36,11 +36,11 @@ pub opened_over : (x : Serves) (m : Meeting) (k : ℕ) (head : RequestHead) (out
     AreRaceless x → (trees : Trees) → is_heavy (response_at (service_in x m.local m.peer) trees k (start_in m) head) ≡ true
 opened_over x m k head out out' ran is h = subst (OpenedTo x m k head out out') is h
 
-pub ran_head : (x : Serves) (m : Meeting) (k : ℕ) (head : RequestHead) (size : ℕ) (next : HeadStep) (held held' : List ℕ) (body : Option BodyState) (flow' : Option Flight) (out out' : List ℕ) (closed broken : Bool) (log : Option Log) (level : Option ℕ) →
-    next ≡ Head head size → (AreRaceless x → (trees : Trees) → Opened x trees m k head flow' out out' closed log level) → is_some log ≡ not (is_some flow') → Drops (body_of head.body) (drop size held) body held' broken →
-    RanOne x (service_in x m.local m.peer) (start_in m) k next held held' body flow' out out' (closed || broken) log
-ran_head x m k head size next held held' body flow' out out' closed broken log level n o over d =
-    subst (λ s. RanOne x (service_in x m.local m.peer) (start_in m) k s held held' body flow' out out' (closed || broken) log) (sym n) (record {
+pub ran_head : (x : Serves) (m : Meeting) (k : ℕ) (head : RequestHead) (size : ℕ) (next : HeadStep) (buffered buffered' : List ℕ) (body : Option BodyState) (flow' : Option Flight) (out out' : List ℕ) (closed broken : Bool) (log : Option Log) (level : Option ℕ) →
+    next ≡ Head head size → (AreRaceless x → (trees : Trees) → Opened x trees m k head flow' out out' closed log level) → is_some log ≡ not (is_some flow') → Drops (body_of head.body) (drop size buffered) body buffered' broken →
+    RanOne x (service_in x m.local m.peer) (start_in m) k next buffered buffered' body flow' out out' (closed || broken) log
+ran_head x m k head size next buffered buffered' body flow' out out' closed broken log level n o over d =
+    subst (λ s. RanOne x (service_in x m.local m.peer) (start_in m) k s buffered buffered' body flow' out out' (closed || broken) log) (sym n) (record {
       broken = broken;
       says = λ raceless trees. (let a = o raceless trees in record {
         put = a.put;
@@ -56,29 +56,29 @@ pub ran_over_head : (x : Serves) (m : Meeting) (k : ℕ) (head : RequestHead) (s
     (AreRaceless x → (trees : Trees) → is_heavy (response_at (service_in x m.local m.peer) trees k (start_in m) head) ≡ true) → RanOver x (service_in x m.local m.peer) (start_in m) k next
 ran_over_head x m k head size next n o = subst (RanOver x (service_in x m.local m.peer) (start_in m) k) (sym n) o
 
-pub ran_bad : (x : Serves) (service : Service) (start : Start) (k code : ℕ) (no_body : Bool) (next : HeadStep) (held : List ℕ) (flow' : Option Flight) (out out' : List ℕ) (closing : Bool) (log : Option Log) →
-    next ≡ Bad code no_body → Refuses code start no_body flow' out out' closing log → RanOne x service start k next held held None flow' out out' closing log
-ran_bad x service start k code no_body next held flow' out out' closing log n r =
-    subst (λ s. RanOne x service start k s held held None flow' out out' closing log) (sym n)
+pub ran_bad : (x : Serves) (service : Service) (start : Start) (k code : ℕ) (no_body : Bool) (next : HeadStep) (buffered : List ℕ) (flow' : Option Flight) (out out' : List ℕ) (closing : Bool) (log : Option Log) →
+    next ≡ Bad code no_body → Refuses code start no_body flow' out out' closing log → RanOne x service start k next buffered buffered None flow' out out' closing log
+ran_bad x service start k code no_body next buffered flow' out out' closing log n r =
+    subst (λ s. RanOne x service start k s buffered buffered None flow' out out' closing log) (sym n)
     (record { put = r.put; stands = refl; bodiless = refl; over = r.over; logged = r.logged; closes = r.closes })
 
 never : {A : Type 0} (b : Option BodyState) → b ≡ None → is_some b ≡ true → A
 never None e f = cc
 never (Some state) e f = cc
 
--- no more is held after a request that was started
-pub ran_few : (x : Serves) (service : Service) (start : Start) (k : ℕ) (next : HeadStep) (held held' : List ℕ) (body : Option BodyState) (flow : Option Flight) (out out' : List ℕ) (closing : Bool) (log : Option Log) → length held ≤ 8192 → RanOne x service start k next held held' body flow out out' closing log → length held' ≤ 8192
-ran_few x service start k (Head head size) held held' body flow out out' closing log few r = let a = r.drops.shorter in let b = length-drop size held in omega (arith, few, a, b)
-ran_few x service start k (Bad code no_body) held held' body flow out out' closing log few r = let a = ap length r.stands in omega (arith, few, a)
-ran_few x service start k More held held' body flow out out' closing log few r = absurd r
+-- no more is buffered after a request that was started
+pub ran_few : (x : Serves) (service : Service) (start : Start) (k : ℕ) (next : HeadStep) (buffered buffered' : List ℕ) (body : Option BodyState) (flow : Option Flight) (out out' : List ℕ) (closing : Bool) (log : Option Log) → length buffered ≤ 8192 → RanOne x service start k next buffered buffered' body flow out out' closing log → length buffered' ≤ 8192
+ran_few x service start k (Head head size) buffered buffered' body flow out out' closing log few r = let a = r.drops.shorter in let b = length-drop size buffered in omega (arith, few, a, b)
+ran_few x service start k (Bad code no_body) buffered buffered' body flow out out' closing log few r = let a = ap length r.stands in omega (arith, few, a)
+ran_few x service start k More buffered buffered' body flow out out' closing log few r = absurd r
 
--- what is held after a request that was started
-pub ran_drained : (x : Serves) (service : Service) (start : Start) (k : ℕ) (next : HeadStep) (held held' : List ℕ) (body : Option BodyState) (flow : Option Flight) (out out' : List ℕ) (closing : Bool) (log : Option Log) → RanOne x service start k next held held' body flow out out' closing log → is_some body ≡ true → held' ≡ []
-ran_drained x service start k (Head head size) held held' body flow out out' closing log r h = r.drops.drained h
-ran_drained x service start k (Bad code no_body) held held' body flow out out' closing log r h = never body r.bodiless h
-ran_drained x service start k More held held' body flow out out' closing log r h = absurd r
+-- what is buffered after a request that was started
+pub ran_drained : (x : Serves) (service : Service) (start : Start) (k : ℕ) (next : HeadStep) (buffered buffered' : List ℕ) (body : Option BodyState) (flow : Option Flight) (out out' : List ℕ) (closing : Bool) (log : Option Log) → RanOne x service start k next buffered buffered' body flow out out' closing log → is_some body ≡ true → buffered' ≡ []
+ran_drained x service start k (Head head size) buffered buffered' body flow out out' closing log r h = r.drops.drained h
+ran_drained x service start k (Bad code no_body) buffered buffered' body flow out out' closing log r h = never body r.bodiless h
+ran_drained x service start k More buffered buffered' body flow out out' closing log r h = absurd r
 
-pub ran_unended : (x : Serves) (service : Service) (start : Start) (k : ℕ) (next : HeadStep) (held held' : List ℕ) (body : Option BodyState) (flow : Option Flight) (out out' : List ℕ) (closing : Bool) (log : Option Log) → RanOne x service start k next held held' body flow out out' closing log → is_some body ≡ true → rest_of body [] ≡ Short
-ran_unended x service start k (Head head size) held held' body flow out out' closing log r h = r.drops.unended h
-ran_unended x service start k (Bad code no_body) held held' body flow out out' closing log r h = never body r.bodiless h
-ran_unended x service start k More held held' body flow out out' closing log r h = absurd r
+pub ran_unended : (x : Serves) (service : Service) (start : Start) (k : ℕ) (next : HeadStep) (buffered buffered' : List ℕ) (body : Option BodyState) (flow : Option Flight) (out out' : List ℕ) (closing : Bool) (log : Option Log) → RanOne x service start k next buffered buffered' body flow out out' closing log → is_some body ≡ true → rest_of body [] ≡ Short
+ran_unended x service start k (Head head size) buffered buffered' body flow out out' closing log r h = r.drops.unended h
+ran_unended x service start k (Bad code no_body) buffered buffered' body flow out out' closing log r h = never body r.bodiless h
+ran_unended x service start k More buffered buffered' body flow out out' closing log r h = absurd r

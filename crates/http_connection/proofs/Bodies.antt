@@ -86,8 +86,8 @@ none_drops bytes = record {
 }
 
 -- the same, where another says the same of each text
-pub drops_from : (f g : List ℕ → BodyOutcome) (input : List ℕ) (body : Option BodyState) (held : List ℕ) (broken : Bool) → ((text : List ℕ) → g text ≡ f text) → Drops f input body held broken → Drops g input body held broken
-drops_from f g input body held broken same d = record {
+pub drops_from : (f g : List ℕ → BodyOutcome) (input : List ℕ) (body : Option BodyState) (buffered : List ℕ) (broken : Bool) → ((text : List ℕ) → g text ≡ f text) → Drops f input body buffered broken → Drops g input body buffered broken
+drops_from f g input body buffered broken same d = record {
   rest = λ h more. ap (λ o. after_body o (λ n. h (drop n (input ++ more)))) (same (input ++ more)) ∙ d.rest h more;
   drained = d.drained;
   unended = d.unended;
@@ -118,9 +118,9 @@ goes_on_taken old new bytes count told t h e = more_drops old new bytes count to
 pub breaks_taken : (old new : BodyState) (bytes : List ℕ) (count : ℕ) (told : BodyStep) → Takes old bytes count told new → count ≤ length bytes → told ≡ steps.Broken → Drops (rest_body old) bytes None (drop count bytes) true
 breaks_taken old new bytes count told t h e = broken_drops old new bytes count told t h (outcome_broken (rest_body old bytes) (sym e ∙ t.step))
 
--- the body after a head, in what is held
-pub head_drops : (kind : BodyKind) (state : BodyState) (lent held held' : List ℕ) (size used : ℕ) (body : Option BodyState) (broken : Bool) → IsBegun kind state → lent ≡ drop size held → held' ≡ drop (size + used) held → Drops (rest_body state) lent body (drop used lent) broken →
-    Drops (body_of kind) (drop size held) body held' broken
-head_drops kind state lent held held' size used body broken begun e f d =
-    subst (λ h. Drops (body_of kind) (drop size held) body h broken) (ap (drop used) e ∙ drop_twice size used held ∙ sym f)
+-- the body after a head, in what is buffered
+pub head_drops : (kind : BodyKind) (state : BodyState) (lent buffered buffered' : List ℕ) (size used : ℕ) (body : Option BodyState) (broken : Bool) → IsBegun kind state → lent ≡ drop size buffered → buffered' ≡ drop (size + used) buffered → Drops (rest_body state) lent body (drop used lent) broken →
+    Drops (body_of kind) (drop size buffered) body buffered' broken
+head_drops kind state lent buffered buffered' size used body broken begun e f d =
+    subst (λ h. Drops (body_of kind) (drop size buffered) body h broken) (ap (drop used) e ∙ drop_twice size used buffered ∙ sym f)
     (subst (λ l. Drops (body_of kind) l body (drop used lent) broken) e (drops_from (rest_body state) (body_of kind) lent body (drop used lent) broken (λ text. sym (begun text)) d))

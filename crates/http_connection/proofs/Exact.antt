@@ -32,16 +32,16 @@ are_none (Sends r ∷ answers) = false
 are_none (Closes ∷ answers) = are_none answers
 
 -- bytes that begin a request are answered
-is_answered : (service : Service) (k : ℕ) (trees : Trees) (held : List ℕ) (start : Start) (later : List Start) (next : HeadStep) → next ≡ head_step held → starts None next ≡ true →
-    are_none (responses service k trees (held ++ []) (start ∷ later)) ≡ false
+is_answered : (service : Service) (k : ℕ) (trees : Trees) (buffered : List ℕ) (start : Start) (later : List Start) (next : HeadStep) → next ≡ head_step buffered → starts None next ≡ true →
+    are_none (responses service k trees (buffered ++ []) (start ∷ later)) ≡ false
 unfolding responses
-is_answered service k trees held start later More e s = cc
-is_answered service k trees held start later (Head head size) e s =
-    ap (λ t. are_none (first_response service trees k start t (λ n kind. after_body (body_of kind (drop n (held ++ []))) (λ m. responses service (k + 1) trees (drop m (drop n (held ++ []))) later))))
-    (ap head_step (append-nil held) ∙ sym e)
-is_answered service k trees held start later (Bad code no_body) e s =
-    ap (λ t. are_none (first_response service trees k start t (λ n kind. after_body (body_of kind (drop n (held ++ []))) (λ m. responses service (k + 1) trees (drop m (drop n (held ++ []))) later))))
-    (ap head_step (append-nil held) ∙ sym e)
+is_answered service k trees buffered start later More e s = cc
+is_answered service k trees buffered start later (Head head size) e s =
+    ap (λ t. are_none (first_response service trees k start t (λ n kind. after_body (body_of kind (drop n (buffered ++ []))) (λ m. responses service (k + 1) trees (drop m (drop n (buffered ++ []))) later))))
+    (ap head_step (append-nil buffered) ∙ sym e)
+is_answered service k trees buffered start later (Bad code no_body) e s =
+    ap (λ t. are_none (first_response service trees k start t (λ n kind. after_body (body_of kind (drop n (buffered ++ []))) (λ m. responses service (k + 1) trees (drop m (drop n (buffered ++ []))) later))))
+    (ap head_step (append-nil buffered) ∙ sym e)
 
 -- logs of fewer requests aren't those of all
 fewer : (logs : List Log) (rs : List Answer) → are_none rs ≡ false → map (λ l. Some l) logs ++ [] ≡ map (λ l. Some l) (logs ++ logs_in rs) → ⊥
@@ -66,41 +66,41 @@ closed_by closing ended false i e = cc
 
 module _ (serves : Serves) where
   -- a further request may start, where nothing is in flight and it isn't idle though nothing is kept for the peer
-  more_logged : (service : Service) (journal : List Entry) (closing : Bool) (body : Option BodyState) (held : List ℕ) (next : HeadStep) (trees : Trees) (start : Start) (later : List Start) →
-      next ≡ head_step held → IsLogged false journal → (closing || not (starts body next)) ≡ false →
-      map log_of journal ≡ map (λ l. Some l) (logs_at service (rest_in serves None) journal closing body held trees [] (start ∷ later)) → ⊥
-  more_logged service journal true body held next trees start later looked told w e = cc
-  more_logged service journal false (Some state) held next trees start later looked told w e = cc
-  more_logged service journal false None held More trees start later looked told w e = cc
-  more_logged service journal false None held (Head head size) trees start later looked told w e =
-      fewer (logged_in journal) (responses service (length journal) trees (held ++ []) (start ∷ later)) (is_answered service (length journal) trees held start later (Head head size) looked refl) (sym told ∙ e)
-  more_logged service journal false None held (Bad code no_body) trees start later looked told w e =
-      fewer (logged_in journal) (responses service (length journal) trees (held ++ []) (start ∷ later)) (is_answered service (length journal) trees held start later (Bad code no_body) looked refl) (sym told ∙ e)
+  more_logged : (service : Service) (journal : List Entry) (closing : Bool) (body : Option BodyState) (buffered : List ℕ) (next : HeadStep) (trees : Trees) (start : Start) (later : List Start) →
+      next ≡ head_step buffered → IsLogged false journal → (closing || not (starts body next)) ≡ false →
+      map log_of journal ≡ map (λ l. Some l) (logs_at service (rest_in serves None) journal closing body buffered trees [] (start ∷ later)) → ⊥
+  more_logged service journal true body buffered next trees start later looked told w e = cc
+  more_logged service journal false (Some state) buffered next trees start later looked told w e = cc
+  more_logged service journal false None buffered More trees start later looked told w e = cc
+  more_logged service journal false None buffered (Head head size) trees start later looked told w e =
+      fewer (logged_in journal) (responses service (length journal) trees (buffered ++ []) (start ∷ later)) (is_answered service (length journal) trees buffered start later (Head head size) looked refl) (sym told ∙ e)
+  more_logged service journal false None buffered (Bad code no_body) trees start later looked told w e =
+      fewer (logged_in journal) (responses service (length journal) trees (buffered ++ []) (start ∷ later)) (is_answered service (length journal) trees buffered start later (Bad code no_body) looked refl) (sym told ∙ e)
 
-  more_left : (service : Service) (out : List ℕ) (journal : List Entry) (closing : Bool) (body : Option BodyState) (held : List ℕ) (next : HeadStep) (trees : Trees) (start : Start) (later : List Start) →
-      next ≡ head_step held → IsLogged false journal → idle_at false None closing out body next ≡ false → bytes_at service (rest_in serves None) out journal closing body held trees [] (start ∷ later) ≡ [] →
-      map log_of journal ≡ map (λ l. Some l) (logs_at service (rest_in serves None) journal closing body held trees [] (start ∷ later)) → ⊥
-  more_left service (b ∷ out) journal closing body held next trees start later looked told w none e = cc
-  more_left service [] journal closing body held next trees start later looked told w none e = more_logged service journal closing body held next trees start later looked told w e
+  more_left : (service : Service) (out : List ℕ) (journal : List Entry) (closing : Bool) (body : Option BodyState) (buffered : List ℕ) (next : HeadStep) (trees : Trees) (start : Start) (later : List Start) →
+      next ≡ head_step buffered → IsLogged false journal → idle_at false None closing out body next ≡ false → bytes_at service (rest_in serves None) out journal closing body buffered trees [] (start ∷ later) ≡ [] →
+      map log_of journal ≡ map (λ l. Some l) (logs_at service (rest_in serves None) journal closing body buffered trees [] (start ∷ later)) → ⊥
+  more_left service (b ∷ out) journal closing body buffered next trees start later looked told w none e = cc
+  more_left service [] journal closing body buffered next trees start later looked told w none e = more_logged service journal closing body buffered next trees start later looked told w e
 
-  pub exact : (service : Service) (cause : Option StopCause) (flow : Option Flight) (out : List ℕ) (journal : List Entry) (closing ended : Bool) (body : Option BodyState) (held : List ℕ) (next : HeadStep) →
-      (is_some cause ≡ false → next ≡ head_step held) → FlightFits flow (length out) → (is_some cause ≡ false → IsLogged (is_some flow) journal) → IsExact (view_at serves service cause flow out journal closing ended body held next)
-  exact service (Some why) flow out journal closing ended body held next looked fits told = record {
+  pub exact : (service : Service) (cause : Option StopCause) (flow : Option Flight) (out : List ℕ) (journal : List Entry) (closing ended : Bool) (body : Option BodyState) (buffered : List ℕ) (next : HeadStep) →
+      (is_some cause ≡ false → next ≡ head_step buffered) → FlightFits flow (length out) → (is_some cause ≡ false → IsLogged (is_some flow) journal) → IsExact (view_at serves service cause flow out journal closing ended body buffered next)
+  exact service (Some why) flow out journal closing ended body buffered next looked fits told = record {
     rests = λ l s. cc;
     ends = λ i e. refl;
     busy = λ l b trees start later none logs. cc;
   }
-  exact service None None out journal closing ended body held next looked fits told =
-      let shown : idle_at false None closing out body next ≡ is_idle (view_at serves service None None out journal closing ended body held next) = idle_shown serves service None None out journal closing ended body held next fits in
+  exact service None None out journal closing ended body buffered next looked fits told =
+      let shown : idle_at false None closing out body next ≡ is_idle (view_at serves service None None out journal closing ended body buffered next) = idle_shown serves service None None out journal closing ended body buffered next fits in
       record {
         rests = λ l s. let i = shut_parts out closing ended body next s in sym shown ∙ both (no_bytes out) (closing || not (starts body next)) i.unsent i.waits;
         ends = λ i e. closed_by closing ended (idle_at false None closing out body next) (shown ∙ i) e;
-        busy = λ l b trees start later none logs. more_left service out journal closing body held next trees start later (looked refl) (told refl) (shown ∙ b) none logs;
+        busy = λ l b trees start later none logs. more_left service out journal closing body buffered next trees start later (looked refl) (told refl) (shown ∙ b) none logs;
       }
-  exact service None (Some flow) out journal closing ended body held next looked fits told =
-      let shown : idle_at false (Some flow) closing out body next ≡ is_idle (view_at serves service None (Some flow) out journal closing ended body held next) = idle_shown serves service None (Some flow) out journal closing ended body held next fits in
+  exact service None (Some flow) out journal closing ended body buffered next looked fits told =
+      let shown : idle_at false (Some flow) closing out body next ≡ is_idle (view_at serves service None (Some flow) out journal closing ended body buffered next) = idle_shown serves service None (Some flow) out journal closing ended body buffered next fits in
       record {
         rests = λ l s. absurd (unshut closing ended s);
         ends = λ i e. (let f : false ≡ true = shown ∙ i in cc);
-        busy = λ l b trees start later none logs. unknown (logged_in journal) (logs_at service (rest_in serves (Some flow)) journal closing body held trees [] (start ∷ later)) (sym (told refl) ∙ logs);
+        busy = λ l b trees start later none logs. unknown (logged_in journal) (logs_at service (rest_in serves (Some flow)) journal closing body buffered trees [] (start ∷ later)) (sym (told refl) ∙ logs);
       }

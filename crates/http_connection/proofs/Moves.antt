@@ -67,14 +67,14 @@ some_room false n room e h =
     let r : 8192 - n ≡ room = cc in
     omega arith
 
-pub arrived_left : (cause : Option StopCause) (flow : Option Flight) (out : List ℕ) (closing closing' : Bool) (held held' kept bytes : List ℕ) (n : ℕ) → closing ≡ false → held' ≡ held ++ kept → length kept ≤ n → left_at cause flow out closing' held' ≤ left_at cause flow out closing held + price * n
+pub arrived_left : (cause : Option StopCause) (flow : Option Flight) (out : List ℕ) (closing closing' : Bool) (buffered buffered' kept bytes : List ℕ) (n : ℕ) → closing ≡ false → buffered' ≡ buffered ++ kept → length kept ≤ n → left_at cause flow out closing' buffered' ≤ left_at cause flow out closing buffered + price * n
 unfolding price weight
-arrived_left None flow out true closing' held held' kept bytes n o e h = cc
-arrived_left None flow out false true held held' kept bytes n o e h = omega arith
-arrived_left None flow out false false held held' kept bytes n o e h =
-    let s : length held' ≡ length held + length kept = ap length e ∙ length-append held kept in
+arrived_left None flow out true closing' buffered buffered' kept bytes n o e h = cc
+arrived_left None flow out false true buffered buffered' kept bytes n o e h = omega arith
+arrived_left None flow out false false buffered buffered' kept bytes n o e h =
+    let s : length buffered' ≡ length buffered + length kept = ap length e ∙ length-append buffered kept in
     omega (arith, s, h)
-arrived_left (Some cause) flow out closing closing' held held' kept bytes n o e h = omega arith
+arrived_left (Some cause) flow out closing closing' buffered buffered' kept bytes n o e h = omega arith
 
 pub node_ready : (t : Bool) → t ≡ true → Contains {X = ℕ} (cond t (0 ∷ []) []) 0
 node_ready true e = (0, omega arith, refl)
@@ -127,9 +127,9 @@ some_taken n room taken e f h = grind (arith, nat_tests)
 pub within_taken : (n room taken : ℕ) → taken ≡ min n room → taken ≤ n
 within_taken n room taken e = omega arith
 
-pub stopped_left : (why : StopCause) (cause : Option StopCause) (flow flow' : Option Flight) (out out' : List ℕ) (closing closing' : Bool) (held held' : List ℕ) → is_some cause ≡ false → left_at (Some why) flow' out' closing' held' < left_at cause flow out closing held
-stopped_left why None flow flow' out out' closing closing' held held' live = omega arith
-stopped_left why (Some cause) flow flow' out out' closing closing' held held' live = cc
+pub stopped_left : (why : StopCause) (cause : Option StopCause) (flow flow' : Option Flight) (out out' : List ℕ) (closing closing' : Bool) (buffered buffered' : List ℕ) → is_some cause ≡ false → left_at (Some why) flow' out' closing' buffered' < left_at cause flow out closing buffered
+stopped_left why None flow flow' out out' closing closing' buffered buffered' live = omega arith
+stopped_left why (Some cause) flow flow' out out' closing closing' buffered buffered' live = cc
 
 finished_at : (xs : List Entry) (n : ℕ) (new default : Entry) → start_of new ≡ start_of (get_or xs n default) → map start_of (set xs n new) ≡ map start_of xs
 finished_at [] n new default e = refl
@@ -148,28 +148,28 @@ logged_shown false logs over later e = record { over = over; later = later; firs
 abbrev pub work : Option Flight → ℕ → ℕ
 work flow size = size + flight_left flow size
 
-pub goes_left : (cause : Option StopCause) (flow flow' : Option Flight) (out out' : List ℕ) (closing closing' : Bool) (held : List ℕ) → is_some cause ≡ false → (closing ≡ true → closing' ≡ true) → work flow' (length out') < work flow (length out) → left_at cause flow' out' closing' held < left_at cause flow out closing held
-goes_left (Some cause) flow flow' out out' closing closing' held live k w = cc
-goes_left None flow flow' out out' true true held live k w = omega (arith, w)
-goes_left None flow flow' out out' true false held live k w = absurd (let e : false ≡ true = k refl in cc)
-goes_left None flow flow' out out' false true held live k w = omega (arith, w)
-goes_left None flow flow' out out' false false held live k w = omega (arith, w)
+pub goes_left : (cause : Option StopCause) (flow flow' : Option Flight) (out out' : List ℕ) (closing closing' : Bool) (buffered : List ℕ) → is_some cause ≡ false → (closing ≡ true → closing' ≡ true) → work flow' (length out') < work flow (length out) → left_at cause flow' out' closing' buffered < left_at cause flow out closing buffered
+goes_left (Some cause) flow flow' out out' closing closing' buffered live k w = cc
+goes_left None flow flow' out out' true true buffered live k w = omega (arith, w)
+goes_left None flow flow' out out' true false buffered live k w = absurd (let e : false ≡ true = k refl in cc)
+goes_left None flow flow' out out' false true buffered live k w = omega (arith, w)
+goes_left None flow flow' out out' false false buffered live k w = omega (arith, w)
 
 -- bytes arrive
-pub room_some : (stopped closing ended : Bool) (held : List ℕ) (room : ℕ) → room_at stopped closing ended held ≡ Some room → (stopped ≡ false) × (closing ≡ false) × (ended ≡ false) × (0 < room)
-room_some false false false held room h = (refl, refl, refl, some_room (nat_le 8192 (length held)) (length held) room refl h)
-room_some false false true held room h = cc
-room_some false true ended held room h = cc
-room_some true closing ended held room h = cc
+pub room_some : (stopped closing ended : Bool) (buffered : List ℕ) (room : ℕ) → room_at stopped closing ended buffered ≡ Some room → (stopped ≡ false) × (closing ≡ false) × (ended ≡ false) × (0 < room)
+room_some false false false buffered room h = (refl, refl, refl, some_room (nat_le 8192 (length buffered)) (length buffered) room refl h)
+room_some false false true buffered room h = cc
+room_some false true ended buffered room h = cc
+room_some true closing ended buffered room h = cc
 
--- after a body that is dropped, and what is held after it
-absorbed : (g : List ℕ → List Answer) (body body' : Option BodyState) (held held' bytes kept more : List ℕ) (broken : Bool) → (is_some body ≡ true → held ≡ []) → (body ≡ None → (body' ≡ None) × (broken ≡ false) × (kept ≡ bytes)) → Drops (rest_of body) bytes body' kept broken →
-    held' ≡ held ++ kept → past_body body (held ++ (bytes ++ more)) g ≡ cond broken then_closes (past_body body' (held' ++ more) g)
-absorbed g None body' held held' bytes kept more broken drained still d e =
+-- after a body that is dropped, and what is buffered after it
+absorbed : (g : List ℕ → List Answer) (body body' : Option BodyState) (buffered buffered' bytes kept more : List ℕ) (broken : Bool) → (is_some body ≡ true → buffered ≡ []) → (body ≡ None → (body' ≡ None) × (broken ≡ false) × (kept ≡ bytes)) → Drops (rest_of body) bytes body' kept broken →
+    buffered' ≡ buffered ++ kept → past_body body (buffered ++ (bytes ++ more)) g ≡ cond broken then_closes (past_body body' (buffered' ++ more) g)
+absorbed g None body' buffered buffered' bytes kept more broken drained still d e =
     let s = still refl in
-    let whole : held' ++ more ≡ held ++ (bytes ++ more) = ap (λ l. l ++ more) (e ∙ ap (λ k. held ++ k) s.2) ∙ append_assoc held bytes more in
-    sym (ap (λ b. cond b then_closes (past_body body' (held' ++ more) g)) s.1 ∙ ap (λ b. past_body b (held' ++ more) g) s.0 ∙ ap g whole)
-absorbed g (Some state) body' held held' bytes kept more broken drained still d e =
+    let whole : buffered' ++ more ≡ buffered ++ (bytes ++ more) = ap (λ l. l ++ more) (e ∙ ap (λ k. buffered ++ k) s.2) ∙ append_assoc buffered bytes more in
+    sym (ap (λ b. cond b then_closes (past_body body' (buffered' ++ more) g)) s.1 ∙ ap (λ b. past_body b (buffered' ++ more) g) s.0 ∙ ap g whole)
+absorbed g (Some state) body' buffered buffered' bytes kept more broken drained still d e =
     let none = drained refl in
     ap (λ h. past_body (Some state) (h ++ (bytes ++ more)) g) none ∙ d.rest g more
     ∙ ap (λ k. cond broken then_closes (past_body body' (k ++ more) g)) (sym (e ∙ ap (λ h. h ++ kept) none))
@@ -295,13 +295,13 @@ wrote_bytes {r} {r'} {out} {out'} {bytes} w tail =
     ap (λ b. out ++ (r.bytes ++ tail b)) (sym w.stays) ∙ sym (append_assoc out r.bytes (tail r'.stays)) ∙ ap (λ x. x ++ tail r'.stays) w.bytes_are
     ∙ append_assoc bytes (out' ++ r'.bytes) (tail r'.stays) ∙ ap (λ x. bytes ++ x) (append_assoc out' r'.bytes (tail r'.stays))
 
-pub ran_on_one : (x : Serves) (service : Service) (start : Start) (k : ℕ) (next : HeadStep) (held held' : List ℕ) (body : Option BodyState) (out out' : List ℕ) (ran : FlightRan) (o : Onward) → ran ≡ On o →
-    RanTo x service start k next held held' body out out' ran → RanOne x service start k next held held' body o.flight out out' o.closing o.log
-ran_on_one x service start k next held held' body out out' ran o is h = subst (RanTo x service start k next held held' body out out') is h
+pub ran_on_one : (x : Serves) (service : Service) (start : Start) (k : ℕ) (next : HeadStep) (buffered buffered' : List ℕ) (body : Option BodyState) (out out' : List ℕ) (ran : FlightRan) (o : Onward) → ran ≡ On o →
+    RanTo x service start k next buffered buffered' body out out' ran → RanOne x service start k next buffered buffered' body o.flight out out' o.closing o.log
+ran_on_one x service start k next buffered buffered' body out out' ran o is h = subst (RanTo x service start k next buffered buffered' body out out') is h
 
-pub ran_over_one : (x : Serves) (service : Service) (start : Start) (k : ℕ) (next : HeadStep) (held held' : List ℕ) (body : Option BodyState) (out out' : List ℕ) (ran : FlightRan) → ran ≡ TooMany →
-    RanTo x service start k next held held' body out out' ran → RanOver x service start k next
-ran_over_one x service start k next held held' body out out' ran is h = subst (RanTo x service start k next held held' body out out') is h
+pub ran_over_one : (x : Serves) (service : Service) (start : Start) (k : ℕ) (next : HeadStep) (buffered buffered' : List ℕ) (body : Option BodyState) (out out' : List ℕ) (ran : FlightRan) → ran ≡ TooMany →
+    RanTo x service start k next buffered buffered' body out out' ran → RanOver x service start k next
+ran_over_one x service start k next buffered buffered' body out out' ran is h = subst (RanTo x service start k next buffered buffered' body out out') is h
 
 -- As much is still to come of a response that goes on, but for its level.
 abbrev pub Keeps : (before after : Rest) → (out out' : List ℕ) → (closing closing' : Bool) → Option Log → Type 0
@@ -315,22 +315,22 @@ keeps_prop before after out out' closing closing' log = hlevel props
 
 module _ (serves : Serves) where
   -- a live connection goes on
-  live_at : (service : Service) (cause : Option StopCause) (flow : Option Flight) (out : List ℕ) (journal : List Entry) (closing ended : Bool) (body : Option BodyState) (held : List ℕ) (next : HeadStep) → is_some cause ≡ false → is_live (view_at serves service cause flow out journal closing ended body held next) ≡ true
-  live_at service None flow out journal closing ended body held next h = refl
-  live_at service (Some cause) flow out journal closing ended body held next h = cc
+  live_at : (service : Service) (cause : Option StopCause) (flow : Option Flight) (out : List ℕ) (journal : List Entry) (closing ended : Bool) (body : Option BodyState) (buffered : List ℕ) (next : HeadStep) → is_some cause ≡ false → is_live (view_at serves service cause flow out journal closing ended body buffered next) ≡ true
+  live_at service None flow out journal closing ended body buffered next h = refl
+  live_at service (Some cause) flow out journal closing ended body buffered next h = cc
 
-  logged_at : (service : Service) (flow : Option Flight) (journal : List Entry) (closing : Bool) (body : Option BodyState) (held : List ℕ) → IsLogged (is_some flow) journal → (trees : Trees) (more : List ℕ) (later : List Start) →
-      Logged (map log_of journal) (logs_at service (rest_in serves flow) journal closing body held trees more later)
-  logged_at service flow journal closing body held told trees more later =
-      logged_shown (is_some flow) (map log_of journal) (logged_in journal) ((rest_in serves flow trees).logs ++ logs_in (after_at service (rest_in serves flow) journal closing body held trees more later)) told
+  logged_at : (service : Service) (flow : Option Flight) (journal : List Entry) (closing : Bool) (body : Option BodyState) (buffered : List ℕ) → IsLogged (is_some flow) journal → (trees : Trees) (more : List ℕ) (later : List Start) →
+      Logged (map log_of journal) (logs_at service (rest_in serves flow) journal closing body buffered trees more later)
+  logged_at service flow journal closing body buffered told trees more later =
+      logged_shown (is_some flow) (map log_of journal) (logged_in journal) ((rest_in serves flow trees).logs ++ logs_in (after_at service (rest_in serves flow) journal closing body buffered trees more later)) told
 
   -- the first pending bytes go
-  pub wrote_went : (service : Service) (cause : Option StopCause) (flow flow' : Option Flight) (out out' : List ℕ) (journal : List Entry) (closing ended : Bool) (body : Option BodyState) (held : List ℕ) (next : HeadStep) (n : ℕ) → is_some cause ≡ false →
+  pub wrote_went : (service : Service) (cause : Option StopCause) (flow flow' : Option Flight) (out out' : List ℕ) (journal : List Entry) (closing ended : Bool) (body : Option BodyState) (buffered : List ℕ) (next : HeadStep) (n : ℕ) → is_some cause ≡ false →
       ((trees : Trees) → Writes (rest_in serves flow trees) (rest_in serves flow' trees) out out' (take n (pending_at flow out))) → IsLogged (is_some flow') journal →
-      Went Always (view_at serves service cause flow out journal closing ended body held next) (view_at serves service cause flow' out' journal closing ended body held next) [] (take n (pending_at flow out)) []
-  wrote_went service cause flow flow' out out' journal closing ended body held next n live writes told = record {
-    before = live_at service cause flow out journal closing ended body held next live;
-    after = live_at service cause flow' out' journal closing ended body held next live;
+      Went Always (view_at serves service cause flow out journal closing ended body buffered next) (view_at serves service cause flow' out' journal closing ended body buffered next) [] (take n (pending_at flow out)) []
+  wrote_went service cause flow flow' out out' journal closing ended body buffered next n live writes told = record {
+    before = live_at service cause flow out journal closing ended body buffered next live;
+    after = live_at service cause flow' out' journal closing ended body buffered next live;
     moved = record {
       starts = sym (append-nil (map start_of journal));
       raceless = refl;
@@ -344,18 +344,18 @@ module _ (serves : Serves) where
           ap (λ b. is_over (rest_in serves flow trees) || heavy_in (tail more trees later b)) (sym (writes trees).stays)
           ∙ ap (λ k. nat_lt most_subs k || heavy_in (tail more trees later (rest_in serves flow' trees).stays)) (sym (writes trees).subs) ∙ h;
     };
-    logged = logged_at service flow' journal closing body held told;
+    logged = logged_at service flow' journal closing body buffered told;
   }
     where
       tail : (more : List ℕ) (trees : Trees) (later : List Start) → Bool → List Answer
-      tail more trees later stays = cond (cond stays closing true) then_closes (past_body body (held ++ more) (λ input. responses service (length journal) trees input later))
+      tail more trees later stays = cond (cond stays closing true) then_closes (past_body body (buffered ++ more) (λ input. responses service (length journal) trees input later))
 
-  pub arrived_went : (service : Service) (cause : Option StopCause) (flow : Option Flight) (out : List ℕ) (journal : List Entry) (closing closing' ended : Bool) (body body' : Option BodyState) (held held' kept : List ℕ) (next next' : HeadStep) (bytes : List ℕ) → is_some cause ≡ false → closing ≡ false →
-      (is_some body ≡ true → held ≡ []) → (body ≡ None → (body' ≡ None) × (closing' ≡ false) × (kept ≡ bytes)) → Drops (rest_of body) bytes body' kept closing' → held' ≡ held ++ kept → IsLogged (is_some flow) journal →
-      Went Always (view_at serves service cause flow out journal closing ended body held next) (view_at serves service cause flow out journal closing' ended body' held' next') bytes [] []
-  arrived_went service cause flow out journal closing closing' ended body body' held held' kept next next' bytes live unclosed drained still d e told = record {
-    before = live_at service cause flow out journal closing ended body held next live;
-    after = live_at service cause flow out journal closing' ended body' held' next' live;
+  pub arrived_went : (service : Service) (cause : Option StopCause) (flow : Option Flight) (out : List ℕ) (journal : List Entry) (closing closing' ended : Bool) (body body' : Option BodyState) (buffered buffered' kept : List ℕ) (next next' : HeadStep) (bytes : List ℕ) → is_some cause ≡ false → closing ≡ false →
+      (is_some body ≡ true → buffered ≡ []) → (body ≡ None → (body' ≡ None) × (closing' ≡ false) × (kept ≡ bytes)) → Drops (rest_of body) bytes body' kept closing' → buffered' ≡ buffered ++ kept → IsLogged (is_some flow) journal →
+      Went Always (view_at serves service cause flow out journal closing ended body buffered next) (view_at serves service cause flow out journal closing' ended body' buffered' next') bytes [] []
+  arrived_went service cause flow out journal closing closing' ended body body' buffered buffered' kept next next' bytes live unclosed drained still d e told = record {
+    before = live_at service cause flow out journal closing ended body buffered next live;
+    after = live_at service cause flow out journal closing' ended body' buffered' next' live;
     moved = record {
       starts = sym (append-nil (map start_of journal));
       raceless = refl;
@@ -365,127 +365,127 @@ module _ (serves : Serves) where
       closes = λ trees is more later. ap close_in (same trees more later);
       heavy = λ trees is more later h. ap (λ a. is_over (rest_in serves flow trees) || heavy_in a) (same trees more later) ∙ h;
     };
-    logged = logged_at service flow journal closing' body' held' told;
+    logged = logged_at service flow journal closing' body' buffered' told;
   }
     where
-      same : (trees : Trees) (more : List ℕ) (later : List Start) → after_at service (rest_in serves flow) journal closing body held trees (bytes ++ more) later ≡ after_at service (rest_in serves flow) journal closing' body' held' trees more later
+      same : (trees : Trees) (more : List ℕ) (later : List Start) → after_at service (rest_in serves flow) journal closing body buffered trees (bytes ++ more) later ≡ after_at service (rest_in serves flow) journal closing' body' buffered' trees more later
       same trees more later =
           let g : List ℕ → List Answer = λ input. responses service (length journal) trees input later in
-          behind_kept (rest_in serves flow trees) closing closing' (past_body body (held ++ (bytes ++ more)) g) (past_body body' (held' ++ more) g) unclosed (absorbed g body body' held held' bytes kept more closing' drained still d e)
+          behind_kept (rest_in serves flow trees) closing closing' (past_body body (buffered ++ (bytes ++ more)) g) (past_body body' (buffered' ++ more) g) unclosed (absorbed g body body' buffered buffered' bytes kept more closing' drained still d e)
 
   -- A request was started: this is its response, before those that are still to come.
-  record Said (service : Service) (trees : Trees) (now : Start) (flow' : Option Flight) (out out' : List ℕ) (journal journal' : List Entry) (closing closing' : Bool) (body body' : Option BodyState) (held held' : List ℕ) (log : Option Log) (more : List ℕ) (later : List Start) : Type 0 where
+  record Said (service : Service) (trees : Trees) (now : Start) (flow' : Option Flight) (out out' : List ℕ) (journal journal' : List Entry) (closing closing' : Bool) (body body' : Option BodyState) (buffered buffered' : List ℕ) (log : Option Log) (more : List ℕ) (later : List Start) : Type 0 where
     said : Response
-    first : after_at service (rest_in serves None) journal closing body held trees more (now ∷ later) ≡ Sends said ∷ after_at service (rest_in serves flow') journal' closing' body' held' trees more later
+    first : after_at service (rest_in serves None) journal closing body buffered trees more (now ∷ later) ≡ Sends said ∷ after_at service (rest_in serves flow') journal' closing' body' buffered' trees more later
     put : out' ++ (rest_in serves flow' trees).bytes ≡ out ++ said.bytes
     logged : logged_by log ++ (rest_in serves flow' trees).logs ≡ said.log ∷ []
     heavy : is_over (rest_in serves flow' trees) ≡ is_heavy said
 
-  said_of : HeadStays → RefusalStays → SizeFits → (service : Service) (trees : Trees) (now : Start) (flow' : Option Flight) (out out' : List ℕ) (journal journal' : List Entry) (entry : Entry) (closing closing' : Bool) (body body' : Option BodyState) (held held' : List ℕ) (next : HeadStep) (log : Option Log) →
-      closing ≡ false → body ≡ None → next ≡ head_step held → journal' ≡ journal ++ entry ∷ [] → RanOne serves service now (length journal) next held held' body' flow' out out' closing' log → AreRaceless serves → (more : List ℕ) (later : List Start) →
-      Said service trees now flow' out out' journal journal' closing closing' body body' held held' log more later
+  said_of : HeadStays → RefusalStays → SizeFits → (service : Service) (trees : Trees) (now : Start) (flow' : Option Flight) (out out' : List ℕ) (journal journal' : List Entry) (entry : Entry) (closing closing' : Bool) (body body' : Option BodyState) (buffered buffered' : List ℕ) (next : HeadStep) (log : Option Log) →
+      closing ≡ false → body ≡ None → next ≡ head_step buffered → journal' ≡ journal ++ entry ∷ [] → RanOne serves service now (length journal) next buffered buffered' body' flow' out out' closing' log → AreRaceless serves → (more : List ℕ) (later : List Start) →
+      Said service trees now flow' out out' journal journal' closing closing' body body' buffered buffered' log more later
   unfolding refusal
-  said_of stays refused fits service trees now flow' out out' journal journal' entry closing closing' body body' held held' (Head head size) log c b l j r raceless more later =
+  said_of stays refused fits service trees now flow' out out' journal journal' entry closing closing' body body' buffered buffered' (Head head size) log c b l j r raceless more later =
       let k = length journal in
       let whole : Response = response_at service trees k now head in
       let rest = rest_in serves flow' trees in
       let g : List ℕ → List Answer = λ input. responses service (k + 1) trees input later in
       let count : length journal' ≡ k + 1 = ap length j ∙ length-append journal (entry ∷ []) in
       let a = r.says raceless trees in
-      let behind = drop size held in
+      let behind = drop size buffered in
       record {
         said = whole;
         first =
-            ap (λ x. cond x then_closes (past_body body (held ++ more) (λ input. responses service k trees input (now ∷ later)))) c
-            ∙ ap (λ x. past_body x (held ++ more) (λ input. responses service k trees input (now ∷ later))) b
-            ∙ responses_head stays fits service k trees held more now later head size (sym l)
-            ∙ ap (λ x. Sends whole ∷ x) (kept_or_closed whole.stays r.broken (closes_after rest closing') (after_body (body_of head.body (behind ++ more)) (λ n. g (drop n (behind ++ more)))) (past_body body' (held' ++ more) g) a.closes (r.drops.rest g more))
-            ∙ ap (λ n. Sends whole ∷ cond (closes_after rest closing') then_closes (past_body body' (held' ++ more) (λ input. responses service n trees input later))) (sym count);
+            ap (λ x. cond x then_closes (past_body body (buffered ++ more) (λ input. responses service k trees input (now ∷ later)))) c
+            ∙ ap (λ x. past_body x (buffered ++ more) (λ input. responses service k trees input (now ∷ later))) b
+            ∙ responses_head stays fits service k trees buffered more now later head size (sym l)
+            ∙ ap (λ x. Sends whole ∷ x) (kept_or_closed whole.stays r.broken (closes_after rest closing') (after_body (body_of head.body (behind ++ more)) (λ n. g (drop n (behind ++ more)))) (past_body body' (buffered' ++ more) g) a.closes (r.drops.rest g more))
+            ∙ ap (λ n. Sends whole ∷ cond (closes_after rest closing') then_closes (past_body body' (buffered' ++ more) (λ input. responses service n trees input later))) (sym count);
         put = a.put;
         logged = a.logged;
         heavy = a.heavy;
       }
-  said_of stays refused fits service trees now flow' out out' journal journal' entry closing closing' body body' held held' (Bad code no_body) log c b l j r raceless more later =
+  said_of stays refused fits service trees now flow' out out' journal journal' entry closing closing' body body' buffered buffered' (Bad code no_body) log c b l j r raceless more later =
       let whole : Response = refusal code now no_body in
       record {
         said = whole;
         first =
-            ap (λ x. cond x then_closes (past_body body (held ++ more) (λ input. responses service (length journal) trees input (now ∷ later)))) c
-            ∙ ap (λ x. past_body x (held ++ more) (λ input. responses service (length journal) trees input (now ∷ later))) b
-            ∙ responses_bad refused service (length journal) trees held more now later code no_body (sym l)
-            ∙ ap (λ x. Sends whole ∷ cond x then_closes (past_body body' (held' ++ more) (λ input. responses service (length journal') trees input later))) (sym r.closes)
-            ∙ ap (λ f. Sends whole ∷ cond (closes_after (rest_in serves f trees) closing') then_closes (past_body body' (held' ++ more) (λ input. responses service (length journal') trees input later))) (sym r.over);
+            ap (λ x. cond x then_closes (past_body body (buffered ++ more) (λ input. responses service (length journal) trees input (now ∷ later)))) c
+            ∙ ap (λ x. past_body x (buffered ++ more) (λ input. responses service (length journal) trees input (now ∷ later))) b
+            ∙ responses_bad refused service (length journal) trees buffered more now later code no_body (sym l)
+            ∙ ap (λ x. Sends whole ∷ cond x then_closes (past_body body' (buffered' ++ more) (λ input. responses service (length journal') trees input later))) (sym r.closes)
+            ∙ ap (λ f. Sends whole ∷ cond (closes_after (rest_in serves f trees) closing') then_closes (past_body body' (buffered' ++ more) (λ input. responses service (length journal') trees input later))) (sym r.over);
         put = ap (λ f. out' ++ (rest_in serves f trees).bytes) r.over ∙ append-nil out' ∙ r.put;
         logged = ap (λ f. logged_by log ++ (rest_in serves f trees).logs) r.over ∙ append-nil (logged_by log) ∙ ap logged_by r.logged;
         heavy = ap (λ f. is_over (rest_in serves f trees)) r.over;
       }
-  said_of stays refused fits service trees now flow' out out' journal journal' entry closing closing' body body' held held' More log c b l j r raceless more later = absurd r
+  said_of stays refused fits service trees now flow' out out' journal journal' entry closing closing' body body' buffered buffered' More log c b l j r raceless more later = absurd r
 
   -- whether a request asks for too many subrequests
-  said_heavy : (service : Service) (trees : Trees) (now : Start) (flow' : Option Flight) (out out' : List ℕ) (journal journal' : List Entry) (closing closing' : Bool) (body body' : Option BodyState) (held held' : List ℕ) (log : Option Log) (more : List ℕ) (later : List Start) →
-      Said service trees now flow' out out' journal journal' closing closing' body body' held held' log more later →
-      heavy_at service (rest_in serves None) journal closing body held trees more (now ∷ later) ≡ heavy_at service (rest_in serves flow') journal' closing' body' held' trees more later
+  said_heavy : (service : Service) (trees : Trees) (now : Start) (flow' : Option Flight) (out out' : List ℕ) (journal journal' : List Entry) (closing closing' : Bool) (body body' : Option BodyState) (buffered buffered' : List ℕ) (log : Option Log) (more : List ℕ) (later : List Start) →
+      Said service trees now flow' out out' journal journal' closing closing' body body' buffered buffered' log more later →
+      heavy_at service (rest_in serves None) journal closing body buffered trees more (now ∷ later) ≡ heavy_at service (rest_in serves flow') journal' closing' body' buffered' trees more later
   unfolding any_over
-  said_heavy service trees now flow' out out' journal journal' closing closing' body body' held held' log more later s =
+  said_heavy service trees now flow' out out' journal journal' closing closing' body body' buffered buffered' log more later s =
       ap (λ a. heavy_in a) s.first
-      ∙ ap (λ b. b || heavy_in (after_at service (rest_in serves flow') journal' closing' body' held' trees more later)) (sym s.heavy)
+      ∙ ap (λ b. b || heavy_in (after_at service (rest_in serves flow') journal' closing' body' buffered' trees more later)) (sym s.heavy)
 
   -- the bytes that are still to come, and the logs
-  said_bytes : (service : Service) (trees : Trees) (now : Start) (flow' : Option Flight) (out out' : List ℕ) (journal journal' : List Entry) (closing closing' : Bool) (body body' : Option BodyState) (held held' : List ℕ) (log : Option Log) (more : List ℕ) (later : List Start) →
-      Said service trees now flow' out out' journal journal' closing closing' body body' held held' log more later →
-      bytes_at service (rest_in serves None) out journal closing body held trees more (now ∷ later) ≡ bytes_at service (rest_in serves flow') out' journal' closing' body' held' trees more later
-  said_bytes service trees now flow' out out' journal journal' closing closing' body body' held held' log more later s =
+  said_bytes : (service : Service) (trees : Trees) (now : Start) (flow' : Option Flight) (out out' : List ℕ) (journal journal' : List Entry) (closing closing' : Bool) (body body' : Option BodyState) (buffered buffered' : List ℕ) (log : Option Log) (more : List ℕ) (later : List Start) →
+      Said service trees now flow' out out' journal journal' closing closing' body body' buffered buffered' log more later →
+      bytes_at service (rest_in serves None) out journal closing body buffered trees more (now ∷ later) ≡ bytes_at service (rest_in serves flow') out' journal' closing' body' buffered' trees more later
+  said_bytes service trees now flow' out out' journal journal' closing closing' body body' buffered buffered' log more later s =
       let rest = rest_in serves flow' trees in
-      let behind = bytes_in (after_at service (rest_in serves flow') journal' closing' body' held' trees more later) in
+      let behind = bytes_in (after_at service (rest_in serves flow') journal' closing' body' buffered' trees more later) in
       ap (λ x. out ++ bytes_in x) s.first ∙ sym (append_assoc out s.said.bytes behind) ∙ ap (λ x. x ++ behind) (sym s.put) ∙ append_assoc out' rest.bytes behind
 
-  said_logs : (service : Service) (trees : Trees) (now : Start) (flow' : Option Flight) (out out' : List ℕ) (journal journal' : List Entry) (closing closing' : Bool) (body body' : Option BodyState) (held held' : List ℕ) (log : Option Log) (more : List ℕ) (later : List Start) →
-      logged_in journal' ≡ logged_in journal ++ logged_by log → Said service trees now flow' out out' journal journal' closing closing' body body' held held' log more later →
-      logs_at service (rest_in serves None) journal closing body held trees more (now ∷ later) ≡ logs_at service (rest_in serves flow') journal' closing' body' held' trees more later
-  said_logs service trees now flow' out out' journal journal' closing closing' body body' held held' log more later e s =
+  said_logs : (service : Service) (trees : Trees) (now : Start) (flow' : Option Flight) (out out' : List ℕ) (journal journal' : List Entry) (closing closing' : Bool) (body body' : Option BodyState) (buffered buffered' : List ℕ) (log : Option Log) (more : List ℕ) (later : List Start) →
+      logged_in journal' ≡ logged_in journal ++ logged_by log → Said service trees now flow' out out' journal journal' closing closing' body body' buffered buffered' log more later →
+      logs_at service (rest_in serves None) journal closing body buffered trees more (now ∷ later) ≡ logs_at service (rest_in serves flow') journal' closing' body' buffered' trees more later
+  said_logs service trees now flow' out out' journal journal' closing closing' body body' buffered buffered' log more later e s =
       let rest = rest_in serves flow' trees in
-      let behind = logs_in (after_at service (rest_in serves flow') journal' closing' body' held' trees more later) in
+      let behind = logs_in (after_at service (rest_in serves flow') journal' closing' body' buffered' trees more later) in
       ap (λ x. logged_in journal ++ logs_in x) s.first ∙ ap (λ x. logged_in journal ++ (x ++ behind)) (sym s.logged)
       ∙ ap (λ x. logged_in journal ++ x) (append_assoc (logged_by log) rest.logs behind) ∙ sym (append_assoc (logged_in journal) (logged_by log) (rest.logs ++ behind))
       ∙ ap (λ x. x ++ (rest.logs ++ behind)) (sym e)
 
   -- a request that was started is over where it is logged
-  pub ran_over : (service : Service) (start : Start) (k : ℕ) (next : HeadStep) (held held' : List ℕ) (body : Option BodyState) (flow : Option Flight) (out out' : List ℕ) (closing : Bool) (log : Option Log) → RanOne serves service start k next held held' body flow out out' closing log → is_some log ≡ not (is_some flow)
-  ran_over service start k (Head head size) held held' body flow out out' closing log r = r.over
-  ran_over service start k (Bad code no_body) held held' body flow out out' closing log r = ap is_some r.logged ∙ ap (λ f. not (is_some f)) (sym r.over)
-  ran_over service start k More held held' body flow out out' closing log r = absurd r
+  pub ran_over : (service : Service) (start : Start) (k : ℕ) (next : HeadStep) (buffered buffered' : List ℕ) (body : Option BodyState) (flow : Option Flight) (out out' : List ℕ) (closing : Bool) (log : Option Log) → RanOne serves service start k next buffered buffered' body flow out out' closing log → is_some log ≡ not (is_some flow)
+  ran_over service start k (Head head size) buffered buffered' body flow out out' closing log r = r.over
+  ran_over service start k (Bad code no_body) buffered buffered' body flow out out' closing log r = ap is_some r.logged ∙ ap (λ f. not (is_some f)) (sym r.over)
+  ran_over service start k More buffered buffered' body flow out out' closing log r = absurd r
 
-  pub ran_went : HeadStays → RefusalStays → SizeFits → (service : Service) (now : Start) (cause : Option StopCause) (flow' : Option Flight) (out out' : List ℕ) (journal journal' : List Entry) (entry : Entry) (closing closing' ended : Bool) (body body' : Option BodyState) (held held' : List ℕ) (next next' : HeadStep) (log : Option Log) →
-      is_some cause ≡ false → closing ≡ false → body ≡ None → next ≡ head_step held → start_of entry ≡ now → log_of entry ≡ log → journal' ≡ journal ++ entry ∷ [] → TellsRaceless serves → RanOne serves service now (length journal) next held held' body' flow' out out' closing' log →
-      IsLogged (is_some flow') journal' → Ran now (view_at serves service cause None out journal closing ended body held next) (view_at serves service cause flow' out' journal' closing' ended body' held' next')
-  ran_went stays refused fits service now cause flow' out out' journal journal' entry closing closing' ended body body' held held' next next' log live c b l s g j tells r told =
+  pub ran_went : HeadStays → RefusalStays → SizeFits → (service : Service) (now : Start) (cause : Option StopCause) (flow' : Option Flight) (out out' : List ℕ) (journal journal' : List Entry) (entry : Entry) (closing closing' ended : Bool) (body body' : Option BodyState) (buffered buffered' : List ℕ) (next next' : HeadStep) (log : Option Log) →
+      is_some cause ≡ false → closing ≡ false → body ≡ None → next ≡ head_step buffered → start_of entry ≡ now → log_of entry ≡ log → journal' ≡ journal ++ entry ∷ [] → TellsRaceless serves → RanOne serves service now (length journal) next buffered buffered' body' flow' out out' closing' log →
+      IsLogged (is_some flow') journal' → Ran now (view_at serves service cause None out journal closing ended body buffered next) (view_at serves service cause flow' out' journal' closing' ended body' buffered' next')
+  ran_went stays refused fits service now cause flow' out out' journal journal' entry closing closing' ended body body' buffered buffered' next next' log live c b l s g j tells r told =
       Goes (now ∷ []) (inr refl) (record {
-        before = live_at service cause None out journal closing ended body held next live;
-        after = live_at service cause flow' out' journal' closing' ended body' held' next' live;
+        before = live_at service cause None out journal closing ended body buffered next live;
+        after = live_at service cause flow' out' journal' closing' ended body' buffered' next' live;
         moved = record {
           starts = ap (map start_of) j ∙ map-append start_of journal (entry ∷ []) ∙ ap (λ x. map start_of journal ++ x ∷ []) s;
           raceless = refl;
           timed = refl;
-          bytes = λ trees is more later. said_bytes service trees now flow' out out' journal journal' closing closing' body body' held held' log more later (said is trees more later);
-          logs = λ trees is more later. said_logs service trees now flow' out out' journal journal' closing closing' body body' held held' log more later
+          bytes = λ trees is more later. said_bytes service trees now flow' out out' journal journal' closing closing' body body' buffered buffered' log more later (said is trees more later);
+          logs = λ trees is more later. said_logs service trees now flow' out out' journal journal' closing closing' body body' buffered buffered' log more later
               (ap logged_in j ∙ entered_logs journal entry ∙ ap (λ x. logged_in journal ++ logged_by x) g) (said is trees more later);
           closes = λ trees is more later. ap close_in (said is trees more later).first;
-          heavy = λ trees is more later h. said_heavy service trees now flow' out out' journal journal' closing closing' body body' held held' log more later (said is trees more later) ∙ h;
+          heavy = λ trees is more later h. said_heavy service trees now flow' out out' journal journal' closing closing' body body' buffered buffered' log more later (said is trees more later) ∙ h;
         };
-        logged = logged_at service flow' journal' closing' body' held' told;
+        logged = logged_at service flow' journal' closing' body' buffered' told;
       })
     where
-      said : serves.served.raceless ≡ true → (trees : Trees) (more : List ℕ) (later : List Start) → Said service trees now flow' out out' journal journal' closing closing' body body' held held' log more later
-      said is trees more later = said_of stays refused fits service trees now flow' out out' journal journal' entry closing closing' body body' held held' next log c b l j r (tells is) more later
+      said : serves.served.raceless ≡ true → (trees : Trees) (more : List ℕ) (later : List Start) → Said service trees now flow' out out' journal journal' closing closing' body body' buffered buffered' log more later
+      said is trees more later = said_of stays refused fits service trees now flow' out out' journal journal' entry closing closing' body body' buffered buffered' next log c b l j r (tells is) more later
 
   -- Too many subrequests are asked for when one starts: it is stopped. This is foreseen.
-  pub ran_halts : HeadStays → SizeFits → (service : Service) (now : Start) (count : ℕ) (cause : Option StopCause) (flow' : Option Flight) (out out' : List ℕ) (journal journal' : List Entry) (entry : Entry) (closing closing' ended ended' : Bool) (body body' : Option BodyState) (held held' : List ℕ) (next next' : HeadStep) →
-      is_some cause ≡ false → closing ≡ false → body ≡ None → next ≡ head_step held → flow' ≡ None → out' ≡ [] → start_of entry ≡ now → log_of entry ≡ None → journal' ≡ journal ++ entry ∷ [] → TellsRaceless serves → RanOver serves service now (length journal) next →
-      IsLogged false journal → Ran now (view_at serves service cause None out journal closing ended body held next) (view_at serves service (Some (stop.SubLimit count)) flow' out' journal' closing' ended' body' held' next')
+  pub ran_halts : HeadStays → SizeFits → (service : Service) (now : Start) (count : ℕ) (cause : Option StopCause) (flow' : Option Flight) (out out' : List ℕ) (journal journal' : List Entry) (entry : Entry) (closing closing' ended ended' : Bool) (body body' : Option BodyState) (buffered buffered' : List ℕ) (next next' : HeadStep) →
+      is_some cause ≡ false → closing ≡ false → body ≡ None → next ≡ head_step buffered → flow' ≡ None → out' ≡ [] → start_of entry ≡ now → log_of entry ≡ None → journal' ≡ journal ++ entry ∷ [] → TellsRaceless serves → RanOver serves service now (length journal) next →
+      IsLogged false journal → Ran now (view_at serves service cause None out journal closing ended body buffered next) (view_at serves service (Some (stop.SubLimit count)) flow' out' journal' closing' ended' body' buffered' next')
   unfolding any_over
-  ran_halts stays fits service now count cause flow' out out' journal journal' entry closing closing' ended ended' body body' held held' next next' live c b l f e s g j tells r told =
+  ran_halts stays fits service now count cause flow' out out' journal journal' entry closing closing' ended ended' body body' buffered buffered' next next' live c b l f e s g j tells r told =
       Halts count (now ∷ []) (inr refl) (record {
-        before = live_at service cause None out journal closing ended body held next live;
+        before = live_at service cause None out journal closing ended body buffered next live;
         held = refl;
         why = refl;
         pending = unsent flow' out' f e;
@@ -495,37 +495,37 @@ module _ (serves : Serves) where
         raceless = refl;
       }) (λ is trees more later. foreseen next r l (tells is) trees more later)
     where
-      foreseen : (next : HeadStep) → RanOver serves service now (length journal) next → next ≡ head_step held → AreRaceless serves → (trees : Trees) (more : List ℕ) (later : List Start) →
-          heavy_at service (rest_in serves None) journal closing body held trees more (now ∷ later) ≡ true
+      foreseen : (next : HeadStep) → RanOver serves service now (length journal) next → next ≡ head_step buffered → AreRaceless serves → (trees : Trees) (more : List ℕ) (later : List Start) →
+          heavy_at service (rest_in serves None) journal closing body buffered trees more (now ∷ later) ≡ true
       foreseen (Head head size) r l raceless trees more later =
           let k = length journal in
           let whole : Response = response_at service trees k now head in
-          let behind = cond whole.stays (after_body (body_of head.body (drop size held ++ more)) (λ n. responses service (k + 1) trees (drop n (drop size held ++ more)) later)) then_closes in
-          ap (λ x. heavy_in (cond x then_closes (past_body body (held ++ more) (λ input. responses service k trees input (now ∷ later))))) c
-          ∙ ap (λ x. heavy_in (past_body x (held ++ more) (λ input. responses service k trees input (now ∷ later)))) b
-          ∙ ap (λ a. heavy_in a) (responses_head stays fits service k trees held more now later head size (sym l))
+          let behind = cond whole.stays (after_body (body_of head.body (drop size buffered ++ more)) (λ n. responses service (k + 1) trees (drop n (drop size buffered ++ more)) later)) then_closes in
+          ap (λ x. heavy_in (cond x then_closes (past_body body (buffered ++ more) (λ input. responses service k trees input (now ∷ later))))) c
+          ∙ ap (λ x. heavy_in (past_body x (buffered ++ more) (λ input. responses service k trees input (now ∷ later)))) b
+          ∙ ap (λ a. heavy_in a) (responses_head stays fits service k trees buffered more now later head size (sym l))
           ∙ ap (λ t. t || heavy_in behind) (r raceless trees)
       foreseen (Bad code no_body) r l raceless trees more later = absurd r
       foreseen More r l raceless trees more later = absurd r
 
-  pub ran_left : SizeFits → (service : Service) (now : Start) (k : ℕ) (cause : Option StopCause) (flow' : Option Flight) (out out' : List ℕ) (closing closing' : Bool) (body' : Option BodyState) (held held' : List ℕ) (next : HeadStep) (log : Option Log) →
-      is_some cause ≡ false → closing ≡ false → next ≡ head_step held → work flow' (length out') < weight → RanOne serves service now k next held held' body' flow' out out' closing' log → left_at cause flow' out' closing' held' < left_at cause None out closing held
-  ran_left fits service now k (Some cause) flow' out out' closing closing' body' held held' next log live c l f r = cc
-  ran_left fits service now k None flow' out out' closing closing' body' held held' (Head head size) log live c l f r =
-      let s = fits held head size (sym l) in
-      let d : length (drop size held) ≡ length held - size = length-drop size held in
-      let shorter : length held' < length held = omega (arith, s.0, s.1, d, r.drops.shorter) in
+  pub ran_left : SizeFits → (service : Service) (now : Start) (k : ℕ) (cause : Option StopCause) (flow' : Option Flight) (out out' : List ℕ) (closing closing' : Bool) (body' : Option BodyState) (buffered buffered' : List ℕ) (next : HeadStep) (log : Option Log) →
+      is_some cause ≡ false → closing ≡ false → next ≡ head_step buffered → work flow' (length out') < weight → RanOne serves service now k next buffered buffered' body' flow' out out' closing' log → left_at cause flow' out' closing' buffered' < left_at cause None out closing buffered
+  ran_left fits service now k (Some cause) flow' out out' closing closing' body' buffered buffered' next log live c l f r = cc
+  ran_left fits service now k None flow' out out' closing closing' body' buffered buffered' (Head head size) log live c l f r =
+      let s = fits buffered head size (sym l) in
+      let d : length (drop size buffered) ≡ length buffered - size = length-drop size buffered in
+      let shorter : length buffered' < length buffered = omega (arith, s.0, s.1, d, r.drops.shorter) in
       let w : work flow' (length out') < work None (length out) + weight = omega (arith, f) in
-      rw c (falls (work None (length out)) (work flow' (length out')) (length held) (length held') closing' w shorter)
-  ran_left fits service now k None flow' out out' closing closing' body' held held' (Bad code no_body) log live c l f r =
+      rw c (falls (work None (length out)) (work flow' (length out')) (length buffered) (length buffered') closing' w shorter)
+  ran_left fits service now k None flow' out out' closing closing' body' buffered buffered' (Bad code no_body) log live c l f r =
       rw (c, r.closes) (omega (arith, f))
-  ran_left fits service now k None flow' out out' closing closing' body' held held' More log live c l f r = absurd r
+  ran_left fits service now k None flow' out out' closing closing' body' buffered buffered' More log live c l f r = absurd r
 
   -- it is stopped
-  stopped : (service : Service) (why : StopCause) (cause : Option StopCause) (flow flow' : Option Flight) (out out' : List ℕ) (journal journal' : List Entry) (closing closing' ended ended' : Bool) (body body' : Option BodyState) (held held' : List ℕ) (next next' : HeadStep) →
-      is_some cause ≡ false → flow' ≡ None → out' ≡ [] → journal' ≡ journal → Stopped why (view_at serves service cause flow out journal closing ended body held next) (view_at serves service (Some why) flow' out' journal' closing' ended' body' held' next') []
-  stopped service why cause flow flow' out out' journal journal' closing closing' ended ended' body body' held held' next next' live f e j = record {
-    before = live_at service cause flow out journal closing ended body held next live;
+  stopped : (service : Service) (why : StopCause) (cause : Option StopCause) (flow flow' : Option Flight) (out out' : List ℕ) (journal journal' : List Entry) (closing closing' ended ended' : Bool) (body body' : Option BodyState) (buffered buffered' : List ℕ) (next next' : HeadStep) →
+      is_some cause ≡ false → flow' ≡ None → out' ≡ [] → journal' ≡ journal → Stopped why (view_at serves service cause flow out journal closing ended body buffered next) (view_at serves service (Some why) flow' out' journal' closing' ended' body' buffered' next') []
+  stopped service why cause flow flow' out out' journal journal' closing closing' ended ended' body body' buffered buffered' next next' live f e j = record {
+    before = live_at service cause flow out journal closing ended body buffered next live;
     held = refl;
     why = refl;
     pending = unsent flow' out' f e;
@@ -536,66 +536,66 @@ module _ (serves : Serves) where
   }
 
   -- a response goes on
-  goes_after : (service : Service) (trees : Trees) (flow flow' : Option Flight) (out out' : List ℕ) (journal journal' : List Entry) (closing closing' : Bool) (body : Option BodyState) (held more : List ℕ) (later : List Start) (log : Option Log) → length journal' ≡ length journal →
-      Keeps (rest_in serves flow trees) (rest_in serves flow' trees) out out' closing closing' log → after_at service (rest_in serves flow) journal closing body held trees more later ≡ after_at service (rest_in serves flow') journal' closing' body held trees more later
-  goes_after service trees flow flow' out out' journal journal' closing closing' body held more later log n g =
-      let tail : ℕ → Bool → List Answer = λ k c. cond c then_closes (past_body body (held ++ more) (λ input. responses service k trees input later)) in
+  goes_after : (service : Service) (trees : Trees) (flow flow' : Option Flight) (out out' : List ℕ) (journal journal' : List Entry) (closing closing' : Bool) (body : Option BodyState) (buffered more : List ℕ) (later : List Start) (log : Option Log) → length journal' ≡ length journal →
+      Keeps (rest_in serves flow trees) (rest_in serves flow' trees) out out' closing closing' log → after_at service (rest_in serves flow) journal closing body buffered trees more later ≡ after_at service (rest_in serves flow') journal' closing' body buffered trees more later
+  goes_after service trees flow flow' out out' journal journal' closing closing' body buffered more later log n g =
+      let tail : ℕ → Bool → List Answer = λ k c. cond c then_closes (past_body body (buffered ++ more) (λ input. responses service k trees input later)) in
       ap (tail (length journal)) (sym g.1.0) ∙ ap (λ k. tail k (closes_after (rest_in serves flow' trees) closing')) (sym n)
 
-  goes_heavy : (service : Service) (trees : Trees) (flow flow' : Option Flight) (out out' : List ℕ) (journal journal' : List Entry) (closing closing' : Bool) (body : Option BodyState) (held more : List ℕ) (later : List Start) (log : Option Log) → length journal' ≡ length journal →
-      Keeps (rest_in serves flow trees) (rest_in serves flow' trees) out out' closing closing' log → heavy_at service (rest_in serves flow) journal closing body held trees more later ≡ heavy_at service (rest_in serves flow') journal' closing' body held trees more later
-  goes_heavy service trees flow flow' out out' journal journal' closing closing' body held more later log n g =
-      ap (λ a. is_over (rest_in serves flow trees) || heavy_in a) (goes_after service trees flow flow' out out' journal journal' closing closing' body held more later log n g)
-      ∙ ap (λ b. b || heavy_in (after_at service (rest_in serves flow') journal' closing' body held trees more later)) (sym g.1.1.1)
+  goes_heavy : (service : Service) (trees : Trees) (flow flow' : Option Flight) (out out' : List ℕ) (journal journal' : List Entry) (closing closing' : Bool) (body : Option BodyState) (buffered more : List ℕ) (later : List Start) (log : Option Log) → length journal' ≡ length journal →
+      Keeps (rest_in serves flow trees) (rest_in serves flow' trees) out out' closing closing' log → heavy_at service (rest_in serves flow) journal closing body buffered trees more later ≡ heavy_at service (rest_in serves flow') journal' closing' body buffered trees more later
+  goes_heavy service trees flow flow' out out' journal journal' closing closing' body buffered more later log n g =
+      ap (λ a. is_over (rest_in serves flow trees) || heavy_in a) (goes_after service trees flow flow' out out' journal journal' closing closing' body buffered more later log n g)
+      ∙ ap (λ b. b || heavy_in (after_at service (rest_in serves flow') journal' closing' body buffered trees more later)) (sym g.1.1.1)
 
-  goes_bytes : (service : Service) (trees : Trees) (flow flow' : Option Flight) (out out' : List ℕ) (journal journal' : List Entry) (closing closing' : Bool) (body : Option BodyState) (held more : List ℕ) (later : List Start) (log : Option Log) → length journal' ≡ length journal →
-      Keeps (rest_in serves flow trees) (rest_in serves flow' trees) out out' closing closing' log → bytes_at service (rest_in serves flow) out journal closing body held trees more later ≡ bytes_at service (rest_in serves flow') out' journal' closing' body held trees more later
-  goes_bytes service trees flow flow' out out' journal journal' closing closing' body held more later log n g =
+  goes_bytes : (service : Service) (trees : Trees) (flow flow' : Option Flight) (out out' : List ℕ) (journal journal' : List Entry) (closing closing' : Bool) (body : Option BodyState) (buffered more : List ℕ) (later : List Start) (log : Option Log) → length journal' ≡ length journal →
+      Keeps (rest_in serves flow trees) (rest_in serves flow' trees) out out' closing closing' log → bytes_at service (rest_in serves flow) out journal closing body buffered trees more later ≡ bytes_at service (rest_in serves flow') out' journal' closing' body buffered trees more later
+  goes_bytes service trees flow flow' out out' journal journal' closing closing' body buffered more later log n g =
       let r = rest_in serves flow trees in
       let r' = rest_in serves flow' trees in
-      let behind = bytes_in (after_at service (rest_in serves flow') journal' closing' body held trees more later) in
-      ap (λ x. out ++ (r.bytes ++ bytes_in x)) (goes_after service trees flow flow' out out' journal journal' closing closing' body held more later log n g)
+      let behind = bytes_in (after_at service (rest_in serves flow') journal' closing' body buffered trees more later) in
+      ap (λ x. out ++ (r.bytes ++ bytes_in x)) (goes_after service trees flow flow' out out' journal journal' closing closing' body buffered more later log n g)
       ∙ sym (append_assoc out r.bytes behind) ∙ ap (λ x. x ++ behind) (sym g.0) ∙ append_assoc out' r'.bytes behind
 
-  goes_logs : (service : Service) (trees : Trees) (flow flow' : Option Flight) (out out' : List ℕ) (journal journal' : List Entry) (closing closing' : Bool) (body : Option BodyState) (held more : List ℕ) (later : List Start) (log : Option Log) → length journal' ≡ length journal →
-      logged_in journal' ≡ logged_in journal ++ logged_by log → Keeps (rest_in serves flow trees) (rest_in serves flow' trees) out out' closing closing' log → logs_at service (rest_in serves flow) journal closing body held trees more later ≡ logs_at service (rest_in serves flow') journal' closing' body held trees more later
-  goes_logs service trees flow flow' out out' journal journal' closing closing' body held more later log n e g =
+  goes_logs : (service : Service) (trees : Trees) (flow flow' : Option Flight) (out out' : List ℕ) (journal journal' : List Entry) (closing closing' : Bool) (body : Option BodyState) (buffered more : List ℕ) (later : List Start) (log : Option Log) → length journal' ≡ length journal →
+      logged_in journal' ≡ logged_in journal ++ logged_by log → Keeps (rest_in serves flow trees) (rest_in serves flow' trees) out out' closing closing' log → logs_at service (rest_in serves flow) journal closing body buffered trees more later ≡ logs_at service (rest_in serves flow') journal' closing' body buffered trees more later
+  goes_logs service trees flow flow' out out' journal journal' closing closing' body buffered more later log n e g =
       let r = rest_in serves flow trees in
       let r' = rest_in serves flow' trees in
-      let behind = logs_in (after_at service (rest_in serves flow') journal' closing' body held trees more later) in
-      ap (λ x. logged_in journal ++ (r.logs ++ logs_in x)) (goes_after service trees flow flow' out out' journal journal' closing closing' body held more later log n g)
+      let behind = logs_in (after_at service (rest_in serves flow') journal' closing' body buffered trees more later) in
+      ap (λ x. logged_in journal ++ (r.logs ++ logs_in x)) (goes_after service trees flow flow' out out' journal journal' closing closing' body buffered more later log n g)
       ∙ ap (λ x. logged_in journal ++ (x ++ behind)) (sym g.1.1.0) ∙ ap (λ x. logged_in journal ++ x) (append_assoc (logged_by log) r'.logs behind)
       ∙ sym (append_assoc (logged_in journal) (logged_by log) (r'.logs ++ behind)) ∙ ap (λ x. x ++ (r'.logs ++ behind)) (sym e)
 
-  pub goes_went : (ground : Ground) (service : Service) (cause : Option StopCause) (flow flow' : Option Flight) (out out' : List ℕ) (journal journal' : List Entry) (closing closing' ended : Bool) (body : Option BodyState) (held : List ℕ) (next : HeadStep) (log : Option Log) →
+  pub goes_went : (ground : Ground) (service : Service) (cause : Option StopCause) (flow flow' : Option Flight) (out out' : List ℕ) (journal journal' : List Entry) (closing closing' ended : Bool) (body : Option BodyState) (buffered : List ℕ) (next : HeadStep) (log : Option Log) →
       is_some cause ≡ false → length journal' ≡ length journal → map start_of journal' ≡ map start_of journal → logged_in journal' ≡ logged_in journal ++ logged_by log → IsLogged (is_some flow') journal' →
       ((trees : Trees) → Holds ground trees → Keeps (rest_in serves flow trees) (rest_in serves flow' trees) out out' closing closing' log) →
-      Went ground (view_at serves service cause flow out journal closing ended body held next) (view_at serves service cause flow' out' journal' closing' ended body held next) [] [] []
-  goes_went ground service cause flow flow' out out' journal journal' closing closing' ended body held next log live n m e told g = record {
-    before = live_at service cause flow out journal closing ended body held next live;
-    after = live_at service cause flow' out' journal' closing' ended body held next live;
+      Went ground (view_at serves service cause flow out journal closing ended body buffered next) (view_at serves service cause flow' out' journal' closing' ended body buffered next) [] [] []
+  goes_went ground service cause flow flow' out out' journal journal' closing closing' ended body buffered next log live n m e told g = record {
+    before = live_at service cause flow out journal closing ended body buffered next live;
+    after = live_at service cause flow' out' journal' closing' ended body buffered next live;
     moved = record {
       starts = m ∙ sym (append-nil (map start_of journal));
       raceless = refl;
       timed = refl;
-      bytes = λ trees is more later. goes_bytes service trees flow flow' out out' journal journal' closing closing' body held more later log n (g trees is);
-      logs = λ trees is more later. goes_logs service trees flow flow' out out' journal journal' closing closing' body held more later log n e (g trees is);
-      closes = λ trees is more later. ap close_in (goes_after service trees flow flow' out out' journal journal' closing closing' body held more later log n (g trees is));
-      heavy = λ trees is more later h. goes_heavy service trees flow flow' out out' journal journal' closing closing' body held more later log n (g trees is) ∙ h;
+      bytes = λ trees is more later. goes_bytes service trees flow flow' out out' journal journal' closing closing' body buffered more later log n (g trees is);
+      logs = λ trees is more later. goes_logs service trees flow flow' out out' journal journal' closing closing' body buffered more later log n e (g trees is);
+      closes = λ trees is more later. ap close_in (goes_after service trees flow flow' out out' journal journal' closing closing' body buffered more later log n (g trees is));
+      heavy = λ trees is more later h. goes_heavy service trees flow flow' out out' journal journal' closing closing' body buffered more later log n (g trees is) ∙ h;
     };
-    logged = logged_at service flow' journal' closing' body held told;
+    logged = logged_at service flow' journal' closing' body buffered told;
   }
 
   -- Too many subrequests are asked for: it is stopped. This is foreseen.
-  pub goes_halts : (now : Start) (service : Service) (count : ℕ) (cause : Option StopCause) (flow flow' : Option Flight) (out out' : List ℕ) (journal journal' : List Entry) (closing closing' ended ended' : Bool) (body body' : Option BodyState) (held held' : List ℕ) (next next' : HeadStep) →
+  pub goes_halts : (now : Start) (service : Service) (count : ℕ) (cause : Option StopCause) (flow flow' : Option Flight) (out out' : List ℕ) (journal journal' : List Entry) (closing closing' ended ended' : Bool) (body body' : Option BodyState) (buffered buffered' : List ℕ) (next next' : HeadStep) →
       is_some cause ≡ false → flow' ≡ None → out' ≡ [] → journal' ≡ journal → (serves.served.raceless ≡ true → (trees : Trees) → is_over (rest_in serves flow trees) ≡ true) →
-      Ran now (view_at serves service cause flow out journal closing ended body held next) (view_at serves service (Some (stop.SubLimit count)) flow' out' journal' closing' ended' body' held' next')
-  goes_halts now service count cause flow flow' out out' journal journal' closing closing' ended ended' body body' held held' next next' live f e j over =
-      Halts count [] (inl refl) (stopped service (stop.SubLimit count) cause flow flow' out out' journal journal' closing closing' ended ended' body body' held held' next next' live f e j)
-      (λ is trees more later. ap (λ b. b || heavy_in (after_at service (rest_in serves flow) journal closing body held trees more later)) (over is trees))
+      Ran now (view_at serves service cause flow out journal closing ended body buffered next) (view_at serves service (Some (stop.SubLimit count)) flow' out' journal' closing' ended' body' buffered' next')
+  goes_halts now service count cause flow flow' out out' journal journal' closing closing' ended ended' body body' buffered buffered' next next' live f e j over =
+      Halts count [] (inl refl) (stopped service (stop.SubLimit count) cause flow flow' out out' journal journal' closing closing' ended ended' body body' buffered buffered' next next' live f e j)
+      (λ is trees more later. ap (λ b. b || heavy_in (after_at service (rest_in serves flow) journal closing body buffered trees more later)) (over is trees))
 
   -- an event for which there was no memory
-  pub refused : (now : Start) (service : Service) (cause : Option StopCause) (flow flow' : Option Flight) (out out' : List ℕ) (journal journal' : List Entry) (closing closing' ended ended' : Bool) (body body' : Option BodyState) (held held' : List ℕ) (next next' : HeadStep) →
-      is_some cause ≡ false → flow' ≡ None → out' ≡ [] → journal' ≡ journal → Refused now (view_at serves service cause flow out journal closing ended body held next) (view_at serves service (Some stop.Memory) flow' out' journal' closing' ended' body' held' next')
-  refused now service cause flow flow' out out' journal journal' closing closing' ended ended' body body' held held' next next' live f e j =
-      ([], inl refl, stopped service stop.Memory cause flow flow' out out' journal journal' closing closing' ended ended' body body' held held' next next' live f e j)
+  pub refused : (now : Start) (service : Service) (cause : Option StopCause) (flow flow' : Option Flight) (out out' : List ℕ) (journal journal' : List Entry) (closing closing' ended ended' : Bool) (body body' : Option BodyState) (buffered buffered' : List ℕ) (next next' : HeadStep) →
+      is_some cause ≡ false → flow' ≡ None → out' ≡ [] → journal' ≡ journal → Refused now (view_at serves service cause flow out journal closing ended body buffered next) (view_at serves service (Some stop.Memory) flow' out' journal' closing' ended' body' buffered' next')
+  refused now service cause flow flow' out out' journal journal' closing closing' ended ended' body body' buffered buffered' next next' live f e j =
+      ([], inl refl, stopped service stop.Memory cause flow flow' out out' journal journal' closing closing' ended ended' body body' buffered buffered' next next' live f e j)

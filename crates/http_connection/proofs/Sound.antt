@@ -97,16 +97,16 @@ unfolding placed_most
 below_none size f = grind (arith, nat_tests)
 
 -- bytes that begin no request are answered by nothing
-unanswered : (service : Service) (k : ℕ) (trees : Trees) (held : List ℕ) (later : List Start) → More ≡ head_step held → responses service k trees (held ++ []) later ≡ []
+unanswered : (service : Service) (k : ℕ) (trees : Trees) (buffered : List ℕ) (later : List Start) → More ≡ head_step buffered → responses service k trees (buffered ++ []) later ≡ []
 unfolding responses
-unanswered service k trees held [] e = refl
-unanswered service k trees held (start ∷ later) e =
-    ap (λ s. first_response service trees k start s (λ n kind. after_body (body_of kind (drop n (held ++ []))) (λ m. responses service (k + 1) trees (drop m (drop n (held ++ []))) later)))
-    (ap head_step (append-nil held) ∙ sym e)
+unanswered service k trees buffered [] e = refl
+unanswered service k trees buffered (start ∷ later) e =
+    ap (λ s. first_response service trees k start s (λ n kind. after_body (body_of kind (drop n (buffered ++ []))) (λ m. responses service (k + 1) trees (drop m (drop n (buffered ++ []))) later)))
+    (ap head_step (append-nil buffered) ∙ sym e)
 
 -- a body that isn't ended is followed by nothing yet
-unfinished : (state : BodyState) (held : List ℕ) (g : List ℕ → List Answer) → held ≡ [] → rest_of (Some state) [] ≡ Short → past_body (Some state) (held ++ []) g ≡ []
-unfinished state held g e s = ap (λ h. past_body (Some state) (h ++ []) g) e ∙ ap (λ o. after_body o (λ n. g (drop n []))) s
+unfinished : (state : BodyState) (buffered : List ℕ) (g : List ℕ → List Answer) → buffered ≡ [] → rest_of (Some state) [] ≡ Short → past_body (Some state) (buffered ++ []) g ≡ []
+unfinished state buffered g e s = ap (λ h. past_body (Some state) (h ++ []) g) e ∙ ap (λ o. after_body o (λ n. g (drop n []))) s
 
 -- nothing is sent or logged where it closes
 silent_close : (closing : Bool) → bytes_in (cond closing then_closes []) ≡ []
@@ -133,15 +133,15 @@ idle_parts out closing body next h =
     }
 
 -- nothing is read after the end of the input
-silent_at : (stopped closing ended : Bool) (held : List ℕ) → ended ≡ true → room_at stopped closing ended held ≡ None
-silent_at true closing ended held e = refl
-silent_at false true ended held e = refl
-silent_at false false true held e = refl
-silent_at false false false held e = cc
+silent_at : (stopped closing ended : Bool) (buffered : List ℕ) → ended ≡ true → room_at stopped closing ended buffered ≡ None
+silent_at true closing ended buffered e = refl
+silent_at false true ended buffered e = refl
+silent_at false false true buffered e = refl
+silent_at false false false buffered e = cc
 
 -- and these are decided
-decided : FullDecides → (held : List ℕ) (next : HeadStep) → next ≡ head_step held → 8192 ≤ length held → next ≢ More
-decided full held next e h m = full held h (sym e ∙ m)
+decided : FullDecides → (buffered : List ℕ) (next : HeadStep) → next ≡ head_step buffered → 8192 ≤ length buffered → next ≢ More
+decided full buffered next e h m = full buffered h (sym e ∙ m)
 
 -- where as much is placed as there is room for, all of what is shown is there
 some_kept : (placed : ℕ) (xs : List ℕ) → placed_most ≤ placed → placed ≤ length xs → no_bytes xs ≡ false
@@ -223,27 +223,27 @@ bounded (Some (Page p)) size f = none_most size f.0
 
 module _ (serves : Serves) where
   -- where no request begins there are no further responses, and the connection closes where it does so after its last one
-  quiet_after : (service : Service) (journal : List Entry) (closing : Bool) (body : Option BodyState) (held : List ℕ) (next : HeadStep) (trees : Trees) (later : List Start) →
-      (closing || not (starts body next)) ≡ true → next ≡ head_step held → (is_some body ≡ true → held ≡ []) → (is_some body ≡ true → rest_of body [] ≡ Short) → after_at service (rest_in serves None) journal closing body held trees [] later ≡ cond closing then_closes []
-  quiet_after service journal true body held next trees later q e d u = refl
-  quiet_after service journal false (Some state) held next trees later q e d u = unfinished state held (λ input. responses service (length journal) trees input later) (d refl) (u refl)
-  quiet_after service journal false None held More trees later q e d u = unanswered service (length journal) trees held later e
-  quiet_after service journal false None held (Head head size) trees later q e d u = cc
-  quiet_after service journal false None held (Bad code no_body) trees later q e d u = cc
+  quiet_after : (service : Service) (journal : List Entry) (closing : Bool) (body : Option BodyState) (buffered : List ℕ) (next : HeadStep) (trees : Trees) (later : List Start) →
+      (closing || not (starts body next)) ≡ true → next ≡ head_step buffered → (is_some body ≡ true → buffered ≡ []) → (is_some body ≡ true → rest_of body [] ≡ Short) → after_at service (rest_in serves None) journal closing body buffered trees [] later ≡ cond closing then_closes []
+  quiet_after service journal true body buffered next trees later q e d u = refl
+  quiet_after service journal false (Some state) buffered next trees later q e d u = unfinished state buffered (λ input. responses service (length journal) trees input later) (d refl) (u refl)
+  quiet_after service journal false None buffered More trees later q e d u = unanswered service (length journal) trees buffered later e
+  quiet_after service journal false None buffered (Head head size) trees later q e d u = cc
+  quiet_after service journal false None buffered (Bad code no_body) trees later q e d u = cc
 
   -- where nothing is kept for the peer either, nothing more comes
-  quiet : (service : Service) (out : List ℕ) (journal : List Entry) (closing : Bool) (body : Option BodyState) (held : List ℕ) (next : HeadStep) (trees : Trees) (later : List Start) →
-      no_bytes out ≡ true → (closing || not (starts body next)) ≡ true → next ≡ head_step held → (is_some body ≡ true → held ≡ []) → (is_some body ≡ true → rest_of body [] ≡ Short) → bytes_at service (rest_in serves None) out journal closing body held trees [] later ≡ []
-  quiet service [] journal closing body held next trees later p q e d u = ap bytes_in (quiet_after service journal closing body held next trees later q e d u) ∙ silent_close closing
-  quiet service (b ∷ out) journal closing body held next trees later p q e d u = cc
+  quiet : (service : Service) (out : List ℕ) (journal : List Entry) (closing : Bool) (body : Option BodyState) (buffered : List ℕ) (next : HeadStep) (trees : Trees) (later : List Start) →
+      no_bytes out ≡ true → (closing || not (starts body next)) ≡ true → next ≡ head_step buffered → (is_some body ≡ true → buffered ≡ []) → (is_some body ≡ true → rest_of body [] ≡ Short) → bytes_at service (rest_in serves None) out journal closing body buffered trees [] later ≡ []
+  quiet service [] journal closing body buffered next trees later p q e d u = ap bytes_in (quiet_after service journal closing body buffered next trees later q e d u) ∙ silent_close closing
+  quiet service (b ∷ out) journal closing body buffered next trees later p q e d u = cc
 
   -- and all responses are logged
-  quiet_logs : (service : Service) (journal : List Entry) (closing : Bool) (body : Option BodyState) (held : List ℕ) (next : HeadStep) (trees : Trees) (later : List Start) → IsLogged false journal →
-      (closing || not (starts body next)) ≡ true → next ≡ head_step held → (is_some body ≡ true → held ≡ []) → (is_some body ≡ true → rest_of body [] ≡ Short) →
-      map log_of journal ≡ map (λ l. Some l) (logs_at service (rest_in serves None) journal closing body held trees [] later)
-  quiet_logs service journal closing body held next trees later told q e d u =
+  quiet_logs : (service : Service) (journal : List Entry) (closing : Bool) (body : Option BodyState) (buffered : List ℕ) (next : HeadStep) (trees : Trees) (later : List Start) → IsLogged false journal →
+      (closing || not (starts body next)) ≡ true → next ≡ head_step buffered → (is_some body ≡ true → buffered ≡ []) → (is_some body ≡ true → rest_of body [] ≡ Short) →
+      map log_of journal ≡ map (λ l. Some l) (logs_at service (rest_in serves None) journal closing body buffered trees [] later)
+  quiet_logs service journal closing body buffered next trees later told q e d u =
       told ∙ append-nil (map (λ l. Some l) (logged_in journal))
-      ∙ ap (map (λ l. Some l)) (sym (ap (λ x. logged_in journal ++ logs_in x) (quiet_after service journal closing body held next trees later q e d u) ∙ ap (λ x. logged_in journal ++ x) (unlogged_close closing) ∙ append-nil (logged_in journal)))
+      ∙ ap (map (λ l. Some l)) (sym (ap (λ x. logged_in journal ++ logs_in x) (quiet_after service journal closing body buffered next trees later q e d u) ∙ ap (λ x. logged_in journal ++ x) (unlogged_close closing) ∙ append-nil (logged_in journal)))
 
   -- an idle one is to be closed exactly where its input has ended or it closes after its last response
   shut_by : (out : List ℕ) (closing ended : Bool) (body : Option BodyState) (next : HeadStep) → Idle out closing body next →
@@ -254,53 +254,53 @@ module _ (serves : Serves) where
   shut_by [] false true body next i = i.waits
   shut_by [] false false body next i = refl
 
-  shuts_by : (service : Service) (out : List ℕ) (journal : List Entry) (closing ended : Bool) (body : Option BodyState) (held : List ℕ) (next : HeadStep) (trees : Trees) (later : List Start) → Idle out closing body next →
-      next ≡ head_step held → (is_some body ≡ true → held ≡ []) → (is_some body ≡ true → rest_of body [] ≡ Short) →
-      shut_at false None closing ended out body next ≡ (ended || close_in (after_at service (rest_in serves None) journal closing body held trees [] later))
-  shuts_by service out journal closing ended body held next trees later i e d u =
+  shuts_by : (service : Service) (out : List ℕ) (journal : List Entry) (closing ended : Bool) (body : Option BodyState) (buffered : List ℕ) (next : HeadStep) (trees : Trees) (later : List Start) → Idle out closing body next →
+      next ≡ head_step buffered → (is_some body ≡ true → buffered ≡ []) → (is_some body ≡ true → rest_of body [] ≡ Short) →
+      shut_at false None closing ended out body next ≡ (ended || close_in (after_at service (rest_in serves None) journal closing body buffered trees [] later))
+  shuts_by service out journal closing ended body buffered next trees later i e d u =
       shut_by out closing ended body next i
-      ∙ ap (λ b. ended || b) (sym (ap close_in (quiet_after service journal closing body held next trees later i.waits e d u) ∙ is_close closing))
+      ∙ ap (λ b. ended || b) (sym (ap close_in (quiet_after service journal closing body buffered next trees later i.waits e d u) ∙ is_close closing))
 
   -- one that closes before the end of its input closes after its response, and nothing comes after that
-  closed : (service : Service) (out : List ℕ) (journal : List Entry) (closing ended : Bool) (body : Option BodyState) (held : List ℕ) (next : HeadStep) (trees : Trees) (more : List ℕ) (later : List Start) →
-      shut_at false None closing ended out body next ≡ true → ended ≡ false → bytes_at service (rest_in serves None) out journal closing body held trees more later ≡ []
-  closed service [] journal true ended body held next trees more later h e = refl
-  closed service [] journal false false body held next trees more later h e = cc
-  closed service [] journal false true body held next trees more later h e = cc
-  closed service (b ∷ out) journal true ended body held next trees more later h e = cc
-  closed service (b ∷ out) journal false false body held next trees more later h e = cc
-  closed service (b ∷ out) journal false true body held next trees more later h e = cc
+  closed : (service : Service) (out : List ℕ) (journal : List Entry) (closing ended : Bool) (body : Option BodyState) (buffered : List ℕ) (next : HeadStep) (trees : Trees) (more : List ℕ) (later : List Start) →
+      shut_at false None closing ended out body next ≡ true → ended ≡ false → bytes_at service (rest_in serves None) out journal closing body buffered trees more later ≡ []
+  closed service [] journal true ended body buffered next trees more later h e = refl
+  closed service [] journal false false body buffered next trees more later h e = cc
+  closed service [] journal false true body buffered next trees more later h e = cc
+  closed service (b ∷ out) journal true ended body buffered next trees more later h e = cc
+  closed service (b ∷ out) journal false false body buffered next trees more later h e = cc
+  closed service (b ∷ out) journal false true body buffered next trees more later h e = cc
 
-  -- where no bytes are taken though nothing is closed, as many are held as are looked at
-  held_full : (n : ℕ) → cond (nat_le 8192 n) None (Some (8192 - n)) ≡ None → 8192 ≤ n
-  held_full n h = by (nat_le 8192 n) refl h
+  -- where no bytes are taken though nothing is closed, as many are buffered as are looked at
+  buffered_full : (n : ℕ) → cond (nat_le 8192 n) None (Some (8192 - n)) ≡ None → 8192 ≤ n
+  buffered_full n h = by (nat_le 8192 n) refl h
     where
       by : (t : Bool) → nat_le 8192 n ≡ t → cond t None (Some (8192 - n)) ≡ None → 8192 ≤ n
       by true e h = grind (arith, nat_tests)
       by false e h = cc
 
   -- an idle connection that isn't to be closed reads
-  reading : FullDecides → (out : List ℕ) (closing ended : Bool) (body : Option BodyState) (held : List ℕ) (next : HeadStep) → next ≡ head_step held → (is_some body ≡ true → held ≡ []) → Idle out closing body next → shut_at false None closing ended out body next ≡ false → room_at false closing ended held ≢ None
-  reading full (b ∷ out) closing ended body held next looked drained i shut none = absurd (let e = i.unsent in cc)
-  reading full [] true ended body held next looked drained i shut none = cc
-  reading full [] false true body held next looked drained i shut none = absurd (let e : true ≡ false = sym i.waits ∙ shut in cc)
-  reading full [] false false None held (Head head size) looked drained i shut none = absurd (let e = i.waits in cc)
-  reading full [] false false None held (Bad code no_body) looked drained i shut none = absurd (let e = i.waits in cc)
-  reading full [] false false None held More looked drained i shut none = absurd (decided full held More looked (held_full (length held) none) refl)
-  reading full [] false false (Some state) held next looked drained i shut none = absurd (let n = ap length (drained refl) in let h = held_full (length held) none in omega (arith, n, h))
+  reading : FullDecides → (out : List ℕ) (closing ended : Bool) (body : Option BodyState) (buffered : List ℕ) (next : HeadStep) → next ≡ head_step buffered → (is_some body ≡ true → buffered ≡ []) → Idle out closing body next → shut_at false None closing ended out body next ≡ false → room_at false closing ended buffered ≢ None
+  reading full (b ∷ out) closing ended body buffered next looked drained i shut none = absurd (let e = i.unsent in cc)
+  reading full [] true ended body buffered next looked drained i shut none = cc
+  reading full [] false true body buffered next looked drained i shut none = absurd (let e : true ≡ false = sym i.waits ∙ shut in cc)
+  reading full [] false false None buffered (Head head size) looked drained i shut none = absurd (let e = i.waits in cc)
+  reading full [] false false None buffered (Bad code no_body) looked drained i shut none = absurd (let e = i.waits in cc)
+  reading full [] false false None buffered More looked drained i shut none = absurd (decided full buffered More looked (buffered_full (length buffered) none) refl)
+  reading full [] false false (Some state) buffered next looked drained i shut none = absurd (let n = ap length (drained refl) in let h = buffered_full (length buffered) none in omega (arith, n, h))
 
-  pub idle_shown : (service : Service) (cause : Option StopCause) (flow : Option Flight) (out : List ℕ) (journal : List Entry) (closing ended : Bool) (body : Option BodyState) (held : List ℕ) (next : HeadStep) → FlightFits flow (length out) →
-      idle_at (is_some cause) flow closing out body next ≡ is_idle (view_at serves service cause flow out journal closing ended body held next)
-  idle_shown service (Some why) None out journal closing ended body held next fits = refl
-  idle_shown service (Some why) (Some flow) out journal closing ended body held next fits = refl
-  idle_shown service None None out journal closing ended body held next fits =
+  pub idle_shown : (service : Service) (cause : Option StopCause) (flow : Option Flight) (out : List ℕ) (journal : List Entry) (closing ended : Bool) (body : Option BodyState) (buffered : List ℕ) (next : HeadStep) → FlightFits flow (length out) →
+      idle_at (is_some cause) flow closing out body next ≡ is_idle (view_at serves service cause flow out journal closing ended body buffered next)
+  idle_shown service (Some why) None out journal closing ended body buffered next fits = refl
+  idle_shown service (Some why) (Some flow) out journal closing ended body buffered next fits = refl
+  idle_shown service None None out journal closing ended body buffered next fits =
       idle_none out closing body next ∙ ap (λ b. b && no_nodes (cond (starts_at false closing out body next) (0 ∷ []) []) && true) (sym (shown_none out))
-  idle_shown service None (Some flow) out journal closing ended body held next fits = sym (is_false _ (busy flow out fits))
+  idle_shown service None (Some flow) out journal closing ended body buffered next fits = sym (is_false _ (busy flow out fits))
 
-  pub sound : FullDecides → (service : Service) (cause : Option StopCause) (flow : Option Flight) (out : List ℕ) (journal : List Entry) (closing ended : Bool) (body : Option BodyState) (held : List ℕ) (next : HeadStep) →
-      (is_some cause ≡ false → next ≡ head_step held) → (is_some cause ≡ true → out ≡ []) → (is_some cause ≡ true → flow ≡ None) → FlightFits flow (length out) → (is_some body ≡ true → held ≡ []) → (is_some body ≡ true → rest_of body [] ≡ Short) → (is_some cause ≡ false → IsLogged (is_some flow) journal) → IsSound (view_at serves service cause flow out journal closing ended body held next)
-  sound full service (Some why) (Some flow) out journal closing ended body held next looked dropped quit fits drained unended told = absurd (let e : Some flow ≡ None = quit refl in cc)
-  sound full service (Some why) None out journal closing ended body held next looked dropped quit fits drained unended told = record {
+  pub sound : FullDecides → (service : Service) (cause : Option StopCause) (flow : Option Flight) (out : List ℕ) (journal : List Entry) (closing ended : Bool) (body : Option BodyState) (buffered : List ℕ) (next : HeadStep) →
+      (is_some cause ≡ false → next ≡ head_step buffered) → (is_some cause ≡ true → out ≡ []) → (is_some cause ≡ true → flow ≡ None) → FlightFits flow (length out) → (is_some body ≡ true → buffered ≡ []) → (is_some body ≡ true → rest_of body [] ≡ Short) → (is_some cause ≡ false → IsLogged (is_some flow) journal) → IsSound (view_at serves service cause flow out journal closing ended body buffered next)
+  sound full service (Some why) (Some flow) out journal closing ended body buffered next looked dropped quit fits drained unended told = absurd (let e : Some flow ≡ None = quit refl in cc)
+  sound full service (Some why) None out journal closing ended body buffered next looked dropped quit fits drained unended told = record {
     unsent = λ h. unsent None out refl (dropped refl);
     unready = λ h. refl;
     unasked = λ h. refl;
@@ -317,7 +317,7 @@ module _ (serves : Serves) where
     shuts = λ h trees later. cc;
     closes = λ h s e trees more later. cc;
   }
-  sound full service None None out journal closing ended body held next looked dropped quit fits drained unended told = record {
+  sound full service None None out journal closing ended body buffered next looked dropped quit fits drained unended told = record {
     unsent = λ h. cc;
     unready = λ h. cc;
     unasked = λ h. refl;
@@ -325,16 +325,16 @@ module _ (serves : Serves) where
     untimed = λ h. refl;
     stopped = λ cause h e. cc;
     absent = λ h. cc;
-    roomy = λ room h. (room_some false closing ended held room h).3;
-    silent = silent_at false closing ended held;
-    reads = λ h s. reading full out closing ended body held next (looked refl) drained (idle_parts out closing body next h) s;
-    idle = λ h trees later. let i = idle_parts out closing body next h in quiet service out journal closing body held next trees later i.unsent i.waits (looked refl) drained unended;
-    logged = λ h trees later. let i = idle_parts out closing body next h in quiet_logs service journal closing body held next trees later (told refl) i.waits (looked refl) drained unended;
-    shut = λ l h trees later. let i = shut_parts out closing ended body next h in quiet service out journal closing body held next trees later i.unsent i.waits (looked refl) drained unended;
-    shuts = λ h trees later. shuts_by service out journal closing ended body held next trees later (idle_parts out closing body next h) (looked refl) drained unended;
-    closes = λ l h e trees more later. closed service out journal closing ended body held next trees more later h e;
+    roomy = λ room h. (room_some false closing ended buffered room h).3;
+    silent = silent_at false closing ended buffered;
+    reads = λ h s. reading full out closing ended body buffered next (looked refl) drained (idle_parts out closing body next h) s;
+    idle = λ h trees later. let i = idle_parts out closing body next h in quiet service out journal closing body buffered next trees later i.unsent i.waits (looked refl) drained unended;
+    logged = λ h trees later. let i = idle_parts out closing body next h in quiet_logs service journal closing body buffered next trees later (told refl) i.waits (looked refl) drained unended;
+    shut = λ l h trees later. let i = shut_parts out closing ended body next h in quiet service out journal closing body buffered next trees later i.unsent i.waits (looked refl) drained unended;
+    shuts = λ h trees later. shuts_by service out journal closing ended body buffered next trees later (idle_parts out closing body next h) (looked refl) drained unended;
+    closes = λ l h e trees more later. closed service out journal closing ended body buffered next trees more later h e;
   }
-  sound full service None (Some flow) out journal closing ended body held next looked dropped quit fits drained unended told = record {
+  sound full service None (Some flow) out journal closing ended body buffered next looked dropped quit fits drained unended told = record {
     unsent = λ h. cc;
     unready = λ h. cc;
     unasked = λ h. cc;
@@ -342,8 +342,8 @@ module _ (serves : Serves) where
     untimed = λ h. refl;
     stopped = λ cause h e. cc;
     absent = λ h. cc;
-    roomy = λ room h. (room_some false closing ended held room h).3;
-    silent = silent_at false closing ended held;
+    roomy = λ room h. (room_some false closing ended buffered room h).3;
+    silent = silent_at false closing ended buffered;
     reads = λ h. absurd (busy flow out fits h);
     idle = λ h trees later. absurd (busy flow out fits h);
     logged = λ h trees later. absurd (busy flow out fits h);

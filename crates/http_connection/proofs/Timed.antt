@@ -17,7 +17,7 @@ use Rattle.http_connection.specs.Times.{awaited_by, due_of, soonest, mark_by}
 use Rattle.http_connection.specs.Rests.{Serves, service_in}
 
 abbrev pub view_of_parts : Serves → Conn → ConnView
-view_of_parts site s = view_at site (service_in site s.local s.peer) s.cause s.flight s.out s.journal.items s.closing s.ended s.body s.held s.next
+view_of_parts site s = view_at site (service_in site s.local s.peer) s.cause s.flight s.out s.journal.items s.closing s.ended s.body s.buffered s.next
 
 pub went_until : (due due' : Option ℕ) (ground : Ground) (old new : ConnView) (came went : List ℕ) (started : List Start) → Went ground old new came went started → Went ground (until due old) (until due' new) came went started
 went_until due due' ground old new came went started w = record {
@@ -58,14 +58,14 @@ pub ran_until : (due due' : Option ℕ) (ready : List ℕ) (now : Start) (node :
 ran_until due due' ready now node old new r = (r.0, ran_so due due' now old new r.1)
 
 pub sound_until : (due : Option ℕ) (v : ConnView) → v.held ≡ true → (is_live v ≡ false → due ≡ None) → IsSound v → IsSound (until due v)
-sound_until due v held none s = record {
+sound_until due v buffered none s = record {
   unsent = s.unsent;
   unready = s.unready;
   unasked = s.unasked;
   unread = s.unread;
   untimed = none;
   stopped = s.stopped;
-  absent = λ h. absurd (let e : true ≡ false = sym held ∙ h in cc);
+  absent = λ h. absurd (let e : true ≡ false = sym buffered ∙ h in cc);
   roomy = s.roomy;
   silent = s.silent;
   reads = s.reads;
@@ -87,7 +87,7 @@ dead_waits s h = by s.cause refl h
     by None e h = cc
     by (Some cause) e h =
         ap
-        (λ (c : Option StopCause). due_of (awaited_by (shut_at (is_some c) s.flight s.closing s.ended s.out s.body s.next) (not (no_bytes (pending_at s.flight s.out))) (is_some s.flight || starts s.body s.next) (no_entries s.journal.items) (not (no_bytes s.held))) s.times)
+        (λ (c : Option StopCause). due_of (awaited_by (shut_at (is_some c) s.flight s.closing s.ended s.out s.body s.next) (not (no_bytes (pending_at s.flight s.out))) (is_some s.flight || starts s.body s.next) (no_entries s.journal.items) (not (no_bytes s.buffered))) s.times)
         e
 
 -- the bytes and the entries that are there

@@ -48,44 +48,44 @@ fresh_course raceless patterns site local peer =
 -- the connection closes
 abbrev pub after_at : Service → (Trees → Rest) → List Entry → Bool → Option BodyState → List ℕ →
     Trees → List ℕ → List Start → List Answer
-after_at service rest journal closing body held trees more later =
-    if closes_after (rest trees) closing then then_closes else past_body body (held ++ more)
+after_at service rest journal closing body buffered trees more later =
+    if closes_after (rest trees) closing then then_closes else past_body body (buffered ++ more)
     (λ input. responses service (length journal) trees input later)
 
 -- the bytes that are still to come: after those that are kept for the peer the rest of the
 -- response in flight, and those of the responses after it
 abbrev pub bytes_at : Service → (Trees → Rest) → List ℕ → List Entry → Bool → Option BodyState →
     List ℕ → Trees → List ℕ → List Start → List ℕ
-bytes_at service rest out journal closing body held trees more later =
+bytes_at service rest out journal closing body buffered trees more later =
     out ++ ((rest trees).bytes ++ bytes_in
-    (after_at service rest journal closing body held trees more later))
+    (after_at service rest journal closing body buffered trees more later))
 
 -- the logs of all responses: those in the journal, that of the one in flight, and those after it
 abbrev pub logs_at : Service → (Trees → Rest) → List Entry → Bool → Option BodyState → List ℕ →
     Trees → List ℕ → List Start → List Log
-logs_at service rest journal closing body held trees more later =
+logs_at service rest journal closing body buffered trees more later =
     logged_in journal ++
     ((rest trees).logs ++ logs_in
-    (after_at service rest journal closing body held trees more later))
+    (after_at service rest journal closing body buffered trees more later))
 
 -- whether the connection closes after them
 abbrev pub closes_at : Service → (Trees → Rest) → List Entry → Bool → Option BodyState → List ℕ →
     Trees → List ℕ → List Start → Bool
-closes_at service rest journal closing body held trees more later = close_in
-    (after_at service rest journal closing body held trees more later)
+closes_at service rest journal closing body buffered trees more later = close_in
+    (after_at service rest journal closing body buffered trees more later)
 
 -- whether a request asks for more subrequests than are started for one
 abbrev pub heavy_at : Service → (Trees → Rest) → List Entry → Bool → Option BodyState → List ℕ
     → Trees → List ℕ → List Start → Bool
-heavy_at service rest journal closing body held trees more later =
+heavy_at service rest journal closing body buffered trees more later =
     is_over (rest trees) || heavy_in
-    (after_at service rest journal closing body held trees more later)
+    (after_at service rest journal closing body buffered trees more later)
 
--- how many more bytes are taken, as far as 8192 are held: none after a stop, after a response that
+-- how many more bytes are taken, as far as 8192 are buffered: none after a stop, after a response that
 -- closes or after the input's end
 abbrev pub room_at : Bool → Bool → Bool → List ℕ → Option ℕ
-room_at stopped closing ended held = if stopped || closing || ended || nat_le 8192
-    (length held) then None else Some (8192 - length held)
+room_at stopped closing ended buffered = if stopped || closing || ended || nat_le 8192
+    (length buffered) then None else Some (8192 - length buffered)
 
 -- a further request may start
 abbrev pub starts_at : Bool → Bool → List ℕ → Option BodyState → HeadStep → Bool
@@ -121,7 +121,7 @@ no_entries (entry ∷ journal) = false
 abbrev pub view_at : Serves → Service → Option StopCause → Option Flight → List ℕ → List Entry → Bool
     → Bool →
     Option BodyState → List ℕ → HeadStep → ConnView
-view_at x service cause flight out journal closing ended body held next =
+view_at x service cause flight out journal closing ended body buffered next =
     record {
       held = true;
       cause = cause;
@@ -129,14 +129,14 @@ view_at x service cause flight out journal closing ended body held next =
       starts = map start_of journal;
       logs = map log_of journal;
       course = record {
-        bytes = bytes_at service (rest_in x flight) out journal closing body held;
-        logs = logs_at service (rest_in x flight) journal closing body held;
-        closes = closes_at service (rest_in x flight) journal closing body held;
-        heavy = heavy_at service (rest_in x flight) journal closing body held;
+        bytes = bytes_at service (rest_in x flight) out journal closing body buffered;
+        logs = logs_at service (rest_in x flight) journal closing body buffered;
+        closes = closes_at service (rest_in x flight) journal closing body buffered;
+        heavy = heavy_at service (rest_in x flight) journal closing body buffered;
         raceless = x.served.raceless;
         timed = true;
       };
-      room = room_at (is_some cause) closing ended held;
+      room = room_at (is_some cause) closing ended buffered;
       ready = ready_at (is_some cause) flight closing out body next;
       jobs = jobs_of flight;
       shut = shut_at (is_some cause) flight closing ended out body next;
@@ -152,7 +152,7 @@ awaited_at conn = awaited_by
     (not (no_bytes (pending_at conn.flight conn.out)))
     (is_some conn.flight || starts conn.body conn.next)
     (no_entries conn.journal.items)
-    (not (no_bytes conn.held))
+    (not (no_bytes conn.buffered))
 
 -- the moment at which it is given up
 abbrev pub due_at : Conn → Option ℕ
@@ -166,19 +166,19 @@ abbrev pub view_of : Serves → Conn → ConnView
 view_of x conn = until (due_at conn)
     (view_at x
     (service_in x conn.local conn.peer) conn.cause conn.flight conn.out conn.journal.items
-    conn.closing conn.ended conn.body conn.held conn.next)
+    conn.closing conn.ended conn.body conn.buffered conn.next)
 
--- Each byte that is held may begin a head, whose request adds less than this to the bytes for its peer and to what is left to do
+-- Each byte that is buffered may begin a head, whose request adds less than this to the bytes for its peer and to what is left to do
 -- of its response.
 unfoldable pub weight : ℕ
 weight = 65546 * 2 ^ 64 + 2 ^ 33 + 2 ^ 26 + 65546
 
 abbrev pub left_at : Option StopCause → Option Flight → List ℕ → Bool → List ℕ → ℕ
-left_at cause flight out closing held = if is_some cause then 0 else 1 +
-    (length out + flight_left flight (length out)) + (if closing then 0 else weight * (length held + 1))
+left_at cause flight out closing buffered = if is_some cause then 0 else 1 +
+    (length out + flight_left flight (length out)) + (if closing then 0 else weight * (length buffered + 1))
 
 abbrev pub left_of : Conn → ℕ
-left_of conn = left_at conn.cause conn.flight conn.out conn.closing conn.held
+left_of conn = left_at conn.cause conn.flight conn.out conn.closing conn.buffered
 
 -- what a byte that arrives, or an opening, may add to what is left
 unfoldable pub price : ℕ
@@ -210,26 +210,26 @@ abbrev pub in_flight : Option Flight → List ℕ → Bool
 in_flight None out = not (no_bytes out)
 in_flight (Some flight) out = true
 
--- no byte is held after a request that came to its end
+-- no byte is buffered after a request that came to its end
 abbrev pub between : Conn → Bool
-between conn = not (no_entries conn.journal.items) && no_bytes conn.held &&
+between conn = not (no_entries conn.journal.items) && no_bytes conn.buffered &&
     not (in_flight conn.flight conn.out)
 
 abbrev pub begun_by : (mark moment : ℕ) → Bool → List ℕ → ℕ
-begun_by mark moment between held = if between && not (no_bytes held) then moment else mark
+begun_by mark moment between buffered = if between && not (no_bytes buffered) then moment else mark
 
 abbrev pub mark_ran : ℕ → Conn → Conn → ℕ
 mark_ran moment old new = mark_by old.times.mark moment
     (not (no_bytes (pending_at old.flight old.out))) (in_flight old.flight old.out)
     (not (no_bytes (pending_at new.flight new.out))) (in_flight new.flight new.out)
 
--- The mark after an event at this moment. Each write sets it; so does the first byte that is held
+-- The mark after an event at this moment. Each write sets it; so does the first byte that is buffered
 -- after a request that came to its end; and so does a step by which bytes come to be pending or a
 -- request comes to its end.
 abbrev pub mark_after : (moment : ℕ) → Event → StepAnswer → Conn → Conn → ℕ
 mark_after moment (Wrote conn count) (Done taken) old new = moment
 mark_after moment (Arrived conn bytes) (Done taken) old new = begun_by old.times.mark moment
-    (between old) new.held
+    (between old) new.buffered
 mark_after moment (FileDone conn node answer) (Done taken) old new = mark_ran moment old new
 mark_after moment (Run conn node) (Done taken) old new = mark_ran moment old new
 mark_after moment e a old new = old.times.mark
@@ -281,4 +281,4 @@ AllExact = (x : Serves) (conn : Conn) → IsExact (view_of x conn)
 
 -- no connection holds more bytes of its input than these, nor keeps more for its peer
 abbrev pub AllBounded : Type 0
-AllBounded = (conn : Conn) → (length conn.held ≤ 8192) × (length conn.out ≤ most_kept)
+AllBounded = (conn : Conn) → (length conn.buffered ≤ 8192) × (length conn.out ≤ most_kept)

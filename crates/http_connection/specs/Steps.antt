@@ -21,7 +21,7 @@ use Rattle.req_head.specs.declared.head.Head.{Head as RequestHead}
 use Rattle.req_head.specs.declared.head.HeadStep.{HeadStep}
 use Rattle.req_head.specs.declared.head.HeadStep.TheVariants.{More, Head, Bad}
 
--- held bytes begin a request, or what is no request
+-- buffered bytes begin a request, or what is no request
 abbrev pub begins : HeadStep → Bool
 begins (Head head size) = true
 begins (Bad code no_body) = true
@@ -48,17 +48,17 @@ abbrev pub past_body : Option BodyState → List ℕ → (List ℕ → List Answ
 past_body body input g = after_body (rest_of body input) (λ count. g (drop count input))
 
 -- A body's rest was dropped from the front of these bytes as far as it is there: the answers to
--- them, whatever comes after them, are those to what is held then; where the body is broken the
--- connection closes. Where it isn't ended, nothing is held.
+-- them, whatever comes after them, are those to what is buffered then; where the body is broken the
+-- connection closes. Where it isn't ended, nothing is buffered.
 pub record Drops (from : List ℕ → BodyOutcome) (input : List ℕ) (body : Option BodyState)
-    (held : List ℕ) (broken : Bool) : Type 0 where
+    (buffered : List ℕ) (broken : Bool) : Type 0 where
   pub rest : (g : List ℕ → List Answer) (more : List ℕ) →
       after_body (from (input ++ more))
       (λ count. g (drop count (input ++ more))) ≡ (if broken then then_closes else past_body body
-      (held ++ more) g)
-  pub drained : is_some body ≡ true → held ≡ []
+      (buffered ++ more) g)
+  pub drained : is_some body ≡ true → buffered ≡ []
   pub unended : is_some body ≡ true → rest_of body [] ≡ Short
-  pub shorter : length held ≤ length input
+  pub shorter : length buffered ≤ length input
 
 -- the logs in a journal, of the requests that are over
 unfoldable pub logged_in : List Entry → List Log
@@ -126,21 +126,21 @@ pub record Says (x : Serves) (service : Service) (trees : Trees) (start : Start)
 -- A request starts: its head is dropped, and its body as far as it is there; and its response
 -- begins.
 pub record RanHead (x : Serves) (service : Service) (start : Start) (k : ℕ)
-    (head : RequestHead) (size : ℕ) (held held' : List ℕ)
+    (head : RequestHead) (size : ℕ) (buffered buffered' : List ℕ)
     (body' : Option BodyState) (flight' : Option Flight) (out out' : List ℕ) (closing : Bool)
     (log : Option Log) : Type 0 where
   pub broken : Bool
   pub says : AreRaceless x → (trees : Trees) →
       Says x service trees start k head broken flight' out out' closing log
   pub over : is_some log ≡ not (is_some flight')
-  pub drops : Drops (body_of head.body) (drop size held) body' held' broken
+  pub drops : Drops (body_of head.body) (drop size buffered) body' buffered' broken
 
 -- One that is refused closes the connection, and its bytes stay.
-pub record RanBad (start : Start) (code : ℕ) (no_body : Bool) (held held' : List ℕ)
+pub record RanBad (start : Start) (code : ℕ) (no_body : Bool) (buffered buffered' : List ℕ)
     (body' : Option BodyState) (flight' : Option Flight) (out out' : List ℕ)
     (closing : Bool) (log : Option Log) : Type 0 where
   pub put : out' ≡ out ++ (refusal code start no_body).bytes
-  pub stands : held' ≡ held
+  pub stands : buffered' ≡ buffered
   pub bodiless : body' ≡ None
   pub over : flight' ≡ None
   pub logged : log ≡ Some (refusal code start no_body).log
@@ -148,11 +148,11 @@ pub record RanBad (start : Start) (code : ℕ) (no_body : Bool) (held held' : Li
 
 abbrev pub RanOne : Serves → Service → Start → ℕ → HeadStep → List ℕ → List ℕ
     → Option BodyState → Option Flight → List ℕ → List ℕ → Bool → Option Log → Type 0
-RanOne x service start k (Head head size) held held' body' flight' out out' closing log =
-    RanHead x service start k head size held held' body' flight' out out' closing log
-RanOne x service start k (Bad code no_body) held held' body' flight' out out' closing log =
-    RanBad start code no_body held held' body' flight' out out' closing log
-RanOne x service start k More held held' body' flight' out out' closing log = ⊥
+RanOne x service start k (Head head size) buffered buffered' body' flight' out out' closing log =
+    RanHead x service start k head size buffered buffered' body' flight' out out' closing log
+RanOne x service start k (Bad code no_body) buffered buffered' body' flight' out out' closing log =
+    RanBad start code no_body buffered buffered' body' flight' out out' closing log
+RanOne x service start k More buffered buffered' body' flight' out out' closing log = ⊥
 
 -- It asks for more subrequests than are opened for one response.
 abbrev pub RanOver : Serves → Service → Start → ℕ → HeadStep → Type 0
@@ -163,9 +163,9 @@ RanOver x service start k More = ⊥
 
 abbrev pub RanTo : Serves → Service → Start → ℕ → HeadStep → List ℕ → List ℕ
     → Option BodyState → List ℕ → List ℕ → Ran → Type 0
-RanTo x service start k next held held' body' out out' (On o) =
-    RanOne x service start k next held held' body' o.flight out out' o.closing o.log
-RanTo x service start k next held held' body' out out' TooMany = RanOver x service start k next
+RanTo x service start k next buffered buffered' body' out out' (On o) =
+    RanOne x service start k next buffered buffered' body' o.flight out out' o.closing o.log
+RanTo x service start k next buffered buffered' body' out out' TooMany = RanOver x service start k next
 
 -- what is logged of it by now
 abbrev pub log_ran : Ran → Option Log

@@ -20,13 +20,13 @@ unfoldable pub seconds_in : ℕ → ℕ
 seconds_in milliseconds = milliseconds / 1000 + (if milliseconds % 1000 == 0 then 0 else 1)
 
 -- What is awaited of a peer: nothing where its link is to be closed, or where the connection itself
--- goes on; that it takes the bytes that are pending; a head, where none came yet or bytes are held;
+-- goes on; that it takes the bytes that are pending; a head, where none came yet or bytes are buffered;
 -- else a further request.
-abbrev pub awaited_by : (shut pending busy first held : Bool) → Awaited
-awaited_by true pending busy first held = Nothing
-awaited_by false true busy first held = Room
-awaited_by false false true first held = Nothing
-awaited_by false false false true held = AHead
+abbrev pub awaited_by : (shut pending busy first buffered : Bool) → Awaited
+awaited_by true pending busy first buffered = Nothing
+awaited_by false true busy first buffered = Room
+awaited_by false false true first buffered = Nothing
+awaited_by false false false true buffered = AHead
 awaited_by false false false false true = AHead
 awaited_by false false false false false = Further
 

@@ -22,13 +22,13 @@ use response_flow::{Flight, ask, first_job, first_ready, is_ready, pending};
 use served_site::ServedSite;
 use std::alloc::Global;
 
-/// One connection: the bytes that are held and what they begin, the request in flight, the bytes that are kept for the
+/// One connection: the bytes that are buffered and what they begin, the request in flight, the bytes that are kept for the
 /// peer, the journal of its requests, how long it waits, and how long it waits at least.
 #[derive(Drop)]
 pub struct Conn {
     pub(crate) local: Addr,
     pub(crate) peer: Addr,
-    pub(crate) held: ByteQueue,
+    pub(crate) buffered: ByteQueue,
     pub(crate) flight: Option<Flight>,
     pub(crate) out: ByteQueue,
     pub(crate) journal: Vec<Entry>,
@@ -39,12 +39,12 @@ pub struct Conn {
     pub(crate) cause: Option<StopCause>,
     pub(crate) times: Times,
     pub(crate) least: u64,
-    ghost looked: { is_some cause ≡ false → next ≡ head_step held },
+    ghost looked: { is_some cause ≡ false → next ≡ head_step buffered },
     ghost dropped: { is_some cause ≡ true → out ≡ [] },
     ghost quit: { is_some cause ≡ true → flight ≡ None },
     ghost flying: { FlightFits flight (length out) } by { fits_prop flight (length out) },
-    ghost few: { length held ≤ 8192 },
-    ghost drained: { is_some body ≡ true → held ≡ [] },
+    ghost few: { length buffered ≤ 8192 },
+    ghost drained: { is_some body ≡ true → buffered ≡ [] },
     ghost unended: { is_some body ≡ true → rest_of body [] ≡ Short },
     ghost logged: { is_some cause ≡ false → IsLogged (is_some flight) journal.items },
     ghost brief: { NoneShorter times.head times.pace least },
@@ -85,12 +85,12 @@ impl Conn {
         ensures asked { IfOk result (λ c. asked_of c ≡ 0) }
         ensures flight { IfOk result (λ c. c.flight ≡ None) }
     {
-        let held = ByteQueue::new(alloc);
-        let next = read_head(alloc, held.front())?;
+        let buffered = ByteQueue::new(alloc);
+        let next = read_head(alloc, buffered.front())?;
         Ok(Conn {
             local,
             peer,
-            held,
+            buffered,
             flight: None,
             out: ByteQueue::new(alloc),
             journal: Vec::new(alloc),
@@ -143,11 +143,13 @@ impl Conn {
         self.cause
     }
 
-    // Whether no byte is held after a request that came to its end.
+    // Whether no byte is buffered after a request that came to its end.
     pub(crate) fn is_between(&self) -> bool
         ensures { result ≡ between self.now }
     {
-        !is_fresh(&self.journal) && self.held.is_empty() && !is_in_flight(&self.flight, &self.out)
+        !is_fresh(&self.journal)
+            && self.buffered.is_empty()
+            && !is_in_flight(&self.flight, &self.out)
     }
 
     pub(crate) fn is_stopped(&self) -> bool
@@ -159,16 +161,16 @@ impl Conn {
     /// How many more bytes it takes now, where it takes any: what is left of 8192.
     pub fn room(&self) -> Option<usize>
         ensures { result ≡ room_at (is_some self.now.cause) self.now.closing self.now.ended
-            self.now.held }
+            self.now.buffered }
     {
-        if self.is_stopped() || self.closing || self.ended || 8192 <= self.held.len() {
+        if self.is_stopped() || self.closing || self.ended || 8192 <= self.buffered.len() {
             None
         } else {
-            Some(8192 - self.held.len())
+            Some(8192 - self.buffered.len())
         }
     }
 
-    // Whether the bytes that are held begin a request, once nothing of a body is to be dropped.
+    // Whether the bytes that are buffered begin a request, once nothing of a body is to be dropped.
     pub(crate) fn starts(&self) -> bool
         ensures { result ≡ starts self.now.body self.now.next }
     {
@@ -246,7 +248,7 @@ impl Conn {
             is_pending(&self.flight, &self.out),
             self.flight.is_some() || self.starts(),
             is_fresh(&self.journal),
-            !self.held.is_empty(),
+            !self.buffered.is_empty(),
         )
     }
 

@@ -53,21 +53,21 @@ impl Conn {
         let is_between = self.is_between();
         match take_in(
             heads,
-            &mut self.held,
+            &mut self.buffered,
             &mut self.next,
             last_bytes(bytes, dropped.used),
         ) {
             Ok(()) => {
                 self.body = dropped.body;
                 self.closing = dropped.broken;
-                self.times.mark = begun(self.times.mark, moment, is_between, &self.held);
+                self.times.mark = begun(self.times.mark, moment, is_between, &self.buffered);
                 StepAnswer::Done { taken }
             }
             Err(OutOfMemory) => {
                 self.body = None;
                 put(&mut self.flight, None);
                 self.out.clear();
-                self.held.clear();
+                self.buffered.clear();
                 self.cause = Some(StopCause::Memory);
                 StepAnswer::OutOfMemory
             }
@@ -271,7 +271,7 @@ impl Conn {
         match run_one(
             space,
             Setting { served, meeting },
-            &mut self.held,
+            &mut self.buffered,
             &mut self.next,
             &mut self.body,
             &mut self.out,
@@ -281,7 +281,7 @@ impl Conn {
                 self.body = None;
                 put(&mut self.flight, None);
                 self.out.clear();
-                self.held.clear();
+                self.buffered.clear();
                 self.cause = Some(StopCause::SubLimit {
                     started: MOST_SUBREQUESTS,
                 });
@@ -305,7 +305,7 @@ impl Conn {
                 self.body = None;
                 put(&mut self.flight, None);
                 self.out.clear();
-                self.held.clear();
+                self.buffered.clear();
                 self.cause = Some(StopCause::Memory);
                 StepAnswer::OutOfMemory
             }

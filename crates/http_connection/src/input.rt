@@ -17,27 +17,27 @@ pub(crate) fn begins(next: &HeadStep) -> bool
     }
 }
 
-// Bytes arrive after those that are held; what they begin is looked at anew where that may have changed, in the room of a head
+// Bytes arrive after those that are buffered; what they begin is looked at anew where that may have changed, in the room of a head
 // that is over.
 pub(crate) fn take_in(
     room: &mut HeadRoom,
-    held: &mut ByteQueue,
+    buffered: &mut ByteQueue,
     next: &mut HeadStep,
     bytes: &[u8],
 ) -> Result<(), OutOfMemory>
-    requires { next.old ≡ head_step held.old }
-    ensures held { OnOk result (held.new ≡ held.old ++ bytes.now) }
-    ensures next { OnOk result (next.new ≡ head_step held.new) }
+    requires { next.old ≡ head_step buffered.old }
+    ensures buffered { OnOk result (buffered.new ≡ buffered.old ++ bytes.now) }
+    ensures next { OnOk result (next.new ≡ head_step buffered.new) }
 {
     head_stays();
     refusal_stays();
-    let known = held.len();
-    held.append(bytes)?;
+    let known = buffered.len();
+    buffered.append(bytes)?;
     if begins(next) {
         return Ok(());
     }
-    if may_decide(held.front(), known) {
-        put(next, read_head_in(room, held.front())?);
+    if may_decide(buffered.front(), known) {
+        put(next, read_head_in(room, buffered.front())?);
     }
     Ok(())
 }
@@ -57,9 +57,9 @@ pub(crate) fn last_bytes(bytes: &[u8], count: usize) -> &[u8]
 }
 
 // The bytes after the first ones.
-pub(crate) fn behind(held: &ByteQueue, size: usize) -> &[u8]
-    requires { size ≤ length held.now }
-    ensures { result.now ≡ drop size held.now }
+pub(crate) fn behind(buffered: &ByteQueue, size: usize) -> &[u8]
+    requires { size ≤ length buffered.now }
+    ensures { result.now ≡ drop size buffered.now }
 {
-    &held.front()[size..]
+    &buffered.front()[size..]
 }

@@ -9,10 +9,10 @@ use ngx_outside::Entry;
 use response_flow::{Flight, pending};
 
 // The mark where bytes arrived: this moment where they are the first after a request that came to its end.
-pub(crate) fn begun(mark: u64, moment: u64, is_between: bool, held: &ByteQueue) -> u64
-    ensures { result ≡ begun_by mark moment is_between held.now }
+pub(crate) fn begun(mark: u64, moment: u64, is_between: bool, buffered: &ByteQueue) -> u64
+    ensures { result ≡ begun_by mark moment is_between buffered.now }
 {
-    if is_between && !held.is_empty() {
+    if is_between && !buffered.is_empty() {
         moment
     } else {
         mark

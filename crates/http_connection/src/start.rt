@@ -51,7 +51,7 @@ fn take_head(next: &mut HeadStep) -> Head
     }
 }
 
-// Looks at what is held after a request, where its head was taken out.
+// Looks at what is buffered after a request, where its head was taken out.
 fn look_on(room: &mut HeadRoom, rest: &[u8], next: &mut HeadStep) -> Result<(), OutOfMemory>
     requires { next.old ≡ AwaitsMore }
     ensures { OnOk result (next.new ≡ head_step rest.now) }
@@ -72,17 +72,17 @@ pub(crate) struct Setting<'a> {
 }
 
 // Starts a request: what is answered at once is put after what is kept for the peer, the request is written into the journal,
-// and what is held after it is looked at. Where it asks for more subrequests than are opened, it is only written into the journal.
+// and what is buffered after it is looked at. Where it asks for more subrequests than are opened, it is only written into the journal.
 pub(crate) fn run_one(
     space: &mut Workspace,
     setting: Setting<'_>,
-    held: &mut ByteQueue,
+    buffered: &mut ByteQueue,
     next: &mut HeadStep,
     body: &mut Option<BodyState>,
     out: &mut ByteQueue,
     journal: &mut Vec<Entry>,
 ) -> Result<Ran, OutOfMemory>
-    requires looked { next.old ≡ head_step held.old }
+    requires looked { next.old ≡ head_step buffered.old }
     requires begins { head_begins next.old ≡ true }
     requires unsent { out.old ≡ [] }
     ensures ran { let m = setting.entry.meeting in let x : Serves = record {
@@ -90,7 +90,7 @@ pub(crate) fn run_one(
       served = setting.entry.served.now;
     } in
         IfOk result (λ ran. RanTo x (service_in x m.local m.peer) (start_in m)
-        (vec_len journal.old) next.old held.old held.new body.new out.old out.new ran) }
+        (vec_len journal.old) next.old buffered.old buffered.new body.new out.old out.new ran) }
     ensures level { let m = setting.entry.meeting in let x : Serves = record {
       patterns = space.old.patterns;
       served = setting.entry.served.now;
@@ -103,7 +103,7 @@ pub(crate) fn run_one(
       served = setting.entry.served.now;
     } in
         IfOk result (λ ran. IfOn ran (λ o. ReachedIn x o.flight)) }
-    ensures looked { IfOk result (λ ran. IfOn ran (λ o. next.new ≡ head_step held.new)) }
+    ensures looked { IfOk result (λ ran. IfOn ran (λ o. next.new ≡ head_step buffered.new)) }
     ensures journal { IfOk result (λ ran. (entry : Logged) ×
         (start_of entry ≡ start_in setting.entry.meeting) ×
         (log_of entry ≡ log_ran ran) × (journal.new.items ≡ journal.old.items ++ entry ∷ [])) }
@@ -121,10 +121,10 @@ pub(crate) fn run_one(
         HeadStep::Head { head, size } => {
             size_fits();
             make_room(journal)?;
-            let dropped = drop_body(BodyState::new(head.body), behind(held, *size));
+            let dropped = drop_body(BodyState::new(head.body), behind(buffered, *size));
             let size = *size + dropped.used;
             let head = take_head(next);
-            look_on(&mut space.head_room, behind(held, size), next)?;
+            look_on(&mut space.head_room, behind(buffered, size), next)?;
             match open(space, served, out, head, journal.len() as u64, meeting) {
                 Ok(Ran::TooMany) => {
                     enter(journal, meeting.moment, meeting.tree, None);
@@ -133,7 +133,7 @@ pub(crate) fn run_one(
                 Ok(Ran::On(opened)) => {
                     let onward = with_broken(opened, dropped.broken);
                     enter(journal, meeting.moment, meeting.tree, onward.log);
-                    held.used(size);
+                    buffered.used(size);
                     *body = dropped.body;
                     Ok(Ran::On(onward))
                 }

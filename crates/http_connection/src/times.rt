@@ -120,15 +120,15 @@ pub(crate) fn head_wait_at(served: &ServedSite, local: Addr) -> u64
 }
 
 /// What is awaited, by whether the link is to be closed, bytes are pending, a request is in flight or may start, none was
-/// started yet, and bytes are held.
+/// started yet, and bytes are buffered.
 pub(crate) fn awaited_of(
     is_shut: bool,
     is_pending: bool,
     is_busy: bool,
     is_first: bool,
-    is_held: bool,
+    is_buffered: bool,
 ) -> Awaited
-    ensures { result ≡ awaited_by is_shut is_pending is_busy is_first is_held }
+    ensures { result ≡ awaited_by is_shut is_pending is_busy is_first is_buffered }
 {
     if is_shut {
         Awaited::Nothing
@@ -138,7 +138,7 @@ pub(crate) fn awaited_of(
         Awaited::Nothing
     } else if is_first {
         Awaited::Head
-    } else if is_held {
+    } else if is_buffered {
         Awaited::Head
     } else {
         Awaited::Further

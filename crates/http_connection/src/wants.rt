@@ -10,7 +10,7 @@ use ngx_outside::Want;
 // How many bytes are read, where the link is due to be read.
 fn room_due(due: bool, conn: &Conn) -> Option<usize>
     ensures { result ≡ room_if due (room_at (is_some conn.now.cause) conn.now.closing
-        conn.now.ended conn.now.held) }
+        conn.now.ended conn.now.buffered) }
 {
     if due { conn.room() } else { None }
 }

@@ -7,7 +7,7 @@ use Rattle.meaning_rows.proofs.Opened.{opened}
 use Rattle.meaning_rows.proofs.Cuts.{answer}
 use Rattle.request_meaning.specs.Serving.{Serving, Answer}
 use Rattle.family_meaning.specs.Line.{Line, front, used}
-use Rattle.family_meaning.specs.Line.Line.{Nil, Held, Gives}
+use Rattle.family_meaning.specs.Line.Line.{Nil, Bytes, Gives}
 use Rattle.family_meaning.specs.Nodes.{NodeView, why, ready_nodes, jobs_of}
 use Rattle.family_meaning.specs.Nodes.Why.{OwnJob, WaitsChild, FullBuffer, EndsAfterChildren, Ready, Over}
 use Rattle.family_order.specs.Items.{Family, Stance, Shows, items, row_items}
@@ -86,12 +86,12 @@ piece number bytes = record { node = number; bytes = bytes; grows = true }
 abbrev pub family : Family
 family = record { row = record { pieces = record (piece 0 (codes "D")) { grows = false } ∷ piece 1 (codes "B") ∷ piece 0 [] ∷ []; nodes = 2 }; output = codes "A"; stance = going; root = 0 }
 
-row_pieces : Shows family (Held (codes "AD") (Held (codes "B") (Gives 1 49 asks (Gives 0 49 asks Nil))))
+row_pieces : Shows family (Bytes (codes "AD") (Bytes (codes "B") (Gives 1 49 asks (Gives 0 49 asks Nil))))
 unfolding opened items row_items
 row_pieces = refl
 
 abbrev pub line : Line
-line = Held (codes "A") (Held (codes "B") (Gives 1 49 asks (Held (codes "C") (Gives 0 49 asks Nil))))
+line = Bytes (codes "A") (Bytes (codes "B") (Gives 1 49 asks (Bytes (codes "C") (Gives 0 49 asks Nil))))
 
 row_front : front line ≡ codes "AB"
 unfolding opened

@@ -9,7 +9,7 @@ use Rattle.meaning_rows.proofs.Cuts.{answer, two as includes}
 use Rattle.meaning_rows.proofs.Nodes.{piece}
 use Rattle.request_meaning.specs.Serving.{Serving, Answer}
 use Rattle.request_meaning.specs.Replies.{main_script}
-use Rattle.family_meaning.specs.Line.Line.{Nil, Held, Gives}
+use Rattle.family_meaning.specs.Line.Line.{Nil, Bytes, Gives}
 use Rattle.family_order.specs.Items.{Family, Stance, row_items, leaving}
 use Rattle.family_order.specs.Items.Stance.{Going, Waiting, Apart, Hidden}
 use Rattle.family_rest.specs.Still.{line_of, still, subs_still}
@@ -46,7 +46,7 @@ unfolding opened still line_of row_items
 row_answer = refl
 
 -- a subrequest with a stub gives what its own line does, and its stub where that gives nothing
-row_apart : body_of (two (Going 50 (writes (codes "E"))) (Apart (Held (codes "B") (Gives 1 49 (writes (codes "C")) Nil)) (codes "S")) []) ≡ codes "DBCE"
+row_apart : body_of (two (Going 50 (writes (codes "E"))) (Apart (Bytes (codes "B") (Gives 1 49 (writes (codes "C")) Nil)) (codes "S")) []) ≡ codes "DBCE"
 unfolding opened still line_of row_items
 row_apart = refl
 
@@ -55,7 +55,7 @@ unfolding opened still line_of row_items
 row_stub = refl
 
 -- a node that waits goes on with the body that its own line comes to; a hidden one gives nothing
-row_waits : body_of (two (Waiting (Held (codes "B") (Gives 1 49 (writes (codes "C")) Nil)) 50 (λ reply. writes reply.body)) Hidden []) ≡ codes "DBC"
+row_waits : body_of (two (Waiting (Bytes (codes "B") (Gives 1 49 (writes (codes "C")) Nil)) 50 (λ reply. writes reply.body)) Hidden []) ≡ codes "DBC"
 unfolding opened still line_of row_items
 row_waits = refl
 

@@ -8,7 +8,7 @@ use Rattle.ngx_variables.specs.declared.request.Request.{Request}
 use Rattle.request_meaning.specs.Serving.{World, Serving, Reply, Answer}
 use Rattle.request_meaning.specs.Replies.{main_came, main_script, most_depth, or_stub}
 use Rattle.family_meaning.specs.Line.{Line, rest, opened, ended, has_node}
-use Rattle.family_meaning.specs.Line.Line.{Nil, Held, Gives, Waits, Stubs}
+use Rattle.family_meaning.specs.Line.Line.{Nil, Bytes, Gives, Waits, Stubs}
 
 pub record Stepped : Type 0 where
   pub line : Line
@@ -25,12 +25,12 @@ node_moved w tree number node left (Put name value m) line vars = let s = settle
 node_moved w tree number node left (Stat path k) line vars = stepped (Gives node left (k (tree path)) line) vars
 node_moved w tree number node zero (Call child k) line vars = stepped (Gives node zero (Call child k) line) vars
 node_moved w tree number node (suc left) (Call child k) line vars = stepped (Waits node (opened w number left child Nil) (suc left) k line) vars
-node_moved w tree number node left (Write bytes m) line vars = stepped (Held bytes (Gives node left m line)) vars
+node_moved w tree number node left (Write bytes m) line vars = stepped (Bytes bytes (Gives node left m line)) vars
 node_moved w tree number node zero (Inner child m) line vars = stepped (Gives node zero (Inner child m) line) vars
 node_moved w tree number node (suc left) (Inner child m) line vars = stepped (opened w number left child (Gives node (suc left) m line)) vars
 
-abbrev pub past_held : List ℕ → Stepped → Stepped
-past_held bytes s = stepped (Held bytes s.line) s.vars
+abbrev pub past_bytes : List ℕ → Stepped → Stepped
+past_bytes bytes s = stepped (Bytes bytes s.line) s.vars
 
 abbrev pub past_node : ℕ → ℕ → Serving Answer → Stepped → Stepped
 past_node node left m s = stepped (Gives node left m s.line) s.vars
@@ -41,12 +41,12 @@ heard node left k line vars (Some reply) s = stepped (Gives node left (k reply) 
 
 abbrev pub decided : List ℕ → Line → Vars → Option Reply → Stepped → Stepped
 decided stub line vars None s = stepped (Stubs s.line stub line) s.vars
-decided stub line vars (Some reply) s = stepped (Held (or_stub (Some stub) reply.answer.status reply.body) line) vars
+decided stub line vars (Some reply) s = stepped (Bytes (or_stub (Some stub) reply.answer.status reply.body) line) vars
 
 -- a move at the place with this number in the line, or of its own line at this number
 unfoldable pub moved : World → Tree → (number pick inner : ℕ) → Line → Vars → Stepped
 moved w tree number pick inner Nil vars = stepped Nil vars
-moved w tree number pick inner (Held bytes line) vars = past_held bytes (moved w tree number pick inner line vars)
+moved w tree number pick inner (Bytes bytes line) vars = past_bytes bytes (moved w tree number pick inner line vars)
 moved w tree number zero inner (Gives node left m line) vars = node_moved w tree number node left m line vars
 moved w tree number (suc pick) inner (Gives node left m line) vars = past_node node left m (moved w tree number pick inner line vars)
 moved w tree number zero inner (Waits node own left k line) vars = heard node left k line vars (ended own None) (moved w tree number inner 0 own vars)
@@ -71,7 +71,7 @@ after w tree number (e ∷ schedule) line vars = let s = moved w tree number e.0
 
 unfoldable pub nodes_in : Line → ℕ
 nodes_in Nil = 0
-nodes_in (Held bytes line) = nodes_in line
+nodes_in (Bytes bytes line) = nodes_in line
 nodes_in (Gives node left m line) = 1 + nodes_in line
 nodes_in (Waits node own left k line) = 1 + nodes_in own + nodes_in line
 nodes_in (Stubs own stub line) = nodes_in own + nodes_in line

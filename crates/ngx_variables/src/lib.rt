@@ -4,7 +4,6 @@
 
 mod argument;
 mod compile;
-mod date;
 mod eval;
 mod fault;
 mod field;
@@ -17,7 +16,6 @@ mod variable;
 
 pub use argument::{without_first_spaces, without_last_spaces};
 pub use compile::{Reference, lowercase, piece_named, reference_at};
-pub use date::LocalDate;
 pub use fault::{EvalFault, ValueFault};
 pub use joining::{append_whole, drop_last_slash, joined};
 pub use laws::{builtin_is_not_set, settles_behind_value, value_settles};

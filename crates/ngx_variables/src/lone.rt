@@ -16,9 +16,13 @@ use byte_text::{ByteText, OutOfMemory};
 use std::alloc::Global;
 use variable_table::VarTable;
 
-/// A built-in variable's text, where it is held somewhere already.
+/// A built-in variable's text, where it is somewhere already.
 #[tactic(auto, unfolding(crate::specs::Texts::variable_text))]
-fn held_variable<'a>(variable: Variable, main: &'a Main, request: &'a Request) -> Option<&'a [u8]>
+fn borrowed_variable<'a>(
+    variable: Variable,
+    main: &'a Main,
+    request: &'a Request,
+) -> Option<&'a [u8]>
     ensures { IfSome result (λ text. (paths : Paths)
         → text.now ≡ variable_text paths main.now request.now variable) }
 {
@@ -49,9 +53,9 @@ fn held_variable<'a>(variable: Variable, main: &'a Main, request: &'a Request) -
     }
 }
 
-/// A piece's text, where it is held somewhere already.
+/// A piece's text, where it is somewhere already.
 #[tactic(auto, unfolding(crate::specs::Texts::piece_text))]
-fn held_piece<'a>(
+fn borrowed_piece<'a>(
     piece: &'a Piece,
     main: &'a Main,
     request: &'a Request,
@@ -63,7 +67,7 @@ fn held_piece<'a>(
     match piece {
         Piece::Literal(bytes) => Some(bytes.as_slice()),
         Piece::Group(number) => Some(request.groups.get(*number)),
-        Piece::Builtin(variable) => held_variable(*variable, main, request),
+        Piece::Builtin(variable) => borrowed_variable(*variable, main, request),
         Piece::Argument(name) => {
             Some(argument(name.as_slice(), request.args.as_slice()).unwrap_or(b""))
         }
@@ -177,9 +181,9 @@ fn paths_for(
 }
 
 impl Piece {
-    /// The text that the piece alone evaluates to, where it is held somewhere already, so that it takes no memory. `None`
+    /// The text that the piece alone evaluates to, where it is somewhere already, so that it takes no memory. `None`
     /// for one that is to be written, by `append`.
-    pub fn held<'a>(
+    pub fn borrowed<'a>(
         &'a self,
         main: &'a Main,
         request: &'a Request,
@@ -188,7 +192,7 @@ impl Piece {
         ensures { IfSome result (λ text.
             text.now ≡ value_text main.now request.now vars.now (self.now ∷ [])) }
     {
-        held_piece(self, main, request, vars)
+        borrowed_piece(self, main, request, vars)
     }
 
     /// Appends the text that the piece alone evaluates to, however long it is. After want of memory `out` is fit to be

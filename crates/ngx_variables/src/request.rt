@@ -2,9 +2,9 @@
 ghost use Rattle.std.specs.Prelude.{◌≡◌, ℕ, ◌+◌, ◌-◌, ◌<◌, ◌≤◌, List, [], ◌∷◌, ◌++◌, length, replicate, OnOk, OnErr};
 ghost use Rattle.ngx_variables.specs.Words.{method_name};
 
-use crate::date::LocalDate;
 use crate::value::Value;
 use byte_text::{ByteText, OutOfMemory};
+use http_moment::LocalDate;
 use http_types::{Addr, Method, Version};
 use req_head::HeadFields;
 use std::alloc::Global;

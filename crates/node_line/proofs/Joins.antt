@@ -5,7 +5,7 @@ use Rattle.acts.specs.Vars.{Vars}
 use Rattle.request_meaning.specs.Serving.{World, Serving, Answer}
 use Rattle.postpone_filter.specs.Row.{longer}
 use Rattle.family_meaning.specs.Line.{front}
-use Rattle.family_meaning.specs.Line.Line.{Nil, Held, Gives}
+use Rattle.family_meaning.specs.Line.Line.{Nil, Bytes, Gives}
 use Rattle.family_meaning.specs.Moves.{KeepsBody}
 use Rattle.family_order.specs.Items.{stance_items, Family, IsWell, items, row_items, with_stance, doing, placing}
 use Rattle.family_order.specs.Items.Stance.{Going, Apart}
@@ -19,18 +19,18 @@ use Rattle.family_rest.specs.Opened.{opened_by}
 use Rattle.node_line.specs.Stances.{under}
 
 module _ (w : World) (tree : Tree) (f : Family) (vars : Vars) (n left : ℕ) (bytes stub : List ℕ) (m : Serving Answer) where
-  some_front : bytes ≢ [] → front (Held bytes (Gives n left m Nil)) ≢ []
+  some_front : bytes ≢ [] → front (Bytes bytes (Gives n left m Nil)) ≢ []
   unfolding front
   some_front k z = k (sym (append-nil bytes) ∙ z)
 
-  own_items : items (Held bytes (Gives n left m Nil)) ≡ map Byte bytes ++ stance_items n (Going left m)
+  own_items : items (Bytes bytes (Gives n left m Nil)) ≡ map Byte bytes ++ stance_items n (Going left m)
   unfolding items
   own_items = refl
 
-  pub joins : IsWell f → Does f n (Apart (Held bytes (Gives n left m Nil)) stub) → KeepsBody w tree (Held bytes (Gives n left m Nil)) → bytes ≢ [] →
+  pub joins : IsWell f → Does f n (Apart (Bytes bytes (Gives n left m Nil)) stub) → KeepsBody w tree (Bytes bytes (Gives n left m Nil)) → bytes ≢ [] →
       (a : Acts w tree f vars (doing n (Going left m) (placing n bytes f)) vars) × (opened_by a ≡ 0)
   joins h d body some =
-      let own = Held bytes (Gives n left m Nil) in
+      let own = Bytes bytes (Gives n left m Nil) in
       let now = Going left m in
       let stance = with_stance n now f.stance in
       let p = split f.row.nodes n f.row.pieces h.row_is.lawful d.goes_on in

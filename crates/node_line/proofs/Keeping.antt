@@ -6,7 +6,7 @@ use Rattle.file_tree.specs.Tree.{Tree}
 use Rattle.request_meaning.specs.Serving.{World, Serving, Child, Answer}
 use Rattle.request_meaning.specs.Replies.{Came, run, reply}
 use Rattle.family_meaning.specs.Line.{rest, reply_of, has_node}
-use Rattle.family_meaning.specs.Line.Line.{Nil, Held, Gives}
+use Rattle.family_meaning.specs.Line.Line.{Nil, Bytes, Gives}
 use Rattle.family_meaning.specs.Moves.{AllEnd, IsGood, KeepsBody}
 use Rattle.node_line.specs.Stances.{under}
 
@@ -23,7 +23,7 @@ run_ends P tree inner (Write bytes m) vars h = run_ends P tree inner m vars h
 run_ends P tree inner (Inner child m) vars h = run_ends P tree inner m (inner child vars).vars h
 
 -- the line of one node, before which bytes wait
-pub keeps_body : (w : World) (tree : Tree) (bytes : List ℕ) (node left : ℕ) (m : Serving Answer) → AllEnd IsGood m → KeepsBody w tree (Held bytes (Gives node left m Nil))
+pub keeps_body : (w : World) (tree : Tree) (bytes : List ℕ) (node left : ℕ) (m : Serving Answer) → AllEnd IsGood m → KeepsBody w tree (Bytes bytes (Gives node left m Nil))
 unfolding rest has_node
 keeps_body w tree bytes node left m h = record {
   node = refl;

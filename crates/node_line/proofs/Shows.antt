@@ -32,7 +32,7 @@ right_of : (a b : Bool) → (a && b) ≡ true → b ≡ true
 right_of true b e = e
 right_of false b e = cc
 
--- no byte is held
+-- no byte is withheld
 pub fresh : (place : Place) → joins_at place ≡ true → (stub : List ℕ) × (place ≡ Stub stub [])
 fresh Row e = cc
 fresh (Stub stub text) e = (stub, ap (Stub stub) (nil_from_length text (eqb-true (length text) 0 e)))

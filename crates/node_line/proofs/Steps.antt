@@ -8,10 +8,10 @@ use Rattle.postpone_filter.specs.Row.{is_open, appended}
 use Rattle.request_meaning.specs.Serving.{World, Serving, Answer, Child, Reply}
 use Rattle.request_meaning.specs.Replies.{or_stub, script}
 use Rattle.family_meaning.specs.Line.{Line, has_node, joined, opened, reply_of, with_bytes, with_stub, ended as line_reply}
-use Rattle.family_meaning.specs.Line.Line.{Nil, Held, Gives, Waits, Stubs}
+use Rattle.family_meaning.specs.Line.Line.{Nil, Bytes, Gives, Waits, Stubs}
 use Rattle.family_meaning.specs.Moves.{Quiet, Moves, AllEnd, IsGood, KeepsBody, Thinks as LineThinks}
-use Rattle.family_meaning.specs.Moves.Thinks.{Here, Reads as LineReads, ThereHeld, InWait, InStub}
-use Rattle.family_meaning.specs.Moves.Quiet.{Learns as LineLearns, Places as LinePlaces, Placed as LinePlaced, Merges as LineMerges, Opens as LineOpens, Asks as LineAsks, Hears as LineHears, Leaves as LineLeaves, Chooses as LineChooses, Parts as LineParts, Gone as LineGone, PastHeld, Within as WithinWait, WithinStub as WithinLineStub}
+use Rattle.family_meaning.specs.Moves.Thinks.{Here, Reads as LineReads, ThereBytes, InWait, InStub}
+use Rattle.family_meaning.specs.Moves.Quiet.{Learns as LineLearns, Places as LinePlaces, Placed as LinePlaced, Merges as LineMerges, Opens as LineOpens, Asks as LineAsks, Hears as LineHears, Leaves as LineLeaves, Chooses as LineChooses, Parts as LineParts, Gone as LineGone, PastBytes, Within as WithinWait, WithinStub as WithinLineStub}
 use Rattle.family_meaning.specs.Moves.Moves.{Quietly, ByTable}
 use Rattle.family_order.specs.Acts.{Does, Acts, Goes}
 use Rattle.family_order.specs.Acts.Acts.{Thinks, Reads, Learns, Places, Placed, Merges, Opens, Asks, Within, Hears, Ends, WithinStub, Decides}
@@ -75,7 +75,7 @@ eq_self n = grind (arith, nat_tests)
 under_thinks : (bytes : List ℕ) (a b : Line) (vars vars' : Vars) → LineThinks a vars b vars' → LineThinks (under bytes a) vars (under bytes b) vars'
 unfolding under
 under_thinks [] a b vars vars' t = t
-under_thinks (c ∷ bytes) a b vars vars' t = ThereHeld (under_thinks bytes a b vars vars' t)
+under_thinks (c ∷ bytes) a b vars vars' t = ThereBytes (under_thinks bytes a b vars vars' t)
 
 pub spot_thinks : (s : Spot) (a b : Line) (vars vars' : Vars) → LineThinks a vars b vars' → LineThinks (filling s a) vars (filling s b) vars'
 spot_thinks Whole a b vars vars' t = t
@@ -92,7 +92,7 @@ module _ (w : World) (tree : Tree) where
   under_quiet : (count : ℕ) (bytes : List ℕ) (a b : Line) → Step count a b → Step count (under bytes a) (under bytes b)
   unfolding under
   under_quiet count [] a b q = q
-  under_quiet count (c ∷ bytes) a b q = let r = under_quiet count bytes a b q in record { quiet = PastHeld r.quiet; counts = r.counts }
+  under_quiet count (c ∷ bytes) a b q = let r = under_quiet count bytes a b q in record { quiet = PastBytes r.quiet; counts = r.counts }
 
   pub spot_quiet : (count : ℕ) (s : Spot) (a b : Line) → Step count a b → Step count (filling s a) (filling s b)
   spot_quiet count Whole a b q = q
@@ -105,13 +105,13 @@ module _ (w : World) (tree : Tree) where
       Step 0 (under text (Gives node left (Write (b ∷ more) m) rest)) (under (text ++ b ∷ []) (Gives node left (Write more m) rest))
   unfolding under
   line_places [] b more node left m rest = record { quiet = LinePlaces {some = b ∷ []} {more = more}; counts = refl }
-  line_places (c ∷ text) b more node left m rest = let q = line_places text b more node left m rest in record { quiet = PastHeld q.quiet; counts = q.counts }
+  line_places (c ∷ text) b more node left m rest = let q = line_places text b more node left m rest in record { quiet = PastBytes q.quiet; counts = q.counts }
 
 -- bytes and then others
 pub under_both : (first second : List ℕ) (line : Line) → under first (under second line) ≡ under (first ++ second) line
 unfolding under
 under_both [] second line = refl
-under_both (b ∷ first) second line = ap (Held (b ∷ [])) (under_both first second line)
+under_both (b ∷ first) second line = ap (Bytes (b ∷ [])) (under_both first second line)
 
 -- the reply of one node that has come to its answer
 line_ended : (node left : ℕ) (text : List ℕ) (answer : Answer) → line_reply (under text (Gives node left (Done answer) Nil)) None ≡ Some (reply_of answer text)
@@ -217,8 +217,8 @@ module _ (w : World) (tree : Tree) (laws : ShowsTheSame) (h at left : ℕ) (f : 
 
 -- ---- bytes of it are placed
 
-joining : (w : World) (tree : Tree) (f : Family) (vars : Vars) (n left : ℕ) (bytes stub : List ℕ) (m : Serving Answer) → IsWell f → Does f n (Apart (Held bytes (Gives n left m Nil)) stub) →
-    KeepsBody w tree (Held bytes (Gives n left m Nil)) → bytes ≢ [] → {g : Family} → Opening w tree 0 (doing n (Going left m) (placing n bytes f)) vars g vars → Opening w tree 0 f vars g vars
+joining : (w : World) (tree : Tree) (f : Family) (vars : Vars) (n left : ℕ) (bytes stub : List ℕ) (m : Serving Answer) → IsWell f → Does f n (Apart (Bytes bytes (Gives n left m Nil)) stub) →
+    KeepsBody w tree (Bytes bytes (Gives n left m Nil)) → bytes ≢ [] → {g : Family} → Opening w tree 0 (doing n (Going left m) (placing n bytes f)) vars g vars → Opening w tree 0 f vars g vars
 joining w tree f vars n left bytes stub m well does body some o =
     let j = joins w tree f vars n left bytes stub m well does body some in
     same_count (ap (λ k. k + 0) j.1) (acting j.0 o)
@@ -244,7 +244,7 @@ module _ (w : World) (tree : Tree) (laws : ShowsTheSame) (at left : ℕ) (f : Fa
       let more : Serving Answer = Write p.more p.rest in
       let whole : Serving Answer = Write (some ++ p.more) p.rest in
       let before : Stance = Apart (Gives at left whole Nil) stub in
-      let own = Held some (Gives at left more Nil) in
+      let own = Bytes some (Gives at left more Nil) in
       let after : Stance = Apart own stub in
       let g = placing at some f in
       subst (λ x. Opening w tree 0 (doing at (Apart (Gives at left x Nil) stub) f) vars (doing at (Going left n) g) vars) (sym p.writes)
@@ -255,9 +255,9 @@ module _ (w : World) (tree : Tree) (laws : ShowsTheSame) (at left : ℕ) (f : Fa
       (works w tree laws at at InRow left g goes_on' vars more n (p.works vars)))))
 
   -- so it is where its bytes wait one by one
-  pub joins_held : (stub text : List ℕ) (m : Serving Answer) (vars : Vars) → text ≢ [] → AllEnd IsGood m → IsWell f → is_open at (appended at text f.row).pieces ≡ true →
+  pub joins_withheld : (stub text : List ℕ) (m : Serving Answer) (vars : Vars) → text ≢ [] → AllEnd IsGood m → IsWell f → is_open at (appended at text f.row).pieces ≡ true →
       Opening w tree 0 (doing at (Apart (under text (Gives at left m Nil)) stub) f) vars (doing at (Going left m) (placing at text f)) vars
-  joins_held stub text m vars any good well goes_on' =
+  joins_withheld stub text m vars any good well goes_on' =
       let after : Stance = Apart (under text (Gives at left m Nil)) stub in
       let j = joins_under w tree (doing at after f) vars at left stub m text (well-doing at after f well refl) (stands w tree laws at f goes_on after) (keeps_under w tree text at left m good) any in
       same_count (ap (λ k. k + 0) j.1) (acting j.0 (alike (again w tree laws at (placing at text f) goes_on' (Going left m) after) stays))
@@ -276,24 +276,24 @@ module _ (w : World) (tree : Tree) (laws : ShowsTheSame) (at left : ℕ) (f : Fa
 
 module _ (w : World) (tree : Tree) (laws : ShowsTheSame) (h at left : ℕ) (f : Family) (goes_on : is_open h f.row.pieces ≡ true) (own : Own) (spot : Spot) (rest : Line) where
   -- after bytes that wait
-  held : List ℕ → Serving Answer → Family
-  held text m = doing h (owned own (filling (Behind text spot) (Gives at left m rest))) f
+  withheld : List ℕ → Serving Answer → Family
+  withheld text m = doing h (owned own (filling (Behind text spot) (Gives at left m rest))) f
 
-  holds_all : (text some more : List ℕ) (m : Serving Answer) (vars : Vars) → Opening w tree 0 (held text (Write (some ++ more) m)) vars (held (text ++ some) (Write more m)) vars
-  unfolding held
-  holds_all text [] more m vars = subst (λ t. Opening w tree 0 (held text (Write more m)) vars (held t (Write more m)) vars) (sym (append-nil text)) stays
+  holds_all : (text some more : List ℕ) (m : Serving Answer) (vars : Vars) → Opening w tree 0 (withheld text (Write (some ++ more) m)) vars (withheld (text ++ some) (Write more m)) vars
+  unfolding withheld
+  holds_all text [] more m vars = subst (λ t. Opening w tree 0 (withheld text (Write more m)) vars (withheld t (Write more m)) vars) (sym (append-nil text)) stays
   holds_all text (b ∷ some) more m vars =
       then (own_quiet w tree laws h f goes_on 0 own spot (under text (Gives at left (Write (b ∷ (some ++ more)) m) rest)) (under (text ++ b ∷ []) (Gives at left (Write (some ++ more) m) rest)) vars
       (line_places w tree text b (some ++ more) at left m rest))
-      (subst (λ t. Opening w tree 0 (held (text ++ b ∷ []) (Write (some ++ more) m)) vars (held t (Write more m)) vars) (append_assoc text (b ∷ []) some)
+      (subst (λ t. Opening w tree 0 (withheld (text ++ b ∷ []) (Write (some ++ more) m)) vars (withheld t (Write more m)) vars) (append_assoc text (b ∷ []) some)
       (holds_all (text ++ b ∷ []) some more m vars))
 
   -- its bytes come after them, one after another
   pub holds : (text some : List ℕ) (m n : Serving Answer) (vars : Vars) → PlacesAs some m n →
       Opening w tree 0 (doing h (stance_so (Inside own (Behind text spot) rest) at left m) f) vars (doing h (stance_so (Inside own (Behind (text ++ some) spot) rest) at left n) f) vars
-  unfolding held
+  unfolding withheld
   holds text some m n vars p =
-      subst (λ x. Opening w tree 0 (held text x) vars (held (text ++ some) n) vars) (sym p.writes)
+      subst (λ x. Opening w tree 0 (withheld text x) vars (withheld (text ++ some) n) vars) (sym p.writes)
       (then (holds_all text some p.more p.rest vars) (works w tree laws h at (Inside own (Behind (text ++ some) spot) rest) left f goes_on vars (Write p.more p.rest) n (p.works vars)))
 
   -- a subrequest opens right before it
@@ -324,17 +324,17 @@ module _ (w : World) (tree : Tree) (laws : ShowsTheSame) (h at left : ℕ) (f : 
 
   -- bytes that wait after others, with a line after them
   waiting : (text more : List ℕ) → Line → Family
-  waiting text more line = doing h (owned own (filling (Behind text spot) (Held more line))) f
+  waiting text more line = doing h (owned own (filling (Behind text spot) (Bytes more line))) f
 
   -- they wait one by one
   parts : (text more : List ℕ) (line : Line) (vars : Vars) → Opening w tree 0 (waiting text more line) vars (doing h (owned own (filling (Behind (text ++ more) spot) line)) f) vars
   unfolding waiting under
   parts text [] line vars =
       subst (λ t. Opening w tree 0 (waiting text [] line) vars (doing h (owned own (filling (Behind t spot) line)) f) vars) (sym (append-nil text))
-      (own_quiet w tree laws h f goes_on 0 own (Behind text spot) (Held [] line) line vars (record { quiet = LineGone; counts = refl }))
+      (own_quiet w tree laws h f goes_on 0 own (Behind text spot) (Bytes [] line) line vars (record { quiet = LineGone; counts = refl }))
   parts text (b ∷ more) line vars =
-      then (own_quiet w tree laws h f goes_on 0 own (Behind text spot) (Held (b ∷ more) line) (Held (b ∷ []) (Held more line)) vars (record { quiet = LineParts {some = b ∷ []} {more = more}; counts = refl }))
-      (subst (λ x. Opening w tree 0 (doing h (owned own (filling spot x)) f) vars (doing h (owned own (filling (Behind (text ++ (b ∷ more)) spot) line)) f) vars) (sym (under_both text (b ∷ []) (Held more line)))
+      then (own_quiet w tree laws h f goes_on 0 own (Behind text spot) (Bytes (b ∷ more) line) (Bytes (b ∷ []) (Bytes more line)) vars (record { quiet = LineParts {some = b ∷ []} {more = more}; counts = refl }))
+      (subst (λ x. Opening w tree 0 (doing h (owned own (filling spot x)) f) vars (doing h (owned own (filling (Behind (text ++ (b ∷ more)) spot) line)) f) vars) (sym (under_both text (b ∷ []) (Bytes more line)))
       (subst (λ t. Opening w tree 0 (waiting (text ++ b ∷ []) more line) vars (doing h (owned own (filling (Behind t spot) line)) f) vars) (append_assoc text (b ∷ []) more)
       (parts (text ++ b ∷ []) more line vars)))
 
@@ -346,7 +346,7 @@ module _ (w : World) (tree : Tree) (laws : ShowsTheSame) (h at left : ℕ) (f : 
   chosen_inside stub text answer vars =
       let line = under text (Gives at left (Done answer) Nil) in
       let chosen = or_stub (Some stub) answer.status text in
-      then (own_quiet w tree laws h f goes_on 0 own spot (Stubs line stub rest) (Held chosen (Gives at left (Done answer) rest)) vars
+      then (own_quiet w tree laws h f goes_on 0 own spot (Stubs line stub rest) (Bytes chosen (Gives at left (Done answer) rest)) vars
       (record { quiet = LineChooses at left (reply_of answer text) (line_ended at left text answer); counts = refl }))
       (parts [] chosen (Gives at left (Done answer) rest) vars)
 

@@ -4,7 +4,7 @@ use Rattle.file_tree.specs.Tree.{Tree}
 use Rattle.acts.specs.Vars.{Vars}
 use Rattle.request_meaning.specs.Serving.{World, Serving, Answer, Reply}
 use Rattle.family_meaning.specs.Line.{Line}
-use Rattle.family_meaning.specs.Line.Line.{Nil, Held, Gives, Waits, Stubs}
+use Rattle.family_meaning.specs.Line.Line.{Nil, Bytes, Gives, Waits, Stubs}
 use Rattle.family_order.specs.Acts.{Goes}
 use Rattle.family_order.specs.Items.{Stance, Family}
 use Rattle.family_order.specs.Items.Stance.{Going, Waiting, Apart, Hidden}
@@ -15,7 +15,7 @@ use Rattle.node_turn.specs.declared.node.Place.TheVariants.{Row, Stub, Captured}
 -- a line before which these bytes wait
 unfoldable pub under : (bytes : List ℕ) → Line → Line
 under [] line = line
-under (b ∷ bytes) line = Held (b ∷ []) (under bytes line)
+under (b ∷ bytes) line = Bytes (b ∷ []) (under bytes line)
 
 -- Where a line is within others: it is a whole; or is after bytes that wait; or is the one for whose reply a node
 -- waits, before more; or that of a subrequest with a stub, before more.

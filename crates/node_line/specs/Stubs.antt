@@ -8,7 +8,7 @@ use Rattle.request_meaning.specs.Serving.{World, Answer}
 use Rattle.request_meaning.specs.Replies.{or_stub}
 use Rattle.acts.specs.Act.{Done}
 use Rattle.family_meaning.specs.Moves.{AllEnd, IsGood}
-use Rattle.node_turn.specs.Stages.{hand_at, held_more, is_capturing, node_act}
+use Rattle.node_turn.specs.Stages.{hand_at, withheld_more, is_capturing, node_act}
 use Rattle.node_turn.specs.Turns.{PlacesAs}
 use Rattle.node_turn.specs.declared.node.Node.{Node}
 use Rattle.node_turn.specs.declared.node.Place.{Place}
@@ -27,23 +27,23 @@ shows (Reads b) = false
 shows (Captures c) = false
 shows (Ends answered) = false
 
--- no byte of it is held
+-- no byte of it is withheld
 abbrev pub joins_at : Place → Bool
 joins_at Row = false
 joins_at (Stub stub text) = length text == 0
 joins_at (Captured stub text) = false
 
--- Its body is shown as soon as some bytes of it come: none is held, it is at its page, and its status is below 400.
+-- Its body is shown as soon as some bytes of it come: none is withheld, it is at its page, and its status is below 400.
 pub record IsKept (n : Node) : Type 0 where
   pub stub : List ℕ
   pub place : n.place ≡ Stub stub []
   pub free : is_capturing n.stage ≡ false
   pub good : (w : World) (patterns : List SetPattern) (site : Site) (main : Main) (text : List ℕ) → AllEnd IsGood (node_act w patterns site main n text)
 
--- Bytes of it came: they are held, and it isn't known yet whether they are shown; or its body is shown, some of them are placed, and
+-- Bytes of it came: they are withheld, and it isn't known yet whether they are shown; or its body is shown, some of them are placed, and
 -- it goes on in the row.
 pub data CameAs (at : ℕ) (row row' : Order) (old new : Node) : Type 0 where
-  Held : row' ≡ row → new.place ≡ held_more (hand_at old.stage) old.place →
+  Withheld : row' ≡ row → new.place ≡ withheld_more (hand_at old.stage) old.place →
       ((w : World) (patterns : List SetPattern) (site : Site) (main : Main) (text : List ℕ) → PlacesAs (hand_at old.stage) (node_act w patterns site main old text) (node_act w patterns site main new text)) →
       CameAs at row row' old new
   Joined : (stub some : List ℕ) → some ≢ [] → old.place ≡ Stub stub [] → new.place ≡ Row → row' ≡ appended at some row →
@@ -51,7 +51,7 @@ pub data CameAs (at : ℕ) (row row' : Order) (old new : Node) : Type 0 where
       ((w : World) (patterns : List SetPattern) (site : Site) (main : Main) (text : List ℕ) → AllEnd IsGood (node_act w patterns site main old text)) →
       CameAs at row row' old new
 
--- The stub that is in the place of its body, which is held.
+-- The stub that is in the place of its body, which is withheld.
 pub record IsStubOf (n : Node) (stub : List ℕ) : Type 0 where
   pub text : List ℕ
   pub place : n.place ≡ Stub stub text

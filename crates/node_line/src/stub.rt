@@ -5,7 +5,7 @@ ghost use Rattle.postpone_filter.specs.Row.{is_open};
 ghost use Rattle.node_line.specs.Stubs.{CameAs, DecidedAs, IsKept, IsStubOf, joins_at, shows};
 
 use byte_text::OutOfMemory;
-use node_turn::{Node, Place, Stage, holds, places, put};
+use node_turn::{Node, Place, Stage, places, put, withholds};
 use postpone_filter::Order;
 use std::alloc::Global;
 
@@ -30,8 +30,8 @@ fn is_shown(stage: &Stage) -> bool
     }
 }
 
-/// Whether no byte of a body with a stub is held.
-fn holds_none(place: &Place) -> bool
+/// Whether no byte of a body with a stub is withheld.
+fn withholds_none(place: &Place) -> bool
     ensures { result ≡ joins_at place.now }
 {
     match place {
@@ -42,18 +42,18 @@ fn holds_none(place: &Place) -> bool
 }
 
 /// Whether the body of a node with a stub is shown as soon as some bytes of a subrequest come to it:
-/// no byte of it is held, it is at its page, and its status is below 400.
+/// no byte of it is withheld, it is at its page, and its status is below 400.
 pub fn is_kept(node: &Node) -> bool
     ensures { result ≡ true → IsKept node.now }
 {
     match &node.stage {
-        Stage::Serves(body) => holds_none(&node.place) && body.answered.status < 400,
+        Stage::Serves(body) => withholds_none(&node.place) && body.answered.status < 400,
         _ => false,
     }
 }
 
 /// Bytes of a node with a stub come: where it is known that its body is shown, they are placed, and
-/// the node goes on in the row; else they are held.
+/// the node goes on in the row; else they are withheld.
 ///
 /// # Errors
 /// `OutOfMemory`; the node is then not to go on.
@@ -67,15 +67,15 @@ pub fn comes(alloc: Global, order: &mut Order, at: u32, node: &mut Node) -> Resu
     ensures file { OnOk result
         ((node.new.ask ≡ node.old.ask) × (node.new.start ≡ node.old.start)) }
 {
-    if holds_none(&node.place) && is_shown(&node.stage) {
-        let placed = places(alloc, order, at, node);
+    if withholds_none(&node.place) && is_shown(&node.stage) {
+        let placed = places(alloc, order, at, node)?;
         if placed.count == 0 {
             return Err(OutOfMemory);
         }
         put(&mut node.place, Place::Row);
         return Ok(());
     }
-    holds(alloc, node)?;
+    withholds(alloc, node)?;
     Ok(())
 }
 
@@ -109,7 +109,7 @@ pub fn decides(order: &mut Order, at: u32, node: &mut Node) -> Result<(), OutOfM
     let Some(stub) = stub_of(node) else {
         return Err(OutOfMemory);
     };
-    let count = order.append(at, stub);
+    let count = order.append(at, stub)?;
     if count < stub.len() {
         return Err(OutOfMemory);
     }

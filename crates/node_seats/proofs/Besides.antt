@@ -8,7 +8,7 @@ use Rattle.node_turn.specs.declared.node.Node.{Node}
 use Rattle.node_turn.specs.declared.node.Place.{Place}
 use Rattle.node_turn.specs.declared.node.Place.TheVariants.{Row, Stub, Captured}
 use Rattle.node_line.specs.Stances.{under}
-use Rattle.node_seats.specs.Seats.{Doing, asking_line, held_text, is_captured, line_from, place_stance, put_by, row_stance, stance_in, stance_of, stub_in, waited_line}
+use Rattle.node_seats.specs.Seats.{Doing, asking_line, withheld_text, is_captured, line_from, place_stance, put_by, row_stance, stance_in, stance_of, stub_in, waited_line}
 
 -- A node and another with its number that is in the same place and does the same.
 pub record IsAsMuch (d d' : Doing) (j : ℕ) (n n' : Node) : Type 0 where
@@ -92,12 +92,12 @@ module _ (d : Doing) (nodes : List Node) (d' : Doing) (nodes' : List Node) (besi
   same_line : (levels : ℕ) → Below (line_from d nodes levels) (line_from d' nodes' levels)
   unfolding line_from
   same_line zero j n n' rest e =
-      ap (λ p. under (held_text p) (Gives j n.left (d.act j n) rest)) e.place
-      ∙ ap (λ l. under (held_text n'.place) (Gives j l (d.act j n) rest)) e.left
-      ∙ ap (λ m. under (held_text n'.place) (Gives j n'.left m rest)) e.act
+      ap (λ p. under (withheld_text p) (Gives j n.left (d.act j n) rest)) e.place
+      ∙ ap (λ l. under (withheld_text n'.place) (Gives j l (d.act j n) rest)) e.left
+      ∙ ap (λ m. under (withheld_text n'.place) (Gives j n'.left m rest)) e.act
   same_line (suc levels) j n n' rest e =
-      ap (λ p. under (held_text p) (asking_line d nodes (line_from d nodes levels) j n n.asks rest)) e.place
-      ∙ ap (under (held_text n'.place)) (same_asking (line_from d nodes levels) (line_from d' nodes' levels) (same_line levels) j n n' rest e n.asks
+      ap (λ p. under (withheld_text p) (asking_line d nodes (line_from d nodes levels) j n n.asks rest)) e.place
+      ∙ ap (under (withheld_text n'.place)) (same_asking (line_from d nodes levels) (line_from d' nodes' levels) (same_line levels) j n n' rest e n.asks
       ∙ ap (λ a. asking_line d' nodes' (line_from d' nodes' levels) j n' a rest) e.asks)
 
   -- what is said of a node that is in the same place and does the same

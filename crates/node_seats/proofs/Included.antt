@@ -25,7 +25,7 @@ use Rattle.node_line.specs.Stances.Own.{Beside, Below}
 use Rattle.node_line.specs.Stances.Seat.{InRow as InItsRow, Inside}
 use Rattle.node_line.specs.Stances.Spot.{Behind}
 use Rattle.node_line.proofs.Steps as steps
-use Rattle.node_seats.specs.Seats.{Doing, doing_by, held_text, is_captured, is_heard, line_from, most_levels, place_stance, put_by, row_stance, seen, stance_in, stance_of, stub_in, waited_line}
+use Rattle.node_seats.specs.Seats.{Doing, doing_by, withheld_text, is_captured, is_heard, line_from, most_levels, place_stance, put_by, row_stance, seen, stance_in, stance_of, stub_in, waited_line}
 use Rattle.node_seats.proofs.Located.{Located, SameWaiting, StandsAs, above_line, false_true, waited_is}
 use Rattle.node_seats.proofs.Others as others_are
 use Rattle.node_seats.proofs.Others.{SameOrMore, is_its, its_free}
@@ -86,49 +86,49 @@ module _ (d : Doing) (nodes : List Node) (d' : Doing) (nodes' : List Node) (at n
           by false f = refl
 
   -- the line of the subrequest, before more
-  pub member_line : (levels : ℕ) (rest : Line) → waited_line (line_from d' nodes' levels) at number (slice_get nodes' number) rest ≡ part (stub_in member.place) (held_text member.place) number member.left (d'.act number member) rest
+  pub member_line : (levels : ℕ) (rest : Line) → waited_line (line_from d' nodes' levels) at number (slice_get nodes' number) rest ≡ part (stub_in member.place) (withheld_text member.place) number member.left (d'.act number member) rest
   member_line levels rest =
       waited_is (line_from d' nodes' levels) at number (slice_get nodes' number) member rest r.last r.captured r.parent
       ∙ by (stub_in member.place)
     where
-      by : (s : Option (List ℕ)) → put_by s (line_from d' nodes' levels number member) rest ≡ part s (held_text member.place) number member.left (d'.act number member) rest
+      by : (s : Option (List ℕ)) → put_by s (line_from d' nodes' levels number member) rest ≡ part s (withheld_text member.place) number member.left (d'.act number member) rest
       by None = line_alone d' nodes' levels number member rest r.none
       by (Some stub) = ap (λ line. Stubs line stub rest) (line_alone d' nodes' levels number member Nil r.none)
 
   -- the line of the node then, where the body is a part of its own
   pub included_line : (depth spare : ℕ) (rest : Line) → is_capturing new.stage ≡ false →
-      line_from d' nodes' (suc depth + spare) at new rest ≡ under (held_text new.place) (part (stub_in member.place) (held_text member.place) number member.left (d'.act number member) (Gives at new.left (d'.act at new) rest))
+      line_from d' nodes' (suc depth + spare) at new rest ≡ under (withheld_text new.place) (part (stub_in member.place) (withheld_text member.place) number member.left (d'.act number member) (Gives at new.left (d'.act at new) rest))
   included_line depth spare rest e =
       above_line d' nodes' depth spare at number new rest r.asks
-      ∙ ap (λ b. under (held_text new.place) (cond b (Waits at (waited_line (line_from d' nodes' (depth + spare)) at number (slice_get nodes' number) Nil) new.left (d'.heard at new) rest)
+      ∙ ap (λ b. under (withheld_text new.place) (cond b (Waits at (waited_line (line_from d' nodes' (depth + spare)) at number (slice_get nodes' number) Nil) new.left (d'.heard at new) rest)
       (waited_line (line_from d' nodes' (depth + spare)) at number (slice_get nodes' number) (Gives at new.left (d'.act at new) rest)))) e
-      ∙ ap (under (held_text new.place)) (member_line (depth + spare) (Gives at new.left (d'.act at new) rest))
+      ∙ ap (under (withheld_text new.place)) (member_line (depth + spare) (Gives at new.left (d'.act at new) rest))
 
   -- and where it goes into a variable
   pub asked_line : (depth spare : ℕ) (rest : Line) → is_capturing new.stage ≡ true →
-      line_from d' nodes' (suc depth + spare) at new rest ≡ under (held_text new.place) (Waits at (part (stub_in member.place) (held_text member.place) number member.left (d'.act number member) Nil) new.left (d'.heard at new) rest)
+      line_from d' nodes' (suc depth + spare) at new rest ≡ under (withheld_text new.place) (Waits at (part (stub_in member.place) (withheld_text member.place) number member.left (d'.act number member) Nil) new.left (d'.heard at new) rest)
   asked_line depth spare rest e =
       above_line d' nodes' depth spare at number new rest r.asks
-      ∙ ap (λ b. under (held_text new.place) (cond b (Waits at (waited_line (line_from d' nodes' (depth + spare)) at number (slice_get nodes' number) Nil) new.left (d'.heard at new) rest)
+      ∙ ap (λ b. under (withheld_text new.place) (cond b (Waits at (waited_line (line_from d' nodes' (depth + spare)) at number (slice_get nodes' number) Nil) new.left (d'.heard at new) rest)
       (waited_line (line_from d' nodes' (depth + spare)) at number (slice_get nodes' number) (Gives at new.left (d'.act at new) rest)))) e
-      ∙ ap (λ line. under (held_text new.place) (Waits at line new.left (d'.heard at new) rest)) (member_line (depth + spare) Nil)
+      ∙ ap (λ line. under (withheld_text new.place) (Waits at line new.left (d'.heard at new) rest)) (member_line (depth + spare) Nil)
 
   -- what is said of the one that has the line
   module _ (levels up depth : ℕ) (q : Located levels d nodes up (suc depth) at old) (like : StandsAs old new) where
     pub included_is : is_capturing new.stage ≡ false →
-        stance_in d' nodes' levels q.h ≡ owned q.own (filling (Behind (held_text new.place) q.spot) (part (stub_in member.place) (held_text member.place) number member.left (d'.act number member) (Gives at new.left (d'.act at new) q.rest)))
+        stance_in d' nodes' levels q.h ≡ owned q.own (filling (Behind (withheld_text new.place) q.spot) (part (stub_in member.place) (withheld_text member.place) number member.left (d'.act number member) (Gives at new.left (d'.act at new) q.rest)))
     included_is e = q.is d' nodes' same_waiting new r.then like ∙ ap (λ line. owned q.own (filling q.spot line)) (included_line depth q.spare q.rest e)
 
     pub asked_is : is_capturing new.stage ≡ true →
-        stance_in d' nodes' levels q.h ≡ owned q.own (filling (Behind (held_text new.place) q.spot) (Waits at (part (stub_in member.place) (held_text member.place) number member.left (d'.act number member) Nil) new.left (d'.heard at new) q.rest))
+        stance_in d' nodes' levels q.h ≡ owned q.own (filling (Behind (withheld_text new.place) q.spot) (Waits at (part (stub_in member.place) (withheld_text member.place) number member.left (d'.act number member) Nil) new.left (d'.heard at new) q.rest))
     asked_is e = q.is d' nodes' same_waiting new r.then like ∙ ap (λ line. owned q.own (filling q.spot line)) (asked_line depth q.spare q.rest e)
 
     -- it doesn't wait in the other nodes
-    pub alone_is : stance_in d nodes levels q.h ≡ owned q.own (filling (Behind (held_text old.place) q.spot) (Gives at old.left (d.act at old) q.rest))
+    pub alone_is : stance_in d nodes levels q.h ≡ owned q.own (filling (Behind (withheld_text old.place) q.spot) (Gives at old.left (d.act at old) q.rest))
     alone_is = here_is levels d nodes up depth at old r.there r.free q
 
   -- what is said of one in the row
-  pub row_asked_is : (levels : ℕ) → new.place ≡ Row → stance_in d' nodes' levels at ≡ Waiting (part (stub_in member.place) (held_text member.place) number member.left (d'.act number member) Nil) new.left (d'.heard at new)
+  pub row_asked_is : (levels : ℕ) → new.place ≡ Row → stance_in d' nodes' levels at ≡ Waiting (part (stub_in member.place) (withheld_text member.place) number member.left (d'.act number member) Nil) new.left (d'.heard at new)
   row_asked_is levels row =
       ap (stance_of d' nodes' levels at) r.then ∙ ap (place_stance d' nodes' levels at new) row ∙ ap (row_stance d' nodes' levels at new) r.asks
       ∙ ap (λ line. Waiting line new.left (d'.heard at new)) (member_line levels Nil)
@@ -171,7 +171,7 @@ module _ (d : Doing) (nodes : List Node) (d' : Doing) (nodes' : List Node) (at n
 -- what the subrequest and the node do then, and that the row has them, or their line
 module _ (laws : ShowsTheSame) (w : World) (patterns : List SetPattern) (site : Site) (main : Main) (row : Order) (nodes nodes' : List Node) (texts : ℕ → List ℕ) (at number : ℕ) (old new member : Node)
     (r : Waits_too (doing_by w patterns site main texts) nodes (doing_by w patterns site main texts) nodes' at number old new member) (like : StandsAs old new) (place : new.place ≡ old.place)
-    (empty : held_text member.place ≡ []) (stub : Option (List ℕ)) (stubbed : stub_in member.place ≡ stub) (heard_so : is_heard most_levels nodes at old ≡ true) (tree : Tree) (vars : Vars) (goes_on : is_open at row.pieces ≡ true) (well : IsWell (seen w patterns site main row nodes texts)) where
+    (empty : withheld_text member.place ≡ []) (stub : Option (List ℕ)) (stubbed : stub_in member.place ≡ stub) (heard_so : is_heard most_levels nodes at old ≡ true) (tree : Tree) (vars : Vars) (goes_on : is_open at row.pieces ≡ true) (well : IsWell (seen w patterns site main row nodes texts)) where
   abbrev before : Family
   before = seen w patterns site main row nodes texts
 
@@ -197,9 +197,9 @@ module _ (laws : ShowsTheSame) (w : World) (patterns : List SetPattern) (site : 
 
     -- the subrequest as it is said then
     member_so : (line : Option (List ℕ) → List ℕ → ℕ → Serving Answer → ℕ → Stance) →
-        line (stub_in member.place) (held_text member.place) member.left (node_act w patterns site main member (texts number)) new.left ≡ line child.stub [] l (script w l child) old.left
+        line (stub_in member.place) (withheld_text member.place) member.left (node_act w patterns site main member (texts number)) new.left ≡ line child.stub [] l (script w l child) old.left
     member_so line =
-        ap (λ s. line s (held_text member.place) member.left (node_act w patterns site main member (texts number)) new.left) (stubbed ∙ sym its_stub)
+        ap (λ s. line s (withheld_text member.place) member.left (node_act w patterns site main member (texts number)) new.left) (stubbed ∙ sym its_stub)
         ∙ ap (λ t. line child.stub t member.left (node_act w patterns site main member (texts number)) new.left) empty
         ∙ ap (λ a. line child.stub [] a (node_act w patterns site main member (texts number)) new.left) member_left
         ∙ ap (λ m. line child.stub [] l m new.left) begun
@@ -209,22 +209,22 @@ module _ (laws : ShowsTheSame) (w : World) (patterns : List SetPattern) (site : 
 
     module _ (q : Located most_levels (doing_by w patterns site main texts) nodes most_levels 1 at old) (open_h : is_open q.h row.pieces ≡ true) (other : (row.nodes == q.h) ≡ false) where
       spot : Spot
-      spot = Behind (held_text old.place) q.spot
+      spot = Behind (withheld_text old.place) q.spot
 
       others_then : (j : ℕ) → (j == q.h) ≡ false → stance_in (doing_by w patterns site main texts) nodes most_levels j ≡ stance_in (doing_by w patterns site main texts) nodes' most_levels j
       others_then = others_same (doing_by w patterns site main texts) nodes (doing_by w patterns site main texts) nodes' at number old new member r most_levels most_levels heard_so like.captured like.parent q.h q.path
 
-      begins_so : IsAlike before (doing q.h (stance_so (Inside q.own (Behind (held_text old.place) q.spot) q.rest) at old.left (act old)) before)
+      begins_so : IsAlike before (doing q.h (stance_so (Inside q.own (Behind (withheld_text old.place) q.spot) q.rest) at old.left (act old)) before)
       begins_so =
-          framing.begins laws w patterns site main row nodes texts q.h (stance_so (Inside q.own (Behind (held_text old.place) q.spot) q.rest) at old.left (act old))
+          framing.begins laws w patterns site main row nodes texts q.h (stance_so (Inside q.own (Behind (withheld_text old.place) q.spot) q.rest) at old.left (act old))
           (alone_is (doing_by w patterns site main texts) nodes (doing_by w patterns site main texts) nodes' at number old new member r most_levels most_levels 0 q like)
 
       -- its body is a part of the node's own
       pub included : is_capturing new.stage ≡ false → Works vars (act old) (Inner child (act new)) → Opening w tree 1 before vars (seen w patterns site main (with_child at row) nodes' texts) vars
       unfolding spot under
       included e acts =
-          let line : List ℕ → Option (List ℕ) → List ℕ → ℕ → Serving Answer → ℕ → Stance = λ held s t a m b. owned q.own (filling (Behind held q.spot) (part s t number a m (Gives at b (act new) q.rest))) in
-          let t = line (held_text old.place) child.stub [] l (script w l child) old.left in
+          let line : List ℕ → Option (List ℕ) → List ℕ → ℕ → Serving Answer → ℕ → Stance = λ withheld s t a m b. owned q.own (filling (Behind withheld q.spot) (part s t number a m (Gives at b (act new) q.rest))) in
+          let t = line (withheld_text old.place) child.stub [] l (script w l child) old.left in
           let rest = Gives at old.left (act new) q.rest in
           steps.alike begins_so
           (steps.then (steps.works w tree laws q.h at (Inside q.own spot q.rest) old.left before open_h vars (act old) (Inner child (act new)) acts)
@@ -232,22 +232,22 @@ module _ (laws : ShowsTheSame) (w : World) (patterns : List SetPattern) (site : 
           (steps.opens_any w tree laws q.h at old.left before open_h q.own spot q.rest number l child (act new) vars deep))
           (framing.opens laws w patterns site main row nodes texts nodes' q.h others_then at t (shown q.own (filling spot (part child.stub [] number l (script w l child) rest)))
           (sym (included_is (doing_by w patterns site main texts) nodes (doing_by w patterns site main texts) nodes' at number old new member r most_levels most_levels 0 q like e
-          ∙ ap (λ p. line (held_text p) (stub_in member.place) (held_text member.place) member.left (node_act w patterns site main member (texts number)) new.left) place ∙ member_so (line (held_text old.place))))
+          ∙ ap (λ p. line (withheld_text p) (stub_in member.place) (withheld_text member.place) member.left (node_act w patterns site main member (texts number)) new.left) place ∙ member_so (line (withheld_text old.place))))
           well goes_on (hides numbered) other tree vars)))
 
       -- it goes into a variable
       pub asked : is_capturing new.stage ≡ true → Works vars (act old) (Call child heard) → Opening w tree 1 before vars (seen w patterns site main (with_child at row) nodes' texts) vars
       unfolding spot under
       asked e acts =
-          let line : List ℕ → Option (List ℕ) → List ℕ → ℕ → Serving Answer → ℕ → Stance = λ held s t a m b. owned q.own (filling (Behind held q.spot) (Waits at (part s t number a m Nil) b heard q.rest)) in
-          let t = line (held_text old.place) child.stub [] l (script w l child) old.left in
+          let line : List ℕ → Option (List ℕ) → List ℕ → ℕ → Serving Answer → ℕ → Stance = λ withheld s t a m b. owned q.own (filling (Behind withheld q.spot) (Waits at (part s t number a m Nil) b heard q.rest)) in
+          let t = line (withheld_text old.place) child.stub [] l (script w l child) old.left in
           steps.alike begins_so
           (steps.then (steps.works w tree laws q.h at (Inside q.own spot q.rest) old.left before open_h vars (act old) (Call child heard) acts)
           (steps.then (subst (λ x. Opening w tree 1 (doing q.h (owned q.own (filling spot (Gives at old.left (Call child heard) q.rest))) before) vars (doing q.h (owned q.own (filling spot (Waits at x old.left heard q.rest))) before) vars) (part_begins w number l child Nil)
           (steps.asks_any w tree laws q.h at old.left before open_h q.own spot q.rest number l child heard vars deep))
           (framing.opens laws w patterns site main row nodes texts nodes' q.h others_then at t (shown q.own (filling spot (Waits at (part child.stub [] number l (script w l child) Nil) old.left heard q.rest)))
           (sym (asked_is (doing_by w patterns site main texts) nodes (doing_by w patterns site main texts) nodes' at number old new member r most_levels most_levels 0 q like e
-          ∙ ap (λ p. line (held_text p) (stub_in member.place) (held_text member.place) member.left (node_act w patterns site main member (texts number)) new.left) place ∙ member_so (line (held_text old.place))))
+          ∙ ap (λ p. line (withheld_text p) (stub_in member.place) (withheld_text member.place) member.left (node_act w patterns site main member (texts number)) new.left) place ∙ member_so (line (withheld_text old.place))))
           well goes_on (hides numbered) other tree vars)))
 
     -- ---- in the row

@@ -13,7 +13,7 @@ use Rattle.node_line.specs.Stances.{Own, Spot, filling, owned, under}
 use Rattle.node_line.specs.Stances.Own.{Beside, Below}
 use Rattle.node_line.specs.Stances.Spot.{Whole, Behind, For, Stubbed}
 use Rattle.node_seats.proofs.Paths.{on_path, path_top, path_next}
-use Rattle.node_seats.specs.Seats.{Doing, asking_line, held_text, heard_by, hears, is_asked, is_captured, is_heard, line_from, place_stance, put_by, row_stance, stance_in, stance_of, stub_in, waited_line}
+use Rattle.node_seats.specs.Seats.{Doing, asking_line, withheld_text, heard_by, hears, is_asked, is_captured, is_heard, line_from, place_stance, put_by, row_stance, stance_in, stance_of, stub_in, waited_line}
 
 -- ---- truth
 
@@ -110,11 +110,11 @@ one_more : (a b : ℕ) → suc a + b ≡ suc (a + b)
 one_more a b = omega arith
 
 pub above_line : (d : Doing) (nodes : List Node) (depth spare par at : ℕ) (p : Node) (rest : Line) → p.asks ≡ Some at → line_from d nodes (suc depth + spare) par p rest
-    ≡ under (held_text p.place) (asking_line d nodes (line_from d nodes (depth + spare)) par p (Some at) rest)
+    ≡ under (withheld_text p.place) (asking_line d nodes (line_from d nodes (depth + spare)) par p (Some at) rest)
 unfolding line_from
 above_line d nodes depth spare par at p rest asks =
     ap (λ l. line_from d nodes l par p rest) (one_more depth spare)
-    ∙ ap (λ a. under (held_text p.place) (asking_line d nodes (line_from d nodes (depth + spare)) par p a rest)) asks
+    ∙ ap (λ a. under (withheld_text p.place) (asking_line d nodes (line_from d nodes (depth + spare)) par p a rest)) asks
 
 -- ---- where it is
 
@@ -230,13 +230,13 @@ module _ (levels : ℕ) (d : Doing) (nodes : List Node) where
           ∙ put_is (stub_in old.place) (line_from d' nodes' (depth + q.spare) at new) rest spot
 
       begins : (d' : Doing) (nodes' : List Node) → SameWaiting d nodes d' nodes' →
-          stance_in d' nodes' levels q.h ≡ owned q.own (filling (Behind (held_text p.place) q.spot) (asking_line d' nodes' (line_from d' nodes' (depth + q.spare)) par p (Some at) q.rest))
+          stance_in d' nodes' levels q.h ≡ owned q.own (filling (Behind (withheld_text p.place) q.spot) (asking_line d' nodes' (line_from d' nodes' (depth + q.spare)) par p (Some at) q.rest))
       begins d' nodes' same =
           q.is d' nodes' same p (same.there par p above (asks_is p at asks)) (as_itself p) ∙ ap (λ line. owned q.own (filling q.spot line)) (above_line d' nodes' depth q.spare par at p q.rest asks)
 
       by : (b : Bool) → is_capturing p.stage ≡ b → Located levels d nodes (suc up) depth at old
       by true e =
-          let spot = For par p.left (d.heard par p) q.rest (Behind (held_text p.place) q.spot) in
+          let spot = For par p.left (d.heard par p) q.rest (Behind (withheld_text p.place) q.spot) in
           record {
             h = q.h;
             host = q.host;
@@ -249,13 +249,13 @@ module _ (levels : ℕ) (d : Doing) (nodes : List Node) where
             spare = q.spare;
             is = λ d' nodes' same new there like.
                 begins d' nodes' same
-                ∙ ap (λ b. owned q.own (filling (Behind (held_text p.place) q.spot) (cond b (Waits par (waited_line (line_from d' nodes' (depth + q.spare)) par at (slice_get nodes' at) Nil) p.left (d'.heard par p) q.rest)
+                ∙ ap (λ b. owned q.own (filling (Behind (withheld_text p.place) q.spot) (cond b (Waits par (waited_line (line_from d' nodes' (depth + q.spare)) par at (slice_get nodes' at) Nil) p.left (d'.heard par p) q.rest)
                 (waited_line (line_from d' nodes' (depth + q.spare)) par at (slice_get nodes' at) (Gives par p.left (d'.act par p) q.rest))))) e
-                ∙ ap (λ k. owned q.own (filling (Behind (held_text p.place) q.spot) (Waits par (waited_line (line_from d' nodes' (depth + q.spare)) par at (slice_get nodes' at) Nil) p.left k q.rest))) (same.heard par p above (asks_is p at asks))
+                ∙ ap (λ k. owned q.own (filling (Behind (withheld_text p.place) q.spot) (Waits par (waited_line (line_from d' nodes' (depth + q.spare)) par at (slice_get nodes' at) Nil) p.left k q.rest))) (same.heard par p above (asks_is p at asks))
                 ∙ ap (owned q.own) (fills d' nodes' Nil spot new there like);
           }
       by false e =
-          let spot = Behind (held_text p.place) q.spot in
+          let spot = Behind (withheld_text p.place) q.spot in
           let rest = Gives par p.left (d.act par p) q.rest in
           record {
             h = q.h;
@@ -269,9 +269,9 @@ module _ (levels : ℕ) (d : Doing) (nodes : List Node) where
             spare = q.spare;
             is = λ d' nodes' same new there like.
                 begins d' nodes' same
-                ∙ ap (λ b. owned q.own (filling (Behind (held_text p.place) q.spot) (cond b (Waits par (waited_line (line_from d' nodes' (depth + q.spare)) par at (slice_get nodes' at) Nil) p.left (d'.heard par p) q.rest)
+                ∙ ap (λ b. owned q.own (filling (Behind (withheld_text p.place) q.spot) (cond b (Waits par (waited_line (line_from d' nodes' (depth + q.spare)) par at (slice_get nodes' at) Nil) p.left (d'.heard par p) q.rest)
                 (waited_line (line_from d' nodes' (depth + q.spare)) par at (slice_get nodes' at) (Gives par p.left (d'.act par p) q.rest))))) e
-                ∙ ap (λ m. owned q.own (filling (Behind (held_text p.place) q.spot) (waited_line (line_from d' nodes' (depth + q.spare)) par at (slice_get nodes' at) (Gives par p.left m q.rest)))) (same.act par p above (asks_is p at asks))
+                ∙ ap (λ m. owned q.own (filling (Behind (withheld_text p.place) q.spot) (waited_line (line_from d' nodes' (depth + q.spare)) par at (slice_get nodes' at) (Gives par p.left m q.rest)))) (same.act par p above (asks_is p at asks))
                 ∙ ap (owned q.own) (fills d' nodes' rest spot new there like);
           }
 

@@ -9,7 +9,7 @@ use Rattle.node_turn.specs.declared.node.Node.{Node}
 use Rattle.node_turn.specs.declared.node.Place.{Place}
 use Rattle.node_turn.specs.declared.node.Place.TheVariants.{Row, Stub, Captured}
 use Rattle.node_line.specs.Stances.{under}
-use Rattle.node_seats.specs.Seats.{Doing, asking_line, held_text, is_captured, is_heard, line_from, place_stance, put_by, row_stance, stance_in, stance_of, stub_in, waited_line}
+use Rattle.node_seats.specs.Seats.{Doing, asking_line, withheld_text, is_captured, is_heard, line_from, place_stance, put_by, row_stance, stance_in, stance_of, stub_in, waited_line}
 use Rattle.node_seats.proofs.Paths.{on_path}
 use Rattle.node_seats.proofs.Located.{Above, above_is, eq_self, false_true, left_true, right_true}
 
@@ -57,17 +57,17 @@ module _ (nodes : List Node) where
           (b : Bool) → (c == at) ≡ b → on_path (suc up) nodes at (Some n) m.parent ≡ true
       by higher true f =
           let same : n ≡ m = some_same n m (sym there ∙ ap (slice_get nodes) (sym (eqb-true c at f)) ∙ here) in
-          let held : is_captured n.place ≡ true = ap (λ (x : Node). is_captured x.place) same ∙ captured in
-          let a = above_is up nodes at n e held in
+          let withheld : is_captured n.place ≡ true = ap (λ (x : Node). is_captured x.place) same ∙ captured in
+          let a = above_is up nodes at n e withheld in
           ap (on_path (suc up) nodes at (Some n)) (ap (λ (x : Node). x.parent) (sym same))
-          ∙ or_right (n.parent == at) (tail n.parent) (both (is_captured n.place) (on_path up nodes n.parent (slice_get nodes n.parent) n.parent) held (ap (λ o. on_path up nodes n.parent o n.parent) a.there ∙ itself up n.parent a.waiting))
+          ∙ or_right (n.parent == at) (tail n.parent) (both (is_captured n.place) (on_path up nodes n.parent (slice_get nodes n.parent) n.parent) withheld (ap (λ o. on_path up nodes n.parent o n.parent) a.there ∙ itself up n.parent a.waiting))
       by higher false f =
           let rest : tail c ≡ true = sym (ap (λ b. b || tail c) f) ∙ on in
-          let held = left_true (is_captured n.place) (on_path up nodes n.parent (slice_get nodes n.parent) c) rest in
-          let a = above_is up nodes at n e held in
+          let withheld = left_true (is_captured n.place) (on_path up nodes n.parent (slice_get nodes n.parent) c) rest in
+          let a = above_is up nodes at n e withheld in
           let on' = ap (λ o. on_path up nodes n.parent o c) (sym a.there) ∙ right_true (is_captured n.place) (on_path up nodes n.parent (slice_get nodes n.parent) c) rest in
           or_right (m.parent == at) (tail m.parent)
-          (both (is_captured n.place) (on_path up nodes n.parent (slice_get nodes n.parent) m.parent) held
+          (both (is_captured n.place) (on_path up nodes n.parent (slice_get nodes n.parent) m.parent) withheld
           (ap (λ o. on_path up nodes n.parent o m.parent) a.there ∙ higher a on'))
 
 -- ---- lines without a node in them
@@ -141,9 +141,9 @@ module _ (d : Doing) (nodes : List Node) (d' : Doing) (nodes' : List Node) (up a
       not_its : (m : Node) (b : Bool) → is_captured m.place ≡ is_captured old.place → m.parent ≡ old.parent → (is_captured m.place && (m.parent == x)) ≡ b → b ≡ false
       not_its m false f g h = refl
       not_its m true f g h =
-          let held = sym f ∙ left_true (is_captured m.place) (m.parent == x) h in
+          let withheld = sym f ∙ left_true (is_captured m.place) (m.parent == x) h in
           let parent = sym g ∙ eqb-true m.parent x (right_true (is_captured m.place) (m.parent == x) h) in
-          absurd (false_true (sym (off_other at (child_off x at old e there held parent)) ∙ eq_self at))
+          absurd (false_true (sym (off_other at (child_off x at old e there withheld parent)) ∙ eq_self at))
 
       none : (line : ℕ → Node → Line → Line) (m : Node) → is_captured m.place ≡ is_captured old.place → m.parent ≡ old.parent → waited_line line x c (Some m) rest ≡ rest
       none line m f g = ap (λ b. cond b (put_by (stub_in m.place) (line c m) rest) rest) (not_its m (is_captured m.place && (m.parent == x)) f g refl)
@@ -185,8 +185,8 @@ module _ (d : Doing) (nodes : List Node) (d' : Doing) (nodes' : List Node) (up a
 
   off_line : (levels : ℕ) → AsMuch (line_from d nodes levels) (line_from d' nodes' levels)
   unfolding line_from
-  off_line zero c m rest here e = ap (λ act. under (held_text m.place) (Gives c m.left act rest)) (acts c m (off_other c e))
-  off_line (suc levels) c m rest here e = ap (under (held_text m.place)) (off_asking (line_from d nodes levels) (line_from d' nodes' levels) (off_line levels) c m m.asks rest e)
+  off_line zero c m rest here e = ap (λ act. under (withheld_text m.place) (Gives c m.left act rest)) (acts c m (off_other c e))
+  off_line (suc levels) c m rest here e = ap (under (withheld_text m.place)) (off_asking (line_from d nodes levels) (line_from d' nodes' levels) (off_line levels) c m m.asks rest e)
 
   -- what is said of a node that isn't on the path
   pub off_stance : (levels j : ℕ) → off j → stance_in d nodes levels j ≡ stance_in d' nodes' levels j

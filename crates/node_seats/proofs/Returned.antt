@@ -24,7 +24,7 @@ use Rattle.node_line.specs.Stances.{Opening, Own, Spot, filling, owned, under}
 use Rattle.node_line.specs.Stances.Own.{Beside, Below}
 use Rattle.node_line.specs.Stances.Spot.{Behind, For, Whole}
 use Rattle.node_line.proofs.Steps as steps
-use Rattle.node_seats.specs.Seats.{Doing, doing_by, heard_by, held_text, is_asked, is_captured, is_heard, line_from, most_levels, place_stance, seen, stance_in, stance_of, stub_in}
+use Rattle.node_seats.specs.Seats.{Doing, doing_by, heard_by, withheld_text, is_asked, is_captured, is_heard, line_from, most_levels, place_stance, seen, stance_in, stance_of, stub_in}
 use Rattle.node_seats.proofs.Framing as framing
 use Rattle.node_seats.proofs.Included as waits_too
 use Rattle.node_seats.proofs.Included.{Waits_too}
@@ -122,7 +122,7 @@ module _ (laws : ShowsTheSame) (w : World) (patterns : List SetPattern) (site : 
 
   -- the bytes that are in its place
   abbrev chosen : List ℕ
-  chosen = or_stub (stub_in old.place) answer.status (held_text old.place)
+  chosen = or_stub (stub_in old.place) answer.status (withheld_text old.place)
 
   abbrev act : Node → Serving Answer
   act n = node_act w patterns site main n (texts par)
@@ -144,37 +144,37 @@ module _ (laws : ShowsTheSame) (w : World) (patterns : List SetPattern) (site : 
     others_then j e =
         sym (waits_too.others_same (doing_by w patterns site main texts) nodes' (doing_by w patterns site main texts) nodes par at p' p old r most_levels up heard_so like.captured like.parent q.h q.path j e)
 
-    alone_then : stance_in (doing_by w patterns site main texts) nodes' most_levels q.h ≡ owned q.own (filling (Behind (held_text p'.place) q.spot) (Gives par p'.left (act p') q.rest))
+    alone_then : stance_in (doing_by w patterns site main texts) nodes' most_levels q.h ≡ owned q.own (filling (Behind (withheld_text p'.place) q.spot) (Gives par p'.left (act p') q.rest))
     alone_then = waits_too.alone_is (doing_by w patterns site main texts) nodes' (doing_by w patterns site main texts) nodes par at p' p old r most_levels up 1 q like
 
     -- its bytes come after those of the node
-    pub leaves : is_capturing p.stage ≡ false → held_text p'.place ≡ held_text p.place ++ chosen → act p' ≡ act p → Opening w tree 0 before vars after vars
+    pub leaves : is_capturing p.stage ≡ false → withheld_text p'.place ≡ withheld_text p.place ++ chosen → act p' ≡ act p → Opening w tree 0 before vars after vars
     unfolding has_node
-    leaves e held does =
+    leaves e withheld does =
         let rest = Gives par p.left (act p) q.rest in
         let line : List ℕ → ℕ → Serving Answer → Stance = λ t l m. owned q.own (filling (Behind t q.spot) (Gives par l m q.rest)) in
-        let then = held_text p.place ++ chosen in
-        steps.alike (framing.begins laws w patterns site main row nodes texts q.h (owned q.own (filling (Behind (held_text p.place) q.spot) (waits_too.part (stub_in old.place) (held_text old.place) at old.left (Done answer) rest)))
+        let then = withheld_text p.place ++ chosen in
+        steps.alike (framing.begins laws w patterns site main row nodes texts q.h (owned q.own (filling (Behind (withheld_text p.place) q.spot) (waits_too.part (stub_in old.place) (withheld_text old.place) at old.left (Done answer) rest)))
         (waits_too.included_is (doing_by w patterns site main texts) nodes' (doing_by w patterns site main texts) nodes par at p' p old r most_levels up 1 q like e
-        ∙ ap (λ m. owned q.own (filling (Behind (held_text p.place) q.spot) (waits_too.part (stub_in old.place) (held_text old.place) at old.left m rest))) done))
-        (steps.then (chosen_part w tree laws q.h at old.left before open_h q.own (Behind (held_text p.place) q.spot) rest (stub_in old.place) (held_text old.place) answer vars)
-        (steps.then (steps.leaves_inside w tree laws q.h at old.left before open_h q.own q.spot rest (held_text p.place) chosen answer vars refl)
+        ∙ ap (λ m. owned q.own (filling (Behind (withheld_text p.place) q.spot) (waits_too.part (stub_in old.place) (withheld_text old.place) at old.left m rest))) done))
+        (steps.then (chosen_part w tree laws q.h at old.left before open_h q.own (Behind (withheld_text p.place) q.spot) rest (stub_in old.place) (withheld_text old.place) answer vars)
+        (steps.then (steps.leaves_inside w tree laws q.h at old.left before open_h q.own q.spot rest (withheld_text p.place) chosen answer vars refl)
         (framing.ends laws w patterns site main row nodes texts nodes' q.h others_then at (line then p.left (act p)) (shown q.own (filling (Behind then q.spot) rest))
-        (sym (alone_then ∙ ap (λ t. line t p'.left (act p')) held ∙ ap (λ l. line then l (act p')) same_left ∙ ap (line then p.left) does))
+        (sym (alone_then ∙ ap (λ t. line t p'.left (act p')) withheld ∙ ap (λ l. line then l (act p')) same_left ∙ ap (line then p.left) does))
         well open_at hidden other closed tree vars)))
 
     -- the node hears its reply
-    pub told : is_capturing p.stage ≡ true → held_text p'.place ≡ held_text p.place → act p' ≡ node_heard w patterns site main p (texts par) chosen → Opening w tree 0 before vars after vars
-    told e held does =
+    pub told : is_capturing p.stage ≡ true → withheld_text p'.place ≡ withheld_text p.place → act p' ≡ node_heard w patterns site main p (texts par) chosen → Opening w tree 0 before vars after vars
+    told e withheld does =
         let line : List ℕ → ℕ → Serving Answer → Stance = λ t l m. owned q.own (filling (Behind t q.spot) (Gives par l m q.rest)) in
         let now = node_heard w patterns site main p (texts par) chosen in
-        steps.alike (framing.begins laws w patterns site main row nodes texts q.h (owned q.own (filling (Behind (held_text p.place) q.spot) (Waits par (waits_too.part (stub_in old.place) (held_text old.place) at old.left (Done answer) Nil) p.left heard q.rest)))
+        steps.alike (framing.begins laws w patterns site main row nodes texts q.h (owned q.own (filling (Behind (withheld_text p.place) q.spot) (Waits par (waits_too.part (stub_in old.place) (withheld_text old.place) at old.left (Done answer) Nil) p.left heard q.rest)))
         (waits_too.asked_is (doing_by w patterns site main texts) nodes' (doing_by w patterns site main texts) nodes par at p' p old r most_levels up 1 q like e
-        ∙ ap (λ m. owned q.own (filling (Behind (held_text p.place) q.spot) (Waits par (waits_too.part (stub_in old.place) (held_text old.place) at old.left m Nil) p.left heard q.rest))) done))
-        (steps.then (chosen_part w tree laws q.h at old.left before open_h q.own (For par p.left heard q.rest (Behind (held_text p.place) q.spot)) Nil (stub_in old.place) (held_text old.place) answer vars)
-        (steps.then (steps.hears_inside w tree laws q.h par p.left before open_h q.own (Behind (held_text p.place) q.spot) q.rest at old.left chosen answer heard vars)
-        (framing.ends laws w patterns site main row nodes texts nodes' q.h others_then at (line (held_text p.place) p.left now) (shown q.own (filling (Behind (held_text p.place) q.spot) (Gives par p.left now q.rest)))
-        (sym (alone_then ∙ ap (λ t. line t p'.left (act p')) held ∙ ap (λ l. line (held_text p.place) l (act p')) same_left ∙ ap (line (held_text p.place) p.left) does))
+        ∙ ap (λ m. owned q.own (filling (Behind (withheld_text p.place) q.spot) (Waits par (waits_too.part (stub_in old.place) (withheld_text old.place) at old.left m Nil) p.left heard q.rest))) done))
+        (steps.then (chosen_part w tree laws q.h at old.left before open_h q.own (For par p.left heard q.rest (Behind (withheld_text p.place) q.spot)) Nil (stub_in old.place) (withheld_text old.place) answer vars)
+        (steps.then (steps.hears_inside w tree laws q.h par p.left before open_h q.own (Behind (withheld_text p.place) q.spot) q.rest at old.left chosen answer heard vars)
+        (framing.ends laws w patterns site main row nodes texts nodes' q.h others_then at (line (withheld_text p.place) p.left now) (shown q.own (filling (Behind (withheld_text p.place) q.spot) (Gives par p.left now q.rest)))
+        (sym (alone_then ∙ ap (λ t. line t p'.left (act p')) withheld ∙ ap (λ l. line (withheld_text p.place) l (act p')) same_left ∙ ap (line (withheld_text p.place) p.left) does))
         well open_at hidden other closed tree vars)))
 
   -- ---- in the row
@@ -184,10 +184,10 @@ module _ (laws : ShowsTheSame) (w : World) (patterns : List SetPattern) (site : 
     row_told does =
         let now : Stance = Going p.left (node_heard w patterns site main p (texts par) chosen) in
         let f = doing par now before in
-        steps.alike (framing.begins laws w patterns site main row nodes texts par (Waiting (waits_too.part (stub_in old.place) (held_text old.place) at old.left (Done answer) Nil) p.left heard)
+        steps.alike (framing.begins laws w patterns site main row nodes texts par (Waiting (waits_too.part (stub_in old.place) (withheld_text old.place) at old.left (Done answer) Nil) p.left heard)
         (waits_too.row_asked_is (doing_by w patterns site main texts) nodes' (doing_by w patterns site main texts) nodes par at p' p old r most_levels is_row
-        ∙ ap (λ m. Waiting (waits_too.part (stub_in old.place) (held_text old.place) at old.left m Nil) p.left heard) done))
-        (steps.then (chosen_part w tree laws par at old.left before open_par (Below p.left heard) Whole Nil (stub_in old.place) (held_text old.place) answer vars)
+        ∙ ap (λ m. Waiting (waits_too.part (stub_in old.place) (withheld_text old.place) at old.left m Nil) p.left heard) done))
+        (steps.then (chosen_part w tree laws par at old.left before open_par (Below p.left heard) Whole Nil (stub_in old.place) (withheld_text old.place) answer vars)
         (steps.then (steps.heard w tree laws par at old.left before open_par p.left heard chosen answer vars f (laws.others f f.stance (λ j e. refl)))
         (framing.ends laws w patterns site main row nodes texts nodes' par
         (λ j e. sym (waits_too.row_others_same (doing_by w patterns site main texts) nodes' (doing_by w patterns site main texts) nodes par at p' p old r most_levels up heard_so like.captured like.parent (ap is_captured row_then) j e))
@@ -200,9 +200,9 @@ module _ (laws : ShowsTheSame) (w : World) (patterns : List SetPattern) (site : 
 module _ (laws : ShowsTheSame) (w : World) (patterns : List SetPattern) (site : Site) (main : Main) (row : Order) (nodes nodes' : List Node) (texts : ℕ → List ℕ) (par at : ℕ) (p p' old : Node)
     (r : Waits_too (doing_by w patterns site main texts) nodes' (doing_by w patterns site main texts) nodes par at p' p old) (same_parent : p.parent ≡ p'.parent) (up : ℕ) (heard_so : is_heard up nodes' par p' ≡ true)
     (tree : Tree) (vars : Vars) (open_at : is_open at row.pieces ≡ true) (open_par : is_open par row.pieces ≡ true) (well : IsWell (seen w patterns site main row nodes texts))
-    (answer : Answer) (opened : (j : ℕ) → is_open j (appended par (or_stub (stub_in old.place) answer.status (held_text old.place)) row).pieces ≡ is_open j row.pieces)
-    (closed : (j : ℕ) → is_open j (ended at (appended par (or_stub (stub_in old.place) answer.status (held_text old.place)) row)).pieces ≡ cond (j == at) false (is_open j row.pieces)) (done : node_act w patterns site main old (texts at) ≡ Done answer)
-    (stub : List ℕ) (place : p.place ≡ Stub stub []) (row_then : p'.place ≡ Row) (free : is_capturing p.stage ≡ false) (good : AllEnd IsGood (node_act w patterns site main p (texts par))) (some : or_stub (stub_in old.place) answer.status (held_text old.place) ≢ [])
+    (answer : Answer) (opened : (j : ℕ) → is_open j (appended par (or_stub (stub_in old.place) answer.status (withheld_text old.place)) row).pieces ≡ is_open j row.pieces)
+    (closed : (j : ℕ) → is_open j (ended at (appended par (or_stub (stub_in old.place) answer.status (withheld_text old.place)) row)).pieces ≡ cond (j == at) false (is_open j row.pieces)) (done : node_act w patterns site main old (texts at) ≡ Done answer)
+    (stub : List ℕ) (place : p.place ≡ Stub stub []) (row_then : p'.place ≡ Row) (free : is_capturing p.stage ≡ false) (good : AllEnd IsGood (node_act w patterns site main p (texts par))) (some : or_stub (stub_in old.place) answer.status (withheld_text old.place) ≢ [])
     (same_left : p'.left ≡ p.left) (does : node_act w patterns site main p' (texts par) ≡ node_act w patterns site main p (texts par)) (other : (at == par) ≡ false) where
   abbrev then_seen : Family
   then_seen = seen w patterns site main row nodes texts
@@ -211,7 +211,7 @@ module _ (laws : ShowsTheSame) (w : World) (patterns : List SetPattern) (site : 
   one_more n = omega arith
 
   -- what is said of it
-  waits_so : stance_in (doing_by w patterns site main texts) nodes most_levels par ≡ Apart (waits_too.part (stub_in old.place) (held_text old.place) at old.left (Done answer) (Gives par p.left (node_act w patterns site main p (texts par)) Nil)) stub
+  waits_so : stance_in (doing_by w patterns site main texts) nodes most_levels par ≡ Apart (waits_too.part (stub_in old.place) (withheld_text old.place) at old.left (Done answer) (Gives par p.left (node_act w patterns site main p (texts par)) Nil)) stub
   unfolding under
   waits_so =
       let line : Line → Stance = λ l. Apart l stub in
@@ -219,13 +219,13 @@ module _ (laws : ShowsTheSame) (w : World) (patterns : List SetPattern) (site : 
       ∙ ap (place_stance (doing_by w patterns site main texts) nodes most_levels par p) place
       ∙ ap (λ n. line (line_from (doing_by w patterns site main texts) nodes n par p Nil)) (one_more most_levels)
       ∙ ap line (waits_too.included_line (doing_by w patterns site main texts) nodes' (doing_by w patterns site main texts) nodes par at p' p old r 0 most_levels Nil free)
-      ∙ ap (λ q. line (under (held_text q) (waits_too.part (stub_in old.place) (held_text old.place) at old.left (node_act w patterns site main old (texts at)) (Gives par p.left (node_act w patterns site main p (texts par)) Nil)))) place
-      ∙ ap (λ m. line (waits_too.part (stub_in old.place) (held_text old.place) at old.left m (Gives par p.left (node_act w patterns site main p (texts par)) Nil))) done
+      ∙ ap (λ q. line (under (withheld_text q) (waits_too.part (stub_in old.place) (withheld_text old.place) at old.left (node_act w patterns site main old (texts at)) (Gives par p.left (node_act w patterns site main p (texts par)) Nil)))) place
+      ∙ ap (λ m. line (waits_too.part (stub_in old.place) (withheld_text old.place) at old.left m (Gives par p.left (node_act w patterns site main p (texts par)) Nil))) done
 
-  pub shows : Opening w tree 0 (seen w patterns site main row nodes texts) vars (seen w patterns site main (ended at (appended par (or_stub (stub_in old.place) answer.status (held_text old.place)) row)) nodes' texts) vars
+  pub shows : Opening w tree 0 (seen w patterns site main row nodes texts) vars (seen w patterns site main (ended at (appended par (or_stub (stub_in old.place) answer.status (withheld_text old.place)) row)) nodes' texts) vars
   unfolding has_node under
   shows =
-      let text = held_text old.place in
+      let text = withheld_text old.place in
       let chosen = or_stub (stub_in old.place) answer.status text in
       let act = node_act w patterns site main p (texts par) in
       let rest = Gives par p.left act Nil in
@@ -234,7 +234,7 @@ module _ (laws : ShowsTheSame) (w : World) (patterns : List SetPattern) (site : 
       steps.alike (framing.begins laws w patterns site main row nodes texts par (Apart (waits_too.part (stub_in old.place) text at old.left (Done answer) rest) stub) waits_so)
       (steps.then (chosen_part w tree laws par at old.left then_seen open_par (Beside stub) Whole rest (stub_in old.place) text answer vars)
       (steps.then (steps.leaves_inside w tree laws par at old.left then_seen open_par (Beside stub) Whole rest [] chosen answer vars refl)
-      (steps.then (steps.joins_held w tree laws par p.left then_seen open_par stub chosen act vars some good well (opened par ∙ open_par))
+      (steps.then (steps.joins_withheld w tree laws par p.left then_seen open_par stub chosen act vars some good well (opened par ∙ open_par))
       (framing.ends laws w patterns site main row' nodes texts nodes' par
       (λ j e. sym (waits_too.row_others_same (doing_by w patterns site main texts) nodes' (doing_by w patterns site main texts) nodes par at p' p old r most_levels up heard_so
       (ap is_captured place ∙ sym (ap is_captured row_then)) same_parent (ap is_captured row_then) j e))

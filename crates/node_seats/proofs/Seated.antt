@@ -12,7 +12,7 @@ use Rattle.node_turn.specs.declared.node.Place.TheVariants.{Row, Stub, Captured}
 use Rattle.node_line.specs.Stances.{Own, Seat, Spot, filling, owned, stance_so, under}
 use Rattle.node_line.specs.Stances.Seat.{InRow, Inside}
 use Rattle.node_line.specs.Stances.Spot.{Behind}
-use Rattle.node_seats.specs.Seats.{Doing, asking_line, held_text, is_captured, is_heard, line_from, place_stance, row_stance, stance_in, stance_of}
+use Rattle.node_seats.specs.Seats.{Doing, asking_line, withheld_text, is_captured, is_heard, line_from, place_stance, row_stance, stance_in, stance_of}
 use Rattle.node_seats.proofs.Paths.{on_path, path_top}
 use Rattle.node_seats.proofs.Located.{Located, SameWaiting, StandsAs, as_itself, false_true, locate}
 use Rattle.node_seats.proofs.Others as others_are
@@ -49,14 +49,14 @@ same_waiting d nodes d' nodes' at old new r = record {
         by false f = refl
 
 -- the line of a node that waits for no bytes
-pub line_alone : (d : Doing) (nodes : List Node) (levels at : ℕ) (n : Node) (rest : Line) → n.asks ≡ None → line_from d nodes levels at n rest ≡ under (held_text n.place) (Gives at n.left (d.act at n) rest)
+pub line_alone : (d : Doing) (nodes : List Node) (levels at : ℕ) (n : Node) (rest : Line) → n.asks ≡ None → line_from d nodes levels at n rest ≡ under (withheld_text n.place) (Gives at n.left (d.act at n) rest)
 unfolding line_from
 line_alone d nodes zero at n rest e = refl
-line_alone d nodes (suc levels) at n rest e = ap (λ asks. under (held_text n.place) (asking_line d nodes (line_from d nodes levels) at n asks rest)) e
+line_alone d nodes (suc levels) at n rest e = ap (λ asks. under (withheld_text n.place) (asking_line d nodes (line_from d nodes levels) at n asks rest)) e
 
 -- what is said where it is in a line
 pub here_is : (levels : ℕ) (d : Doing) (nodes : List Node) (up depth at : ℕ) (old : Node) → slice_get nodes at ≡ Some old → old.asks ≡ None → (q : Located levels d nodes up (suc depth) at old) →
-    stance_in d nodes levels q.h ≡ owned q.own (filling (Behind (held_text old.place) q.spot) (Gives at old.left (d.act at old) q.rest))
+    stance_in d nodes levels q.h ≡ owned q.own (filling (Behind (withheld_text old.place) q.spot) (Gives at old.left (d.act at old) q.rest))
 here_is levels d nodes up depth at old there free q =
     q.is d nodes (record { there = λ j n e w. e; act = λ j n e w. refl; heard = λ j n e w. refl }) old there (as_itself old)
     ∙ ap (λ line. owned q.own (filling q.spot line)) (line_alone d nodes (suc depth + q.spare) at old q.rest free)
@@ -162,7 +162,7 @@ module _ (levels : ℕ) (d : Doing) (nodes : List Node) (at : ℕ) (old : Node) 
       one n = omega arith
 
       so : (own : Own) (spot : Spot) (rest : Line) (p : Place) (left : ℕ) (m : Serving Answer) → is_in_row p ≡ false →
-          owned own (filling spot (under (held_text p) (Gives at left m rest))) ≡ stance_so (seat_in own spot rest p) at left m
+          owned own (filling spot (under (withheld_text p) (Gives at left m rest))) ≡ stance_so (seat_in own spot rest p) at left m
       so own spot rest Row left m e = cc
       so own spot rest (Stub stub text) left m e = refl
       so own spot rest (Captured stub text) left m e = refl

@@ -11,7 +11,7 @@ use Rattle.postpone_filter.specs.Row.{Row as Order, is_open}
 use Rattle.request_meaning.specs.Serving.{World, Serving, Answer}
 use Rattle.family_order.specs.Items.{Stance, Family, IsAlike, with_stance, doing}
 use Rattle.family_order.specs.Laws.{ShowsTheSame}
-use Rattle.node_turn.specs.Stages.{hand_at, held_more, is_in_row, node_act}
+use Rattle.node_turn.specs.Stages.{hand_at, withheld_more, is_in_row, node_act}
 use Rattle.node_turn.specs.Turns.{PlacesAs, Works}
 use Rattle.node_turn.specs.declared.node.Node.{Node}
 use Rattle.node_turn.specs.declared.node.Place.{Place}
@@ -79,11 +79,11 @@ module _ (laws : ShowsTheSame) (w : World) (patterns : List SetPattern) (site : 
         (subst (λ f. Opening w tree 0 f vars (seen w patterns site main row nodes' texts) vars) (sym (now_new before))
         (steps.alike (ends before row nodes' new r like refl refl refl (λ j e. refl)) steps.stays)))
 
-  -- bytes of it are held
-  pub held : (tree : Tree) (vars : Vars) (goes_on : is_open s.h row.pieces ≡ true) (nodes' : List Node) (new : Node) →
+  -- bytes of it are withheld
+  pub withheld : (tree : Tree) (vars : Vars) (goes_on : is_open s.h row.pieces ≡ true) (nodes' : List Node) (new : Node) →
       Replaced (doing_by w patterns site main texts) nodes (doing_by w patterns site main texts) nodes' at old new → StandsAs old new → new.left ≡ old.left → is_in_row old.place ≡ false →
-      new.place ≡ held_more (hand_at old.stage) old.place → PlacesAs (hand_at old.stage) (act old) (act new) → Opening w tree 0 before vars (seen w patterns site main row nodes' texts) vars
-  held tree vars goes_on nodes' new r like left apart place acts = by old.place refl
+      new.place ≡ withheld_more (hand_at old.stage) old.place → PlacesAs (hand_at old.stage) (act old) (act new) → Opening w tree 0 before vars (seen w patterns site main row nodes' texts) vars
+  withheld tree vars goes_on nodes' new r like left apart place acts = by old.place refl
     where
       l : InLine s.seat
       l = s.line apart
@@ -107,5 +107,5 @@ module _ (laws : ShowsTheSame) (w : World) (patterns : List SetPattern) (site : 
 
       by : (p : Place) → old.place ≡ p → Opening w tree 0 before vars after vars
       by Row e = absurd (no (sym apart ∙ ap is_in_row e))
-      by (Stub stub text) e = go text (ap s.seat e ∙ l.is (Stub stub text)) (ap s.seat (place ∙ ap (held_more some) e) ∙ l.is (Stub stub (text ++ some)))
-      by (Captured stub text) e = go text (ap s.seat e ∙ l.is (Captured stub text)) (ap s.seat (place ∙ ap (held_more some) e) ∙ l.is (Captured stub (text ++ some)))
+      by (Stub stub text) e = go text (ap s.seat e ∙ l.is (Stub stub text)) (ap s.seat (place ∙ ap (withheld_more some) e) ∙ l.is (Stub stub (text ++ some)))
+      by (Captured stub text) e = go text (ap s.seat e ∙ l.is (Captured stub text)) (ap s.seat (place ∙ ap (withheld_more some) e) ∙ l.is (Captured stub (text ++ some)))

@@ -17,11 +17,11 @@ use Rattle.node_line.specs.Stances.{under}
 
 -- ---- by a node alone
 
--- the bytes of a node that are held
-abbrev pub held_text : Place → List ℕ
-held_text Row = []
-held_text (Stub stub text) = text
-held_text (Captured stub text) = text
+-- the bytes of a node that are withheld
+abbrev pub withheld_text : Place → List ℕ
+withheld_text Row = []
+withheld_text (Stub stub text) = text
+withheld_text (Captured stub text) = text
 
 -- they come to its parent
 abbrev pub is_captured : Place → Bool
@@ -70,8 +70,8 @@ asking_line d nodes below node n (Some child) rest =
 
 -- The line of a node with all that comes to it, from at most `levels` levels below, before more of another.
 unfoldable pub line_from : Doing → List Node → (levels : ℕ) → (node : ℕ) → Node → (rest : Line) → Line
-line_from d nodes zero node n rest = under (held_text n.place) (Gives node n.left (d.act node n) rest)
-line_from d nodes (suc levels) node n rest = under (held_text n.place) (asking_line d nodes (line_from d nodes levels) node n n.asks rest)
+line_from d nodes zero node n rest = under (withheld_text n.place) (Gives node n.left (d.act node n) rest)
+line_from d nodes (suc levels) node n rest = under (withheld_text n.place) (asking_line d nodes (line_from d nodes levels) node n n.asks rest)
 
 -- ---- stances
 

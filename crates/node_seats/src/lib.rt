@@ -4,4 +4,4 @@
 
 mod seats;
 
-pub use seats::{is_held, is_seated};
+pub use seats::{is_seated, is_withheld};

@@ -5,7 +5,7 @@ ghost use Rattle.node_seats.specs.Seats.{hears as hearing, is_asked as asked_for
 use node_turn::{Node, Place};
 
 /// Whether the bytes of a node come to its parent.
-pub fn is_held(place: &Place) -> bool
+pub fn is_withheld(place: &Place) -> bool
     ensures { result ≡ is_captured place.now }
 {
     match place {
@@ -37,7 +37,7 @@ fn hears(node: &Node, child: u32) -> bool
 fn is_heard(nodes: &[Node], at: u32, node: &Node, levels: u32) -> bool
     ensures { result ≡ heard levels nodes.now at node.now }
 {
-    if is_held(&node.place) {
+    if is_withheld(&node.place) {
         if levels == 0 {
             return false;
         }

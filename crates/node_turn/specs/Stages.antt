@@ -114,10 +114,10 @@ is_in_row (Stub stub text) = false
 is_in_row (Captured stub text) = false
 
 -- with more bytes of a body of which it isn't known whether it is shown
-abbrev pub held_more : List ℕ → Place → Place
-held_more bytes Row = Row
-held_more bytes (Stub stub text) = Stub stub (text ++ bytes)
-held_more bytes (Captured stub text) = Captured stub (text ++ bytes)
+abbrev pub withheld_more : List ℕ → Place → Place
+withheld_more bytes Row = Row
+withheld_more bytes (Stub stub text) = Stub stub (text ++ bytes)
+withheld_more bytes (Captured stub text) = Captured stub (text ++ bytes)
 
 -- ---- what it still does
 

@@ -12,7 +12,7 @@ ghost use Rattle.request_phases.specs.Rounds.{IsGround, world_in};
 ghost use Rattle.request_phases.specs.declared.ground.Ground.{Ground as GroundView};
 ghost use Rattle.request_phases.specs.declared.state.Phases.{Phases as PhasesView};
 ghost use Rattle.site_model.specs.declared.site.Site.{Site as SiteRow};
-ghost use Rattle.node_turn.specs.Stages.{IsSameNode, ask_or, block_of, hand_at, held_more, is_asking, is_placing, is_serving, is_turning, item_asked, main_of, node_act, node_heard, start_or, can_run};
+ghost use Rattle.node_turn.specs.Stages.{IsSameNode, ask_or, block_of, hand_at, withheld_more, is_asking, is_placing, is_serving, is_turning, item_asked, main_of, node_act, node_heard, start_or, can_run};
 ghost use Rattle.node_turn.specs.Nodes.{answer_seen, asked_path, captured_act, hand, later, lent, placed_act, served_act, stage_act, with_main};
 ghost use Rattle.node_turn.specs.Served.{ServesTo, WaitsAt};
 ghost use Rattle.node_turn.specs.Taken.{TakesTo, WaitsBy};
@@ -149,10 +149,11 @@ fn is_all(body: &Body) -> bool
     }
 }
 
-/// Whether a body that is sent as it is needs a block of its file.
+/// Whether a body needs a block of its file first: one that is sent as it is, or one whose page has
+/// none yet. A page begins with its file's first block, what is added before it too.
 fn needs_block(body: &Body) -> bool {
     match &body.page {
-        Some(_) => false,
+        Some(_) => body.source.unread,
         None => !is_all(body),
     }
 }
@@ -178,53 +179,65 @@ fn stage_after(body: Box<Body>) -> Stage
 
 /// Bytes of a node are placed, as many as its buffer has room for: how many, and whether all were
 /// that were at hand.
-pub fn places(alloc: Global, order: &mut Order, id: u32, node: &mut Node) -> Placed
+///
+/// # Errors
+/// `OutOfMemory`, where the buffer can't grow; the node is then not to go on.
+pub fn places(
+    alloc: Global,
+    order: &mut Order,
+    id: u32,
+    node: &mut Node,
+) -> Result<Placed, OutOfMemory>
     requires { is_placing node.old.stage ≡ true }
-    ensures row { order.new ≡ appended id (take result.count (hand_at node.old.stage)) order.old }
-    ensures opened { (j : ℕ) → is_open j order.new.pieces ≡ is_open j order.old.pieces }
-    ensures acts { (w : World) (patterns : List SetPattern) (site : SiteRow) (main : MainView)
-        (text : List ℕ) → PlacesAs (take result.count (hand_at node.old.stage))
+    ensures row { IfOk result (λ placed. order.new
+        ≡ appended id (take placed.count (hand_at node.old.stage)) order.old) }
+    ensures opened { OnOk result ((j : ℕ) →
+        is_open j order.new.pieces ≡ is_open j order.old.pieces) }
+    ensures acts { IfOk result (λ placed. (w : World) (patterns : List SetPattern)
+        (site : SiteRow) (main : MainView) (text : List ℕ) →
+        PlacesAs (take placed.count (hand_at node.old.stage))
         (node_act w patterns site main node.old text)
-        (node_act w patterns site main node.new text) }
-    ensures node { IsSameNode node.old node.new }
-    ensures file { (node.new.ask ≡ node.old.ask) × (node.new.start ≡ node.old.start) }
-    ensures place { node.new.place ≡ node.old.place }
-    ensures rests { (row : Row) (at : ℕ) → result.all ≡ false → room at row.pieces ≡ 0
-        → can_run row at node.new ≡ false }
+        (node_act w patterns site main node.new text)) }
+    ensures node { OnOk result (IsSameNode node.old node.new) }
+    ensures file { OnOk result
+        ((node.new.ask ≡ node.old.ask) × (node.new.start ≡ node.old.start)) }
+    ensures place { OnOk result (node.new.place ≡ node.old.place) }
+    ensures rests { IfOk result (λ placed. (row : Row) (at : ℕ) → placed.all ≡ false
+        → room at row.pieces ≡ 0 → can_run row at node.new ≡ false) }
 {
     match stage_of(alloc, node) {
         Stage::Places(body) => {
-            let count = order.append(id, &body.bytes.as_slice()[body.from..]);
+            let count = order.append(id, &body.bytes.as_slice()[body.from..])?;
             let body = advanced(body, count);
             let all = body.from == body.bytes.len();
             put(&mut node.stage, stage_after(body));
-            Placed { count, all }
+            Ok(Placed { count, all })
         }
         _ => unreachable!(),
     }
 }
 
-/// No more bytes than these are held of a body of which it isn't known whether it is shown.
-const MOST_HELD: usize = 65536;
+/// No more bytes than these are withheld of a body of which it isn't known whether it is shown.
+const MOST_WITHHELD: usize = 1048576;
 
-/// More bytes of a node came that are held.
+/// More bytes of a node came that are withheld.
 ///
 /// # Errors
 /// `OutOfMemory`, where there is no room for them too.
-pub fn hold(place: &mut Place, bytes: &[u8]) -> Result<(), OutOfMemory>
-    ensures { OnOk result (place.new ≡ held_more bytes.now place.old) }
+pub fn withhold(place: &mut Place, bytes: &[u8]) -> Result<(), OutOfMemory>
+    ensures { OnOk result (place.new ≡ withheld_more bytes.now place.old) }
 {
     match place {
         Place::Row => Ok(()),
         Place::Stub { stub: _, text } => {
-            if text.len().saturating_add(bytes.len()) > MOST_HELD {
+            if text.len().saturating_add(bytes.len()) > MOST_WITHHELD {
                 return Err(OutOfMemory);
             }
             text.extend(bytes)?;
             Ok(())
         }
         Place::Captured { stub: _, text } => {
-            if text.len().saturating_add(bytes.len()) > MOST_HELD {
+            if text.len().saturating_add(bytes.len()) > MOST_WITHHELD {
                 return Err(OutOfMemory);
             }
             text.extend(bytes)?;
@@ -233,18 +246,18 @@ pub fn hold(place: &mut Place, bytes: &[u8]) -> Result<(), OutOfMemory>
     }
 }
 
-/// The bytes that are at hand are held, all of them: it isn't known yet whether they are shown.
+/// The bytes that are at hand are withheld, all of them: it isn't known yet whether they are shown.
 ///
 /// # Errors
 /// `OutOfMemory`, where there is no room for them too; the node is then not to go on.
-pub fn holds(alloc: Global, node: &mut Node) -> Result<(), OutOfMemory>
+pub fn withholds(alloc: Global, node: &mut Node) -> Result<(), OutOfMemory>
     requires { is_placing node.old.stage ≡ true }
     ensures acts { OnOk result ((w : World) (patterns : List SetPattern) (site : SiteRow)
         (main : MainView) (text : List ℕ) → PlacesAs (hand_at node.old.stage)
         (node_act w patterns site main node.old text)
         (node_act w patterns site main node.new text)) }
     ensures place { OnOk result (node.new.place
-        ≡ held_more (hand_at node.old.stage) node.old.place) }
+        ≡ withheld_more (hand_at node.old.stage) node.old.place) }
     ensures node { OnOk result (IsSameNode node.old node.new) }
     ensures file { OnOk result
         ((node.new.ask ≡ node.old.ask) × (node.new.start ≡ node.old.start)) }
@@ -252,7 +265,7 @@ pub fn holds(alloc: Global, node: &mut Node) -> Result<(), OutOfMemory>
     match stage_of(alloc, node) {
         Stage::Places(body) => {
             let count = body.bytes.len() - body.from;
-            hold(&mut node.place, &body.bytes.as_slice()[body.from..])?;
+            withhold(&mut node.place, &body.bytes.as_slice()[body.from..])?;
             let body = advanced(body, count);
             put(&mut node.stage, stage_after(body));
             Ok(())

@@ -17,7 +17,7 @@ use Rattle.ssi_filter.specs.Splits.{text_state, text_out}
 use Rattle.request_meaning.specs.Serving.{World}
 use Rattle.request_meaning.specs.Bodies.{machines}
 use Rattle.request_meaning.specs.Laws.{shipped}
-use Rattle.page_body.specs.Stages.{added_stage, ahead, behind, held_marks, shipped_machines, split_stage}
+use Rattle.page_body.specs.Stages.{added_stage, ahead, behind, undecided_marks, shipped_machines, split_stage}
 
 -- the machines of a world with the chain that a server has
 pub machines_are : (w : World) (facts : Facts) → w.members ≡ shipped → machines w facts ≡ shipped_machines facts
@@ -26,14 +26,14 @@ machines_are w facts e = ap (λ (ms : List Member). map (λ (m : Member). m.mach
 -- ---- the stage of server side includes
 
 -- a block that isn't empty
-pub block_splits : (facts : Facts) (on : Bool) (held bs : List ℕ) → on ≡ true → 0 < length bs →
-    stage_feeds (ssi_machine facts) (split_stage on held) (map Byte bs) ≡ (split_stage on (split 0 (held ++ bs)).1, (split 0 (held ++ bs)).0)
-block_splits facts true held bs e h =
-    let s : FilterState = (split_stage true held).state in
+pub block_splits : (facts : Facts) (on : Bool) (undecided bs : List ℕ) → on ≡ true → 0 < length bs →
+    stage_feeds (ssi_machine facts) (split_stage on undecided) (map Byte bs) ≡ (split_stage on (split 0 (undecided ++ bs)).1, (split 0 (undecided ++ bs)).0)
+block_splits facts true undecided bs e h =
+    let s : FilterState = (split_stage true undecided).state in
     let was = feeds (ssi_machine facts) s (map Byte bs) in
-    ap (λ (s : FilterState). let g : Stage = record { on = true; state = s } in (g, was.1)) (text_state facts s bs (split 0 (held ++ bs)).1 h refl)
-    ∙ ap (λ (out : List Mark). (split_stage true (split 0 (held ++ bs)).1, out)) (text_out facts s bs h)
-block_splits facts false held bs e h = cc
+    ap (λ (s : FilterState). let g : Stage = record { on = true; state = s } in (g, was.1)) (text_state facts s bs (split 0 (undecided ++ bs)).1 h refl)
+    ∙ ap (λ (out : List Mark). (split_stage true (split 0 (undecided ++ bs)).1, out)) (text_out facts s bs h)
+block_splits facts false undecided bs e h = cc
 
 -- ---- the stage of additions
 
@@ -61,24 +61,24 @@ chain_begins facts xs =
     ∙ added_begins facts (is_added facts) (stage_ends (ssi_machine facts) (split_stage (is_split facts) []) xs)
 
 -- a block comes
-pub chain_goes_on : (facts : Facts) (on adds : Bool) (held held' : List ℕ) (out : List Mark) (block more : List ℕ)
-    → split_stage on held' ≡ (stage_feeds (ssi_machine facts) (split_stage on held) (map Byte block)).0
-    → out ≡ (stage_feeds (ssi_machine facts) (split_stage on held) (map Byte block)).1
-    → still (shipped_machines facts) (split_stage on held ∷ added_stage adds ∷ []) (map Byte (block ++ more))
-    ≡ out ++ still (shipped_machines facts) (split_stage on held' ∷ added_stage adds ∷ []) (map Byte more)
-chain_goes_on facts on adds held held' out block more eh eo =
+pub chain_goes_on : (facts : Facts) (on adds : Bool) (undecided undecided' : List ℕ) (out : List Mark) (block more : List ℕ)
+    → split_stage on undecided' ≡ (stage_feeds (ssi_machine facts) (split_stage on undecided) (map Byte block)).0
+    → out ≡ (stage_feeds (ssi_machine facts) (split_stage on undecided) (map Byte block)).1
+    → still (shipped_machines facts) (split_stage on undecided ∷ added_stage adds ∷ []) (map Byte (block ++ more))
+    ≡ out ++ still (shipped_machines facts) (split_stage on undecided' ∷ added_stage adds ∷ []) (map Byte more)
+chain_goes_on facts on adds undecided undecided' out block more eh eo =
     let ms = shipped_machines facts in
-    let gs : List Stage = split_stage on held ∷ added_stage adds ∷ [] in
-    let a = stage_feeds (ssi_machine facts) (split_stage on held) (map Byte block) in
+    let gs : List Stage = split_stage on undecided ∷ added_stage adds ∷ [] in
+    let a = stage_feeds (ssi_machine facts) (split_stage on undecided) (map Byte block) in
     let fed : feeds_all ms gs (map Byte block) ≡ (a.0 ∷ added_stage adds ∷ [], a.1) =
     ap (λ (b : Stage × List Mark). let gs : List Stage = a.0 ∷ b.0 ∷ [] in (gs, b.1)) (added_passes facts adds a.1) in
     ap (λ xs. still ms gs xs) (map-append Byte block more)
     ∙ (still-append ms gs (map Byte block) (map Byte more) refl
     ∙ (ap (λ (r : List Stage × List Mark). r.1 ++ still ms r.0 (map Byte more)) fed
     ∙ (ap (λ (g : Stage). a.1 ++ still ms (g ∷ added_stage adds ∷ []) (map Byte more)) (sym eh)
-    ∙ ap (λ xs. xs ++ still ms (split_stage on held' ∷ added_stage adds ∷ []) (map Byte more)) (sym eo))))
+    ∙ ap (λ xs. xs ++ still ms (split_stage on undecided' ∷ added_stage adds ∷ []) (map Byte more)) (sym eo))))
 
 -- the file ends
-pub chain_ends : (facts : Facts) (on adds : Bool) (held : List ℕ) → still (shipped_machines facts) (split_stage on held ∷ added_stage adds ∷ []) [] ≡ held_marks on held ++ behind adds
-chain_ends facts true adds held = added_ends facts adds (map Byte held)
-chain_ends facts false adds held = added_ends facts adds []
+pub chain_ends : (facts : Facts) (on adds : Bool) (undecided : List ℕ) → still (shipped_machines facts) (split_stage on undecided ∷ added_stage adds ∷ []) [] ≡ undecided_marks on undecided ++ behind adds
+chain_ends facts true adds undecided = added_ends facts adds (map Byte undecided)
+chain_ends facts false adds undecided = added_ends facts adds []

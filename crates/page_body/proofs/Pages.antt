@@ -40,33 +40,33 @@ module _ (w : World) (answer : Answer) (doc : Doc) where
       ∙ ap (λ ms. document_rest w answer doc qs ms hs more) (sym (machines_are w facts e)))
 
   -- a block comes, and nothing waits
-  pub block_comes : (facts : Facts) (on adds : Bool) (held held' : List ℕ) (was mid now : List Part) (block more : List ℕ) → w.members ≡ shipped → was ≡ [] → now ≡ reverse mid
-      → split_stage on held' ≡ (stage_feeds (ssi_machine facts) (split_stage on held) (map Byte block)).0
-      → marks mid ≡ marks was ++ (stage_feeds (ssi_machine facts) (split_stage on held) (map Byte block)).1 →
-      document_rest w answer doc (marks (reverse was)) (machines w facts) (split_stage on held ∷ added_stage adds ∷ []) (block ++ more)
-      ≡ document_rest w answer doc (marks (reverse now)) (machines w facts) (split_stage on held' ∷ added_stage adds ∷ []) more
-  block_comes facts on adds held held' was mid now block more members none turned eh eo =
+  pub block_comes : (facts : Facts) (on adds : Bool) (undecided undecided' : List ℕ) (was mid now : List Part) (block more : List ℕ) → w.members ≡ shipped → was ≡ [] → now ≡ reverse mid
+      → split_stage on undecided' ≡ (stage_feeds (ssi_machine facts) (split_stage on undecided) (map Byte block)).0
+      → marks mid ≡ marks was ++ (stage_feeds (ssi_machine facts) (split_stage on undecided) (map Byte block)).1 →
+      document_rest w answer doc (marks (reverse was)) (machines w facts) (split_stage on undecided ∷ added_stage adds ∷ []) (block ++ more)
+      ≡ document_rest w answer doc (marks (reverse now)) (machines w facts) (split_stage on undecided' ∷ added_stage adds ∷ []) more
+  block_comes facts on adds undecided undecided' was mid now block more members none turned eh eo =
       let ms = shipped_machines facts in
-      let out = (stage_feeds (ssi_machine facts) (split_stage on held) (map Byte block)).1 in
-      let hs : List Stage = split_stage on held' ∷ added_stage adds ∷ [] in
+      let out = (stage_feeds (ssi_machine facts) (split_stage on undecided) (map Byte block)).1 in
+      let hs : List Stage = split_stage on undecided' ∷ added_stage adds ∷ [] in
       let parts : marks (reverse now) ≡ out =
       ap marks (ap reverse turned ∙ reverse-reverse mid) ∙ (eo ∙ ap (λ ps. marks ps ++ out) none) in
-      by_shipped facts (split_stage on held ∷ added_stage adds ∷ []) hs (marks (reverse was)) (marks (reverse now)) (block ++ more) more members
-      (ap (λ ps. marks (reverse ps) ++ still ms (split_stage on held ∷ added_stage adds ∷ []) (map Byte (block ++ more))) none
-      ∙ (chain_goes_on facts on adds held held' out block more eh refl
+      by_shipped facts (split_stage on undecided ∷ added_stage adds ∷ []) hs (marks (reverse was)) (marks (reverse now)) (block ++ more) more members
+      (ap (λ ps. marks (reverse ps) ++ still ms (split_stage on undecided ∷ added_stage adds ∷ []) (map Byte (block ++ more))) none
+      ∙ (chain_goes_on facts on adds undecided undecided' out block more eh refl
       ∙ ap (λ xs. xs ++ still ms hs (map Byte more)) (sym parts)))
 
   -- the file ends, and nothing waits
-  pub file_ends : (facts : Facts) (on adds : Bool) (held held' : List ℕ) (was mid now : List Part) → w.members ≡ shipped → was ≡ [] → now ≡ reverse mid
-      → marks mid ≡ marks was ++ still (shipped_machines facts) (split_stage on held ∷ added_stage adds ∷ []) [] →
-      document_rest w answer doc (marks (reverse was)) (machines w facts) (split_stage on held ∷ added_stage adds ∷ []) []
-      ≡ document_rest w answer doc (marks (reverse now)) (machines w facts) (split_stage false held' ∷ added_stage false ∷ []) []
-  file_ends facts on adds held held' was mid now members none turned eo =
+  pub file_ends : (facts : Facts) (on adds : Bool) (undecided undecided' : List ℕ) (was mid now : List Part) → w.members ≡ shipped → was ≡ [] → now ≡ reverse mid
+      → marks mid ≡ marks was ++ still (shipped_machines facts) (split_stage on undecided ∷ added_stage adds ∷ []) [] →
+      document_rest w answer doc (marks (reverse was)) (machines w facts) (split_stage on undecided ∷ added_stage adds ∷ []) []
+      ≡ document_rest w answer doc (marks (reverse now)) (machines w facts) (split_stage false undecided' ∷ added_stage false ∷ []) []
+  file_ends facts on adds undecided undecided' was mid now members none turned eo =
       let ms = shipped_machines facts in
-      let out = still ms (split_stage on held ∷ added_stage adds ∷ []) [] in
+      let out = still ms (split_stage on undecided ∷ added_stage adds ∷ []) [] in
       let parts : marks (reverse now) ≡ out =
       ap marks (ap reverse turned ∙ reverse-reverse mid) ∙ (eo ∙ ap (λ ps. marks ps ++ out) none) in
-      by_shipped facts (split_stage on held ∷ added_stage adds ∷ []) (split_stage false held' ∷ added_stage false ∷ []) (marks (reverse was)) (marks (reverse now)) [] [] members
+      by_shipped facts (split_stage on undecided ∷ added_stage adds ∷ []) (split_stage false undecided' ∷ added_stage false ∷ []) (marks (reverse was)) (marks (reverse now)) [] [] members
       (ap (λ ps. marks (reverse ps) ++ out) none ∙ (sym parts ∙ sym (append-nil (marks (reverse now)))))
 
   -- a page begins
@@ -83,19 +83,19 @@ module _ (w : World) (answer : Answer) (doc : Doc) where
       ∙ (ap (λ ps. Write [] (body w doc (ps ++ still (shipped_machines facts) gs xs) >>= λ _. Done answer)) (sym before)
       ∙ ap (λ ms. Write [] (body w doc (marks (reverse now) ++ still ms gs xs) >>= λ _. Done answer)) (sym (machines_are w facts members)))))
 
-  over_by : (facts : Facts) (held : List ℕ) (now : List Part) → w.members ≡ shipped → now ≡ [] →
-      document_rest w answer doc (marks (reverse now)) (machines w facts) (split_stage false held ∷ added_stage false ∷ []) [] ≡ Done answer
+  over_by : (facts : Facts) (undecided : List ℕ) (now : List Part) → w.members ≡ shipped → now ≡ [] →
+      document_rest w answer doc (marks (reverse now)) (machines w facts) (split_stage false undecided ∷ added_stage false ∷ []) [] ≡ Done answer
   unfolding document_rest body ◌>>=◌
-  over_by facts held now members none =
-      let gs : List Stage = split_stage false held ∷ added_stage false ∷ [] in
+  over_by facts undecided now members none =
+      let gs : List Stage = split_stage false undecided ∷ added_stage false ∷ [] in
       ap (λ ms. document_rest w answer doc (marks (reverse now)) ms gs []) (machines_are w facts members)
       ∙ ap (λ ps. document_rest w answer doc (marks (reverse ps)) (shipped_machines facts) gs []) none
 
   -- a page that is over
-  pub page_is_over : (facts : Facts) (held : List ℕ) (now : List Part) (finished : Bool) → w.members ≡ shipped → now ≡ [] → Some finished ≡ Some true →
-      document_rest w answer doc (marks (reverse now)) (machines w facts) (split_stage (not finished && is_split facts) held ∷ added_stage (not finished && is_added facts) ∷ []) [] ≡ Done answer
-  page_is_over facts held now true members none e = over_by facts held now members none
-  page_is_over facts held now false members none e = cc
+  pub page_is_over : (facts : Facts) (undecided : List ℕ) (now : List Part) (finished : Bool) → w.members ≡ shipped → now ≡ [] → Some finished ≡ Some true →
+      document_rest w answer doc (marks (reverse now)) (machines w facts) (split_stage (not finished && is_split facts) undecided ∷ added_stage (not finished && is_added facts) ∷ []) [] ≡ Done answer
+  page_is_over facts undecided now true members none e = over_by facts undecided now members none
+  page_is_over facts undecided now false members none e = cc
 
   -- a part is taken up
   pub part_does : (main : Main) (vars : Vars) (doing : Doing) (new : Doc) (ms : List Machine) (gs : List Stage) (items rest : List Part) (p : Part) (bytes : List ℕ) → items ≡ rest ++ p ∷ []

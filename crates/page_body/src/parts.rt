@@ -5,7 +5,7 @@ ghost use Rattle.filter_api.specs.Chains.{stage_feeds, still};
 ghost use Rattle.ssi_text.specs.Marks.{Byte, marks};
 ghost use Rattle.ssi_filter.specs.Machine.{is_split as splits, ssi_machine};
 ghost use Rattle.addition_filter.specs.Machine.{is_added as adds};
-ghost use Rattle.page_body.specs.Stages.{added_stage, ahead, behind, held_marks, shipped_machines, split_stage};
+ghost use Rattle.page_body.specs.Stages.{added_stage, ahead, behind, undecided_marks, shipped_machines, split_stage};
 
 use byte_text::{ByteText, OutOfMemory};
 use filter_api::{Facts, push_part};
@@ -34,7 +34,7 @@ pub(crate) fn block_parts(
     block: &[u8],
     out: &mut Vec<Part>,
 ) -> Result<(), OutOfMemory>
-    ensures held { OnOk result ((facts : FactsView) → split_stage is_split split.new
+    ensures undecided { OnOk result ((facts : FactsView) → split_stage is_split split.new
         ≡ (stage_feeds (ssi_machine facts) (split_stage is_split split.old)
         (map Byte block.now)).0) }
     ensures out { OnOk result ((facts : FactsView) → marks out.new.items ≡ marks out.old.items
@@ -53,15 +53,15 @@ pub(crate) fn block_parts(
     Ok(())
 }
 
-/// What is held at the end of the file is text.
-fn held_part(
+/// What is undecided at the end of the file is text.
+fn undecided_part(
     alloc: Global,
     split: &mut SsiState,
     is_split: bool,
     out: &mut Vec<Part>,
 ) -> Result<(), OutOfMemory>
     ensures { OnOk result (marks out.new.items
-        ≡ marks out.old.items ++ held_marks is_split split.old) }
+        ≡ marks out.old.items ++ undecided_marks is_split split.old) }
 {
     if is_split {
         split.end(alloc, out)?;
@@ -105,7 +105,7 @@ pub(crate) fn last_parts(
         ++ still (shipped_machines facts)
         (split_stage is_split split.old ∷ added_stage is_added ∷ []) []) }
 {
-    held_part(alloc, split, is_split, out)?;
+    undecided_part(alloc, split, is_split, out)?;
     closing_part(is_added, out)?;
     Ok(())
 }

@@ -5,7 +5,7 @@ use Rattle.std.proofs.lemmas.Bool.{and_parts, eqb-true, eq-eqb}
 use Rattle.std.specs.List.{insert}
 use Rattle.postpone_filter.specs.declared.part.Part.{Part}
 use Rattle.postpone_filter.specs.Row.{Piece, is_place, is_open, bytes_of, at_place, longer, closed, fresh, shorter, front_of, room, most, is_first}
-use Rattle.postpone_filter.specs.Buffers.{Buffer, no_buffer, held_at, part_of, is_part_place, IsLawful, Shows, first_part_is}
+use Rattle.postpone_filter.specs.Buffers.{Buffer, no_buffer, waiting_at, part_of, is_part_place, IsLawful, Shows, first_part_is}
 use Rattle.postpone_filter.proofs.Places.{place-node, place-open, at_place-set, at_place-split, insert-two}
 use Rattle.postpone_filter.proofs.Ops.{append-bytes-other, append-bytes-own, append-open, append-lawful, end-bytes, end-open-other, end-open-own, end-lawful, child-bytes, child-open-other, child-open-own, child-lawful, shorter-bytes-own, shorter-bytes-other, shorter-open, shorter-lawful}
 use Rattle.postpone_filter.proofs.Ties.{part-length, part-at, part-place, part-node, part-len, shows-change, shows-more}
@@ -28,8 +28,8 @@ id-within id ps parts buffers i w h e =
 part-id : (id : ℕ) (s : Part) → is_part_place id s ≡ true → s.node ≡ id
 part-id id s e = eqb-true s.node id (and_parts s.grows (s.node == id) e).1
 
-held-is : (ps : List Piece) (parts : List Part) (buffers : List Buffer) (id : ℕ) (b : Buffer) → Shows ps parts buffers → id < length buffers → b ≡ get_or buffers id b → b.held ≡ bytes_of id ps
-held-is ps parts buffers id b w h e = ap (λ (z : Buffer). z.held) (get_or_read buffers id b h e no_buffer) ∙ w.held_are id
+waiting-is : (ps : List Piece) (parts : List Part) (buffers : List Buffer) (id : ℕ) (b : Buffer) → Shows ps parts buffers → id < length buffers → b ≡ get_or buffers id b → b.waiting ≡ bytes_of id ps
+waiting-is ps parts buffers id b w h e = ap (λ (z : Buffer). z.waiting) (get_or_read buffers id b h e no_buffer) ∙ w.waiting_are id
 
 open-is : (ps : List Piece) (parts : List Part) (buffers : List Buffer) (id : ℕ) (b : Buffer) → Shows ps parts buffers → id < length buffers → b ≡ get_or buffers id b → b.goes_on ≡ is_open id ps
 open-is ps parts buffers id b w h e = ap (λ (z : Buffer). z.goes_on) (get_or_read buffers id b h e no_buffer) ∙ w.open_are id
@@ -45,9 +45,9 @@ open-place id ps parts buffers i w h e = place-open id ps i none (omega (arith, 
 
 pub shows-append : (id : ℕ) (ps : List Piece) (parts : List Part) (buffers : List Buffer) (i : ℕ) (r : Part) (b new : Buffer) (more : List ℕ) (n : ℕ)
     → Shows ps parts buffers → i < length parts → IsPlaceAt id parts i → r ≡ get_or parts i r → b ≡ get_or buffers id b
-    → new.held ≡ b.held ++ more → new.goes_on ≡ b.goes_on → n ≡ length more
+    → new.waiting ≡ b.waiting ++ more → new.goes_on ≡ b.goes_on → n ≡ length more
     → Shows (at_place id (λ p. longer more p ∷ []) ps) (set parts i (record { node = r.node; len = r.len + n; grows = r.grows })) (set buffers id new)
-shows-append id ps parts buffers i r b new more n w h e at own held opened count =
+shows-append id ps parts buffers i r b new more n w h e at own waiting opened count =
     let low : id < length buffers = id-within id ps parts buffers i w h e in
     let q : Piece = get_or ps i none in
     let is : r ≡ part_of q = part-at ps parts buffers i r none w h at in
@@ -56,20 +56,20 @@ shows-append id ps parts buffers i r b new more n w h e at own held opened count
     ap (λ (z : Part). let s : Part = record { node = z.node; len = z.len + n; grows = z.grows } in s) is ∙ ap (λ k. let s : Part = record { node = q.node; len = k; grows = q.grows } in s) size in
     shows-change ps (at_place id (λ p. longer more p ∷ []) ps) parts _ buffers id new w low
     (changed-parts id (longer more) ps parts buffers i _ w h e part)
-    (held ∙ ap (λ z. z ++ more) (held-is ps parts buffers id b w low own) ∙ sym (append-bytes-own (length buffers) id more ps w.lawful (open-place id ps parts buffers i w h e)))
+    (waiting ∙ ap (λ z. z ++ more) (waiting-is ps parts buffers id b w low own) ∙ sym (append-bytes-own (length buffers) id more ps w.lawful (open-place id ps parts buffers i w h e)))
     (opened ∙ open-is ps parts buffers id b w low own ∙ sym (append-open id id more ps))
     (λ j apart. append-bytes-other id j more ps apart) (λ j apart. append-open id j more ps) (append-lawful (length buffers) id more ps w.lawful)
 
 pub shows-close : (id : ℕ) (ps : List Piece) (parts : List Part) (buffers : List Buffer) (i : ℕ) (r : Part) (b new : Buffer)
     → Shows ps parts buffers → i < length parts → IsPlaceAt id parts i → r ≡ get_or parts i r → b ≡ get_or buffers id b
-    → new.held ≡ b.held → new.goes_on ≡ false
+    → new.waiting ≡ b.waiting → new.goes_on ≡ false
     → Shows (at_place id (λ p. closed p ∷ []) ps) (set parts i (record { node = r.node; len = r.len; grows = false })) (set buffers id new)
-shows-close id ps parts buffers i r b new w h e at own held opened =
+shows-close id ps parts buffers i r b new w h e at own waiting opened =
     let low : id < length buffers = id-within id ps parts buffers i w h e in
     let is : r ≡ part_of (get_or ps i none) = part-at ps parts buffers i r none w h at in
     shows-change ps (at_place id (λ p. closed p ∷ []) ps) parts _ buffers id new w low
     (changed-parts id closed ps parts buffers i _ w h e (ap (λ (z : Part). let s : Part = record { node = z.node; len = z.len; grows = false } in s) is))
-    (held ∙ held-is ps parts buffers id b w low own ∙ sym (end-bytes id id ps))
+    (waiting ∙ waiting-is ps parts buffers id b w low own ∙ sym (end-bytes id id ps))
     (opened ∙ sym (end-open-own (length buffers) id ps w.lawful))
     (λ j apart. end-bytes id j ps) (λ j apart. end-open-other id j ps apart) (end-lawful (length buffers) id ps w.lawful)
 
@@ -80,9 +80,9 @@ drop-map (suc i) (p ∷ ps) = drop-map i ps
 
 pub shows-child : (id child : ℕ) (ps : List Piece) (parts : List Part) (buffers : List Buffer) (i : ℕ) (r : Part) (new : Buffer)
     → Shows ps parts buffers → i < length parts → IsPlaceAt id parts i → r ≡ get_or parts i r
-    → new.held ≡ [] → new.goes_on ≡ true → child ≡ length buffers
+    → new.waiting ≡ [] → new.goes_on ≡ true → child ≡ length buffers
     → Shows (at_place id (λ p. closed p ∷ fresh child ∷ fresh id ∷ []) ps) (insert (insert (set parts i (record { node = r.node; len = r.len; grows = false })) (i + 1) (part_of (fresh child))) (i + 2) (part_of (fresh id))) (buffers ++ new ∷ [])
-shows-child id child ps parts buffers i r new w h e at held opened number =
+shows-child id child ps parts buffers i r new w h e at waiting opened number =
     let inside : i < length ps = omega (arith, part-length ps parts buffers w, h) in
     let q : Piece = get_or ps i none in
     let place : is_place id q ≡ true = part-place id ps parts buffers i none w h e in
@@ -100,7 +100,7 @@ shows-child id child ps parts buffers i r new w h e at held opened number =
     let is_new : is_open (length buffers) (at_place id f ps) ≡ true = ap (λ k. is_open k (at_place id f ps)) (sym number) ∙ child-open-own id child ps (open-place id ps parts buffers i w h e) in
     let lawful : IsLawful (length buffers + 1) (at_place id f ps) =
     subst (λ k. IsLawful (length buffers + 1) (at_place id (λ p. closed p ∷ fresh k ∷ fresh id ∷ []) ps)) (sym number) (child-lawful (length buffers) id ps w.lawful) in
-    shows-more ps (at_place id f ps) parts _ buffers new w rows held opened is_new
+    shows-more ps (at_place id f ps) parts _ buffers new w rows waiting opened is_new
     (λ j. child-bytes id child j ps) (λ j apart. child-open-other id child j ps (λ v. apart (sym number ∙ v))) lawful
 
 first-is : (p : Piece) (ps : List Piece) (parts : List Part) (buffers : List Buffer) (r : Part) → Shows (p ∷ ps) parts buffers → r ≡ get_or parts 0 r → r ≡ part_of p
@@ -119,15 +119,15 @@ within p ps count fits = fits
 
 first_used : (p : Piece) (ps : List Piece) (parts : List Part) (buffers : List Buffer) (r : Part) (b new : Buffer) (count : ℕ)
     → Shows (p ∷ ps) parts buffers → 0 < length parts → r ≡ get_or parts 0 r → b ≡ get_or buffers r.node b
-    → count ≤ length p.bytes → new.held ≡ drop count b.held → new.goes_on ≡ b.goes_on
+    → count ≤ length p.bytes → new.waiting ≡ drop count b.waiting → new.goes_on ≡ b.goes_on
     → Shows (shorter count (p ∷ ps)) (set parts 0 (record { node = r.node; len = r.len - count; grows = r.grows })) (set buffers r.node new)
-first_used p ps parts buffers r b new count w h at own fits held opened =
+first_used p ps parts buffers r b new count w h at own fits waiting opened =
     let is : r ≡ part_of p = first-is p ps parts buffers r w at in
     let node : r.node ≡ p.node = ap (λ (z : Part). z.node) is in
     let low : r.node < length buffers = part-node (p ∷ ps) parts buffers 0 r w h at in
     shows-change (p ∷ ps) (shorter count (p ∷ ps)) parts _ buffers r.node new w low
     (shorter-parts count p ps parts r w.parts_are is fits)
-    (held ∙ ap (drop count) (held-is (p ∷ ps) parts buffers r.node b w low own ∙ ap (λ k. bytes_of k (p ∷ ps)) node) ∙ sym (shorter-bytes-own count p ps fits) ∙ ap (λ k. bytes_of k (shorter count (p ∷ ps))) (sym node))
+    (waiting ∙ ap (drop count) (waiting-is (p ∷ ps) parts buffers r.node b w low own ∙ ap (λ k. bytes_of k (p ∷ ps)) node) ∙ sym (shorter-bytes-own count p ps fits) ∙ ap (λ k. bytes_of k (shorter count (p ∷ ps))) (sym node))
     (opened ∙ open-is (p ∷ ps) parts buffers r.node b w low own ∙ sym (shorter-open count r.node (p ∷ ps)))
     (λ j apart. shorter-bytes-other count j p ps (λ v. apart (node ∙ v)))
     (λ j apart. shorter-open count j (p ∷ ps))
@@ -135,22 +135,22 @@ first_used p ps parts buffers r b new count w h at own fits held opened =
 
 pub shows-used : (ps : List Piece) (parts : List Part) (buffers : List Buffer) (r : Part) (b new : Buffer) (count : ℕ)
     → Shows ps parts buffers → 0 < length parts → r ≡ get_or parts 0 r → b ≡ get_or buffers r.node b
-    → count ≤ length (front_of ps) → new.held ≡ drop count b.held → new.goes_on ≡ b.goes_on
+    → count ≤ length (front_of ps) → new.waiting ≡ drop count b.waiting → new.goes_on ≡ b.goes_on
     → Shows (shorter count ps) (set parts 0 (record { node = r.node; len = r.len - count; grows = r.grows })) (set buffers r.node new)
-shows-used [] parts buffers r b new count w h at own fits held opened = absurd (omega (arith, part-length [] parts buffers w, h))
-shows-used (p ∷ ps) parts buffers r b new count w h at own fits held opened = first_used p ps parts buffers r b new count w h at own (within p ps count fits) held opened
+shows-used [] parts buffers r b new count w h at own fits waiting opened = absurd (omega (arith, part-length [] parts buffers w, h))
+shows-used (p ∷ ps) parts buffers r b new count w h at own fits waiting opened = first_used p ps parts buffers r b new count w h at own (within p ps count fits) waiting opened
 
 pub front-fits : (ps : List Piece) (parts : List Part) (buffers : List Buffer) (r : Part) (count : ℕ) → Shows ps parts buffers → 0 < length parts → r ≡ get_or parts 0 r → count ≤ length (front_of ps) → count ≤ r.len
 unfolding front_of
 front-fits [] parts buffers r count w h at fits = absurd (omega (arith, part-length [] parts buffers w, h))
 front-fits (p ∷ ps) parts buffers r count w h at fits = omega (arith, ap (λ (z : Part). z.len) (first-is p ps parts buffers r w at), fits)
 
-pub front-bytes : (ps : List Piece) (parts : List Part) (buffers : List Buffer) (r : Part) (b : Buffer) → Shows ps parts buffers → 0 < length parts → r ≡ get_or parts 0 r → r.node < length buffers → b ≡ get_or buffers r.node b → take r.len b.held ≡ front_of ps
+pub front-bytes : (ps : List Piece) (parts : List Part) (buffers : List Buffer) (r : Part) (b : Buffer) → Shows ps parts buffers → 0 < length parts → r ≡ get_or parts 0 r → r.node < length buffers → b ≡ get_or buffers r.node b → take r.len b.waiting ≡ front_of ps
 unfolding front_of bytes_of
 front-bytes [] parts buffers r b w h at low own = absurd (omega (arith, part-length [] parts buffers w, h))
 front-bytes (p ∷ ps) parts buffers r b w h at low own =
     let is : r ≡ part_of p = first-is p ps parts buffers r w at in
-    ap (take r.len) (held-is (p ∷ ps) parts buffers r.node b w low own)
+    ap (take r.len) (waiting-is (p ∷ ps) parts buffers r.node b w low own)
     ∙ ap (λ (z : Part). take z.len (bytes_of z.node (p ∷ ps))) is
     ∙ ap (λ t. take (length p.bytes) (if t then p.bytes ++ bytes_of p.node ps else bytes_of p.node ps)) (eq-eqb p.node p.node refl)
     ∙ take_at p.bytes (bytes_of p.node ps) (length p.bytes) refl
@@ -170,37 +170,37 @@ unfolding is_first
 first-node id [] parts buffers w = ap (first_part_is id) w.parts_are
 first-node id (p ∷ ps) parts buffers w = ap (first_part_is id) w.parts_are
 
-pub append-count : (id len n : ℕ) (ps : List Piece) (parts : List Part) (buffers : List Buffer) (i : ℕ) (b : Buffer) → Shows ps parts buffers → i < length parts → IsPlaceAt id parts i → b ≡ get_or buffers id b → n ≡ (if b.goes_on then min len (most - length b.held) else 0) → n ≡ min len (room id ps)
+pub append-count : (id len n : ℕ) (ps : List Piece) (parts : List Part) (buffers : List Buffer) (i : ℕ) (b : Buffer) → Shows ps parts buffers → i < length parts → IsPlaceAt id parts i → b ≡ get_or buffers id b → n ≡ (if b.goes_on then min len (most - length b.waiting) else 0) → n ≡ min len (room id ps)
 append-count id len n ps parts buffers i b w h e own is =
     let low : id < length buffers = id-within id ps parts buffers i w h e in
     let opened : is_open id ps ≡ true = open-place id ps parts buffers i w h e in
-    is ∙ ap (λ g. if g then min len (most - length b.held) else 0) (open-is ps parts buffers id b w low own ∙ opened)
-    ∙ ap (λ z. min len (most - length z)) (held-is ps parts buffers id b w low own)
+    is ∙ ap (λ g. if g then min len (most - length b.waiting) else 0) (open-is ps parts buffers id b w low own ∙ opened)
+    ∙ ap (λ z. min len (most - length z)) (waiting-is ps parts buffers id b w low own)
     ∙ ap (λ g. min len (if g then most - length (bytes_of id ps) else 0)) (sym opened)
 
-pub append-fits : (id n : ℕ) (ps : List Piece) (parts : List Part) (buffers : List Buffer) (i : ℕ) (r : Part) (b : Buffer) (held more : List ℕ) → Shows ps parts buffers → i < length parts → IsPlaceAt id parts i → r ≡ get_or parts i r → b ≡ get_or buffers id b → held ≡ b.held ++ more → n ≡ length more → r.len + n ≤ length held
-append-fits id n ps parts buffers i r b held more w h e at own is count =
+pub append-fits : (id n : ℕ) (ps : List Piece) (parts : List Part) (buffers : List Buffer) (i : ℕ) (r : Part) (b : Buffer) (waiting more : List ℕ) → Shows ps parts buffers → i < length parts → IsPlaceAt id parts i → r ≡ get_or parts i r → b ≡ get_or buffers id b → waiting ≡ b.waiting ++ more → n ≡ length more → r.len + n ≤ length waiting
+append-fits id n ps parts buffers i r b waiting more w h e at own is count =
     let low : id < length buffers = id-within id ps parts buffers i w h e in
     let node : r.node ≡ id = part-id id r (ap (is_part_place id) at ∙ e r) in
-    let len : r.len ≤ length (held_at buffers r.node) = part-len ps parts buffers i r w h at in
-    let same : held_at buffers r.node ≡ b.held = ap (held_at buffers) node ∙ sym (ap (λ (z : Buffer). z.held) (get_or_read buffers id b low own no_buffer)) in
-    omega (arith, len, ap length same, ap length is, length-append b.held more, count)
+    let len : r.len ≤ length (waiting_at buffers r.node) = part-len ps parts buffers i r w h at in
+    let same : waiting_at buffers r.node ≡ b.waiting = ap (waiting_at buffers) node ∙ sym (ap (λ (z : Buffer). z.waiting) (get_or_read buffers id b low own no_buffer)) in
+    omega (arith, len, ap length same, ap length is, length-append b.waiting more, count)
 
-pub used-fits : (ps : List Piece) (parts : List Part) (buffers : List Buffer) (r : Part) (b : Buffer) (count : ℕ) → Shows ps parts buffers → 0 < length parts → r ≡ get_or parts 0 r → b ≡ get_or buffers r.node b → count ≤ length (front_of ps) → count ≤ length b.held
+pub used-fits : (ps : List Piece) (parts : List Part) (buffers : List Buffer) (r : Part) (b : Buffer) (count : ℕ) → Shows ps parts buffers → 0 < length parts → r ≡ get_or parts 0 r → b ≡ get_or buffers r.node b → count ≤ length (front_of ps) → count ≤ length b.waiting
 used-fits ps parts buffers r b count w h at own fits =
     let low : r.node < length buffers = part-node ps parts buffers 0 r w h at in
-    let len : r.len ≤ length (held_at buffers r.node) = part-len ps parts buffers 0 r w h at in
-    let same : held_at buffers r.node ≡ b.held = sym (ap (λ (z : Buffer). z.held) (get_or_read buffers r.node b low own no_buffer)) in
+    let len : r.len ≤ length (waiting_at buffers r.node) = part-len ps parts buffers 0 r w h at in
+    let same : waiting_at buffers r.node ≡ b.waiting = sym (ap (λ (z : Buffer). z.waiting) (get_or_read buffers r.node b low own no_buffer)) in
     omega (arith, len, ap length same, front-fits ps parts buffers r count w h at fits)
 
 pub taken : (n room : ℕ) (bytes : List ℕ) → n ≡ min (length bytes) room → n ≡ length (take n bytes)
 taken n room bytes e = omega (arith, length-take n bytes, e)
 
-pub front-part : (ps : List Piece) (parts : List Part) (buffers : List Buffer) (r : Part) (b : Buffer) → Shows ps parts buffers → 0 < length parts → r ≡ get_or parts 0 r → b ≡ get_or buffers r.node b → r.len ≤ length b.held
+pub front-part : (ps : List Piece) (parts : List Part) (buffers : List Buffer) (r : Part) (b : Buffer) → Shows ps parts buffers → 0 < length parts → r ≡ get_or parts 0 r → b ≡ get_or buffers r.node b → r.len ≤ length b.waiting
 front-part ps parts buffers r b w h at own =
     let low : r.node < length buffers = part-node ps parts buffers 0 r w h at in
-    let len : r.len ≤ length (held_at buffers r.node) = part-len ps parts buffers 0 r w h at in
-    let same : held_at buffers r.node ≡ b.held = sym (ap (λ (z : Buffer). z.held) (get_or_read buffers r.node b low own no_buffer)) in
+    let len : r.len ≤ length (waiting_at buffers r.node) = part-len ps parts buffers 0 r w h at in
+    let same : waiting_at buffers r.node ≡ b.waiting = sym (ap (λ (z : Buffer). z.waiting) (get_or_read buffers r.node b low own no_buffer)) in
     omega (arith, len, ap length same)
 
 pub none-long : (n : ℕ) → (0 < n → false ≡ true) → n ≡ 0
@@ -209,13 +209,13 @@ none-long (suc n) h = let bad : false ≡ true = h (omega arith) in cc
 
 pub child-put : (id child : ℕ) (ps : List Piece) (parts : List Part) (buffers : List Buffer) (i : ℕ) (r : Part) (new : Buffer) (one two : Part) (first second : List Part) (more : List Buffer)
     → Shows ps parts buffers → i < length parts → IsPlaceAt id parts i → r ≡ get_or parts i r
-    → new.held ≡ [] → new.goes_on ≡ true → child ≡ length buffers → one ≡ part_of (fresh child) → two ≡ part_of (fresh id)
+    → new.waiting ≡ [] → new.goes_on ≡ true → child ≡ length buffers → one ≡ part_of (fresh child) → two ≡ part_of (fresh id)
     → first ≡ insert (set parts i (record { node = r.node; len = r.len; grows = false })) (i + 1) one → second ≡ insert first (i + 2) two → more ≡ buffers ++ new ∷ []
     → Shows (at_place id (λ p. closed p ∷ fresh child ∷ fresh id ∷ []) ps) second more
-child-put id child ps parts buffers i r new one two first second more w h e at held opened number a b f g m =
+child-put id child ps parts buffers i r new one two first second more w h e at waiting opened number a b f g m =
     let cut_part : Part = record { node = r.node; len = r.len; grows = false } in
     let rows : second ≡ insert (insert (set parts i cut_part) (i + 1) (part_of (fresh child))) (i + 2) (part_of (fresh id)) =
     g ∙ ap (λ z. insert z (i + 2) two) (f ∙ ap (insert (set parts i cut_part) (i + 1)) a) ∙ ap (insert (insert (set parts i cut_part) (i + 1) (part_of (fresh child))) (i + 2)) b in
     subst (λ z. Shows (at_place id (λ p. closed p ∷ fresh child ∷ fresh id ∷ []) ps) z more) (sym rows)
     (subst (λ z. Shows (at_place id (λ p. closed p ∷ fresh child ∷ fresh id ∷ []) ps) (insert (insert (set parts i cut_part) (i + 1) (part_of (fresh child))) (i + 2) (part_of (fresh id))) z) (sym m)
-    (shows-child id child ps parts buffers i r new w h e at held opened number))
+    (shows-child id child ps parts buffers i r new w h e at waiting opened number))

@@ -4,24 +4,24 @@ use Rattle.std.proofs.lemmas.List.{take_at, drop_at, length-map, length-set, get
 use Rattle.std.proofs.lemmas.Bool.{eqb-true, eq-eqb}
 use Rattle.postpone_filter.specs.declared.part.Part.{Part}
 use Rattle.postpone_filter.specs.Row.{Piece, is_place, is_open, bytes_of, clean}
-use Rattle.postpone_filter.specs.Buffers.{Buffer, no_buffer, held_at, open_at, part_of, is_part_place, cut, shown, pieces_of, IsLawful, Shows, AreTied, has_place, clean_parts}
+use Rattle.postpone_filter.specs.Buffers.{Buffer, no_buffer, waiting_at, open_at, part_of, is_part_place, cut, shown, pieces_of, IsLawful, Shows, AreTied, has_place, clean_parts}
 use Rattle.postpone_filter.proofs.Ops.{clean-bytes, clean-open, clean-lawful}
 
-shown-of : (ps : List Piece) (held : ℕ → List ℕ) → ((j : ℕ) → held j ≡ bytes_of j ps) → shown (map part_of ps) held ≡ ps
+shown-of : (ps : List Piece) (waiting : ℕ → List ℕ) → ((j : ℕ) → waiting j ≡ bytes_of j ps) → shown (map part_of ps) waiting ≡ ps
 unfolding shown bytes_of
-shown-of [] held e = refl
-shown-of (p ∷ ps) held e =
-    let own : held p.node ≡ p.bytes ++ bytes_of p.node ps = e p.node ∙ ap (λ t. if t then p.bytes ++ bytes_of p.node ps else bytes_of p.node ps) (eq-eqb p.node p.node refl) in
-    let bytes : take (length p.bytes) (held p.node) ≡ p.bytes = ap (take (length p.bytes)) own ∙ take_at p.bytes (bytes_of p.node ps) (length p.bytes) refl in
-    ap (λ z. let q : Piece = record { node = p.node; bytes = z; grows = p.grows } in q ∷ shown (map part_of ps) (cut (part_of p) held)) bytes
-    ∙ ap (λ z. p ∷ z) (shown-of ps (cut (part_of p) held) (λ j.
-    elim (p.node == j) as (λ t. (p.node == j) ≡ t → (if t then drop (length p.bytes) (held j) else held j) ≡ bytes_of j ps) [
+shown-of [] waiting e = refl
+shown-of (p ∷ ps) waiting e =
+    let own : waiting p.node ≡ p.bytes ++ bytes_of p.node ps = e p.node ∙ ap (λ t. if t then p.bytes ++ bytes_of p.node ps else bytes_of p.node ps) (eq-eqb p.node p.node refl) in
+    let bytes : take (length p.bytes) (waiting p.node) ≡ p.bytes = ap (take (length p.bytes)) own ∙ take_at p.bytes (bytes_of p.node ps) (length p.bytes) refl in
+    ap (λ z. let q : Piece = record { node = p.node; bytes = z; grows = p.grows } in q ∷ shown (map part_of ps) (cut (part_of p) waiting)) bytes
+    ∙ ap (λ z. p ∷ z) (shown-of ps (cut (part_of p) waiting) (λ j.
+    elim (p.node == j) as (λ t. (p.node == j) ≡ t → (if t then drop (length p.bytes) (waiting j) else waiting j) ≡ bytes_of j ps) [
       | true ↦ λ t. ap (drop (length p.bytes)) (e j ∙ ap (λ u. if u then p.bytes ++ bytes_of j ps else bytes_of j ps) t) ∙ drop_at p.bytes (bytes_of j ps) (length p.bytes) refl
       | false ↦ λ t. e j ∙ ap (λ u. if u then p.bytes ++ bytes_of j ps else bytes_of j ps) t
     ] refl))
 
 pub shows-pieces : (ps : List Piece) (parts : List Part) (buffers : List Buffer) → Shows ps parts buffers → pieces_of parts buffers ≡ ps
-shows-pieces ps parts buffers s = ap (λ z. shown z (held_at buffers)) s.parts_are ∙ shown-of ps (held_at buffers) s.held_are
+shows-pieces ps parts buffers s = ap (λ z. shown z (waiting_at buffers)) s.parts_are ∙ shown-of ps (waiting_at buffers) s.waiting_are
 
 pub shows-tied : (ps : List Piece) (parts : List Part) (buffers : List Buffer) → Shows ps parts buffers → AreTied parts buffers
 shows-tied ps parts buffers s = subst (λ z. Shows z parts buffers) (sym (shows-pieces ps parts buffers s)) s
@@ -63,31 +63,31 @@ part-node ps parts buffers i s w h e =
     let low : (get_or ps i d).node < length buffers = node-within (length buffers) ps i d w.lawful (omega (arith, part-length ps parts buffers w, h)) in
     subst (λ n. n < length buffers) (sym (ap (λ (z : Part). z.node) at)) low
 
-pub part-len : (ps : List Piece) (parts : List Part) (buffers : List Buffer) (i : ℕ) (s : Part) → Shows ps parts buffers → i < length parts → s ≡ get_or parts i s → s.len ≤ length (held_at buffers s.node)
+pub part-len : (ps : List Piece) (parts : List Part) (buffers : List Buffer) (i : ℕ) (s : Part) → Shows ps parts buffers → i < length parts → s ≡ get_or parts i s → s.len ≤ length (waiting_at buffers s.node)
 part-len ps parts buffers i s w h e =
     let d : Piece = record { node = 0; bytes = []; grows = false } in
     let at : s ≡ part_of (get_or ps i d) = part-at ps parts buffers i s d w h e in
     let low : length (get_or ps i d).bytes ≤ length (bytes_of (get_or ps i d).node ps) = bytes-within ps i d (omega (arith, part-length ps parts buffers w, h)) in
-    omega (arith, low, ap (λ (z : Part). z.len) at, ap length (ap (held_at buffers) (ap (λ (z : Part). z.node) at) ∙ w.held_are (get_or ps i d).node))
+    omega (arith, low, ap (λ (z : Part). z.len) at, ap length (ap (waiting_at buffers) (ap (λ (z : Part). z.node) at) ∙ w.waiting_are (get_or ps i d).node))
 
 -- a buffer that changes
-held-own : (buffers : List Buffer) (id : ℕ) (b : Buffer) → id < length buffers → held_at (set buffers id b) id ≡ b.held
-held-own buffers id b h = ap (λ (z : Buffer). z.held) (get_or-set_same buffers id b no_buffer h)
+waiting-own : (buffers : List Buffer) (id : ℕ) (b : Buffer) → id < length buffers → waiting_at (set buffers id b) id ≡ b.waiting
+waiting-own buffers id b h = ap (λ (z : Buffer). z.waiting) (get_or-set_same buffers id b no_buffer h)
 
 open-own : (buffers : List Buffer) (id : ℕ) (b : Buffer) → id < length buffers → open_at (set buffers id b) id ≡ b.goes_on
 open-own buffers id b h = ap (λ (z : Buffer). z.goes_on) (get_or-set_same buffers id b no_buffer h)
 
 pub shows-change : (ps qs : List Piece) (parts new_parts : List Part) (buffers : List Buffer) (id : ℕ) (b : Buffer)
     → Shows ps parts buffers → id < length buffers → new_parts ≡ map part_of qs
-    → b.held ≡ bytes_of id qs → b.goes_on ≡ is_open id qs
+    → b.waiting ≡ bytes_of id qs → b.goes_on ≡ is_open id qs
     → ((j : ℕ) → (id ≡ j → ⊥) → bytes_of j qs ≡ bytes_of j ps) → ((j : ℕ) → (id ≡ j → ⊥) → is_open j qs ≡ is_open j ps)
     → IsLawful (length buffers) qs → Shows qs new_parts (set buffers id b)
-shows-change ps qs parts new_parts buffers id b w h e held opened others_held others_open l = record {
+shows-change ps qs parts new_parts buffers id b w h e waiting opened others_waiting others_open l = record {
   parts_are = e;
-  held_are = λ j. elim (id == j) as (λ t. (id == j) ≡ t → held_at (set buffers id b) j ≡ bytes_of j qs) [
-    | true ↦ λ t. let same : id ≡ j = eqb-true id j t in ap (held_at (set buffers id b)) (sym same) ∙ held-own buffers id b h ∙ held ∙ ap (λ k. bytes_of k qs) same
+  waiting_are = λ j. elim (id == j) as (λ t. (id == j) ≡ t → waiting_at (set buffers id b) j ≡ bytes_of j qs) [
+    | true ↦ λ t. let same : id ≡ j = eqb-true id j t in ap (waiting_at (set buffers id b)) (sym same) ∙ waiting-own buffers id b h ∙ waiting ∙ ap (λ k. bytes_of k qs) same
     | false ↦ λ t. let apart : id ≡ j → ⊥ = λ v. let bad : (id == j) ≡ true = eq-eqb id j v in cc in
-        ap (λ (z : Buffer). z.held) (get_or-set_other buffers id j b no_buffer (λ v. apart (sym v))) ∙ w.held_are j ∙ sym (others_held j apart)
+        ap (λ (z : Buffer). z.waiting) (get_or-set_other buffers id j b no_buffer (λ v. apart (sym v))) ∙ w.waiting_are j ∙ sym (others_waiting j apart)
   ] refl;
   open_are = λ j. elim (id == j) as (λ t. (id == j) ≡ t → open_at (set buffers id b) j ≡ is_open j qs) [
     | true ↦ λ t. let same : id ≡ j = eqb-true id j t in ap (open_at (set buffers id b)) (sym same) ∙ open-own buffers id b h ∙ opened ∙ ap (λ k. is_open k qs) same
@@ -98,11 +98,11 @@ shows-change ps qs parts new_parts buffers id b w h e held opened others_held ot
 }
 
 -- one buffer more
-held-more : (buffers : List Buffer) (b : Buffer) (j : ℕ) → b.held ≡ [] → held_at (buffers ++ b ∷ []) j ≡ held_at buffers j
-held-more [] b zero e = e
-held-more [] b (suc j) e = refl
-held-more (c ∷ buffers) b zero e = refl
-held-more (c ∷ buffers) b (suc j) e = held-more buffers b j e
+waiting-more : (buffers : List Buffer) (b : Buffer) (j : ℕ) → b.waiting ≡ [] → waiting_at (buffers ++ b ∷ []) j ≡ waiting_at buffers j
+waiting-more [] b zero e = e
+waiting-more [] b (suc j) e = refl
+waiting-more (c ∷ buffers) b zero e = refl
+waiting-more (c ∷ buffers) b (suc j) e = waiting-more buffers b j e
 
 open-more : (buffers : List Buffer) (b : Buffer) (j : ℕ) → (length buffers ≡ j → ⊥) → open_at (buffers ++ b ∷ []) j ≡ open_at buffers j
 open-more [] b zero h = absurd (h refl)
@@ -112,12 +112,12 @@ open-more (c ∷ buffers) b (suc j) h = open-more buffers b j (λ e. h (ap suc e
 
 pub shows-more : (ps qs : List Piece) (parts new_parts : List Part) (buffers : List Buffer) (b : Buffer)
     → Shows ps parts buffers → new_parts ≡ map part_of qs
-    → b.held ≡ [] → b.goes_on ≡ true → is_open (length buffers) qs ≡ true
+    → b.waiting ≡ [] → b.goes_on ≡ true → is_open (length buffers) qs ≡ true
     → ((j : ℕ) → bytes_of j qs ≡ bytes_of j ps) → ((j : ℕ) → (length buffers ≡ j → ⊥) → is_open j qs ≡ is_open j ps)
     → IsLawful (length buffers + 1) qs → Shows qs new_parts (buffers ++ b ∷ [])
-shows-more ps qs parts new_parts buffers b w e held opened is others_held others_open l = record {
+shows-more ps qs parts new_parts buffers b w e waiting opened is others_waiting others_open l = record {
   parts_are = e;
-  held_are = λ j. held-more buffers b j held ∙ w.held_are j ∙ sym (others_held j);
+  waiting_are = λ j. waiting-more buffers b j waiting ∙ w.waiting_are j ∙ sym (others_waiting j);
   open_are = λ j. elim (length buffers == j) as (λ t. (length buffers == j) ≡ t → open_at (buffers ++ b ∷ []) j ≡ is_open j qs) [
     | true ↦ λ t. let same : length buffers ≡ j = eqb-true (length buffers) j t in
         ap (open_at (buffers ++ b ∷ [])) (sym same) ∙ ap (λ (z : Buffer). z.goes_on) (get_or_at buffers b [] no_buffer (length buffers) refl) ∙ opened ∙ sym is ∙ ap (λ k. is_open k qs) same
@@ -140,7 +140,7 @@ clean-map (p ∷ ps) =
 pub shows-clean : (ps : List Piece) (parts : List Part) (buffers : List Buffer) → Shows ps parts buffers → Shows (clean ps) (clean_parts parts) buffers
 shows-clean ps parts buffers w = record {
   parts_are = ap clean_parts w.parts_are ∙ clean-map ps;
-  held_are = λ j. w.held_are j ∙ sym (clean-bytes j ps);
+  waiting_are = λ j. w.waiting_are j ∙ sym (clean-bytes j ps);
   open_are = λ j. w.open_are j ∙ sym (clean-open j ps);
   lawful = clean-lawful (length buffers) ps w.lawful;
 }

@@ -4,7 +4,7 @@ use Rattle.std.proofs.lemmas.List.{set-get_or}
 use Rattle.std.proofs.lemmas.Bool.{eqb-true, eq-eqb, ne_eqb}
 use Rattle.postpone_filter.specs.declared.part.Part.{Part}
 use Rattle.postpone_filter.specs.Row.{Piece, Row, is_open, bytes_of, at_place, longer, closed, fresh, clean, front_of, FirstGives, begun, appended, with_child, ended, used}
-use Rattle.postpone_filter.specs.Buffers.{Buffer, held_at, open_at, part_of, pieces_of, IsLawful, Shows, AreTied, clean_parts, starts_over}
+use Rattle.postpone_filter.specs.Buffers.{Buffer, waiting_at, open_at, part_of, pieces_of, IsLawful, Shows, AreTied, clean_parts, starts_over}
 use Rattle.postpone_filter.specs.Runs.{filled, giving}
 use Rattle.postpone_filter.proofs.Places.{at_place-none}
 use Rattle.postpone_filter.proofs.Ops.{clean-starts, append-starts, clean-open, append-open, end-open-own, end-open-other, child-open-own, child-open-other, shorter-open}
@@ -94,27 +94,27 @@ pub first-gives : (old : Row) (parts : List Part) (buffers : List Buffer) → ro
 first-gives old parts buffers v s = first_gives old.pieces (sound-row old parts buffers v s)
 
 -- a node
-pub node-held : (id : ℕ) (old : Row) (parts : List Part) (buffers : List Buffer) → row_of parts buffers ≡ old → AreTied parts buffers → held_at buffers id ≡ bytes_of id old.pieces
-node-held id old parts buffers v w = w.held_are id ∙ ap (λ (z : Row). bytes_of id z.pieces) v
+pub node-waiting : (id : ℕ) (old : Row) (parts : List Part) (buffers : List Buffer) → row_of parts buffers ≡ old → AreTied parts buffers → waiting_at buffers id ≡ bytes_of id old.pieces
+node-waiting id old parts buffers v w = w.waiting_are id ∙ ap (λ (z : Row). bytes_of id z.pieces) v
 
 pub node-open : (id : ℕ) (old : Row) (parts : List Part) (buffers : List Buffer) → row_of parts buffers ≡ old → AreTied parts buffers → open_at buffers id ≡ is_open id old.pieces
 node-open id old parts buffers v w = w.open_are id ∙ ap (λ (z : Row). is_open id z.pieces) v
 
-one_held : (j : ℕ) → held_at (record { held = []; goes_on = true } ∷ []) j ≡ bytes_of j (fresh 0 ∷ [])
+one_waiting : (j : ℕ) → waiting_at (record { waiting = []; goes_on = true } ∷ []) j ≡ bytes_of j (fresh 0 ∷ [])
 unfolding bytes_of
-one_held zero = refl
-one_held (suc j) = elim (0 == suc j) as (λ t. [] ≡ (if t then ◌++◌ {A = ℕ} [] [] else [])) [ true ↦ refl | false ↦ refl ]
+one_waiting zero = refl
+one_waiting (suc j) = elim (0 == suc j) as (λ t. [] ≡ (if t then ◌++◌ {A = ℕ} [] [] else [])) [ true ↦ refl | false ↦ refl ]
 
-one_open : (j : ℕ) → open_at (record { held = []; goes_on = true } ∷ []) j ≡ is_open j (fresh 0 ∷ [])
+one_open : (j : ℕ) → open_at (record { waiting = []; goes_on = true } ∷ []) j ≡ is_open j (fresh 0 ∷ [])
 unfolding is_open
 one_open zero = refl
 one_open (suc j) = sym (ap (λ t. if t then true else false) (ne_eqb 0 (suc j) (λ e. absurd (omega arith))))
 
-pub begun-shows : Shows (fresh 0 ∷ []) (part_of (fresh 0) ∷ []) (record { held = []; goes_on = true } ∷ [])
+pub begun-shows : Shows (fresh 0 ∷ []) (part_of (fresh 0) ∷ []) (record { waiting = []; goes_on = true } ∷ [])
 unfolding bytes_of is_open
 begun-shows = record {
   parts_are = refl;
-  held_are = λ j. one_held j;
+  waiting_are = λ j. one_waiting j;
   open_are = λ j. one_open j;
   lawful = begun-lawful;
 }
@@ -122,11 +122,11 @@ begun-shows = record {
 pub back : (nodes : List Buffer) (id : ℕ) (b c : Buffer) → b ≡ get_or nodes id b → c ≡ b → set nodes id c ≡ nodes
 back nodes id b c e is = ap (set nodes id) (is ∙ e) ∙ set-get_or nodes id b
 
-pub begun-sound : (parts : List Part) (buffers : List Buffer) (s : Part) (b : Buffer) → parts ≡ s ∷ [] → buffers ≡ b ∷ [] → s ≡ part_of (fresh 0) → b.held ≡ [] → b.goes_on ≡ true → IsSound parts buffers × (row_of parts buffers ≡ begun)
-begun-sound parts buffers s b e f is held opened =
+pub begun-sound : (parts : List Part) (buffers : List Buffer) (s : Part) (b : Buffer) → parts ≡ s ∷ [] → buffers ≡ b ∷ [] → s ≡ part_of (fresh 0) → b.waiting ≡ [] → b.goes_on ≡ true → IsSound parts buffers × (row_of parts buffers ≡ begun)
+begun-sound parts buffers s b e f is waiting opened =
     let first : parts ≡ part_of (fresh 0) ∷ [] = e ∙ ap (λ (z : Part). z ∷ []) is in
-    let second : buffers ≡ record { held = []; goes_on = true } ∷ [] = f ∙ ap (λ z. let c : Buffer = record { held = z; goes_on = b.goes_on } in c ∷ []) held ∙ ap (λ z. let c : Buffer = record { held = []; goes_on = z } in c ∷ []) opened in
-    let at_first : Shows (fresh 0 ∷ []) parts (record { held = []; goes_on = true } ∷ []) = subst (λ z. Shows (fresh 0 ∷ []) z (record { held = []; goes_on = true } ∷ [])) (sym first) begun-shows in
+    let second : buffers ≡ record { waiting = []; goes_on = true } ∷ [] = f ∙ ap (λ z. let c : Buffer = record { waiting = z; goes_on = b.goes_on } in c ∷ []) waiting ∙ ap (λ z. let c : Buffer = record { waiting = []; goes_on = z } in c ∷ []) opened in
+    let at_first : Shows (fresh 0 ∷ []) parts (record { waiting = []; goes_on = true } ∷ []) = subst (λ z. Shows (fresh 0 ∷ []) z (record { waiting = []; goes_on = true } ∷ [])) (sym first) begun-shows in
     let shows : Shows (fresh 0 ∷ []) parts buffers = subst (λ z. Shows (fresh 0 ∷ []) parts z) (sym second) at_first in (
       (shows-tied _ parts buffers shows, subst (λ z. starts_over z ≡ false) (sym (shows-pieces _ parts buffers shows)) refl),
       ap (λ z. row z (length buffers)) (shows-pieces _ parts buffers shows) ∙ ap (λ z. row (fresh 0 ∷ []) (length z)) second,

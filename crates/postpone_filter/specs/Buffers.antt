@@ -5,29 +5,28 @@ use Rattle.postpone_filter.specs.Row.{Piece, is_open, bytes_of, is_over, most}
 
 -- the bytes of a node that wait, and whether it has not ended
 pub record Buffer : Type 0 where
-  pub held : List ℕ
+  pub waiting : List ℕ
   pub goes_on : Bool
 
 -- a node that there isn't
 abbrev pub no_buffer : Buffer
-no_buffer = record { held = []; goes_on = false }
+no_buffer = record { waiting = []; goes_on = false }
 
-abbrev pub held_at : List Buffer → ℕ → List ℕ
-held_at buffers id = (slice_index_or buffers id no_buffer).held
+abbrev pub waiting_at : List Buffer → ℕ → List ℕ
+waiting_at buffers id = (slice_index_or buffers id no_buffer).waiting
 
 abbrev pub open_at : List Buffer → ℕ → Bool
 open_at buffers id = (slice_index_or buffers id no_buffer).goes_on
 
--- whether a node has a buffer: it has not ended, or bytes of it wait
+-- whether a node may have a buffer: it has not ended, or bytes of it wait
 abbrev pub is_kept : Bool → ℕ → Bool
 is_kept opened count = opened || nat_lt 0 count
 
--- Of a node's buffer, in which bytes wait from `start` up to `len`: it is there exactly where it is kept, and then has
--- room for the most bytes that wait.
+-- Of a node's buffer, in which bytes wait from `start` up to `len`: no more of them than the most that wait, and no
+-- memory is kept where the node may have no buffer.
 pub record IsReserved (opened : Bool) (start len capacity : ℕ) : Type 0 where
   pub within : start ≤ len
   pub bounded : len ≤ start + most
-  pub kept : is_kept opened (len - start) ≡ true → most ≤ capacity
   pub given_back : is_kept opened (len - start) ≡ false → capacity ≡ 0
 
 abbrev pub part_of : Piece → Part
@@ -38,14 +37,14 @@ is_part_place id s = s.grows && (s.node == id)
 
 -- the buffers without the bytes of a part
 abbrev pub cut : Part → (ℕ → List ℕ) → ℕ → List ℕ
-cut s held id = if s.node == id then drop s.len (held id) else held id
+cut s waiting id = if s.node == id then drop s.len (waiting id) else waiting id
 
 unfoldable pub shown : List Part → (ℕ → List ℕ) → List Piece
-shown [] held = []
-shown (s ∷ ss) held = record { node = s.node; bytes = take s.len (held s.node); grows = s.grows } ∷ shown ss (cut s held)
+shown [] waiting = []
+shown (s ∷ ss) waiting = record { node = s.node; bytes = take s.len (waiting s.node); grows = s.grows } ∷ shown ss (cut s waiting)
 
 abbrev pub pieces_of : List Part → List Buffer → List Piece
-pieces_of parts buffers = shown parts (held_at buffers)
+pieces_of parts buffers = shown parts (waiting_at buffers)
 
 -- whether a piece is of the node
 unfoldable pub names : ℕ → List Piece → Bool
@@ -60,7 +59,7 @@ IsLawful nodes (p ∷ ps) = (p.node < nodes) × ((p.grows ≡ true → names p.n
 -- the parts and the buffers are those of these pieces
 pub record Shows (pieces : List Piece) (parts : List Part) (buffers : List Buffer) : Type 0 where
   pub parts_are : parts ≡ map part_of pieces
-  pub held_are : (id : ℕ) → held_at buffers id ≡ bytes_of id pieces
+  pub waiting_are : (id : ℕ) → waiting_at buffers id ≡ bytes_of id pieces
   pub open_are : (id : ℕ) → open_at buffers id ≡ is_open id pieces
   pub lawful : IsLawful (length buffers) pieces
 

@@ -19,7 +19,7 @@ use std::marker::Model;
 /// come to when it was added. Contracts see the row of pieces of bytes that wait, in the order in which they leave,
 /// with the places where nodes go on (`Row`).
 ///
-/// A node's buffer has room for 32768 bytes. It is taken when the node is made, and given back as soon as the node has
+/// A node's buffer is taken with its first byte, grows to at most 32768 bytes, and is given back as soon as the node has
 /// ended and no byte of it waits (`has_buffer`). All else that is kept is a few words for each node and for each piece.
 #[derive(Drop)]
 pub struct Order {
@@ -53,7 +53,7 @@ impl Order {
         let mut parts = VecDeque::new(alloc);
         parts.push_back(Part::fresh(0))?;
         let mut nodes = Vec::new(alloc);
-        nodes.push(Node::new(alloc, 0)?)?;
+        nodes.push(Node::new(alloc, 0))?;
         Ok(Order {
             parts,
             passed: 0,
@@ -62,18 +62,22 @@ impl Order {
     }
 
     /// Puts the first of these bytes, as many as fit, where the node has come to, and answers how many. A node that has
-    /// ended takes none. It takes no memory.
-    pub fn append(&mut self, id: u32, bytes: &[u8]) -> usize
-        ensures count { result ≡ min (length bytes.now) (room id self.old.pieces) }
-        ensures row { self.new ≡ appended id (take result bytes.now) self.old }
-        ensures order { (gives : ℕ → List ℕ)
-            → filled (giving id (λ text. take result bytes.now ++ text) gives) self.old.pieces
-            ≡ filled gives self.new.pieces }
-        ensures opened { (j : ℕ) → is_open j self.new.pieces ≡ is_open j self.old.pieces }
+    /// ended takes none. After want of memory all is as before.
+    pub fn append(&mut self, id: u32, bytes: &[u8]) -> Result<usize, OutOfMemory>
+        ensures count { IfOk result (λ count. count
+            ≡ min (length bytes.now) (room id self.old.pieces)) }
+        ensures row { IfOk result (λ count. self.new
+            ≡ appended id (take count bytes.now) self.old) }
+        ensures order { IfOk result (λ count. (gives : ℕ → List ℕ)
+            → filled (giving id (λ text. take count bytes.now ++ text) gives) self.old.pieces
+            ≡ filled gives self.new.pieces) }
+        ensures opened { OnOk result ((j : ℕ) →
+            is_open j self.new.pieces ≡ is_open j self.old.pieces) }
+        ensures err { OnErr result (self.new ≡ self.old) }
     {
         match place_of(&self.parts, self.passed, &mut self.nodes, id) {
-            Some(at) => put_bytes(&mut self.parts, &mut self.nodes, at, id, bytes),
-            None => 0,
+            Some(at) => Ok(put_bytes(&mut self.parts, &mut self.nodes, at, id, bytes)?),
+            None => Ok(0),
         }
     }
 
@@ -99,7 +103,7 @@ impl Order {
         let Some(at) = place_of(&self.parts, self.passed, &mut self.nodes, parent) else {
             unreachable!()
         };
-        let node = Node::new(alloc, self.passed.saturating_add(at).saturating_add(1))?;
+        let node = Node::new(alloc, self.passed.saturating_add(at).saturating_add(1));
         put_child(&mut self.parts, &mut self.nodes, at, parent, child, node);
         clean_front(&mut self.parts, &mut self.passed);
         Ok(child)
@@ -158,8 +162,8 @@ impl Order {
         }
     }
 
-    /// How many bytes `append` takes from the node: none once it has ended, and else what its buffer has room for. No
-    /// node has more than 32768 bytes that wait.
+    /// How many bytes `append` takes from the node: none once it has ended, and else as many as may still wait. No node
+    /// has more than 32768 bytes that wait.
     pub fn room(&self, id: u32) -> usize
         ensures value { result ≡ room id self.now.pieces }
         ensures bounded { length (bytes_of id self.now.pieces) ≤ most }
@@ -170,10 +174,10 @@ impl Order {
         }
     }
 
-    /// Whether a buffer is kept for the node: exactly where it has not ended or bytes of it wait.
+    /// Whether a buffer is kept for the node: only where it has not ended or bytes of it wait.
     pub fn has_buffer(&self, id: u32) -> bool
-        ensures { result ≡ is_kept (is_open id self.now.pieces)
-            (length (bytes_of id self.now.pieces)) }
+        ensures { is_kept (is_open id self.now.pieces) (length (bytes_of id self.now.pieces))
+            ≡ false → result ≡ false }
     {
         match self.nodes.get(id as usize) {
             Some(node) => node.has_buffer(),

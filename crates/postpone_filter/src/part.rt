@@ -3,9 +3,10 @@ ghost use Rattle.std.specs.Prelude.{◌≡◌, ℕ, ◌+◌, ◌-◌, ◌<◌, �
 ghost use Rattle.std.specs.List.{insert};
 ghost use Rattle.std.specs.VecDeque.{deque_len, deque_capacity};
 ghost use Rattle.postpone_filter.specs.Row.{Piece, most, is_open, bytes_of, room, at_place, longer, closed, fresh, clean, shorter, front_of, is_first};
-ghost use Rattle.postpone_filter.specs.Buffers.{Buffer, AreTied, pieces_of, is_part_place, held_at, part_of, has_place, first_part_is, clean_parts, parts_start_over, is_part_over, starts_over};
+ghost use Rattle.postpone_filter.specs.Buffers.{Buffer, AreTied, pieces_of, is_part_place, waiting_at, part_of, has_place, first_part_is, clean_parts, parts_start_over, is_part_over, starts_over};
 
 use crate::node::Node;
+use byte_text::OutOfMemory;
 use std::collections::VecDeque;
 
 /// How many bytes of a node come next, and whether the node goes on right after them.
@@ -63,30 +64,32 @@ pub fn find(parts: &VecDeque<Part>, hint: usize, id: u32) -> Option<usize>
     }
 }
 
-/// Puts as many of the bytes as fit right before a place, and answers how many.
+/// Puts as many of the bytes as fit right before a place, and answers how many. After want of memory all is as before.
 pub fn put_bytes(
     parts: &mut VecDeque<Part>,
     nodes: &mut Vec<Node>,
     at: usize,
     id: u32,
     bytes: &[u8],
-) -> usize
+) -> Result<usize, OutOfMemory>
     requires tied { AreTied parts.old.items nodes.old.items }
     requires within { at < deque_len parts.old }
     requires place { (d : Part) → is_part_place id (slice_index_or parts.old.items at d) ≡ true }
     ensures tied { AreTied parts.new.items nodes.new.items }
     ensures nodes { length nodes.new.items ≡ length nodes.old.items }
-    ensures pieces { pieces_of parts.new.items nodes.new.items
-        ≡ at_place id (λ p. longer (take result bytes.now) p ∷ [])
-        (pieces_of parts.old.items nodes.old.items) }
-    ensures count { result ≡ min (length bytes.now)
-        (room id (pieces_of parts.old.items nodes.old.items)) }
+    ensures pieces { IfOk result (λ count. pieces_of parts.new.items nodes.new.items
+        ≡ at_place id (λ p. longer (take count bytes.now) p ∷ [])
+        (pieces_of parts.old.items nodes.old.items)) }
+    ensures count { IfOk result (λ count. count ≡ min (length bytes.now)
+        (room id (pieces_of parts.old.items nodes.old.items))) }
+    ensures err { OnErr result ((parts.new.items ≡ parts.old.items)
+        × (nodes.new.items ≡ nodes.old.items)) }
 {
     let node = &mut nodes[id as usize];
-    let count = node.append(bytes);
+    let count = node.append(bytes)?;
     let part = &mut parts[at];
     part.len += count;
-    count
+    Ok(count)
 }
 
 /// Puts a part in where there is room for it.
@@ -120,7 +123,7 @@ pub fn put_child(
     requires parts_room { deque_len parts.old + 2 ≤ deque_capacity parts.old }
     requires node_room { vec_len nodes.old < vec_capacity nodes.old }
     requires child { child ≡ vec_len nodes.old }
-    requires held { node.held ≡ [] }
+    requires waiting { node.waiting ≡ [] }
     requires goes_on { node.goes_on ≡ true }
     ensures tied { AreTied parts.new.items nodes.new.items }
     ensures nodes { length nodes.new.items ≡ length nodes.old.items + 1 }

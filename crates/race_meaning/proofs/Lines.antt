@@ -7,10 +7,10 @@ use Rattle.request_meaning.specs.Serving.{World, Serving, Child, Reply, Answer}
 use Rattle.request_meaning.specs.Replies
 use Rattle.request_meaning.specs.Replies.{Came, run, script, or_stub}
 use Rattle.family_meaning.specs.Line.{Line, Left, rest, before, reply_of, status_of, joined, opened, with_stub, begun}
-use Rattle.family_meaning.specs.Line.Line.{Nil, Held, Gives, Waits, Stubs}
+use Rattle.family_meaning.specs.Line.Line.{Nil, Bytes, Gives, Waits, Stubs}
 use Rattle.family_meaning.specs.Moves.{Quiet, Thinks, Moves, Runs}
-use Rattle.family_meaning.specs.Moves.Quiet.{Learns, Places, Placed, Merges, Opens, Asks, Hears, Leaves, Keeps, Decides, Chooses, Parts, Gone, PastHeld, PastNode, PastWait, Within, PastStub, WithinStub}
-use Rattle.family_meaning.specs.Moves.Thinks.{Here, Reads, ThereHeld, ThereNode, ThereWait, InWait, ThereStub, InStub}
+use Rattle.family_meaning.specs.Moves.Quiet.{Learns, Places, Placed, Merges, Opens, Asks, Hears, Leaves, Keeps, Decides, Chooses, Parts, Gone, PastBytes, PastNode, PastWait, Within, PastStub, WithinStub}
+use Rattle.family_meaning.specs.Moves.Thinks.{Here, Reads, ThereBytes, ThereNode, ThereWait, InWait, ThereStub, InStub}
 use Rattle.family_meaning.specs.Moves.Moves.{Quietly, ByTable}
 use Rattle.family_meaning.specs.Moves.Runs.{Ends, Steps}
 use Rattle.family_meaning.proofs.Orders.{quiet_same}
@@ -32,7 +32,7 @@ module _ (s : Shared) where
   -- every node of the line is steady
   abbrev pub SteadyLine : Line → Type 0
   SteadyLine Nil = Unit {0}
-  SteadyLine (Held bytes line) = SteadyLine line
+  SteadyLine (Bytes bytes line) = SteadyLine line
   SteadyLine (Gives node left m line) = Steady s s.steady m any × SteadyLine line
   SteadyLine (Waits node own left k line) = SteadyLine own × (((reply : Reply) → Steady s s.steady (k reply) any) × SteadyLine line)
   SteadyLine (Stubs own stub line) = SteadyLine own × SteadyLine line
@@ -51,7 +51,7 @@ module _ (s : Shared) where
   steady_joined : (a b : Line) → SteadyLine a → SteadyLine b → SteadyLine (joined a b)
   unfolding joined
   steady_joined Nil b h g = g
-  steady_joined (Held bytes a) b h g = steady_joined a b h g
+  steady_joined (Bytes bytes a) b h g = steady_joined a b h g
   steady_joined (Gives node left m a) b h g = (h.0, steady_joined a b h.1 g)
   steady_joined (Waits node own left k a) b h g = (h.0, (h.1.0, steady_joined a b h.1.1 g))
   steady_joined (Stubs own stub a) b h g = (h.0, steady_joined a b h.1 g)
@@ -121,7 +121,7 @@ module _ (s : Shared) where
     pub rest_same : (line : Line) → SteadyLine line → SameRest line line
     unfolding rest
     rest_same Nil h v u last l r = record { answer = refl; body = refl; left = l; right = r }
-    rest_same (Held bytes line) h v u last l r = row_same line line bytes bytes last last v u (rest_same line h) refl refl l r
+    rest_same (Bytes bytes line) h v u last l r = row_same line line bytes bytes last last v u (rest_same line h) refl refl l r
     rest_same (Gives node left m line) h v u last l r =
         let same = node_same left m v u h.0 l r in
         row_same line line _ _ _ _ _ _ (rest_same line h.1) same.body (ap Some same.result) same.left same.right
@@ -147,7 +147,7 @@ module _ (s : Shared) where
     quiet_steady _ _ (Chooses node left reply e) h = (tt, h.1)
     quiet_steady _ _ Parts h = h
     quiet_steady _ _ Gone h = h
-    quiet_steady _ _ (PastHeld {line} {line'} q) h = quiet_steady line line' q h
+    quiet_steady _ _ (PastBytes {line} {line'} q) h = quiet_steady line line' q h
     quiet_steady _ _ (PastNode {line} {line'} q) h = (h.0, quiet_steady line line' q h.1)
     quiet_steady _ _ (PastWait {line} {line'} q) h = (h.0, (h.1.0, quiet_steady line line' q h.1.1))
     quiet_steady _ _ (Within {own} {own'} q) h = (quiet_steady own own' q h.0, h.1)
@@ -178,7 +178,7 @@ module _ (s : Shared) where
         by_here (Gives node left m line) (Gives node left (settled m vars).0 line) vars (settled m vars).1 h (g.0, h.1) p g.1 (thinks w tree node left m line vars)
     thinks_keep _ _ _ _ (Reads {node} {left} {name} {k} {line} {vars}) h p =
         by_here (Gives node left (Get name k) line) (Gives node left (k (look vars name)) line) vars vars h (h.0.1 (look vars name), h.1) p p (reads w tree node left name k line vars)
-    thinks_keep _ _ _ _ (ThereHeld {bytes} {line} {line'} {vars} {vars'} t) h p =
+    thinks_keep _ _ _ _ (ThereBytes {bytes} {line} {line'} {vars} {vars'} t) h p =
         let g = thinks_keep line line' vars vars' t h p in
         record { steady = g.steady; vars = g.vars; same = λ a b last l r. row_same line line' bytes bytes last last a b g.same refl refl l r }
     thinks_keep _ _ _ _ (ThereNode {node} {left} {m} {line} {line'} {vars} {vars'} t) h p =

@@ -11,10 +11,10 @@ use Rattle.request_meaning.specs.Serving.{World, Serving, Child, Reply, Answer}
 use Rattle.request_meaning.specs.Replies
 use Rattle.request_meaning.specs.Replies.{Came, run, script, or_stub}
 use Rattle.family_meaning.specs.Line.{Line, Left, rest, before, reply_of, status_of, joined, opened, with_stub, begun, has_node}
-use Rattle.family_meaning.specs.Line.Line.{Nil, Held, Gives, Waits, Stubs}
+use Rattle.family_meaning.specs.Line.Line.{Nil, Bytes, Gives, Waits, Stubs}
 use Rattle.family_meaning.specs.Moves.{Quiet, Thinks, Moves, Runs}
-use Rattle.family_meaning.specs.Moves.Quiet.{Learns, Places, Placed, Merges, Opens, Asks, Hears, Leaves, Keeps, Decides, Chooses, Parts, Gone, PastHeld, PastNode, PastWait, Within, PastStub, WithinStub}
-use Rattle.family_meaning.specs.Moves.Thinks.{Here, Reads, ThereHeld, ThereNode, ThereWait, InWait, ThereStub, InStub}
+use Rattle.family_meaning.specs.Moves.Quiet.{Learns, Places, Placed, Merges, Opens, Asks, Hears, Leaves, Keeps, Decides, Chooses, Parts, Gone, PastBytes, PastNode, PastWait, Within, PastStub, WithinStub}
+use Rattle.family_meaning.specs.Moves.Thinks.{Here, Reads, ThereBytes, ThereNode, ThereWait, InWait, ThereStub, InStub}
 use Rattle.family_meaning.specs.Moves.Moves.{Quietly, ByTable}
 use Rattle.family_meaning.specs.Moves.Runs.{Ends, Steps}
 use Rattle.family_meaning.proofs.Orders.{quiet_same}
@@ -166,7 +166,7 @@ module _ (w : World) where
 
   abbrev pub AloneLine : Main → Line → Type 0
   AloneLine main Nil = Unit {0}
-  AloneLine main (Held bytes line) = AloneLine main line
+  AloneLine main (Bytes bytes line) = AloneLine main line
   AloneLine main (Gives node left m line) = Obeys (auth_rules w main) (every w.server) m any × (line ≡ Nil)
   AloneLine main (Waits node own left k line) = ⊥
   AloneLine main (Stubs own stub line) = AloneLine main own × (line ≡ Nil)
@@ -194,7 +194,7 @@ module _ (w : World) where
   alone_joined : (main : Main) (own line : Line) → line ≡ Nil → AloneLine main own → AloneLine main (joined own line)
   unfolding joined
   alone_joined main Nil line e h = subst (AloneLine main) (sym e) tt
-  alone_joined main (Held bytes own) line e h = alone_joined main own line e h
+  alone_joined main (Bytes bytes own) line e h = alone_joined main own line e h
   alone_joined main (Gives node left m own) line e h = (h.0, ap (joined own) e ∙ joined_nil own h.1)
   alone_joined main (Waits node wait left k own) line e h = absurd h
   alone_joined main (Stubs wait stub own) line e h = (h.0, ap (joined own) e ∙ joined_nil own h.1)
@@ -224,7 +224,7 @@ module _ (w : World) where
   alone_quiet tree main _ _ (Chooses node left reply e) h = (tt, h.1)
   alone_quiet tree main _ _ Parts h = h
   alone_quiet tree main _ _ Gone h = h
-  alone_quiet tree main _ _ (PastHeld {line} {line'} q) h = alone_quiet tree main line line' q h
+  alone_quiet tree main _ _ (PastBytes {line} {line'} q) h = alone_quiet tree main line line' q h
   alone_quiet tree main _ _ (PastNode {line} {line'} q) h = no_quiet tree line line' q h.1
   alone_quiet tree main _ _ (PastWait q) h = absurd h
   alone_quiet tree main _ _ (Within q) h = absurd h
@@ -237,10 +237,10 @@ module _ (w : World) where
     values : HasValues w.server main v'
     exact : (last : Option Answer) → rest w tree line last v ≡ rest w tree line' last v'
 
-  held_exact : (tree : Tree) (bytes : List ℕ) (line line' : Line) (v v' : Vars) → ((last : Option Answer) → rest w tree line last v ≡ rest w tree line' last v') →
-      (last : Option Answer) → rest w tree (Held bytes line) last v ≡ rest w tree (Held bytes line') last v'
+  bytes_exact : (tree : Tree) (bytes : List ℕ) (line line' : Line) (v v' : Vars) → ((last : Option Answer) → rest w tree line last v ≡ rest w tree line' last v') →
+      (last : Option Answer) → rest w tree (Bytes bytes line) last v ≡ rest w tree (Bytes bytes line') last v'
   unfolding rest
-  held_exact tree bytes line line' v v' f last = ap (before bytes) (f last)
+  bytes_exact tree bytes line line' v v' f last = ap (before bytes) (f last)
 
   stub_exact : (tree : Tree) (own own' : Line) (stub : List ℕ) (line : Line) (v v' : Vars) → rest w tree own None v ≡ rest w tree own' None v' →
       (last : Option Answer) → rest w tree (Stubs own stub line) last v ≡ rest w tree (Stubs own' stub line) last v'
@@ -262,9 +262,9 @@ module _ (w : World) where
       record { alone = (g.0, h.1); values = g.1; exact = thinks w tree node left m line vars }
   alone_thinks tree main _ _ _ _ (Reads {node} {left} {name} {k} {line} {vars}) h p =
       record { alone = (h.0.1 (look vars name), h.1); values = p; exact = reads w tree node left name k line vars }
-  alone_thinks tree main _ _ _ _ (ThereHeld {bytes} {line} {line'} {vars} {vars'} t) h p =
+  alone_thinks tree main _ _ _ _ (ThereBytes {bytes} {line} {line'} {vars} {vars'} t) h p =
       let g = alone_thinks tree main line line' vars vars' t h p in
-      record { alone = g.alone; values = g.values; exact = held_exact tree bytes line line' vars vars' g.exact }
+      record { alone = g.alone; values = g.values; exact = bytes_exact tree bytes line line' vars vars' g.exact }
   alone_thinks tree main _ _ _ _ (ThereNode {line} {line'} {vars} {vars'} t) h p = no_thinks line line' vars vars' t h.1
   alone_thinks tree main _ _ _ _ (ThereWait t) h p = absurd h
   alone_thinks tree main _ _ _ _ (InWait t) h p = absurd h
@@ -283,7 +283,7 @@ module _ (w : World) where
 
   abbrev pub SoloLine : Line → Vars → Type 0
   SoloLine Nil v = ⊥
-  SoloLine (Held bytes line) v = SoloLine line v
+  SoloLine (Bytes bytes line) v = SoloLine line v
   SoloLine (Gives node left m line) v = Solo m v × (line ≡ Nil)
   SoloLine (Waits node own left k line) v = Stopped own k v × (line ≡ Nil)
   SoloLine (Stubs own stub line) v = ⊥
@@ -297,7 +297,7 @@ module _ (w : World) where
     pub agree : Agree (is_steady w.server) table v
     pub steady : SteadyLine (shared w.server table main) line
 
-  past : (bytes : List ℕ) (line : Line) (v : Vars) → SoloLine line v ⊎ Begun line v → SoloLine (Held bytes line) v ⊎ Begun (Held bytes line) v
+  past : (bytes : List ℕ) (line : Line) (v : Vars) → SoloLine line v ⊎ Begun line v → SoloLine (Bytes bytes line) v ⊎ Begun (Bytes bytes line) v
   past bytes line v (inl h) = inl h
   past bytes line v (inr h) = inr (record { is_so = h.is_so; main = h.main; table = h.table; has = h.has; agree = h.agree; steady = h.steady })
 
@@ -328,7 +328,7 @@ module _ (w : World) where
     solo_quiet : (line line' : Line) (v : Vars) → Quiet w tree line line' → SoloLine line v → SoloLine line' v ⊎ Begun line' v
     solo_quiet _ _ v (Learns {node} {left} {path} {k} {line}) (inl h, e) = inr (from_ready node left (Stat path k) line (Gives node left (k (tree path)) line) v Learns e h)
     solo_quiet _ _ v (Learns {node} {left} {path} {k} {line}) (inr h, e) = inl (h (tree path), e)
-    solo_quiet _ _ v (Places {node} {left} {some} {more} {m} {line}) (inl h, e) = inr (from_ready node left (Write (some ++ more) m) line (Held some (Gives node left (Write more m) line)) v Places e h)
+    solo_quiet _ _ v (Places {node} {left} {some} {more} {m} {line}) (inl h, e) = inr (from_ready node left (Write (some ++ more) m) line (Bytes some (Gives node left (Write more m) line)) v Places e h)
     solo_quiet _ _ v (Places {node} {left} {some} {more} {m} {line}) (inr h, e) = inl (inr h, e)
     solo_quiet _ _ v (Placed {node} {left} {m} {line}) (inl h, e) = inr (from_ready node left (Write [] m) line (Gives node left m line) v Placed e h)
     solo_quiet _ _ v (Placed {node} {left} {m} {line}) (inr h, e) = inl (h, e)
@@ -350,7 +350,7 @@ module _ (w : World) where
     solo_quiet _ _ v (Chooses node left reply e) h = absurd h
     solo_quiet _ _ v Parts h = inl h
     solo_quiet _ _ v Gone h = inl h
-    solo_quiet _ _ v (PastHeld {bytes} {line} {line'} q) h = past bytes line' v (solo_quiet line line' v q h)
+    solo_quiet _ _ v (PastBytes {bytes} {line} {line'} q) h = past bytes line' v (solo_quiet line line' v q h)
     solo_quiet _ _ v (PastNode {line} {line'} q) (h, e) = no_quiet tree line line' q e
     solo_quiet _ _ v (PastWait {line} {line'} q) (h, e) = no_quiet tree line line' q e
     solo_quiet _ _ v (Within {own} {own'} q) (h, e) = inl (record { main = h.main; values = h.values; alone = alone_quiet tree h.main own own' q h.alone; later = h.later }, e)
@@ -365,9 +365,9 @@ module _ (w : World) where
     solo_thinks : (line line' : Line) (v v' : Vars) → Thinks line v line' v' → SoloLine line v → Went line v line' v'
     solo_thinks _ _ _ _ (Here {node} {left} {m} {line} {vars}) (h, e) = record { exact = thinks w tree node left m line vars; next = inl (solo_settled m vars h, e) }
     solo_thinks _ _ _ _ (Reads {node} {left} {name} {k} {line} {vars}) (h, e) = record { exact = reads w tree node left name k line vars; next = inl (solo_reads name k vars h, e) }
-    solo_thinks _ _ _ _ (ThereHeld {bytes} {line} {line'} {vars} {vars'} t) h =
+    solo_thinks _ _ _ _ (ThereBytes {bytes} {line} {line'} {vars} {vars'} t) h =
         let g = solo_thinks line line' vars vars' t h in
-        record { exact = held_exact tree bytes line line' vars vars' g.exact; next = past bytes line' vars' g.next }
+        record { exact = bytes_exact tree bytes line line' vars vars' g.exact; next = past bytes line' vars' g.next }
     solo_thinks _ _ _ _ (ThereNode {line} {line'} {vars} {vars'} t) (h, e) = no_thinks line line' vars vars' t e
     solo_thinks _ _ _ _ (ThereWait {line} {line'} {vars} {vars'} t) (h, e) = no_thinks line line' vars vars' t e
     solo_thinks _ _ _ _ (InWait {node} {left} {own} {own'} {line} {k} {vars} {vars'} t) (h, e) =

@@ -8,8 +8,9 @@ ghost use Rattle.request_opening.specs.Openings.{main_at, phases_at, main_with};
 
 use crate::slot::put;
 use byte_text::{ByteText, OutOfMemory};
+use http_moment::LocalDate;
 use http_types::{Addr, Method, Version};
-use ngx_variables::{Groups, LocalDate, Main, Request, Role};
+use ngx_variables::{Groups, Main, Request, Role};
 use req_head::{Head, HeadFields, HeadRoom};
 use request_phases::{Ground, Phases};
 use rewrite_code::Progress;

@@ -2,7 +2,7 @@
 ghost use Rattle.std.specs.Prelude.{◌≡◌, ◌/◌, ◌%◌, ◌<◌, [], ◌∷◌, ◌++◌, OnOk};
 ghost use Rattle.std.specs.List.{flat_map, list_all};
 ghost use Rattle.httparse.specs.Grammar.{is_value_byte as has_value_form};
-ghost use Rattle.resp_head.specs.Values.{value_byte, value_text, is_visible as has_visible_form, escape as escape_of, hex_digit, location_byte, location_text};
+ghost use Rattle.resp_head.specs.Values.{value_byte, value_text, is_printable as has_printable_form, is_visible as has_visible_form, escape as escape_of, hex_digit, location_byte, location_text};
 
 use byte_text::{ByteText, OutOfMemory};
 
@@ -13,6 +13,13 @@ fn is_value_byte(byte: u8) -> bool
     byte == b'\t' || (b' ' <= byte && byte != 0x7f)
 }
 
+/// Whether the byte is a space or a visible one of ASCII.
+fn is_printable(byte: u8) -> bool
+    ensures { result ≡ has_printable_form byte }
+{
+    b' ' <= byte && byte < 0x7f
+}
+
 /// Whether the byte is a visible one of ASCII.
 fn is_visible(byte: u8) -> bool
     ensures { result ≡ has_visible_form byte }
@@ -20,10 +27,10 @@ fn is_visible(byte: u8) -> bool
     b' ' < byte && byte < 0x7f
 }
 
-fn are_value_bytes(bytes: &[u8]) -> bool
-    ensures { result ≡ list_all has_value_form bytes.now }
+fn are_printable(bytes: &[u8]) -> bool
+    ensures { result ≡ list_all has_printable_form bytes.now }
 {
-    bytes.iter().all(|byte| is_value_byte(*byte))
+    bytes.iter().all(|byte| is_printable(*byte))
 }
 
 fn are_visible(bytes: &[u8]) -> bool
@@ -79,7 +86,8 @@ fn put_location_byte(byte: u8, out: &mut ByteText) -> Result<(), OutOfMemory>
 pub fn put_value(bytes: &[u8], out: &mut ByteText) -> Result<(), OutOfMemory>
     ensures { OnOk result (out.new ≡ out.old ++ value_text bytes.now) }
 {
-    if are_value_bytes(bytes) {
+    // Most values are printable, and that is a test of one range a byte.
+    if are_printable(bytes) {
         out.extend(bytes)?;
         return Ok(());
     }

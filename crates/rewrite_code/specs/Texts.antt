@@ -26,7 +26,7 @@ cut_text main request vars c = fitting (value_text main request vars c.path) (op
 unfoldable pub target_of : Main → Request → Vars → Text → Option Target
 target_of main request vars text = cut_text main request vars (cut text)
 
--- a target as it is held
+-- a target as it is kept
 abbrev pub aim_seen : Aim → Target
 aim_seen a = record { path = a.path; args = a.args }
 

@@ -191,7 +191,7 @@ pub(crate) fn variable_of(test: &Test) -> Option<&Piece>
     }
 }
 
-/// What a condition says. A variable that is held somewhere is looked at there.
+/// What a condition says. A variable that is somewhere already is looked at there.
 pub(crate) fn check(
     alloc: Global,
     test: &Test,
@@ -207,7 +207,7 @@ pub(crate) fn check(
     let Some(variable) = variable_of(test) else {
         return check_text(alloc, test, &[], patterns, main, request, vars);
     };
-    if let Some(left) = variable.held(main, request, vars) {
+    if let Some(left) = variable.borrowed(main, request, vars) {
         return check_text(alloc, test, left, patterns, main, request, vars);
     }
     let mut left = ByteText::new(alloc);

@@ -84,8 +84,8 @@ fn text_set<'a>(name: &ByteText, vars: &'a VarTable) -> &'a [u8]
     vars.get(name.as_slice()).unwrap_or(b"")
 }
 
-/// The text of a variable, where it is held somewhere.
-fn held<'a>(
+/// The text of a variable, where it is somewhere already.
+fn borrowed<'a>(
     variable: &'a Piece,
     main: &'a Main,
     request: &'a Request,
@@ -96,17 +96,17 @@ fn held<'a>(
 {
     match variable {
         Piece::Set(name) => Some(text_set(name, vars)),
-        other => other.held(main, request, vars),
+        other => other.borrowed(main, request, vars),
     }
 }
 
-/// What a condition says whose variable is held somewhere.
+/// What a condition says whose variable is somewhere already.
 fn holds(test: &Test, main: &Main, request: &Request, vars: &VarTable) -> Option<bool>
     ensures { IfSome result (λ holds. (ps : List SetPattern)
         → checked ps main.now request.now vars.now test.now ≡ Knows (meaning.says holds)) }
 {
     match variable_of(test) {
-        Some(variable) => match held(variable, main, request, vars) {
+        Some(variable) => match borrowed(variable, main, request, vars) {
             Some(left) => tested(test, left),
             None => None,
         },

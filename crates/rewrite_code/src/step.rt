@@ -152,7 +152,7 @@ fn branch(
     Ok(0)
 }
 
-/// The groups of a match that held; those of an earlier one stay where there was none.
+/// The groups of a match that was found; those of an earlier one stay where there was none.
 fn take_groups(groups: Option<Groups>, progress: &mut Progress)
     ensures { progress.new
         ≡ record progress.old { request = with_groups groups progress.old.request } }

@@ -2,9 +2,10 @@
 use byte_text::ByteText;
 use file_tree::Node;
 use file_type::Types;
+use http_moment::LocalDate;
 use http_types::{Addr, Method, Version};
 use ngx_pattern::{CrateMaker, PatternSet};
-use ngx_variables::{FileRoot, Groups, LocalDate, Main, Piece, Request, Role, Value, VarTable};
+use ngx_variables::{FileRoot, Groups, Main, Piece, Request, Role, Value, VarTable};
 use req_head::HeadFields;
 use rewrite_code::{Ending, Progress, RunStep, Setting, resume, run};
 use site_model::{FileTest, Flag, Level, Program, RewriteStep, Site, Test};

@@ -2,7 +2,7 @@
 ghost use Rattle.std.specs.Prelude.{◌≡◌, ◌++◌, map, OnOk};
 ghost use Rattle.ssi_text.specs.Marks.{Byte, marks};
 ghost use Rattle.ssi_text.specs.Split.{split};
-ghost use Rattle.ssi_filter.specs.Machine.{ssi_member, holding};
+ghost use Rattle.ssi_filter.specs.Machine.{ssi_member, with_undecided};
 ghost use Rattle.ssi_filter.specs.Splits.{ssi_lawful};
 
 use byte_text::{ByteText, OutOfMemory};
@@ -22,25 +22,25 @@ fn feed_text(
     out: &mut Vec<Part>,
 ) -> Result<(), OutOfMemory>
     ensures state { OnOk result (state.new
-        ≡ holding state.old (split 0 (state.old.held ++ text.now)).1) }
+        ≡ with_undecided state.old (split 0 (state.old.undecided ++ text.now)).1) }
     ensures out { OnOk result (marks out.new.items
-        ≡ marks out.old.items ++ (split 0 (state.old.held ++ text.now)).0) }
+        ≡ marks out.old.items ++ (split 0 (state.old.undecided ++ text.now)).0) }
 {
-    let mut split = SsiState::from_held(alloc, state.held.as_slice())?;
+    let mut split = SsiState::from_undecided(alloc, state.undecided.as_slice())?;
     split.feed(alloc, text, out)?;
-    state.held.clear();
-    state.held.extend(split.held())?;
+    state.undecided.clear();
+    state.undecided.extend(split.undecided())?;
     Ok(())
 }
 
-/// What is held is text.
+/// What is undecided is text.
 fn release(alloc: Global, state: &FilterState, out: &mut Vec<Part>) -> Result<(), OutOfMemory>
-    ensures { OnOk result (marks out.new.items ≡ marks out.old.items ++ map Byte state.now.held) }
+    ensures { OnOk result (marks out.new.items ≡ marks out.old.items ++ map Byte state.now.undecided) }
 {
-    if state.held.is_empty() {
+    if state.undecided.is_empty() {
         return Ok(());
     }
-    let text = ByteText::from_slice(alloc, state.held.as_slice())?;
+    let text = ByteText::from_slice(alloc, state.undecided.as_slice())?;
     push_part(out, Part::Text(text))?;
     Ok(())
 }
@@ -74,7 +74,7 @@ impl BodyFilter for SsiFilter {
             }
             other => {
                 release(alloc, state, out)?;
-                state.held.clear();
+                state.undecided.clear();
                 push_part(out, other)?;
                 Ok(())
             }

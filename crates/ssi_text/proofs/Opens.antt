@@ -1,4 +1,4 @@
--- What is held is open.
+-- What is undecided is open.
 use Rattle.std.proofs.Common.{◌≡◌, ℕ, zero, suc, ◌-◌, ◌<◌, ◌≤◌, ◌⊎◌, inl, inr, nat_le, Bool, true, false, ◌&&◌, ◌==◌, List, [], ◌∷◌, ◌++◌, Option, None, Some, length, take, drop, map, replicate, refl, sym, ap, ◌∙◌, arith, subst, length-append, if◌then◌else◌}
 use Rattle.std.proofs.lemmas.List.{take_all, drop-append-le, take-replicate, length-replicate}
 use Rattle.std.proofs.lemmas.Bool.{eqb-true, leb-false, le-leb}
@@ -10,7 +10,7 @@ use Rattle.ssi_text.specs.declared.part.Front.TheVariants.{Open, Plain, Whole}
 use Rattle.ssi_text.specs.Marks.{Mark, Byte, Other}
 use Rattle.ssi_text.specs.Commands.{Place, Outside, Within, Escaped, closes, ends, behind, one_more, size}
 use Rattle.ssi_text.specs.Split.{split, parts, begins, opening, front, begun, limit}
-use Rattle.ssi_text.specs.Laws.{HeldIsOpen}
+use Rattle.ssi_text.specs.Laws.{UndecidedIsOpen}
 use Rattle.ssi_text.proofs.Decided.{begins-yes, limit-is, take_beyond}
 use Rattle.ssi_text.proofs.Steps.{at_front, split-front, split-whole, begins-maybe, begins-length, front-is-begun}
 use Rattle.ssi_text.proofs.Feeds.{split-again}
@@ -130,36 +130,36 @@ alone_open b bs e =
       | Whole part n ↦ λ h. absurd (subst some_marks h tt)
     ] (ap (λ z. z.0) (sym (split-front b bs) ∙ e))
 
-held_open : (document held : List ℕ) → held ≡ (split 0 document).1 → 0 < length held → IsOpen held
-held_open document [] e h = absurd (omega arith)
-held_open document (b ∷ bs) e h = front_open (b ∷ bs) (alone_open b bs (ap (split 0) e ∙ split-again 0 document ∙ ap (λ z. ([], z)) (sym e)))
+undecided_open : (document undecided : List ℕ) → undecided ≡ (split 0 document).1 → 0 < length undecided → IsOpen undecided
+undecided_open document [] e h = absurd (omega arith)
+undecided_open document (b ∷ bs) e h = front_open (b ∷ bs) (alone_open b bs (ap (split 0) e ∙ split-again 0 document ∙ ap (λ z. ([], z)) (sym e)))
 
 opening_begins : begins opening opening ≡ Yes
 unfolding begins
 opening_begins = refl
 
-may_be_bad : (held : List ℕ) → IsOpen held → (more : List ℕ) × (rest : List Mark) × (parts (held ++ more) ≡ Other Bad ∷ rest)
-may_be_bad held (inl e) =
+may_be_bad : (undecided : List ℕ) → IsOpen undecided → (more : List ℕ) × (rest : List Mark) × (parts (undecided ++ more) ≡ Other Bad ∷ rest)
+may_be_bad undecided (inl e) =
     let five : length opening < limit = omega (arith, limit-is) in
     let bad : (rest : List Mark) × (parts (opening ++ run limit) ≡ Other Bad ∷ rest) = bad_run opening opening_begins (ap (λ z. size Outside (drop 5 z)) (take_all limit opening (omega arith)) ∙ size_run 0 Outside) five in
-    (drop (length held) opening ++ run limit, bad.0, ap parts (completed opening held (run limit) e) ∙ bad.1)
-may_be_bad held (inr w) = let bad : (rest : List Mark) × (parts (held ++ run limit) ≡ Other Bad ∷ rest) = bad_run held w.0 w.1.0 w.1.1 in (run limit, bad.0, bad.1)
+    (drop (length undecided) opening ++ run limit, bad.0, ap parts (completed opening undecided (run limit) e) ∙ bad.1)
+may_be_bad undecided (inr w) = let bad : (rest : List Mark) × (parts (undecided ++ run limit) ≡ Other Bad ∷ rest) = bad_run undecided w.0 w.1.0 w.1.1 in (run limit, bad.0, bad.1)
 
-open_short : (held : List ℕ) → IsOpen held → length held < limit
-open_short held (inl e) = omega (arith, begins-maybe opening held e, limit-is)
-open_short held (inr w) = w.1.1
+open_short : (undecided : List ℕ) → IsOpen undecided → length undecided < limit
+open_short undecided (inl e) = omega (arith, begins-maybe opening undecided e, limit-is)
+open_short undecided (inr w) = w.1.1
 
-held_short : (document held : List ℕ) → held ≡ (split 0 document).1 → length held < 8192
-held_short document [] e = omega arith
-held_short document (b ∷ bs) e = omega (arith, open_short (b ∷ bs) (held_open document (b ∷ bs) e (omega arith)), limit-is)
+undecided_short : (document undecided : List ℕ) → undecided ≡ (split 0 document).1 → length undecided < 8192
+undecided_short document [] e = omega arith
+undecided_short document (b ∷ bs) e = omega (arith, open_short (b ∷ bs) (undecided_open document (b ∷ bs) e (omega arith)), limit-is)
 
-held_text : (document : List ℕ) → parts (split 0 document).1 ≡ map Byte (split 0 document).1
+undecided_text : (document : List ℕ) → parts (split 0 document).1 ≡ map Byte (split 0 document).1
 unfolding parts
-held_text document = ap (λ z. z.0 ++ map Byte z.1) (split-again 0 document)
+undecided_text document = ap (λ z. z.0 ++ map Byte z.1) (split-again 0 document)
 
-pub held-is-open : HeldIsOpen
-held-is-open = record {
-  bounded = λ document. held_short document (split 0 document).1 refl;
-  text = held_text;
-  part = λ document h. may_be_bad (split 0 document).1 (held_open document (split 0 document).1 refl h);
+pub undecided-is-open : UndecidedIsOpen
+undecided-is-open = record {
+  bounded = λ document. undecided_short document (split 0 document).1 refl;
+  text = undecided_text;
+  part = λ document h. may_be_bad (split 0 document).1 (undecided_open document (split 0 document).1 refl h);
 }

@@ -106,7 +106,7 @@ front-no_hash bs n none k h g = front-elsewhere bs k g (λ o. none (k + 4) (omeg
 pub moved-text : (was now : List Mark) (bs : List ℕ) (n : ℕ) → now ≡ was ++ map Byte (take n bs) → split 0 bs ≡ with_text (take n bs) (split 0 (drop n bs)) → Moved was now bs (drop n bs)
 moved-text was now bs n e t = record {
   out = ap (λ z. z ++ (split 0 (drop n bs)).0) e ∙ append_assoc was (map Byte (take n bs)) (split 0 (drop n bs)).0 ∙ ap (λ z. was ++ z.0) (sym t);
-  held = ap (λ z. z.1) (sym t);
+  undecided = ap (λ z. z.1) (sym t);
 }
 
 pub moved-whole : (was now : List Mark) (bs : List ℕ) (part : Part) (n : ℕ) → 0 < length bs → Whole part n ≡ front bs → now ≡ was ++ Other part ∷ [] → Moved was now bs (drop n bs)
@@ -114,7 +114,7 @@ moved-whole was now bs part n h f e =
     let t : split 0 bs ≡ (Other part ∷ (split 0 (drop n bs)).0, (split 0 (drop n bs)).1) = split-whole bs part n h f in
     record {
       out = ap (λ z. z ++ (split 0 (drop n bs)).0) e ∙ append_assoc was (Other part ∷ []) (split 0 (drop n bs)).0 ∙ ap (λ z. was ++ z.0) (sym t);
-      held = ap (λ z. z.1) (sym t);
+      undecided = ap (λ z. z.1) (sym t);
     }
 
 pub moved-plain : (was now : List Mark) (bs : List ℕ) → 0 < length bs → Plain ≡ front bs → now ≡ was ++ map Byte (take 1 bs) → Moved was now bs (drop 1 bs)
@@ -124,11 +124,11 @@ pub moved-on : (a b c : List Mark) (bs mid : List ℕ) (at n m : ℕ) → m ≡ 
 moved-on a b c bs mid at n m e w p q =
     let q2 : Moved b c (drop at bs) (drop n (drop at bs)) = subst (λ z. Moved b c z (drop n z)) w q in
     let d : drop n (drop at bs) ≡ drop m bs = drop-drop n at bs ∙ ap (λ i. drop i bs) (sym e) in
-    subst (Moved a c bs) d (record { out = q2.out ∙ p.out; held = q2.held ∙ p.held })
+    subst (Moved a c bs) d (record { out = q2.out ∙ p.out; undecided = q2.undecided ∙ p.undecided })
 
 -- the end of a split: nothing is left that is decided
 pub moved-end : (a b : List Mark) (bs rest : List ℕ) → Moved a b bs rest → split 0 rest ≡ ([], rest) → (b ≡ a ++ (split 0 bs).0) × (rest ≡ (split 0 bs).1)
-moved-end a b bs rest p e = (sym (ap (λ z. b ++ z.0) e ∙ append-nil b) ∙ p.out, sym (ap (λ z. z.1) e) ∙ p.held)
+moved-end a b bs rest p e = (sym (ap (λ z. b ++ z.0) e ∙ append-nil b) ∙ p.out, sym (ap (λ z. z.1) e) ∙ p.undecided)
 
 pub split-past : (bs : List ℕ) (at : ℕ) → length bs ≤ at → split 0 (drop at bs) ≡ ([], drop at bs)
 unfolding split

@@ -8,6 +8,6 @@ mod place;
 mod scan;
 mod state;
 
-pub use laws::{pieces_make_no_difference, what_is_held_is_open};
+pub use laws::{pieces_make_no_difference, what_is_undecided_is_open};
 pub use part::{Param, Params, Part};
 pub use state::SsiState;

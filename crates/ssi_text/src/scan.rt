@@ -205,7 +205,7 @@ pub fn split_bytes(alloc: Global, bytes: &[u8], out: &mut Vec<Part>) -> Result<u
     ensures within { IfOk result (λ n. n ≤ length bytes.now) }
     ensures out { IfOk result (λ n. marks out.new.items
         ≡ marks out.old.items ++ (split 0 bytes.now).0) }
-    ensures held { IfOk result (λ n. drop n bytes.now ≡ (split 0 bytes.now).1) }
+    ensures undecided { IfOk result (λ n. drop n bytes.now ≡ (split 0 bytes.now).1) }
 {
     let mut at = 0;
     while at < bytes.len() {

@@ -10,23 +10,23 @@ use byte_text::{ByteQueue, OutOfMemory};
 use std::alloc::Global;
 use std::marker::Model;
 
-/// How many bytes are looked at beside held ones: as many as decide what those are.
+/// How many bytes are looked at beside undecided ones: as many as decide what those are.
 const NEAR: usize = 8192;
 
-/// The split of a document that comes in pieces. Contracts see the bytes that are held back, of which only those that
+/// The split of a document that comes in pieces. Contracts see the bytes that are undecided, of which only those that
 /// come decide what they are.
 ///
 /// Commands begin at `<!--#` and end with the first `-->` outside quotes, within 8192 bytes in all; all else is text
 /// (this project's profile of nginx's ngx_http_ssi_module). Text is found in one scan, and copied once.
 #[derive(Drop)]
 pub struct SsiState {
-    held: ByteQueue,
+    undecided: ByteQueue,
 }
 
 impl Model for SsiState {
     ghost Value = { List ℕ };
 
-    ghost view = { λ s. s.held };
+    ghost view = { λ s. s.undecided };
 }
 
 /// The next bytes, at most as many as decide a command.
@@ -44,29 +44,29 @@ fn near_of(bytes: &[u8], at: usize) -> &[u8]
 }
 
 impl SsiState {
-    /// At the beginning of a document, with nothing held. Takes no memory.
+    /// At the beginning of a document, with nothing undecided. Takes no memory.
     pub fn new(alloc: Global) -> SsiState
         ensures { result ≡ [] }
     {
         SsiState {
-            held: ByteQueue::new(alloc),
+            undecided: ByteQueue::new(alloc),
         }
     }
 
-    /// Goes on where another state held these bytes.
-    pub fn from_held(alloc: Global, held: &[u8]) -> Result<SsiState, OutOfMemory>
-        ensures { IfOk result (λ state. state ≡ held.now) }
+    /// Goes on where another state left these bytes undecided.
+    pub fn from_undecided(alloc: Global, undecided: &[u8]) -> Result<SsiState, OutOfMemory>
+        ensures { IfOk result (λ state. state ≡ undecided.now) }
     {
         let mut queue = ByteQueue::new(alloc);
-        queue.append(held)?;
-        Ok(SsiState { held: queue })
+        queue.append(undecided)?;
+        Ok(SsiState { undecided: queue })
     }
 
-    /// The bytes that are held.
-    pub fn held(&self) -> &[u8]
+    /// The bytes that are undecided.
+    pub fn undecided(&self) -> &[u8]
         ensures { result.now ≡ self.now }
     {
-        self.held.front()
+        self.undecided.front()
     }
 
     /// The next bytes of the document: puts out the parts that are decided by now, and holds the rest. After want of
@@ -79,36 +79,36 @@ impl SsiState {
     ) -> Result<(), OutOfMemory>
         ensures out { IfOk result (λ _. marks out.new.items
             ≡ marks out.old.items ++ (split 0 (self.old ++ piece.now)).0) }
-        ensures held { IfOk result (λ _. self.new ≡ (split 0 (self.old ++ piece.now)).1) }
+        ensures undecided { IfOk result (λ _. self.new ≡ (split 0 (self.old ++ piece.now)).1) }
     {
         let mut at = 0;
         'feeding: loop {
-            if self.held.is_empty() {
+            if self.undecided.is_empty() {
                 let rest = rest_of(piece, at);
                 let used = split_bytes(alloc, rest, out)?;
-                self.held.append(rest_of(rest, used))?;
+                self.undecided.append(rest_of(rest, used))?;
                 return Ok(());
             }
             let near = near_of(piece, at);
-            self.held.append(near)?;
+            self.undecided.append(near)?;
             at += near.len();
-            let used = split_bytes(alloc, self.held.front(), out)?;
-            self.held.used(used);
+            let used = split_bytes(alloc, self.undecided.front(), out)?;
+            self.undecided.used(used);
             if at == piece.len() {
                 return Ok(());
             }
         }
     }
 
-    /// The document ends, so what is held is text; another may begin. After want of memory the state and `out` may only
+    /// The document ends, so what is undecided is text; another may begin. After want of memory the state and `out` may only
     /// be dropped.
     pub fn end(&mut self, alloc: Global, out: &mut Vec<Part>) -> Result<(), OutOfMemory>
         ensures out { IfOk result (λ _. marks out.new.items
             ≡ marks out.old.items ++ map Byte self.old) }
-        ensures held { IfOk result (λ _. self.new ≡ []) }
+        ensures undecided { IfOk result (λ _. self.new ≡ []) }
     {
-        push_text(alloc, self.held.front(), out)?;
-        self.held.clear();
+        push_text(alloc, self.undecided.front(), out)?;
+        self.undecided.clear();
         Ok(())
     }
 }

@@ -3,7 +3,7 @@ ghost use Rattle.std.specs.Prelude.{◌≡◌, ◌+◌, ◌≤◌, ◌++◌, ℕ
 ghost use Rattle.ngx_outside.specs.Causes.{Rose};
 ghost use Rattle.ngx_outside.specs.declared.files.Listing.TheVariants.{Missing};
 
-use crate::kept::{Identity, KeptFile, KeptFiles, MOST, Sought};
+use crate::kept::{Identity, KeptFile, KeptFiles, MOST, Slot, Sought};
 use crate::room::Room;
 use byte_text::{ByteText, ByteTexts, OutOfMemory};
 use file_tree::Node;
@@ -95,7 +95,7 @@ fn keep_file<R: Host>(
     let Ok(path) = String::from_str(alloc, path) else {
         return Err(Failed);
     };
-    match kept.keep(KeptFile::new(path, file, Identity::of(&found), of)) {
+    match kept.keep(KeptFile::new(alloc, path, file, Identity::of(&found), of)) {
         Ok(()) => Ok(node),
         Err(OutOfMemory) => Err(Failed),
     }
@@ -173,6 +173,16 @@ pub(crate) fn has_same_bytes<F: OpenFile>(file: &F, identity: &Identity) -> bool
     }
 }
 
+// Keeps the bytes of a small file, which were read just now, unless it was written since it was opened.
+#[inline(never)]
+fn keep_bytes<F: OpenFile + Drop>(kept: &mut KeptFiles<F>, place: Slot, bytes: &[u8]) {
+    if let Some(file) = kept.file_mut(place) {
+        if has_same_bytes(&file.file, &file.identity) {
+            file.keep_bytes(bytes);
+        }
+    }
+}
+
 // Reads bytes of the file that the tree of a number showed at a path, which are lent. One that isn't kept any more can't be
 // read: another may be there.
 fn read_file<F: FileExt + OpenFile + Drop>(
@@ -190,6 +200,9 @@ fn read_file<F: FileExt + OpenFile + Drop>(
     };
     match room.read(file, start, count, of) {
         Ok(()) => {
+            if file.lacks_bytes(start, count) {
+                keep_bytes(kept, place, room.block());
+            }
             kept.show(place, of);
             kept.read(place, start, count, of);
             Ok(())

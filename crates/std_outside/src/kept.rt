@@ -1,5 +1,5 @@
 // The host's files that stay open from one call to the next.
-ghost use Rattle.std.specs.Prelude.{◌≡◌, ◌≤◌, ℕ, true, IfSome, string_bytes};
+ghost use Rattle.std.specs.Prelude.{◌≡◌, ◌≤◌, ℕ, true, IfSome, length, string_bytes};
 ghost use Rattle.std_outside.specs.declared.kept.Sought.TheVariants.{ShownIn};
 
 use byte_text::OutOfMemory;
@@ -16,6 +16,9 @@ const BUCKETS: usize = 256;
 
 /// A file that is longer, in bytes, is closed once it was read to its end.
 const LARGE: u64 = 1048576;
+
+/// One that is no longer keeps its bytes too, once they were read.
+const SMALL: u64 = 4096;
 
 /// What tells one state of a file of the host from every other: which file it is, how long, when it was written last, and
 /// when its owner, its rights or its names changed last. While a file is open, the host gives its number to no other.
@@ -73,11 +76,13 @@ pub struct KeptFile<F: Drop> {
     past: bool,
     /// No other file that was kept has this number.
     number: u64,
+    /// All its bytes, where it is small and they were read; none before.
+    bytes: Vec<u8>,
 }
 
 impl<F: Drop> KeptFile<F> {
     /// A file that was opened for the tree of a number.
-    pub fn new(path: String, file: F, identity: Identity, of: u64) -> Self {
+    pub fn new(alloc: Global, path: String, file: F, identity: Identity, of: u64) -> Self {
         KeptFile {
             path,
             file,
@@ -88,6 +93,32 @@ impl<F: Drop> KeptFile<F> {
             readers: 0,
             past: false,
             number: 0,
+            bytes: Vec::new(alloc),
+        }
+    }
+
+    /// All its bytes, where they are kept and are this many.
+    #[inline(always)]
+    pub fn bytes(&self, count: u64) -> Option<&[u8]>
+        ensures { IfSome result (λ bytes. length bytes.now ≡ count) }
+    {
+        if self.bytes.len() as u64 == count {
+            return Some(self.bytes.as_slice());
+        }
+        None
+    }
+
+    // Whether these are all its bytes, which are to be kept and aren't yet.
+    #[inline(always)]
+    pub fn lacks_bytes(&self, start: u64, count: u64) -> bool {
+        self.bytes.len() as u64 != count && count <= SMALL && self.is_whole(start, count)
+    }
+
+    /// Keeps all its bytes. It keeps none where there is no memory for them.
+    pub fn keep_bytes(&mut self, bytes: &[u8]) {
+        self.bytes.clear();
+        if let Err(_) = self.bytes.extend_from_slice(bytes) {
+            self.bytes.clear();
         }
     }
 
@@ -249,6 +280,11 @@ impl<F: Drop> KeptFiles<F> {
             }
         }
         None
+    }
+
+    /// The file of a place.
+    pub fn file_mut(&mut self, place: Slot) -> Option<&mut KeptFile<F>> {
+        self.buckets.get_mut(place.bucket)?.get_mut(place.at)
     }
 
     /// The file of a place is used now, for the tree of a number.

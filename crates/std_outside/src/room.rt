@@ -147,6 +147,24 @@ impl Room {
         Ok(())
     }
 
+    // Lends these bytes, which a small file keeps: they are copied, as the host would do.
+    #[inline(always)]
+    fn copy(&mut self, bytes: &[u8]) -> Result<(), FileFault>
+        ensures { OnOk result (length self.new ≡ length bytes.now) }
+    {
+        let count = bytes.len();
+        self.of = None;
+        if self.bytes.len() < count {
+            let Ok(()) = self.bytes.resize(count, 0) else {
+                return Err(FileFault::OutOfMemory);
+            };
+        }
+        self.bytes[..count].copy_from_slice(bytes);
+        self.start = 0;
+        self.count = count;
+        Ok(())
+    }
+
     // Reads bytes of a file from a place on, and lends those that are asked. Where they aren't all of the file, it fails if the file
     // was written since it was opened: else a response could have bytes of two states of it.
     #[inline(always)]
@@ -186,6 +204,10 @@ impl Room {
     {
         self.count = 0;
         if kept.is_whole(start, count) {
+            if let Some(bytes) = kept.bytes(count) {
+                self.copy(bytes)?;
+                return Ok(());
+            }
             self.read_on(kept, start, count, of)?;
             return Ok(());
         }

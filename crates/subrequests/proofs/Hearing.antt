@@ -67,8 +67,8 @@ module _ (w : World) (site : Site) (p : Phases) (left : ℕ) (text : List ℕ) w
       ∙ ap (λ y. placed_act w site p left (answer_seen site p c.answered) y (hand c) (later c text)) (sym (pg ∙ none))))))
 
 -- it is a part of its file
-held : (file bytes : List ℕ) (start count : ℕ) → start + count ≤ length file → bytes ≡ take count (drop start file) → bytes ++ drop (start + length bytes) file ≡ drop start file
-held file bytes start count there is =
+withheld : (file bytes : List ℕ) (start count : ℕ) → start + count ≤ length file → bytes ≡ take count (drop start file) → bytes ++ drop (start + length bytes) file ≡ drop start file
+withheld file bytes start count there is =
     let d : length (drop start file) ≡ length file - start = length-drop start file in
     let n : length bytes ≡ count = ap length is ∙ taken count (drop start file) (omega (arith, d, there)) in
     ap (λ m. bytes ++ drop (start + m) file) n ∙ ap (λ b. b ++ drop (start + count) file) is
@@ -79,18 +79,18 @@ held file bytes start count there is =
     taken (suc k) [] h = absurd (omega (arith, h))
     taken (suc k) (x ∷ xs) h = ap suc (taken k xs (omega (arith, h)))
 
-item_held : (item : Item) (bytes : List ℕ) (start count : ℕ) → HoldsBytes item start count bytes → bytes ++ drop (start + length bytes) (text_of item) ≡ drop start (text_of item)
-item_held (AFile file date) bytes start count h = held file bytes start count h.0 h.1
-item_held AFolder bytes start count h = absurd h
-item_held ALocked bytes start count h = absurd h
-item_held Nothing bytes start count h = absurd h
+item_withheld : (item : Item) (bytes : List ℕ) (start count : ℕ) → HoldsBytes item start count bytes → bytes ++ drop (start + length bytes) (text_of item) ≡ drop start (text_of item)
+item_withheld (AFile file date) bytes start count h = withheld file bytes start count h.0 h.1
+item_withheld AFolder bytes start count h = absurd h
+item_withheld ALocked bytes start count h = absurd h
+item_withheld Nothing bytes start count h = absurd h
 
-pub block_held : (trees : Trees) (ask : Ask) (start : ℕ) (bytes : Bor (List ℕ)) → asks_from ask start ≡ true → IsFrom trees ask (answers.Read bytes) →
+pub block_withheld : (trees : Trees) (ask : Ask) (start : ℕ) (bytes : Bor (List ℕ)) → asks_from ask start ≡ true → IsFrom trees ask (answers.Read bytes) →
     bytes.now ++ drop (start + length bytes.now) (text_of (item_asked trees ask)) ≡ drop start (text_of (item_asked trees ask))
-block_held trees (asks.Stat path of) start bytes e from = absurd from
-block_held trees (asks.Read path begin count of) start bytes e from =
+block_withheld trees (asks.Stat path of) start bytes e from = absurd from
+block_withheld trees (asks.Read path begin count of) start bytes e from =
     let same : begin ≡ start = eqb-true begin start e in
-    subst (λ n. bytes.now ++ drop (n + length bytes.now) (text_of (trees of path)) ≡ drop n (text_of (trees of path))) same (item_held (trees of path) bytes.now begin count from)
+    subst (λ n. bytes.now ++ drop (n + length bytes.now) (text_of (trees of path)) ≡ drop n (text_of (trees of path))) same (item_withheld (trees of path) bytes.now begin count from)
 
 -- ---- what is at a path
 

@@ -9,5 +9,5 @@ mod Skips
 mod Taking
 mod Asking
 mod Opening
-mod Returning
+mod Returns
 mod Beginning

@@ -17,9 +17,9 @@ use Rattle.family_order.specs.Items.Stance.{Going, Apart}
 use Rattle.family_order.specs.Laws.{ShowsTheSame}
 use Rattle.family_order.proofs.Wells.{step-well}
 use Rattle.postpone_filter.specs.Runs.Call.{Append, AddChild, End}
-use Rattle.node_turn.specs.Stages.{IsSameNode, hand_at, held_more, node_act, node_heard, text_in, item_asked, is_asking}
+use Rattle.node_turn.specs.Stages.{IsSameNode, hand_at, withheld_more, node_act, node_heard, text_in, item_asked, is_asking}
 use Rattle.subrequests.specs.Families.{IsSound, captured_at, goes_on_at, reads_text, text_at, texts_of}
-use Rattle.node_seats.specs.Seats.{Doing, doing_by, held_text, is_captured, is_heard, is_seated, most_levels, place_stance, row_stance, seen, stance_in, stance_of, stub_in}
+use Rattle.node_seats.specs.Seats.{Doing, doing_by, withheld_text, is_captured, is_heard, is_seated, most_levels, place_stance, row_stance, seen, stance_in, stance_of, stub_in}
 use Rattle.node_seats.proofs.Besides.{Beside, IsAsMuch, as_much, is_free, same_stance, still_stance}
 use Rattle.node_seats.proofs.Besides.Beside.{Neither, Both, Free}
 use Rattle.node_seats.proofs.Framing as framing
@@ -36,7 +36,7 @@ use Rattle.node_turn.specs.declared.node.Stage.TheVariants as at_stage
 use Rattle.subrequests.proofs.Sets.{get_before, get_kept, get_last, get_none, get_set_same, get_set_other, length_set, length_snoc}
 use Rattle.node_line.proofs.Steps as steps
 use Rattle.node_line.specs.Stubs.{CameAs, DecidedAs}
-use Rattle.node_line.specs.Stubs.CameAs.{Held, Joined}
+use Rattle.node_line.specs.Stubs.CameAs.{Withheld, Joined}
 use Rattle.node_turn.specs.Stages.{is_in_row}
 use Rattle.node_turn.specs.declared.node.Place.{Place}
 use Rattle.node_turn.specs.declared.node.Place.TheVariants.{Row as InRow, Stub, Captured}
@@ -121,13 +121,13 @@ replaced w patterns site main texts texts' nodes at old new there none free agre
 pub stands_as : (old new : Node) → new.parent ≡ old.parent → new.place ≡ old.place → StandsAs old new
 stands_as old new parent place = record { parent = parent; captured = ap is_captured place; stub = ap stub_in place; row = ap is_in_row place }
 
--- where more bytes of it are held
-pub holds_as : (old new : Node) (bytes : List ℕ) → new.parent ≡ old.parent → new.place ≡ held_more bytes old.place → StandsAs old new
+-- where more bytes of it are withheld
+pub holds_as : (old new : Node) (bytes : List ℕ) → new.parent ≡ old.parent → new.place ≡ withheld_more bytes old.place → StandsAs old new
 holds_as old new bytes parent place =
     let is = by old.place in
     record { parent = parent; captured = ap is_captured place ∙ is.0; stub = ap stub_in place ∙ is.1; row = ap is_in_row place ∙ is.2 }
   where
-    by : (p : Place) → (is_captured (held_more bytes p) ≡ is_captured p) × (stub_in (held_more bytes p) ≡ stub_in p) × (is_in_row (held_more bytes p) ≡ is_in_row p)
+    by : (p : Place) → (is_captured (withheld_more bytes p) ≡ is_captured p) × (stub_in (withheld_more bytes p) ≡ stub_in p) × (is_in_row (withheld_more bytes p) ≡ is_in_row p)
     by InRow = (refl, refl, refl)
     by (Stub stub text) = (refl, refl, refl)
     by (Captured stub text) = (refl, refl, refl)
@@ -243,9 +243,9 @@ module _ (laws : ShowsTheSame) (w : World) (patterns : List SetPattern) (site : 
   -- bytes of it come that aren't placed at once
   pub came : (row' : Row) (new : Node) → IsSameNode old new → is_in_row old.place ≡ false → ((j : ℕ) → is_open j row'.pieces ≡ is_open j row.pieces) → IsWell before →
       CameAs at row row' old new → Opening w tree 0 before vars (seen w patterns site main row' (set nodes at new) texts) vars
-  came row' new same apart opened well (Held rows place acts) =
+  came row' new same apart opened well (Withheld rows place acts) =
       subst (λ (r : Row). Opening w tree 0 before vars (seen w patterns site main r (set nodes at new) texts) vars) (sym rows)
-      (stepping.held laws w patterns site main row nodes texts at old (its_seat w patterns site main row nodes texts at old there sound goes_on seat)
+      (stepping.withheld laws w patterns site main row nodes texts at old (its_seat w patterns site main row nodes texts at old there sound goes_on seat)
       tree vars h_open (set nodes at new) new (put new same.asks) (holds_as old new (hand_at old.stage) same.parent place) same.left apart place (acts w patterns site main (texts at)))
   came row' new same apart opened well (Joined stub some any was place rows acts good) =
       let f = placing at some before in
@@ -263,7 +263,7 @@ module _ (laws : ShowsTheSame) (w : World) (patterns : List SetPattern) (site : 
           ap (stance_of (doing_by w patterns site main texts) nodes most_levels at) there
           ∙ ap (place_stance (doing_by w patterns site main texts) nodes most_levels at old) was
           ∙ ap (λ line. Apart line stub) (line_alone (doing_by w patterns site main texts) nodes (suc most_levels) at old Nil (asks_none nodes at old there seat)
-          ∙ ap (λ p. under (held_text p) (Gives at old.left (node_act w patterns site main old (texts at)) Nil)) was)
+          ∙ ap (λ p. under (withheld_text p) (Gives at old.left (node_act w patterns site main old (texts at)) Nil)) was)
 
       by : (j : ℕ) (b : Bool) → (j == at) ≡ b → cond b (Going old.left (node_act w patterns site main new (texts at))) (stance_in (doing_by w patterns site main texts) nodes most_levels j)
           ≡ stance_in (doing_by w patterns site main texts) (set nodes at new) most_levels j
@@ -336,7 +336,7 @@ module _ (laws : ShowsTheSame) (w : World) (patterns : List SetPattern) (site : 
           ap (stance_of (doing_by w patterns site main texts) nodes most_levels at) there
           ∙ ap (place_stance (doing_by w patterns site main texts) nodes most_levels at old) d.is.place
           ∙ ap (λ line. Apart line d.stub) (line_alone (doing_by w patterns site main texts) nodes (suc most_levels) at old Nil (asks_none nodes at old there seat)
-          ∙ ap (λ p. under (held_text p) (Gives at old.left (node_act w patterns site main old (texts at)) Nil)) d.is.place
+          ∙ ap (λ p. under (withheld_text p) (Gives at old.left (node_act w patterns site main old (texts at)) Nil)) d.is.place
           ∙ ap (λ m. under d.is.text (Gives at old.left m Nil)) done)
 
       by : (j : ℕ) (b : Bool) → (j == at) ≡ b → cond b false (is_open j row.pieces) ≡ true →
@@ -395,14 +395,14 @@ module _ (laws : ShowsTheSame) (w : World) (patterns : List SetPattern) (site : 
       by None = ap (row_stance (doing_by w patterns site main texts) nodes' most_levels number member) alone
       by (Some text) =
           ap (λ line. Apart line text) (line_alone (doing_by w patterns site main texts) nodes' (suc most_levels) number member Nil alone
-          ∙ ap (λ t. under t (Gives number member.left (node_act w patterns site main member (texts number)) Nil)) (held place))
+          ∙ ap (λ t. under t (Gives number member.left (node_act w patterns site main member (texts number)) Nil)) (withheld place))
         where
-          held : member.place ≡ place_by stub → held_text member.place ≡ []
-          held e = ap held_text e ∙ none_held stub
+          withheld : member.place ≡ place_by stub → withheld_text member.place ≡ []
+          withheld e = ap withheld_text e ∙ none_withheld stub
             where
-              none_held : (o : Option (List ℕ)) → held_text (place_by o) ≡ []
-              none_held None = refl
-              none_held (Some t) = refl
+              none_withheld : (o : Option (List ℕ)) → withheld_text (place_by o) ≡ []
+              none_withheld None = refl
+              none_withheld (Some t) = refl
 
   -- a subrequest opens; the node and the new one are told by what they do
   pub opened : (child : Child) (l : ℕ) (new member : Node) → old.left ≡ suc l → old.place ≡ InRow → new.place ≡ InRow → new.asks ≡ None → new.left ≡ old.left →
@@ -450,17 +450,17 @@ pub ended_well : (row row' : Row) (at : ℕ) → IsWellRow 0 row → at ≢ 0 �
 ended_well row row' at well child e = subst (IsWellRow 0) (sym e) (step-well 0 (End at) row well child)
 
 pub came_well : (row row' : Row) (at : ℕ) (old new : Node) → IsWellRow 0 row → CameAs at row row' old new → IsWellRow 0 row'
-came_well row row' at old new well (Held rows place acts) = subst (IsWellRow 0) (sym rows) well
+came_well row row' at old new well (Withheld rows place acts) = subst (IsWellRow 0) (sym rows) well
 came_well row row' at old new well (Joined stub some any was is rows acts good) = appended_well row row' at some well rows
 
 pub came_nodes : (row row' : Row) (at : ℕ) (old new : Node) → CameAs at row row' old new → row'.nodes ≡ row.nodes
-came_nodes row row' at old new (Held rows place acts) = ap (λ (r : Row). r.nodes) rows
+came_nodes row row' at old new (Withheld rows place acts) = ap (λ (r : Row). r.nodes) rows
 came_nodes row row' at old new (Joined stub some any was is rows acts good) = ap (λ (r : Row). r.nodes) rows
 
 pub came_kept : (row row' : Row) (at : ℕ) (old new : Node) → CameAs at row row' old new → is_captured new.place ≡ is_captured old.place
-came_kept row row' at old new (Held rows place acts) = ap is_captured place ∙ by old.place
+came_kept row row' at old new (Withheld rows place acts) = ap is_captured place ∙ by old.place
   where
-    by : (p : Place) → is_captured (held_more (hand_at old.stage) p) ≡ is_captured p
+    by : (p : Place) → is_captured (withheld_more (hand_at old.stage) p) ≡ is_captured p
     by InRow = refl
     by (Stub stub text) = refl
     by (Captured stub text) = refl

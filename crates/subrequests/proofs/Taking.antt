@@ -22,7 +22,7 @@ use Rattle.node_turn.specs.Stages.{IsSameNode, is_capturing, is_in_row, item_ask
 use Rattle.node_turn.specs.Turns.{Works}
 use Rattle.node_turn.specs.declared.node.Node.{Node}
 use Rattle.node_turn.specs.declared.node.Place.TheVariants.{Row as InRow, Captured}
-use Rattle.node_seats.specs.Seats.{doing_by, held_text, is_captured, is_seated, most_levels, seen, stance_in, stub_in}
+use Rattle.node_seats.specs.Seats.{doing_by, withheld_text, is_captured, is_seated, most_levels, seen, stance_in, stub_in}
 use Rattle.node_seats.proofs.Framing as framing
 use Rattle.node_seats.proofs.Included as waits_too
 use Rattle.node_seats.proofs.Included.{Waits_too}
@@ -104,12 +104,12 @@ module _ (laws : ShowsTheSame) (w : World) (patterns : List SetPattern) (site : 
     h_open : is_open q.h row.pieces ≡ true
     h_open = members.open_there row nodes q.h q.host q.there q.goes_on sound
 
-    begins : IsAlike before (doing q.h (owned q.own (filling (Behind (held_text old.place) q.spot) (Gives at old.left (act old) q.rest))) before)
-    begins = framing.begins laws w patterns site main row nodes texts q.h (owned q.own (filling (Behind (held_text old.place) q.spot) (Gives at old.left (act old) q.rest))) (here_is most_levels (doing_by w patterns site main texts) nodes most_levels 0 at old there none q)
+    begins : IsAlike before (doing q.h (owned q.own (filling (Behind (withheld_text old.place) q.spot) (Gives at old.left (act old) q.rest))) before)
+    begins = framing.begins laws w patterns site main row nodes texts q.h (owned q.own (filling (Behind (withheld_text old.place) q.spot) (Gives at old.left (act old) q.rest))) (here_is most_levels (doing_by w patterns site main texts) nodes most_levels 0 at old there none q)
 
     pub line_open : (child : Child) (l : ℕ) (m : Serving Answer) → old.left ≡ suc l → Works vars (node_act w patterns site main old (texts at)) (Inner child m) → Opens_one w tree (seen w patterns site main row nodes texts) vars
     line_open child l m deep works =
-        let spot = Behind (held_text old.place) q.spot in
+        let spot = Behind (withheld_text old.place) q.spot in
         record {
           after = doing q.h (owned q.own (filling spot (opened w row.nodes l child (Gives at old.left m q.rest)))) before;
           opening =
@@ -120,7 +120,7 @@ module _ (laws : ShowsTheSame) (w : World) (patterns : List SetPattern) (site : 
 
     pub line_ask : (child : Child) (l : ℕ) (k : Reply → Serving Answer) → old.left ≡ suc l → Works vars (node_act w patterns site main old (texts at)) (Call child k) → Opens_one w tree (seen w patterns site main row nodes texts) vars
     line_ask child l k deep works =
-        let spot = Behind (held_text old.place) q.spot in
+        let spot = Behind (withheld_text old.place) q.spot in
         record {
           after = doing q.h (owned q.own (filling spot (Waits at (opened w row.nodes l child Nil) old.left k q.rest))) before;
           opening =
@@ -203,7 +203,7 @@ module _ (laws : ShowsTheSame) (w : World) (patterns : List SetPattern) (site : 
     included apart e acts =
         let q = located apart in
         waits_too.included laws w patterns site main row nodes (set (set nodes at mid) at (record mid { children = children; asks = Some number }) ++ member ∷ []) texts at number old (record mid { children = children; asks = Some number }) member waits like place
-        (ap held_text goes) child.stub (ap stub_in goes) (members.heard_above nodes at old there seat) tree vars goes_on well child l deep refl same.left member_left begun numbered
+        (ap withheld_text goes) child.stub (ap stub_in goes) (members.heard_above nodes at old there seat) tree vars goes_on well child l deep refl same.left member_left begun numbered
         q (members.open_there row nodes q.h q.host q.there q.goes_on sound) (members.next_number row nodes q.h q.host q.there sound) e acts
 
     -- where they go into a variable
@@ -214,10 +214,10 @@ module _ (laws : ShowsTheSame) (w : World) (patterns : List SetPattern) (site : 
         by : (b : Bool) → is_in_row old.place ≡ b → Opening w tree 1 (seen w patterns site main row nodes texts) vars (seen w patterns site main (with_child at row) (set (set nodes at mid) at (record mid { children = children; asks = Some number }) ++ member ∷ []) texts) vars
         by true f =
             waits_too.row_asked laws w patterns site main row nodes (set (set nodes at mid) at (record mid { children = children; asks = Some number }) ++ member ∷ []) texts at number old (record mid { children = children; asks = Some number }) member waits like place
-            (ap held_text goes) child.stub (ap stub_in goes) (members.heard_above nodes at old there seat) tree vars goes_on well child l deep refl same.left member_left begun numbered
+            (ap withheld_text goes) child.stub (ap stub_in goes) (members.heard_above nodes at old there seat) tree vars goes_on well child l deep refl same.left member_left begun numbered
             (wholes.row_is old.place f) (members.next_number row nodes at old there sound) acts
         by false f =
             let q = located f in
             waits_too.asked laws w patterns site main row nodes (set (set nodes at mid) at (record mid { children = children; asks = Some number }) ++ member ∷ []) texts at number old (record mid { children = children; asks = Some number }) member waits like place
-            (ap held_text goes) child.stub (ap stub_in goes) (members.heard_above nodes at old there seat) tree vars goes_on well child l deep refl same.left member_left begun numbered
+            (ap withheld_text goes) child.stub (ap stub_in goes) (members.heard_above nodes at old there seat) tree vars goes_on well child l deep refl same.left member_left begun numbered
             q (members.open_there row nodes q.h q.host q.there q.goes_on sound) (members.next_number row nodes q.h q.host q.there sound) e acts

@@ -91,8 +91,8 @@ pub not_in_row : (nodes : List Node) (at : ℕ) (x : Node) → in_row_at (slice_
 not_in_row nodes at x e there = sym (ap in_row_at there) ∙ e
 
 -- they come to its parent, or don't
-pub held_is : (nodes : List Node) (at : ℕ) (x : Node) (b : Bool) → captured_at (slice_get nodes at) ≡ b → slice_get nodes at ≡ Some x → is_captured x.place ≡ b
-held_is nodes at x b e there = sym (ap captured_at there) ∙ e
+pub withheld_is : (nodes : List Node) (at : ℕ) (x : Node) (b : Bool) → captured_at (slice_get nodes at) ≡ b → slice_get nodes at ≡ Some x → is_captured x.place ≡ b
+withheld_is nodes at x b e there = sym (ap captured_at there) ∙ e
 
 -- ---- steps
 

@@ -11,7 +11,7 @@ use Rattle.request_meaning.specs.Serving.{World}
 use Rattle.family_order.specs.Items.{IsWellRow}
 use Rattle.ssi_exec.specs.Scenes.{child_seen}
 use Rattle.ssi_exec.specs.declared.document.Child.{Child}
-use Rattle.node_turn.specs.Stages.{IsSameNode, held_more, is_capturing, is_ending, is_in_row, main_of, node_act, node_heard, text_in}
+use Rattle.node_turn.specs.Stages.{IsSameNode, withheld_more, is_capturing, is_ending, is_in_row, main_of, node_act, node_heard, text_in}
 use Rattle.node_turn.specs.declared.node.Node.{Node}
 use Rattle.node_turn.specs.declared.node.Stage.{Stage}
 use Rattle.node_turn.specs.declared.node.Stage.TheVariants.{Begins, Asks, Told, Places, Serves, Reads, Captures, Ends}
@@ -89,13 +89,13 @@ pub record IsTaken (stage : Stage) (text : List ℕ) (old new : Place) : Type 0 
   pub then : new ≡ Captured None []
   pub chosen : text ≡ or_stub stub (end_status stage) body
 
--- A node has the bytes for which it waited: as those of a reply, with which it goes on; or after its own that are held,
+-- A node has the bytes for which it waited: as those of a reply, with which it goes on; or after its own that are withheld,
 -- in whose place they are.
 pub data HasReply (body : List ℕ) (old new : Node) : Type 0 where
   Hears : is_capturing old.stage ≡ true → IsSameNode (record old { asks = None }) new → new.place ≡ old.place → (new.ask ≡ old.ask) × (new.start ≡ old.start) →
       ((w : World) (patterns : List SetPattern) (site : Site) (main : Main) (text : List ℕ) → node_act w patterns site main new text ≡ node_heard w patterns site main old text body) →
       HasReply body old new
-  Holds : is_capturing old.stage ≡ false → is_in_row old.place ≡ false → new ≡ record old { asks = None; place = held_more body old.place } → HasReply body old new
+  Withholds : is_capturing old.stage ≡ false → is_in_row old.place ≡ false → new ≡ record old { asks = None; place = withheld_more body old.place } → HasReply body old new
 
 -- The row has a place for each node that isn't over, and for no other. The main request's place comes after all others,
 -- and no other node waits for its bytes. And there are no more nodes than make one response.

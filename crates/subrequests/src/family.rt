@@ -8,8 +8,7 @@ ghost use Rattle.request_phases.specs.Rounds.{IsGround};
 ghost use Rattle.request_phases.specs.declared.ground.Ground.{Ground as GroundView};
 ghost use Rattle.site_model.specs.declared.site.Site.{Site as SiteRow};
 ghost use Rattle.node_turn.specs.Stages.{is_ending, is_in_row as in_row, is_placing, is_serving, is_turning, item_asked};
-ghost use Rattle.node_turn.specs.declared.node.Place.TheVariants.{Row as RowView};
-ghost use Rattle.subrequests.specs.Families.{AreDone, HasReply, IsTaken, captured_at, end_status, goes_on_at, in_row_at, is_stubbed as stubbed, over_node};
+ghost use Rattle.subrequests.specs.Families.{AreDone, captured_at, goes_on_at, in_row_at, over_node};
 ghost use Rattle.node_seats.specs.Seats.{is_seated as has_seat};
 ghost use Rattle.std.specs.List.{list_all};
 ghost use Rattle.subrequests.specs.Moved.{AsksAt, BeginsWith, Comes, IsDone, IsFromAt, IsWhole, Keeps, OpensAt, OverrunsBy, SameFiles, Steps, files, fits_at, meant, stands};
@@ -22,8 +21,9 @@ use crate::child::{blank_main, push_child, put_asks, put_child};
 use crate::hear::hears;
 use crate::next_step::{Next, is_in_row, next_of};
 use crate::nodes::Nodes;
+use crate::returning::{comes_some, put_reply, put_shown, taken};
 use crate::wants::can_run;
-use byte_text::{ByteText, OutOfMemory};
+use byte_text::OutOfMemory;
 use family_order::shows_the_same;
 use family_rest::{quiet_is_exact, row_tells_still};
 use file_tree::{Ask, JobAnswer};
@@ -32,9 +32,7 @@ use ngx_pattern::PatternSet;
 use ngx_variables::{Main, VarTable};
 use node_line::{comes, decides, is_kept};
 use node_seats::is_seated;
-use node_turn::{
-    Capture, Node, Place, Stage, Turn, answering, hold, lend, places, put, take, takes, turns,
-};
+use node_turn::{Node, Place, Stage, Turn, answering, lend, places, takes, turns};
 use postpone_filter::Order;
 use request_phases::{Ground, Outcome, Phases};
 use ssi_exec::Child;
@@ -146,103 +144,6 @@ fn are_done(nodes: &[Node]) -> bool
     }
 }
 
-/// The status of the answer to which a node has come; 0 where it has come to none.
-fn status_at(stage: &Stage) -> u16
-    ensures { result ≡ end_status stage.now }
-{
-    match stage {
-        Stage::Begins(_) => 0,
-        Stage::Asks { wait: _, ssi: _ } => 0,
-        Stage::Told {
-            wait: _,
-            file: _,
-            ssi: _,
-        } => 0,
-        Stage::Places(_) => 0,
-        Stage::Serves(_) => 0,
-        Stage::Reads(_) => 0,
-        Stage::Captures(_) => 0,
-        Stage::Ends(body) => body.answered.status,
-    }
-}
-
-/// Whether the stub of a node takes the place of this body: it is empty, or its status is 400 or more.
-fn is_stubbed(stage: &Stage, body: &ByteText) -> bool
-    ensures { result ≡ stubbed stage.now body.now }
-{
-    body.is_empty() || status_at(stage) >= 400
-}
-
-/// The bytes of a node for whose body its parent waits: all that came, or its stub in their place.
-fn taken(alloc: Global, stage: &Stage, place: &mut Place) -> Result<ByteText, OutOfMemory>
-    ensures { IfOk result (λ text. IsTaken stage.now text place.old place.new) }
-{
-    match place {
-        Place::Captured { stub, text } => {
-            let body = take(text, ByteText::new(alloc));
-            match take(stub, None) {
-                None => Ok(body),
-                Some(stub) => {
-                    if is_stubbed(stage, &body) {
-                        return Ok(stub);
-                    }
-                    Ok(body)
-                }
-            }
-        }
-        _ => Err(OutOfMemory),
-    }
-}
-
-/// Whether some bytes come to the parent of a node that has come to its answer.
-fn comes_some(stage: &Stage, stub: &Option<ByteText>, body: &ByteText) -> bool {
-    match stub {
-        Some(stub) if is_stubbed(stage, body) => !stub.is_empty(),
-        _ => !body.is_empty(),
-    }
-}
-
-/// A node has the body for which it waited: it goes on with its page; or its own bytes go on after it.
-fn put_reply(alloc: Global, node: &mut Node, body: ByteText) -> Result<(), OutOfMemory>
-    ensures { OnOk result (HasReply body node.old node.new) }
-{
-    match take(&mut node.stage, Stage::Begins(Table::new(alloc))) {
-        Stage::Captures(capture) => {
-            let Capture {
-                body: page,
-                name,
-                text: _,
-            } = capture;
-            let capture = Capture {
-                body: page,
-                name,
-                text: body,
-            };
-            put(&mut node.stage, Stage::Captures(capture));
-            node.asks = None;
-            Ok(())
-        }
-        Stage::Serves(page) => {
-            if is_in_row(&node.place) {
-                return Err(OutOfMemory);
-            }
-            put(&mut node.stage, Stage::Serves(page));
-            hold(&mut node.place, body.as_slice())?;
-            node.asks = None;
-            Ok(())
-        }
-        _ => Err(OutOfMemory),
-    }
-}
-
-/// A node with a stub has bytes for which it waited, and goes on in the row.
-fn put_shown(node: &mut Node)
-    ensures { node.new ≡ record node.old { asks = None; place = RowView } }
-{
-    node.asks = None;
-    put(&mut node.place, Place::Row);
-}
-
 /// A subrequest of a node is over.
 fn put_end(node: &mut Node, id: u32)
     ensures { node.new ≡ record node.old { children = node.new.children; waits = node.new.waits } }
@@ -352,22 +253,23 @@ impl Family {
     }
 
     /// A node places bytes, as many as its buffer has room for: whether it may go on.
-    fn place_at(&mut self, alloc: Global, at: u32) -> bool
+    fn place_at(&mut self, alloc: Global, at: u32) -> Result<bool, OutOfMemory>
         requires whole { IsWhole self.old }
         requires there { stands is_placing self.old at }
         requires seated { has_seat self.old.nodes at (slice_get self.old.nodes at)
             ≡ true }
         requires row { in_row_at (slice_get self.old.nodes at) ≡ true }
-        ensures steps { (patterns : List SetPattern) (g : GroundView) →
-            Steps patterns g self.old self.new }
-        ensures whole { IsWhole self.new }
-        ensures tree { self.new.tree ≡ self.old.tree }
-        ensures rests { result ≡ runs_at self.new.order at (slice_get self.new.nodes at) }
+        ensures steps { OnOk result ((patterns : List SetPattern) (g : GroundView) →
+            Steps patterns g self.old self.new) }
+        ensures whole { OnOk result (IsWhole self.new) }
+        ensures tree { OnOk result (self.new.tree ≡ self.old.tree) }
+        ensures rests { IfOk result (λ on. on
+            ≡ runs_at self.new.order at (slice_get self.new.nodes at)) }
     {
         shows_the_same();
         let node = self.nodes.node_mut(at as usize);
-        places(alloc, &mut self.order, at, node);
-        can_run(&self.order, at, self.nodes.node_at(at as usize))
+        places(alloc, &mut self.order, at, node)?;
+        Ok(can_run(&self.order, at, self.nodes.node_at(at as usize)))
     }
 
     /// Bytes of a node with a stub come.
@@ -550,7 +452,7 @@ impl Family {
     fn return_at(&mut self, alloc: Global, at: u32) -> Result<u32, OutOfMemory>
         requires whole { IsWhole self.old }
         requires there { stands is_ending self.old at }
-        requires held { captured_at (slice_get self.old.nodes at) ≡ true }
+        requires withheld { captured_at (slice_get self.old.nodes at) ≡ true }
         requires seated { has_seat self.old.nodes at (slice_get self.old.nodes at)
             ≡ true }
         requires child { at ≢ 0 }
@@ -602,7 +504,7 @@ impl Family {
     fn show_at(&mut self, alloc: Global, at: u32) -> Result<u32, OutOfMemory>
         requires whole { IsWhole self.old }
         requires there { stands is_ending self.old at }
-        requires held { captured_at (slice_get self.old.nodes at) ≡ true }
+        requires withheld { captured_at (slice_get self.old.nodes at) ≡ true }
         requires seated { has_seat self.old.nodes at (slice_get self.old.nodes at)
             ≡ true }
         requires child { at ≢ 0 }
@@ -626,7 +528,7 @@ impl Family {
             return Err(OutOfMemory);
         }
         put_shown(node);
-        let count = self.order.append(parent, text.as_slice());
+        let count = self.order.append(parent, text.as_slice())?;
         if count < text.len() {
             return Err(OutOfMemory);
         }
@@ -713,7 +615,7 @@ impl Family {
                 self.turn_at(alloc, ground, patterns, at)?;
                 Ok(Stepped::On)
             }
-            Next::Places => Ok(on_or_rests(self.place_at(alloc, at))),
+            Next::Places => Ok(on_or_rests(self.place_at(alloc, at)?)),
             Next::Takes => {
                 if !self.take_at(alloc, ground, at)? {
                     return Ok(Stepped::TooMany);

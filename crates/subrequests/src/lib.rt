@@ -9,6 +9,7 @@ mod family;
 mod hear;
 mod next_step;
 mod nodes;
+mod returning;
 mod wants;
 
 pub use family::{Family, Ran};

@@ -14,7 +14,7 @@ pub(crate) enum Next {
     Turns,
     /// Bytes of its body are placed.
     Places,
-    /// Bytes of its body are placed or held: it has a stub.
+    /// Bytes of its body are placed or withheld: it has a stub.
     Comes,
     /// The next part of its page is taken up.
     Takes,

@@ -1,7 +1,7 @@
 //! The table of the variables that a configuration sets: one for a main request and all its subrequests.
 #![tactic(auto)]
 
-mod held;
+mod stored;
 mod table;
 
 pub use table::{Setting, VarTable};

@@ -1,9 +1,9 @@
 // The table of the variables that a configuration sets.
 ghost use Rattle.std.specs.Prelude.{◌≡◌, ℕ, ◌+◌, ◌-◌, ◌<◌, ◌≤◌, List, [], ◌∷◌, length, take, IfOk, OnOk, OnErr, option_map, position, bytes_eq};
 ghost use Rattle.acts.specs.Vars.{look, set};
-ghost use Rattle.variable_table.specs.Held.{held_bytes};
+ghost use Rattle.variable_table.specs.Stored.{stored_bytes};
 
-use crate::held::Held;
+use crate::stored::Stored;
 use byte_text::OutOfMemory;
 use std::alloc::Global;
 use std::marker::Model;
@@ -11,25 +11,25 @@ use std::marker::Model;
 /// A variable that was set, with its value. Contracts see the two.
 #[derive(Drop)]
 pub struct Setting {
-    name: Held,
-    value: Held,
+    name: Stored,
+    value: Stored,
 }
 
 impl Model for Setting {
     ghost use Rattle.std.specs.Prelude.{ℕ, List};
-    ghost use Rattle.variable_table.specs.Held.{held_bytes};
+    ghost use Rattle.variable_table.specs.Stored.{stored_bytes};
 
     ghost Value = { List ℕ × List ℕ };
 
-    ghost view = { λ s. (held_bytes s.name, held_bytes s.value) };
+    ghost view = { λ s. (stored_bytes s.name, stored_bytes s.value) };
 }
 
 impl Setting {
     fn new(alloc: Global, name: &[u8], value: &[u8]) -> Result<Setting, OutOfMemory>
         ensures { IfOk result (λ setting. setting ≡ (name.now, value.now)) }
     {
-        let name = Held::new(alloc, name)?;
-        let value = Held::new(alloc, value)?;
+        let name = Stored::new(alloc, name)?;
+        let value = Stored::new(alloc, value)?;
         Ok(Setting { name, value })
     }
 
@@ -46,8 +46,8 @@ impl Setting {
     }
 
     /// Gives the variable another value.
-    fn put(&mut self, value: Held)
-        ensures { self.new ≡ (self.old.0, held_bytes value) }
+    fn put(&mut self, value: Stored)
+        ensures { self.new ≡ (self.old.0, stored_bytes value) }
     {
         self.value = value;
     }
@@ -62,7 +62,7 @@ const FIRST_VARIABLES: usize = 8;
 /// Names are bytes in lower case. A name that is set again takes its new value in its old place, so the table is never
 /// longer than the number of names.
 ///
-/// Short names and values are held in the entries, so that one call of the allocator serves most tables.
+/// Short names and values are stored in the entries, so that one call of the allocator serves most tables.
 #[derive(Drop)]
 pub struct VarTable {
     alloc: Global,
@@ -95,7 +95,7 @@ impl VarTable {
     {
         match position_of(self.settings.as_slice(), name) {
             Some(at) => {
-                let value = Held::new(self.alloc, value)?;
+                let value = Stored::new(self.alloc, value)?;
                 self.settings[at].put(value);
             }
             None => {

@@ -5,13 +5,13 @@ use Rattle.page_body.specs.Stages.{split_stage}
 use Rattle.page_body.proofs.Chains.{block_splits}
 use Rattle.page_body.proofs.parts.block_parts.Goals as goal
 
-pub returns-then-is_split-clause-held : goal.returns-then-is_split-clause-held
-returns-then-is_split-clause-held c = λ facts.
+pub returns-then-is_split-clause-undecided : goal.returns-then-is_split-clause-undecided
+returns-then-is_split-clause-undecided c = λ facts.
     let block = c.args.block.now in
     let on = c.args.is_split in
     let some_test : eqb (length block) 0 ≡ false = sym c.is_empty.ensures ∙ c.if-is_empty.false in
     let some : 0 < length block = grind (arith, nat_tests) in
-    ap (λ held. split_stage on held) c.in_ok-feed.ensures.held
+    ap (λ undecided. split_stage on undecided) c.in_ok-feed.ensures.undecided
     ∙ sym (ap (λ r. r.0) (block_splits facts on c.args.split.now block c.if-is_split.true some))
 
 pub returns-then-is_split-clause-out : goal.returns-then-is_split-clause-out

@@ -12,10 +12,10 @@ pub returns-clause-tied : goal.returns-clause-tied
 returns-clause-tied c =
     let at : c.args.at < length c.args.parts.now.items = omega (arith, c.requires.within, c.args.parts.now.ok.0) in
     shows-tied _ _ _ (shows-close c.args.id _ c.args.parts.now.items c.args.nodes.now.items c.args.at c.index_mut-part.result.now c.index_mut-node.result.now c.end.new.self
-    c.requires.tied at c.requires.place c.index_mut-part.ensures.value c.index_mut-node.ensures.value c.end.ensures.held c.end.ensures.goes_on)
+    c.requires.tied at c.requires.place c.index_mut-part.ensures.value c.index_mut-node.ensures.value c.end.ensures.waiting c.end.ensures.goes_on)
 
 pub returns-clause-pieces : goal.returns-clause-pieces
 returns-clause-pieces c =
     let at : c.args.at < length c.args.parts.now.items = omega (arith, c.requires.within, c.args.parts.now.ok.0) in
     shows-pieces _ _ _ (shows-close c.args.id _ c.args.parts.now.items c.args.nodes.now.items c.args.at c.index_mut-part.result.now c.index_mut-node.result.now c.end.new.self
-    c.requires.tied at c.requires.place c.index_mut-part.ensures.value c.index_mut-node.ensures.value c.end.ensures.held c.end.ensures.goes_on)
+    c.requires.tied at c.requires.place c.index_mut-part.ensures.value c.index_mut-node.ensures.value c.end.ensures.waiting c.end.ensures.goes_on)

@@ -11,7 +11,7 @@ bounds-nodes-part c =
 pub slice_bounds-result-end : goal.slice_bounds-result-end
 slice_bounds-result-end c =
     let some : 0 < length c.args.parts.now.items = omega (arith, c.in-Some.ensures.variant.0 refl, c.args.parts.now.ok.0) in
-    let fits : c.in-Some.part.now.len ≤ length c.index-nodes-part.result.held = front-part _ c.args.parts.now.items c.args.nodes.now c.in-Some.part.now c.index-nodes-part.result c.requires some c.in-Some.ensures.lookup c.index-nodes-part.is in
+    let fits : c.in-Some.part.now.len ≤ length c.index-nodes-part.result.waiting = front-part _ c.args.parts.now.items c.args.nodes.now c.in-Some.part.now c.index-nodes-part.result c.requires some c.in-Some.ensures.lookup c.index-nodes-part.is in
     omega (arith, length-take c.in-Some.part.now.len c.front-in-Some.result.now, ap length c.front-in-Some.ensures, fits)
 
 pub returns-in-Some : goal.returns-in-Some

@@ -21,12 +21,12 @@ used-requires c =
 pub returns-then-len-gt0-clause-tied : goal.returns-then-len-gt0-clause-tied
 returns-then-len-gt0-clause-tied c =
     let some : 0 < length c.args.parts.now.items = omega (arith, c.args.parts.now.ok.0) in
-    shows-tied _ _ _ (shows-used _ c.args.parts.now.items c.args.nodes.now.items c.index_mut-part.result.now c.index_mut-node.result.now c.used.new.self c.args.count c.requires.tied some c.index_mut-part.ensures.value c.index_mut-node.ensures.value c.requires.within c.used.ensures.held c.used.ensures.goes_on)
+    shows-tied _ _ _ (shows-used _ c.args.parts.now.items c.args.nodes.now.items c.index_mut-part.result.now c.index_mut-node.result.now c.used.new.self c.args.count c.requires.tied some c.index_mut-part.ensures.value c.index_mut-node.ensures.value c.requires.within c.used.ensures.waiting c.used.ensures.goes_on)
 
 pub returns-then-len-gt0-clause-pieces : goal.returns-then-len-gt0-clause-pieces
 returns-then-len-gt0-clause-pieces c =
     let some : 0 < length c.args.parts.now.items = omega (arith, c.args.parts.now.ok.0) in
-    shows-pieces _ _ _ (shows-used _ c.args.parts.now.items c.args.nodes.now.items c.index_mut-part.result.now c.index_mut-node.result.now c.used.new.self c.args.count c.requires.tied some c.index_mut-part.ensures.value c.index_mut-node.ensures.value c.requires.within c.used.ensures.held c.used.ensures.goes_on)
+    shows-pieces _ _ _ (shows-used _ c.args.parts.now.items c.args.nodes.now.items c.index_mut-part.result.now c.index_mut-node.result.now c.used.new.self c.args.count c.requires.tied some c.index_mut-part.ensures.value c.index_mut-node.ensures.value c.requires.within c.used.ensures.waiting c.used.ensures.goes_on)
 
 pub returns-else-len-gt0-clause-pieces : goal.returns-else-len-gt0-clause-pieces
 returns-else-len-gt0-clause-pieces c = shorter-none c.args.count _ c.args.parts.now.items c.args.nodes.now.items c.requires.tied (omega (arith, c.args.parts.now.ok.0))

@@ -2,9 +2,9 @@ use Rattle.std.proofs.Common.{◌++◌, List, ℕ, ap, sym, ◌∙◌}
 use Rattle.resp_head.proofs.ValueLemmas.{value_text_same, value_more, value_done}
 use Rattle.resp_head.proofs.values.put_value.Goals as goal
 
-pub returns-then-are_value_bytes : goal.returns-then-are_value_bytes
-returns-then-are_value_bytes c =
-    c.in_ok-extend.ensures.ok ∙ ap (λ (v : List ℕ). c.args.out.now ++ v) (sym (value_text_same c.args.bytes.now (sym c.are_value_bytes.ensures ∙ c.if-are_value_bytes.true)))
+pub returns-then-are_printable : goal.returns-then-are_printable
+returns-then-are_printable c =
+    c.in_ok-extend.ensures.ok ∙ ap (λ (v : List ℕ). c.args.out.now ++ v) (sym (value_text_same c.args.bytes.now (sym c.are_printable.ensures ∙ c.if-are_printable.true)))
 
 pub loop-byte-preserved : goal.loop-byte-preserved
 loop-byte-preserved c =

@@ -11,8 +11,8 @@ returns-then-at-bytes-clause-out c =
     = moved-on _ _ _ bs _ c.loop-at.at c.in_ok-at.field-0 (c.loop-at.at + c.in_ok-at.field-0) refl c.rest_of.ensures c.loop-at.invariant.1 c.in_ok-at.ensures.moved in
     (moved-end _ _ bs _ p (split-past bs (c.loop-at.at + c.in_ok-at.field-0) (omega arith))).0
 
-pub returns-then-at-bytes-clause-held : goal.returns-then-at-bytes-clause-held
-returns-then-at-bytes-clause-held c =
+pub returns-then-at-bytes-clause-undecided : goal.returns-then-at-bytes-clause-undecided
+returns-then-at-bytes-clause-undecided c =
     let bs = c.args.bytes.now in
     let p : Moved (marks c.args.out.now.items) (marks c.take_text.new.out.items) bs (drop (c.loop-at.at + c.in_ok-at.field-0) bs)
     = moved-on _ _ _ bs _ c.loop-at.at c.in_ok-at.field-0 (c.loop-at.at + c.in_ok-at.field-0) refl c.rest_of.ensures c.loop-at.invariant.1 c.in_ok-at.ensures.moved in
@@ -21,5 +21,5 @@ returns-then-at-bytes-clause-held c =
 pub returns-clause-out : goal.returns-clause-out
 returns-clause-out c = (moved-end _ _ c.args.bytes.now _ c.loop-at.invariant.1 (split-past c.args.bytes.now c.loop-at.at (omega arith))).0
 
-pub returns-clause-held : goal.returns-clause-held
-returns-clause-held c = (moved-end _ _ c.args.bytes.now _ c.loop-at.invariant.1 (split-past c.args.bytes.now c.loop-at.at (omega arith))).1
+pub returns-clause-undecided : goal.returns-clause-undecided
+returns-clause-undecided c = (moved-end _ _ c.args.bytes.now _ c.loop-at.invariant.1 (split-past c.args.bytes.now c.loop-at.at (omega arith))).1

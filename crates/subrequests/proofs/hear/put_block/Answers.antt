@@ -8,4 +8,4 @@ pub returns-clause-file : goal.returns-clause-file
 returns-clause-file c = λ trees from.
     let n = c.args.node.now in
     ap (λ start. c.args.bytes.now ++ drop start (text_of (item_asked trees n.ask))) c.in-Some.ensures
-    ∙ hearing.block_held trees n.ask n.start c.args.bytes (sym c.reads_from.ensures ∙ c.if-not-reads_from.false) from
+    ∙ hearing.block_withheld trees n.ask n.start c.args.bytes (sym c.reads_from.ensures ∙ c.if-not-reads_from.false) from

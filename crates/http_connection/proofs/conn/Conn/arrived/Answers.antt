@@ -5,7 +5,7 @@ use Rattle.ngx_outside.specs.Views.{Went}
 use Rattle.ngx_outside.specs.Views.Ground.{Always}
 use Rattle.ngx_outside.specs.declared.event.StopCause.TheVariants as stop
 use Rattle.http_connection.specs.Conn.{view_at}
-use Rattle.http_connection.proofs.Kept.{held_few, held_drained, none_fits, none_held}
+use Rattle.http_connection.proofs.Kept.{buffered_few, buffered_drained, none_fits, none_buffered}
 use Rattle.http_connection.proofs.Moves.{room_some, arrived_went, arrived_left, some_taken, refused, stopped_left}
 use Rattle.http_connection.proofs.Timed.{went_until, refused_until}
 use Rattle.http_connection.proofs.conn.Conn.arrived.Goals as goal
@@ -22,9 +22,9 @@ returns-in-Ok-clause-steps c = λ site now conn.
     let first = c.first_bytes-bytes.result.now in
     let kept : List ℕ = drop d.used first in
     let has = sym c.room.ensures ∙ c.in-Some.is in
-    let r = room_some (is_some s.cause) s.closing s.ended s.held c.in-Some.room has in
+    let r = room_some (is_some s.cause) s.closing s.ended s.buffered c.in-Some.room has in
     let some : (length c.args.bytes.now == 0) ≡ false = sym c.is_empty.ensures ∙ c.if-is_empty.false in
-    let held : n.held ≡ s.held ++ kept = c.in-Ok.ensures.held ∙ ap (λ x. s.held ++ x) c.last_bytes.ensures in
+    let buffered : n.buffered ≡ s.buffered ++ kept = c.in-Ok.ensures.buffered ∙ ap (λ x. s.buffered ++ x) c.last_bytes.ensures in
     let drops = c.drop_rest-dropped.ensures.drops in
     let few : length kept ≤ c.min-taken.result =
     let a = drops.shorter in
@@ -34,11 +34,11 @@ returns-in-Ok-clause-steps c = λ site now conn.
     record {
       own = λ tells led course. (
         record { most = c.in-Some.room; has_room = has; takes = c.min-taken.ensures; some = some_taken (length c.args.bytes.now) c.in-Some.room c.min-taken.result c.min-taken.ensures some r.3 },
-        went_until _ _ Always _ _ _ [] [] (subst (λ b. Went Always (view_at site service s.cause s.flight s.out s.journal.items s.closing s.ended s.body s.held s.next) (view_at site service s.cause s.flight s.out s.journal.items d.broken s.ended d.body n.held n.next) b [] []) c.first_bytes-bytes.ensures
-            (arrived_went site service s.cause s.flight s.out s.journal.items s.closing d.broken s.ended s.body d.body s.held n.held kept s.next n.next first r.0 r.1 s.drained c.drop_rest-dropped.ensures.none drops held (s.logged r.0))),
+        went_until _ _ Always _ _ _ [] [] (subst (λ b. Went Always (view_at site service s.cause s.flight s.out s.journal.items s.closing s.ended s.body s.buffered s.next) (view_at site service s.cause s.flight s.out s.journal.items d.broken s.ended d.body n.buffered n.next) b [] []) c.first_bytes-bytes.ensures
+            (arrived_went site service s.cause s.flight s.out s.journal.items s.closing d.broken s.ended s.body d.body s.buffered n.buffered kept s.next n.next first r.0 r.1 s.drained c.drop_rest-dropped.ensures.none drops buffered (s.logged r.0))),
       );
       reached = λ led. led;
-      left = arrived_left s.cause s.flight s.out s.closing d.broken s.held n.held kept c.args.bytes.now c.min-taken.result r.1 held few;
+      left = arrived_left s.cause s.flight s.out s.closing d.broken s.buffered n.buffered kept c.args.bytes.now c.min-taken.result r.1 buffered few;
       ended = refl;
       taken = tt;
       asked = inl (omega arith);
@@ -50,11 +50,11 @@ returns-in-Err-clause-steps c = λ site now conn.
     let service = service_in site s.local s.peer in
     let n = c.take_in.new in
     let has = sym c.room.ensures ∙ c.in-Some.is in
-    let r = room_some (is_some s.cause) s.closing s.ended s.held c.in-Some.room has in
+    let r = room_some (is_some s.cause) s.closing s.ended s.buffered c.in-Some.room has in
     record {
-      own = λ tells led course. refused_until _ _ now _ _ (refused site now service s.cause s.flight c.put.new.slot s.out c.clear.new.self s.journal.items s.journal.items s.closing s.closing s.ended s.ended s.body None s.held c.clear-in-Err.new.self s.next n.next r.0 c.put.ensures c.clear.ensures refl);
+      own = λ tells led course. refused_until _ _ now _ _ (refused site now service s.cause s.flight c.put.new.slot s.out c.clear.new.self s.journal.items s.journal.items s.closing s.closing s.ended s.ended s.body None s.buffered c.clear-in-Err.new.self s.next n.next r.0 c.put.ensures c.clear.ensures refl);
       reached = λ led. ∣ subst (ReachedIn site) (sym c.put.ensures) tt ∣₁;
-      left = stopped_left stop.Memory s.cause s.flight c.put.new.slot s.out c.clear.new.self s.closing s.closing s.held c.clear-in-Err.new.self r.0;
+      left = stopped_left stop.Memory s.cause s.flight c.put.new.slot s.out c.clear.new.self s.closing s.closing s.buffered c.clear-in-Err.new.self r.0;
       ended = refl;
       taken = tt;
       asked = inl (let e = ap flight_tree c.put.ensures in omega (arith, e));
@@ -68,7 +68,7 @@ invariant_of-self c =
     let first = c.first_bytes-bytes.result.now in
     let kept : List ℕ = drop d.used first in
     let has = sym c.room.ensures ∙ c.in-Some.is in
-    let held : n.held ≡ s.held ++ kept = c.in-Ok.ensures.held ∙ ap (λ x. s.held ++ x) c.last_bytes.ensures in
+    let buffered : n.buffered ≡ s.buffered ++ kept = c.in-Ok.ensures.buffered ∙ ap (λ x. s.buffered ++ x) c.last_bytes.ensures in
     let drops = c.drop_rest-dropped.ensures.drops in
     let few : length kept ≤ c.min-taken.result =
     let a = drops.shorter in
@@ -81,8 +81,8 @@ invariant_of-self c =
       dropped = s.dropped;
       quit = s.quit;
       flying = s.flying;
-      few = held_few (is_some s.cause) s.closing s.ended s.held n.held kept c.in-Some.room c.min-taken.result has held few within;
-      drained = held_drained s.body d.body s.held n.held first kept d.broken s.drained c.drop_rest-dropped.ensures.none drops.drained held;
+      few = buffered_few (is_some s.cause) s.closing s.ended s.buffered n.buffered kept c.in-Some.room c.min-taken.result has buffered few within;
+      drained = buffered_drained s.body d.body s.buffered n.buffered first kept d.broken s.drained c.drop_rest-dropped.ensures.none drops.drained buffered;
       unended = drops.unended;
       logged = s.logged;
       brief = s.brief;
@@ -94,7 +94,7 @@ invariant_of-self-in-Err c = record {
   dropped = λ h. c.clear.ensures;
   quit = λ h. c.put.ensures;
   flying = none_fits c.put.new.slot c.clear.new.self c.put.ensures c.clear.ensures;
-  few = none_held c.clear-in-Err.new.self c.clear-in-Err.ensures;
+  few = none_buffered c.clear-in-Err.new.self c.clear-in-Err.ensures;
   drained = λ h. cc;
   unended = λ h. cc;
   logged = λ h. cc;

@@ -22,6 +22,6 @@ returns-clause-begins c = λ scene w answer bytes of members.
     ap (λ m. begun m answer.request answer.values scene.left c.args.ssi) of.main
     ∙ (ap (λ r. begun scene.main.now r answer.values scene.left c.args.ssi) of.request
     ∙ (ap (λ v. begun scene.main.now scene.request.now v scene.left c.args.ssi) of.values ∙ sym (c.new.ensures scene))) in
-    subst (λ held. filtered_rest w scene.left c.args.ssi answer facts bytes
-    ≡ Write [] (document_rest w answer doc (marks (reverse items)) (machines w facts) (split_stage (is_split facts) held ∷ added_stage (is_added facts) ∷ []) bytes)) (sym c.new-2.ensures)
+    subst (λ undecided. filtered_rest w scene.left c.args.ssi answer facts bytes
+    ≡ Write [] (document_rest w answer doc (marks (reverse items)) (machines w facts) (split_stage (is_split facts) undecided ∷ added_stage (is_added facts) ∷ []) bytes)) (sym c.new-2.ensures)
     (page_begins w answer doc facts scene.left c.args.ssi items bytes members same (c.in_ok-parts.ensures ∙ ap ahead c.is_added.ensures))

@@ -20,8 +20,8 @@ returns-clause-steps c = λ ps g.
     let at = c.args.at in
     let old = c.node_mut-node.result.now in
     let new = c.places.new.node in
-    let some = take c.places.result.count (hand_at old.stage) in
-    let is = c.places.ensures in
+    let some = take c.in_ok-places.field-0.count (hand_at old.stage) in
+    let is = c.in_ok-places.ensures in
     let there = wholes.here_is is_placing nodes at old c.requires.there c.node_mut-node.ensures.value in
     let goes_on = wholes.open_is is_placing f.order nodes at c.requires.whole c.requires.there in
     wholes.both_ways c.shows_the_same.ensures ps g f _ 0 (wholes.as_many nodes at new)
@@ -35,9 +35,9 @@ returns-clause-whole c =
     let f = c.args.self.now in
     members.set_sound f.order c.places.new.order f.nodes c.args.at c.node_mut-node.result.now c.places.new.node
     (wholes.here_is is_placing f.nodes c.args.at c.node_mut-node.result.now c.requires.there c.node_mut-node.ensures.value) c.requires.whole
-    (members.appended_well f.order c.places.new.order c.args.at (take c.places.result.count (hand_at c.node_mut-node.result.now.stage)) c.requires.whole.well c.places.ensures.row)
-    (ap (λ (r : Row). r.nodes) c.places.ensures.row)
-    c.places.ensures.opened c.places.ensures.node.over (ap is_captured c.places.ensures.place)
+    (members.appended_well f.order c.places.new.order c.args.at (take c.in_ok-places.field-0.count (hand_at c.node_mut-node.result.now.stage)) c.requires.whole.well c.in_ok-places.ensures.row)
+    (ap (λ (r : Row). r.nodes) c.in_ok-places.ensures.row)
+    c.in_ok-places.ensures.opened c.in_ok-places.ensures.node.over (ap is_captured c.in_ok-places.ensures.place)
 
 pub returns-clause-rests : goal.returns-clause-rests
 returns-clause-rests c =

@@ -1,7 +1,7 @@
 use Rattle.request_meaning.specs.Laws.{shipped}
 use Rattle.request_phases.specs.Rounds.{world_in}
 use Rattle.node_turn.specs.Stages.{is_ending}
-use Rattle.subrequests.proofs.Returning as returning
+use Rattle.subrequests.proofs.Returns as returning
 use Rattle.subrequests.proofs.Wholes as wholes
 use Rattle.subrequests.proofs.family.Family.return_at.Goals as goal
 

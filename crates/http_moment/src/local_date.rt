@@ -2,8 +2,8 @@
 ghost use Rattle.std.specs.Prelude.{◌≡◌, ◌++◌, OnOk};
 ghost use Rattle.http_moment.specs.Shown.{shown_text, default_format};
 
+use crate::format::{DEFAULT_FORMAT, shown};
 use byte_text::{ByteText, OutOfMemory};
-use http_moment::{DEFAULT_FORMAT, shown};
 use std::marker::Model;
 
 /// The date of a moment. A contract sees it as the moment's text of the default format, which is made only for who asks for it.
@@ -33,7 +33,7 @@ impl LocalDate {
     }
 
     /// Appends the text to `out`. After want of memory `out` has some part of it.
-    #[tactic(auto, unfolding(http_moment::specs::Shown::default_format))]
+    #[tactic(auto, unfolding(crate::specs::Shown::default_format))]
     pub fn append_to(&self, out: &mut ByteText) -> Result<(), OutOfMemory>
         ensures { OnOk result (out.new ≡ out.old ++ self.now) }
     {

@@ -2,7 +2,7 @@ use Rattle.std.proofs.Common.{◌≡◌, [], ◌∷◌, ◌∙◌}
 use Rattle.ngx_variables.specs.declared.eval.FilePaths.{FilePaths}
 use Rattle.ngx_variables.specs.Texts.{piece_text, place_paths, value_text}
 use Rattle.ngx_variables.proofs.Alone.{lone_text, some_as}
-use Rattle.ngx_variables.proofs.value.Piece.held.Goals as goal
+use Rattle.ngx_variables.proofs.value.Piece.borrowed.Goals as goal
 
 pub returns : goal.returns
 returns c =
@@ -10,7 +10,7 @@ returns c =
     let request = c.args.request.now in
     let vars = c.args.vars.now in
     let piece = c.args.self.now in
-    some_as c.held_piece.result
+    some_as c.borrowed_piece.result
     (λ text. (paths : FilePaths) → text.now ≡ piece_text paths main request vars piece)
     (λ text. text.now ≡ value_text main request vars (piece ∷ []))
-    (λ text h. h (place_paths main request vars request.place) ∙ lone_text main request vars piece) c.held_piece.ensures
+    (λ text h. h (place_paths main request vars request.place) ∙ lone_text main request vars piece) c.borrowed_piece.ensures

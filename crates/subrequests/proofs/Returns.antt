@@ -1,5 +1,5 @@
 -- A node is over for whose body its parent waits.
-use Rattle.std.proofs.Common.{◌≡◌, ◌≢◌, ℕ, suc, ◌+◌, ◌==◌, ◌&&◌, ◌||◌, is_none, Bool, not, true, false, cond, List, [], ◌++◌, get_or, length, set, slice_get, None, Some, refl, sym, ap, ◌∙◌, subst, zero, take, ◌≤◌, ◌∷◌, arith, nat_le, Option}
+use Rattle.std.proofs.Common.{◌≡◌, ◌≢◌, ℕ, suc, ◌+◌, ◌==◌, ◌&&◌, ◌||◌, is_none, Bool, not, true, false, cond, List, [], ◌++◌, get_or, length, set, slice_get, None, Some, refl, sym, ap, ◌∙◌, subst, zero, take, ◌≤◌, ◌∷◌, arith, nat_le}
 use Rattle.std.proofs.lemmas.Bool.Decides.{nat_tests}
 use Rattle.acts.specs.Vars.{Vars}
 use Rattle.acts.specs.Act.{Done}
@@ -13,7 +13,7 @@ use Rattle.request_meaning.specs.Replies.{or_stub}
 use Rattle.family_order.specs.Items.{IsWell}
 use Rattle.family_order.specs.Items.{IsWellRow}
 use Rattle.family_order.specs.Laws.{ShowsTheSame}
-use Rattle.node_turn.specs.Stages.{held_more, is_ending, is_in_row, node_act, node_heard}
+use Rattle.node_turn.specs.Stages.{withheld_more, is_ending, is_in_row, node_act, node_heard}
 use Rattle.node_turn.specs.Nodes.{answer_seen, asked_path, lent, stage_act}
 use Rattle.node_turn.specs.declared.node.Node.{Node}
 use Rattle.node_turn.specs.declared.node.Stage.{Stage}
@@ -22,14 +22,14 @@ use Rattle.node_turn.specs.declared.node.Place.{Place}
 use Rattle.node_turn.specs.declared.node.Place.TheVariants.{Row as InRow, Stub, Captured}
 use Rattle.node_line.specs.Stances.{Opening}
 use Rattle.node_line.specs.Stubs.{IsKept}
-use Rattle.node_seats.specs.Seats.{doing_by, held_text, is_captured, is_heard, is_seated, most_levels, seen, stub_in}
+use Rattle.node_seats.specs.Seats.{doing_by, withheld_text, is_captured, is_heard, is_seated, most_levels, seen, stub_in}
 use Rattle.node_seats.proofs.Included.{Waits_too}
 use Rattle.node_seats.proofs.Located.{Located, StandsAs, above_is, locate}
 use Rattle.node_seats.proofs.Others.{SameOrMore, is_its}
 use Rattle.node_seats.proofs.Others.SameOrMore.{Same, Its}
 use Rattle.node_seats.proofs.Returned as returned
 use Rattle.subrequests.specs.Families.{HasReply, IsSound, IsTaken, end_status, goes_on_at, texts_of}
-use Rattle.subrequests.specs.Families.HasReply.{Hears, Holds}
+use Rattle.subrequests.specs.Families.HasReply.{Hears, Withholds}
 use Rattle.subrequests.specs.Moved.{SameTexts, is_at}
 use Rattle.subrequests.proofs.Members as members
 use Rattle.subrequests.proofs.Sets.{get_set_other, get_set_same, length_set}
@@ -103,8 +103,8 @@ pub record AsReplied (p p' : Node) : Type 0 where
 
 pub as_replied : (text : List ℕ) (p p' : Node) → HasReply text p p' → AsReplied p p'
 as_replied text p p' (Hears capturing same place file acts) = record { left = same.left; over = same.over; asks = same.asks; captured = ap is_captured (sym place); parent = sym same.parent; file = file }
-as_replied text p p' (Holds free apart is) =
-    let place : p'.place ≡ held_more text p.place = ap (λ (n : Node). n.place) is in
+as_replied text p p' (Withholds free apart is) =
+    let place : p'.place ≡ withheld_more text p.place = ap (λ (n : Node). n.place) is in
     let like = members.holds_as p p' text (ap (λ (n : Node). n.parent) is) place in
     record {
       left = ap (λ (n : Node). n.left) is;
@@ -118,7 +118,7 @@ as_replied text p p' (Holds free apart is) =
 -- and is where it was
 pub stands_so : (text : List ℕ) (p p' : Node) → HasReply text p p' → StandsAs p' p
 stands_so text p p' (Hears capturing same place file acts) = members.stands_as p' p (sym same.parent) (sym place)
-stands_so text p p' (Holds free apart is) =
+stands_so text p p' (Withholds free apart is) =
     let like = members.holds_as p p' text (ap (λ (n : Node). n.parent) is) (ap (λ (n : Node). n.place) is) in
     record { parent = sym like.parent; captured = sym like.captured; stub = sym like.stub; row = sym like.row }
 
@@ -245,13 +245,13 @@ module _ (row : Row) (nodes : List Node) (at : ℕ) (old gone p p' : Node) (text
 
     -- what comes to its parent
     abbrev chosen : Answer → List ℕ
-    chosen answer = or_stub (stub_in old.place) answer.status (held_text old.place)
+    chosen answer = or_stub (stub_in old.place) answer.status (withheld_text old.place)
 
     chosen_is : (texts : ℕ → List ℕ) (answer : Answer) → node_act w patterns site main old (texts at) ≡ Done answer → text ≡ chosen answer
     chosen_is texts answer done =
         r.taken.chosen
         ∙ ap (λ n. or_stub r.taken.stub n r.taken.body) (end_is w patterns site main old (texts at) answer r.ending done)
-        ∙ ap (λ q. or_stub (stub_in q) answer.status (held_text q)) (sym r.taken.place)
+        ∙ ap (λ q. or_stub (stub_in q) answer.status (withheld_text q)) (sym r.taken.place)
 
     pub opening : HasReply text p p' → (texts : ℕ → List ℕ) (row' : Row) → row' ≡ ended at row → ((j : ℕ) → is_open j row'.pieces ≡ cond (j == at) false (is_open j row.pieces)) →
         Opening w tree 0 (seen w patterns site main row nodes texts) vars (seen w patterns site main row' nodes_then texts) vars
@@ -292,10 +292,10 @@ module _ (row : Row) (nodes : List Node) (at : ℕ) (old gone p p' : Node) (text
             locate most_levels (doing_by w patterns site main texts) (set (set nodes at gone) old.parent p') 49 2 old.parent p' (get_set_same (set nodes at gone) old.parent p' p parent_then)
             (r.reply.over ∙ members.not_over row nodes old.parent p r.parent sound r.goes_on) size heard_so apart
 
-        more_held : (place : Place) → is_in_row place ≡ false → held_text (held_more text place) ≡ held_text place ++ text
-        more_held InRow e = cc
-        more_held (Stub stub t) e = refl
-        more_held (Captured stub t) e = refl
+        more_withheld : (place : Place) → is_in_row place ≡ false → withheld_text (withheld_more text place) ≡ withheld_text place ++ text
+        more_withheld InRow e = cc
+        more_withheld (Stub stub t) e = refl
+        more_withheld (Captured stub t) e = refl
 
         by : (answer : Answer) → node_act w patterns site main old (texts at) ≡ Done answer → ((j : ℕ) → is_open j (ended at row).pieces ≡ cond (j == at) false (is_open j row.pieces)) →
             IsSound row' (set (set nodes at gone) old.parent p') → (b : Bool) → is_in_row p.place ≡ b → HasReply text p p' → Goal
@@ -308,14 +308,14 @@ module _ (row : Row) (nodes : List Node) (at : ℕ) (old gone p p' : Node) (text
             let q = located (sym like.row ∙ e) in
             let part = parts sound' q.h q.host q.there q.goes_on in
             returned.told laws w patterns site main row nodes (set (set nodes at gone) old.parent p') texts old.parent at p p' old (waits texts) like 49 heard_so tree vars r.is_open_too well closed' answer done same.left
-            q part.0 part.1 capturing (ap held_text place)
+            q part.0 part.1 capturing (ap withheld_text place)
             (acts w patterns site main (texts old.parent) ∙ ap (node_heard w patterns site main p (texts old.parent)) (chosen_is texts answer done))
-        by answer done closed' sound' b e (Holds free apart is) =
+        by answer done closed' sound' b e (Withholds free apart is) =
             let q = located (sym like.row ∙ apart) in
             let part = parts sound' q.h q.host q.there q.goes_on in
             returned.leaves laws w patterns site main row nodes (set (set nodes at gone) old.parent p') texts old.parent at p p' old (waits texts) like 49 heard_so tree vars r.is_open_too well closed' answer done (ap (λ (n : Node). n.left) is)
             q part.0 part.1 free
-            (ap (λ (n : Node). held_text n.place) is ∙ more_held p.place apart ∙ ap (λ t. held_text p.place ++ t) (chosen_is texts answer done))
+            (ap (λ (n : Node). withheld_text n.place) is ∙ more_withheld p.place apart ∙ ap (λ t. withheld_text p.place ++ t) (chosen_is texts answer done))
             (ap (λ (n : Node). node_act w patterns site main n (texts old.parent)) is)
 
     -- the parent has a stub, and is shown from now on

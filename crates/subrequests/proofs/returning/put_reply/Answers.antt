@@ -2,7 +2,7 @@ use Rattle.std.proofs.Common.{refl, sym, ap, ◌∙◌}
 use Rattle.node_turn.specs.Nodes.{asked_path, lent, stage_act, stage_heard}
 use Rattle.node_turn.specs.Stages.{is_capturing}
 use Rattle.subrequests.specs.Families.HasReply.{Hears}
-use Rattle.subrequests.proofs.family.put_reply.Goals as goal
+use Rattle.subrequests.proofs.returning.put_reply.Goals as goal
 
 pub returns-in-Captures : goal.returns-in-Captures
 returns-in-Captures c =

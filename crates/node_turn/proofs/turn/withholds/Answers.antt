@@ -8,7 +8,7 @@ use Rattle.node_turn.specs.declared.node.Node.{Node}
 use Rattle.node_turn.specs.declared.node.Source.{Source}
 use Rattle.node_turn.specs.declared.node.Stage.{Stage}
 use Rattle.node_turn.proofs.Placing as placing
-use Rattle.node_turn.proofs.turn.holds.Goals as goal
+use Rattle.node_turn.proofs.turn.withholds.Goals as goal
 
 pub returns-clause-acts : goal.returns-clause-acts
 returns-clause-acts c = λ w patterns site main text.
