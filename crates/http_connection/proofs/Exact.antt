@@ -83,22 +83,22 @@ module _ (serves : Serves) where
   more_left service (b ∷ out) journal closing body buffered next trees start later looked told w none e = cc
   more_left service [] journal closing body buffered next trees start later looked told w none e = more_logged service journal closing body buffered next trees start later looked told w e
 
-  pub exact : (service : Service) (cause : Option StopCause) (flow : Option Flight) (out : List ℕ) (journal : List Entry) (closing ended : Bool) (body : Option BodyState) (buffered : List ℕ) (next : HeadStep) →
-      (is_some cause ≡ false → next ≡ head_step buffered) → FlightFits flow (length out) → (is_some cause ≡ false → IsLogged (is_some flow) journal) → IsExact (view_at serves service cause flow out journal closing ended body buffered next)
-  exact service (Some why) flow out journal closing ended body buffered next looked fits told = record {
+  pub exact : (service : Service) (cause : Option StopCause) (flow : Option Flight) (out : List ℕ) (tail : ℕ) (journal : List Entry) (closing ended : Bool) (body : Option BodyState) (buffered : List ℕ) (next : HeadStep) →
+      (is_some cause ≡ false → next ≡ head_step buffered) → FlightFits flow (length out) → (is_some cause ≡ false → IsLogged (is_some flow) journal) → IsExact (view_at serves service cause flow out tail journal closing ended body buffered next)
+  exact service (Some why) flow out tail journal closing ended body buffered next looked fits told = record {
     rests = λ l s. cc;
     ends = λ i e. refl;
     busy = λ l b trees start later none logs. cc;
   }
-  exact service None None out journal closing ended body buffered next looked fits told =
-      let shown : idle_at false None closing out body next ≡ is_idle (view_at serves service None None out journal closing ended body buffered next) = idle_shown serves service None None out journal closing ended body buffered next fits in
+  exact service None None out tail journal closing ended body buffered next looked fits told =
+      let shown : idle_at false None closing out body next ≡ is_idle (view_at serves service None None out tail journal closing ended body buffered next) = idle_shown serves service None None out tail journal closing ended body buffered next fits in
       record {
         rests = λ l s. let i = shut_parts out closing ended body next s in sym shown ∙ both (no_bytes out) (closing || not (starts body next)) i.unsent i.waits;
         ends = λ i e. closed_by closing ended (idle_at false None closing out body next) (shown ∙ i) e;
         busy = λ l b trees start later none logs. more_left service out journal closing body buffered next trees start later (looked refl) (told refl) (shown ∙ b) none logs;
       }
-  exact service None (Some flow) out journal closing ended body buffered next looked fits told =
-      let shown : idle_at false (Some flow) closing out body next ≡ is_idle (view_at serves service None (Some flow) out journal closing ended body buffered next) = idle_shown serves service None (Some flow) out journal closing ended body buffered next fits in
+  exact service None (Some flow) out tail journal closing ended body buffered next looked fits told =
+      let shown : idle_at false (Some flow) closing out body next ≡ is_idle (view_at serves service None (Some flow) out tail journal closing ended body buffered next) = idle_shown serves service None (Some flow) out tail journal closing ended body buffered next fits in
       record {
         rests = λ l s. absurd (unshut closing ended s);
         ends = λ i e. (let f : false ≡ true = shown ∙ i in cc);

@@ -21,14 +21,14 @@ use Rattle.body_frame.specs.State.{body_of}
 use Rattle.body_frame.specs.declared.state.BodyState.{BodyState}
 use Rattle.answers_meaning.specs.Asking.{Service}
 use Rattle.answers_meaning.specs.Answers.{Response, Answer, Sends, then_closes, responses, first_response, response_at, refusal, bytes_in, logs_in, close_in, heavy_in, any_over, after_body}
-use Rattle.request_flow.specs.Flows.{asking_most, flow_most, shown_most}
+use Rattle.request_flow.specs.Flows.{asking_most, flow_most}
 use Rattle.request_flow.specs.Rests.{Rest, closes_after, logged_by}
 use Rattle.response_flow.specs.declared.flight.Flight.{Flight}
 use Rattle.response_flow.specs.declared.flight.Onward.{Onward}
 use Rattle.response_flow.specs.declared.flight.Ran.{Ran as FlightRan}
 use Rattle.response_flow.specs.declared.flight.Ran.TheVariants.{On, TooMany}
 use Rattle.response_flow.specs.Continues.{is_over}
-use Rattle.response_flow.specs.Flights.{flight_left, page_most}
+use Rattle.response_flow.specs.Flights.{flight_left, page_most, shown_kept}
 use Rattle.response_flow.specs.Writes.{Writes}
 use Rattle.http_connection.specs.Rests.{AreRaceless, Serves, TellsRaceless, rest_in}
 use Rattle.http_connection.specs.Steps.{begins, is_heavy, rest_of, past_body, logged_in, IsLogged, Drops, RanOne, RanOver, RanTo}
@@ -42,12 +42,12 @@ none_taken zero = refl
 none_taken (suc n) = refl
 
 -- nothing is shown of one that was stopped
-pub unsent : (flight : Option Flight) (out : List ℕ) → flight ≡ None → out ≡ [] → pending_at flight out ≡ []
-unsent flight out f e = ap (λ f. pending_at f out) f ∙ ap (take shown_most) e ∙ none_taken shown_most
+pub unsent : (flight : Option Flight) (out : List ℕ) (tail : ℕ) → flight ≡ None → out ≡ [] → pending_at flight out tail ≡ []
+unsent flight out tail f e = ap (λ f. pending_at f out tail) f ∙ ap (λ o. pending_at None o tail) e ∙ none_taken (shown_kept tail 0)
 
-pub not_stopped : (cause : Option StopCause) (flight : Option Flight) (out : List ℕ) (n : ℕ) → (is_some cause ≡ true → out ≡ []) → (is_some cause ≡ true → flight ≡ None) → 0 < n → n ≤ length (pending_at flight out) → is_some cause ≡ false
-not_stopped None flight out n h q a b = refl
-not_stopped (Some cause) flight out n h q a b = absurd (let e = ap length (unsent flight out (q refl) (h refl)) in omega (arith, e, a, b))
+pub not_stopped : (cause : Option StopCause) (flight : Option Flight) (out : List ℕ) (tail n : ℕ) → (is_some cause ≡ true → out ≡ []) → (is_some cause ≡ true → flight ≡ None) → 0 < n → n ≤ length (pending_at flight out tail) → is_some cause ≡ false
+not_stopped None flight out tail n h q a b = refl
+not_stopped (Some cause) flight out tail n h q a b = absurd (let e = ap length (unsent flight out tail (q refl) (h refl)) in omega (arith, e, a, b))
 
 pub below : (a b : ℕ) → nat_le a b ≡ true → a ≤ b
 below a b e = grind (arith, nat_tests)
@@ -315,9 +315,9 @@ keeps_prop before after out out' closing closing' log = hlevel props
 
 module _ (serves : Serves) where
   -- a live connection goes on
-  live_at : (service : Service) (cause : Option StopCause) (flow : Option Flight) (out : List ℕ) (journal : List Entry) (closing ended : Bool) (body : Option BodyState) (buffered : List ℕ) (next : HeadStep) → is_some cause ≡ false → is_live (view_at serves service cause flow out journal closing ended body buffered next) ≡ true
-  live_at service None flow out journal closing ended body buffered next h = refl
-  live_at service (Some cause) flow out journal closing ended body buffered next h = cc
+  live_at : (service : Service) (cause : Option StopCause) (flow : Option Flight) (out : List ℕ) (tail : ℕ) (journal : List Entry) (closing ended : Bool) (body : Option BodyState) (buffered : List ℕ) (next : HeadStep) → is_some cause ≡ false → is_live (view_at serves service cause flow out tail journal closing ended body buffered next) ≡ true
+  live_at service None flow out tail journal closing ended body buffered next h = refl
+  live_at service (Some cause) flow out tail journal closing ended body buffered next h = cc
 
   logged_at : (service : Service) (flow : Option Flight) (journal : List Entry) (closing : Bool) (body : Option BodyState) (buffered : List ℕ) → IsLogged (is_some flow) journal → (trees : Trees) (more : List ℕ) (later : List Start) →
       Logged (map log_of journal) (logs_at service (rest_in serves flow) journal closing body buffered trees more later)
@@ -325,37 +325,37 @@ module _ (serves : Serves) where
       logged_shown (is_some flow) (map log_of journal) (logged_in journal) ((rest_in serves flow trees).logs ++ logs_in (after_at service (rest_in serves flow) journal closing body buffered trees more later)) told
 
   -- the first pending bytes go
-  pub wrote_went : (service : Service) (cause : Option StopCause) (flow flow' : Option Flight) (out out' : List ℕ) (journal : List Entry) (closing ended : Bool) (body : Option BodyState) (buffered : List ℕ) (next : HeadStep) (n : ℕ) → is_some cause ≡ false →
-      ((trees : Trees) → Writes (rest_in serves flow trees) (rest_in serves flow' trees) out out' (take n (pending_at flow out))) → IsLogged (is_some flow') journal →
-      Went Always (view_at serves service cause flow out journal closing ended body buffered next) (view_at serves service cause flow' out' journal closing ended body buffered next) [] (take n (pending_at flow out)) []
-  wrote_went service cause flow flow' out out' journal closing ended body buffered next n live writes told = record {
-    before = live_at service cause flow out journal closing ended body buffered next live;
-    after = live_at service cause flow' out' journal closing ended body buffered next live;
+  pub wrote_went : (service : Service) (cause : Option StopCause) (flow flow' : Option Flight) (out out' : List ℕ) (tail : ℕ) (journal : List Entry) (closing ended : Bool) (body : Option BodyState) (buffered : List ℕ) (next : HeadStep) (n : ℕ) → is_some cause ≡ false →
+      ((trees : Trees) → Writes (rest_in serves flow trees) (rest_in serves flow' trees) out out' (take n (pending_at flow out tail))) → IsLogged (is_some flow') journal →
+      Went Always (view_at serves service cause flow out tail journal closing ended body buffered next) (view_at serves service cause flow' out' tail journal closing ended body buffered next) [] (take n (pending_at flow out tail)) []
+  wrote_went service cause flow flow' out out' tail journal closing ended body buffered next n live writes told = record {
+    before = live_at service cause flow out tail journal closing ended body buffered next live;
+    after = live_at service cause flow' out' tail journal closing ended body buffered next live;
     moved = record {
       starts = sym (append-nil (map start_of journal));
       raceless = refl;
       timed = refl;
-      bytes = λ trees is more later. wrote_bytes (writes trees) (λ stays. bytes_in (tail more trees later stays));
+      bytes = λ trees is more later. wrote_bytes (writes trees) (λ stays. bytes_in (behind more trees later stays));
       logs = λ trees is more later.
-          ap (λ b. logged_in journal ++ ((rest_in serves flow trees).logs ++ logs_in (tail more trees later b))) (sym (writes trees).stays)
-          ∙ ap (λ l. logged_in journal ++ (l ++ logs_in (tail more trees later (rest_in serves flow' trees).stays))) (sym (writes trees).logs);
-      closes = λ trees is more later. ap (λ b. close_in (tail more trees later b)) (sym (writes trees).stays);
+          ap (λ b. logged_in journal ++ ((rest_in serves flow trees).logs ++ logs_in (behind more trees later b))) (sym (writes trees).stays)
+          ∙ ap (λ l. logged_in journal ++ (l ++ logs_in (behind more trees later (rest_in serves flow' trees).stays))) (sym (writes trees).logs);
+      closes = λ trees is more later. ap (λ b. close_in (behind more trees later b)) (sym (writes trees).stays);
       heavy = λ trees is more later h.
-          ap (λ b. is_over (rest_in serves flow trees) || heavy_in (tail more trees later b)) (sym (writes trees).stays)
-          ∙ ap (λ k. nat_lt most_subs k || heavy_in (tail more trees later (rest_in serves flow' trees).stays)) (sym (writes trees).subs) ∙ h;
+          ap (λ b. is_over (rest_in serves flow trees) || heavy_in (behind more trees later b)) (sym (writes trees).stays)
+          ∙ ap (λ k. nat_lt most_subs k || heavy_in (behind more trees later (rest_in serves flow' trees).stays)) (sym (writes trees).subs) ∙ h;
     };
     logged = logged_at service flow' journal closing body buffered told;
   }
     where
-      tail : (more : List ℕ) (trees : Trees) (later : List Start) → Bool → List Answer
-      tail more trees later stays = cond (cond stays closing true) then_closes (past_body body (buffered ++ more) (λ input. responses service (length journal) trees input later))
+      behind : (more : List ℕ) (trees : Trees) (later : List Start) → Bool → List Answer
+      behind more trees later stays = cond (cond stays closing true) then_closes (past_body body (buffered ++ more) (λ input. responses service (length journal) trees input later))
 
-  pub arrived_went : (service : Service) (cause : Option StopCause) (flow : Option Flight) (out : List ℕ) (journal : List Entry) (closing closing' ended : Bool) (body body' : Option BodyState) (buffered buffered' kept : List ℕ) (next next' : HeadStep) (bytes : List ℕ) → is_some cause ≡ false → closing ≡ false →
+  pub arrived_went : (service : Service) (cause : Option StopCause) (flow : Option Flight) (out : List ℕ) (tail : ℕ) (journal : List Entry) (closing closing' ended : Bool) (body body' : Option BodyState) (buffered buffered' kept : List ℕ) (next next' : HeadStep) (bytes : List ℕ) → is_some cause ≡ false → closing ≡ false →
       (is_some body ≡ true → buffered ≡ []) → (body ≡ None → (body' ≡ None) × (closing' ≡ false) × (kept ≡ bytes)) → Drops (rest_of body) bytes body' kept closing' → buffered' ≡ buffered ++ kept → IsLogged (is_some flow) journal →
-      Went Always (view_at serves service cause flow out journal closing ended body buffered next) (view_at serves service cause flow out journal closing' ended body' buffered' next') bytes [] []
-  arrived_went service cause flow out journal closing closing' ended body body' buffered buffered' kept next next' bytes live unclosed drained still d e told = record {
-    before = live_at service cause flow out journal closing ended body buffered next live;
-    after = live_at service cause flow out journal closing' ended body' buffered' next' live;
+      Went Always (view_at serves service cause flow out tail journal closing ended body buffered next) (view_at serves service cause flow out tail journal closing' ended body' buffered' next') bytes [] []
+  arrived_went service cause flow out tail journal closing closing' ended body body' buffered buffered' kept next next' bytes live unclosed drained still d e told = record {
+    before = live_at service cause flow out tail journal closing ended body buffered next live;
+    after = live_at service cause flow out tail journal closing' ended body' buffered' next' live;
     moved = record {
       starts = sym (append-nil (map start_of journal));
       raceless = refl;
@@ -455,13 +455,13 @@ module _ (serves : Serves) where
   ran_over service start k (Bad code no_body) buffered buffered' body flow out out' closing log r = ap is_some r.logged ∙ ap (λ f. not (is_some f)) (sym r.over)
   ran_over service start k More buffered buffered' body flow out out' closing log r = absurd r
 
-  pub ran_went : HeadStays → RefusalStays → SizeFits → (service : Service) (now : Start) (cause : Option StopCause) (flow' : Option Flight) (out out' : List ℕ) (journal journal' : List Entry) (entry : Entry) (closing closing' ended : Bool) (body body' : Option BodyState) (buffered buffered' : List ℕ) (next next' : HeadStep) (log : Option Log) →
+  pub ran_went : HeadStays → RefusalStays → SizeFits → (service : Service) (now : Start) (cause : Option StopCause) (flow' : Option Flight) (out out' : List ℕ) (tail tail' : ℕ) (journal journal' : List Entry) (entry : Entry) (closing closing' ended : Bool) (body body' : Option BodyState) (buffered buffered' : List ℕ) (next next' : HeadStep) (log : Option Log) →
       is_some cause ≡ false → closing ≡ false → body ≡ None → next ≡ head_step buffered → start_of entry ≡ now → log_of entry ≡ log → journal' ≡ journal ++ entry ∷ [] → TellsRaceless serves → RanOne serves service now (length journal) next buffered buffered' body' flow' out out' closing' log →
-      IsLogged (is_some flow') journal' → Ran now (view_at serves service cause None out journal closing ended body buffered next) (view_at serves service cause flow' out' journal' closing' ended body' buffered' next')
-  ran_went stays refused fits service now cause flow' out out' journal journal' entry closing closing' ended body body' buffered buffered' next next' log live c b l s g j tells r told =
+      IsLogged (is_some flow') journal' → Ran now (view_at serves service cause None out tail journal closing ended body buffered next) (view_at serves service cause flow' out' tail' journal' closing' ended body' buffered' next')
+  ran_went stays refused fits service now cause flow' out out' tail tail' journal journal' entry closing closing' ended body body' buffered buffered' next next' log live c b l s g j tells r told =
       Goes (now ∷ []) (inr refl) (record {
-        before = live_at service cause None out journal closing ended body buffered next live;
-        after = live_at service cause flow' out' journal' closing' ended body' buffered' next' live;
+        before = live_at service cause None out tail journal closing ended body buffered next live;
+        after = live_at service cause flow' out' tail' journal' closing' ended body' buffered' next' live;
         moved = record {
           starts = ap (map start_of) j ∙ map-append start_of journal (entry ∷ []) ∙ ap (λ x. map start_of journal ++ x ∷ []) s;
           raceless = refl;
@@ -479,16 +479,16 @@ module _ (serves : Serves) where
       said is trees more later = said_of stays refused fits service trees now flow' out out' journal journal' entry closing closing' body body' buffered buffered' next log c b l j r (tells is) more later
 
   -- Too many subrequests are asked for when one starts: it is stopped. This is foreseen.
-  pub ran_halts : HeadStays → SizeFits → (service : Service) (now : Start) (count : ℕ) (cause : Option StopCause) (flow' : Option Flight) (out out' : List ℕ) (journal journal' : List Entry) (entry : Entry) (closing closing' ended ended' : Bool) (body body' : Option BodyState) (buffered buffered' : List ℕ) (next next' : HeadStep) →
+  pub ran_halts : HeadStays → SizeFits → (service : Service) (now : Start) (count : ℕ) (cause : Option StopCause) (flow' : Option Flight) (out out' : List ℕ) (tail tail' : ℕ) (journal journal' : List Entry) (entry : Entry) (closing closing' ended ended' : Bool) (body body' : Option BodyState) (buffered buffered' : List ℕ) (next next' : HeadStep) →
       is_some cause ≡ false → closing ≡ false → body ≡ None → next ≡ head_step buffered → flow' ≡ None → out' ≡ [] → start_of entry ≡ now → log_of entry ≡ None → journal' ≡ journal ++ entry ∷ [] → TellsRaceless serves → RanOver serves service now (length journal) next →
-      IsLogged false journal → Ran now (view_at serves service cause None out journal closing ended body buffered next) (view_at serves service (Some (stop.SubLimit count)) flow' out' journal' closing' ended' body' buffered' next')
+      IsLogged false journal → Ran now (view_at serves service cause None out tail journal closing ended body buffered next) (view_at serves service (Some (stop.SubLimit count)) flow' out' tail' journal' closing' ended' body' buffered' next')
   unfolding any_over
-  ran_halts stays fits service now count cause flow' out out' journal journal' entry closing closing' ended ended' body body' buffered buffered' next next' live c b l f e s g j tells r told =
+  ran_halts stays fits service now count cause flow' out out' tail tail' journal journal' entry closing closing' ended ended' body body' buffered buffered' next next' live c b l f e s g j tells r told =
       Halts count (now ∷ []) (inr refl) (record {
-        before = live_at service cause None out journal closing ended body buffered next live;
+        before = live_at service cause None out tail journal closing ended body buffered next live;
         held = refl;
         why = refl;
-        pending = unsent flow' out' f e;
+        pending = unsent flow' out' tail' f e;
         starts = ap (map start_of) j ∙ map-append start_of journal (entry ∷ []) ∙ ap (λ x. map start_of journal ++ x ∷ []) s;
         logs = ap (map log_of) j ∙ map-append log_of journal (entry ∷ []) ∙ ap (λ x. map log_of journal ++ x ∷ []) g;
         logged = λ all a. logged_entered journal journal' entry all told g j a;
@@ -522,13 +522,13 @@ module _ (serves : Serves) where
   ran_left fits service now k None flow' out out' closing closing' body' buffered buffered' More log live c l f r = absurd r
 
   -- it is stopped
-  stopped : (service : Service) (why : StopCause) (cause : Option StopCause) (flow flow' : Option Flight) (out out' : List ℕ) (journal journal' : List Entry) (closing closing' ended ended' : Bool) (body body' : Option BodyState) (buffered buffered' : List ℕ) (next next' : HeadStep) →
-      is_some cause ≡ false → flow' ≡ None → out' ≡ [] → journal' ≡ journal → Stopped why (view_at serves service cause flow out journal closing ended body buffered next) (view_at serves service (Some why) flow' out' journal' closing' ended' body' buffered' next') []
-  stopped service why cause flow flow' out out' journal journal' closing closing' ended ended' body body' buffered buffered' next next' live f e j = record {
-    before = live_at service cause flow out journal closing ended body buffered next live;
+  stopped : (service : Service) (why : StopCause) (cause : Option StopCause) (flow flow' : Option Flight) (out out' : List ℕ) (tail tail' : ℕ) (journal journal' : List Entry) (closing closing' ended ended' : Bool) (body body' : Option BodyState) (buffered buffered' : List ℕ) (next next' : HeadStep) →
+      is_some cause ≡ false → flow' ≡ None → out' ≡ [] → journal' ≡ journal → Stopped why (view_at serves service cause flow out tail journal closing ended body buffered next) (view_at serves service (Some why) flow' out' tail' journal' closing' ended' body' buffered' next') []
+  stopped service why cause flow flow' out out' tail tail' journal journal' closing closing' ended ended' body body' buffered buffered' next next' live f e j = record {
+    before = live_at service cause flow out tail journal closing ended body buffered next live;
     held = refl;
     why = refl;
-    pending = unsent flow' out' f e;
+    pending = unsent flow' out' tail' f e;
     starts = ap (map start_of) j ∙ sym (append-nil (map start_of journal));
     logs = ap (map log_of) j ∙ sym (append-nil (map log_of journal));
     logged = λ all l. subst (λ x. Logged x all) (sym (ap (map log_of) j)) l;
@@ -567,13 +567,13 @@ module _ (serves : Serves) where
       ∙ ap (λ x. logged_in journal ++ (x ++ behind)) (sym g.1.1.0) ∙ ap (λ x. logged_in journal ++ x) (append_assoc (logged_by log) r'.logs behind)
       ∙ sym (append_assoc (logged_in journal) (logged_by log) (r'.logs ++ behind)) ∙ ap (λ x. x ++ (r'.logs ++ behind)) (sym e)
 
-  pub goes_went : (ground : Ground) (service : Service) (cause : Option StopCause) (flow flow' : Option Flight) (out out' : List ℕ) (journal journal' : List Entry) (closing closing' ended : Bool) (body : Option BodyState) (buffered : List ℕ) (next : HeadStep) (log : Option Log) →
+  pub goes_went : (ground : Ground) (service : Service) (cause : Option StopCause) (flow flow' : Option Flight) (out out' : List ℕ) (tail tail' : ℕ) (journal journal' : List Entry) (closing closing' ended : Bool) (body : Option BodyState) (buffered : List ℕ) (next : HeadStep) (log : Option Log) →
       is_some cause ≡ false → length journal' ≡ length journal → map start_of journal' ≡ map start_of journal → logged_in journal' ≡ logged_in journal ++ logged_by log → IsLogged (is_some flow') journal' →
       ((trees : Trees) → Holds ground trees → Keeps (rest_in serves flow trees) (rest_in serves flow' trees) out out' closing closing' log) →
-      Went ground (view_at serves service cause flow out journal closing ended body buffered next) (view_at serves service cause flow' out' journal' closing' ended body buffered next) [] [] []
-  goes_went ground service cause flow flow' out out' journal journal' closing closing' ended body buffered next log live n m e told g = record {
-    before = live_at service cause flow out journal closing ended body buffered next live;
-    after = live_at service cause flow' out' journal' closing' ended body buffered next live;
+      Went ground (view_at serves service cause flow out tail journal closing ended body buffered next) (view_at serves service cause flow' out' tail' journal' closing' ended body buffered next) [] [] []
+  goes_went ground service cause flow flow' out out' tail tail' journal journal' closing closing' ended body buffered next log live n m e told g = record {
+    before = live_at service cause flow out tail journal closing ended body buffered next live;
+    after = live_at service cause flow' out' tail' journal' closing' ended body buffered next live;
     moved = record {
       starts = m ∙ sym (append-nil (map start_of journal));
       raceless = refl;
@@ -587,15 +587,15 @@ module _ (serves : Serves) where
   }
 
   -- Too many subrequests are asked for: it is stopped. This is foreseen.
-  pub goes_halts : (now : Start) (service : Service) (count : ℕ) (cause : Option StopCause) (flow flow' : Option Flight) (out out' : List ℕ) (journal journal' : List Entry) (closing closing' ended ended' : Bool) (body body' : Option BodyState) (buffered buffered' : List ℕ) (next next' : HeadStep) →
+  pub goes_halts : (now : Start) (service : Service) (count : ℕ) (cause : Option StopCause) (flow flow' : Option Flight) (out out' : List ℕ) (tail tail' : ℕ) (journal journal' : List Entry) (closing closing' ended ended' : Bool) (body body' : Option BodyState) (buffered buffered' : List ℕ) (next next' : HeadStep) →
       is_some cause ≡ false → flow' ≡ None → out' ≡ [] → journal' ≡ journal → (serves.served.raceless ≡ true → (trees : Trees) → is_over (rest_in serves flow trees) ≡ true) →
-      Ran now (view_at serves service cause flow out journal closing ended body buffered next) (view_at serves service (Some (stop.SubLimit count)) flow' out' journal' closing' ended' body' buffered' next')
-  goes_halts now service count cause flow flow' out out' journal journal' closing closing' ended ended' body body' buffered buffered' next next' live f e j over =
-      Halts count [] (inl refl) (stopped service (stop.SubLimit count) cause flow flow' out out' journal journal' closing closing' ended ended' body body' buffered buffered' next next' live f e j)
+      Ran now (view_at serves service cause flow out tail journal closing ended body buffered next) (view_at serves service (Some (stop.SubLimit count)) flow' out' tail' journal' closing' ended' body' buffered' next')
+  goes_halts now service count cause flow flow' out out' tail tail' journal journal' closing closing' ended ended' body body' buffered buffered' next next' live f e j over =
+      Halts count [] (inl refl) (stopped service (stop.SubLimit count) cause flow flow' out out' tail tail' journal journal' closing closing' ended ended' body body' buffered buffered' next next' live f e j)
       (λ is trees more later. ap (λ b. b || heavy_in (after_at service (rest_in serves flow) journal closing body buffered trees more later)) (over is trees))
 
   -- an event for which there was no memory
-  pub refused : (now : Start) (service : Service) (cause : Option StopCause) (flow flow' : Option Flight) (out out' : List ℕ) (journal journal' : List Entry) (closing closing' ended ended' : Bool) (body body' : Option BodyState) (buffered buffered' : List ℕ) (next next' : HeadStep) →
-      is_some cause ≡ false → flow' ≡ None → out' ≡ [] → journal' ≡ journal → Refused now (view_at serves service cause flow out journal closing ended body buffered next) (view_at serves service (Some stop.Memory) flow' out' journal' closing' ended' body' buffered' next')
-  refused now service cause flow flow' out out' journal journal' closing closing' ended ended' body body' buffered buffered' next next' live f e j =
-      ([], inl refl, stopped service stop.Memory cause flow flow' out out' journal journal' closing closing' ended ended' body body' buffered buffered' next next' live f e j)
+  pub refused : (now : Start) (service : Service) (cause : Option StopCause) (flow flow' : Option Flight) (out out' : List ℕ) (tail tail' : ℕ) (journal journal' : List Entry) (closing closing' ended ended' : Bool) (body body' : Option BodyState) (buffered buffered' : List ℕ) (next next' : HeadStep) →
+      is_some cause ≡ false → flow' ≡ None → out' ≡ [] → journal' ≡ journal → Refused now (view_at serves service cause flow out tail journal closing ended body buffered next) (view_at serves service (Some stop.Memory) flow' out' tail' journal' closing' ended' body' buffered' next')
+  refused now service cause flow flow' out out' tail tail' journal journal' closing closing' ended ended' body body' buffered buffered' next next' live f e j =
+      ([], inl refl, stopped service stop.Memory cause flow flow' out out' tail tail' journal journal' closing closing' ended ended' body body' buffered buffered' next next' live f e j)

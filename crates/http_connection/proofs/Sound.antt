@@ -1,5 +1,5 @@
 -- What a connection shows is sound.
-use Rattle.std.proofs.Common.{◌≡◌, ◌≢◌, ℕ, ◌+◌, ◌-◌, ◌<◌, ◌≤◌, drop, take, Bool, true, false, not, ◌&&◌, ◌||◌, cond, List, [], ◌∷◌, ◌++◌, length, map, Option, None, Some, refl, sym, ap, ◌∙◌, arith, suc, zero}
+use Rattle.std.proofs.Common.{◌≡◌, ◌≢◌, ℕ, ◌+◌, ◌-◌, ◌*◌, ◌/◌, ◌<◌, ◌≤◌, min, drop, take, Bool, true, false, not, ◌&&◌, ◌||◌, cond, List, [], ◌∷◌, ◌++◌, length, map, Option, None, Some, refl, sym, ap, ◌∙◌, arith, suc, zero}
 use Rattle.std.specs.Prelude.{is_none, is_some, nat_le, nat_lt, ◌==◌}
 use Rattle.file_tree.specs.declared.job.Ask.{Ask}
 use Rattle.std.proofs.lemmas.List.{append-nil}
@@ -19,7 +19,7 @@ use Rattle.request_flow.specs.declared.flow.Flow.{Flow}
 use Rattle.std.specs.Global.{Box}
 use Rattle.response_flow.specs.declared.flight.Flight.{Flight}
 use Rattle.response_flow.specs.declared.flight.Flight.TheVariants.{Alone, Page}
-use Rattle.response_flow.specs.Flights.{FlightFits, are_done, jobs_by, most_kept, page_ready, pending_by, ready_by}
+use Rattle.response_flow.specs.Flights.{FlightFits, are_done, jobs_by, most_kept, page_ready, pending_by, ready_by, shown_kept}
 use Rattle.page_response.specs.declared.pages.Pages.{Pages}
 use Rattle.subrequests.specs.Wants as family
 use Rattle.request_flow.specs.declared.flow.Stage.{Stage}
@@ -122,14 +122,31 @@ shown_some (suc n) (x ∷ xs) h = refl
 shown_none : (out : List ℕ) → no_bytes (take shown_most out) ≡ no_bytes out
 shown_none out = shown_some shown_most out positive
 
-pub idle_parts : (out : List ℕ) (closing : Bool) (body : Option BodyState) (next : HeadStep) → (no_bytes (take shown_most out) && no_nodes (cond (starts_at false closing out body next) (0 ∷ []) []) && true) ≡ true → Idle out closing body next
-idle_parts out closing body next h =
+-- and so of those that are kept once a response is over
+some_shown : (tail size : ℕ) → 0 < size → 0 < shown_kept tail size
+unfolding shown_kept shown_most
+some_shown tail size h = by (tail == 0) (nat_le (size - tail + 4107) 65536) refl
+  where
+    by : (none room : Bool) → nat_le (size - tail + 4107) 65536 ≡ room →
+        0 < cond (none || room) (min size 65536) (size - tail - 4104 * ((size - tail - 65536 + 4103) / 4104))
+    by true room e = omega (arith, h)
+    by false true e = omega (arith, h)
+    by false false e =
+        let more : 65536 < size - tail + 4107 = grind (arith, nat_tests) in
+        omega (arith, more)
+
+kept_shown : (tail : ℕ) (out : List ℕ) → no_bytes (take (shown_kept tail (length out)) out) ≡ no_bytes out
+kept_shown tail [] = ap no_bytes (none_taken (shown_kept tail 0))
+kept_shown tail (x ∷ out) = shown_some (shown_kept tail (length (x ∷ out))) (x ∷ out) (some_shown tail (length (x ∷ out)) (omega arith))
+
+pub idle_parts : (tail : ℕ) (out : List ℕ) (closing : Bool) (body : Option BodyState) (next : HeadStep) → (no_bytes (take (shown_kept tail (length out)) out) && no_nodes (cond (starts_at false closing out body next) (0 ∷ []) []) && true) ≡ true → Idle out closing body next
+idle_parts tail out closing body next h =
     let nodes = no_nodes (cond (starts_at false closing out body next) (0 ∷ []) []) in
-    let both = and_left (no_bytes (take shown_most out) && nodes) true h in
-    let unsent : no_bytes out ≡ true = sym (shown_none out) ∙ and_left (no_bytes (take shown_most out)) nodes both in
+    let both = and_left (no_bytes (take (shown_kept tail (length out)) out) && nodes) true h in
+    let unsent : no_bytes out ≡ true = sym (kept_shown tail out) ∙ and_left (no_bytes (take (shown_kept tail (length out)) out)) nodes both in
     record {
       unsent = unsent;
-      waits = waits_by out closing body next unsent (unstarted (starts_at false closing out body next) (and_right (no_bytes (take shown_most out)) nodes both));
+      waits = waits_by out closing body next unsent (unstarted (starts_at false closing out body next) (and_right (no_bytes (take (shown_kept tail (length out)) out)) nodes both));
     }
 
 -- nothing is read after the end of the input
@@ -289,19 +306,19 @@ module _ (serves : Serves) where
   reading full [] false false None buffered More looked drained i shut none = absurd (decided full buffered More looked (buffered_full (length buffered) none) refl)
   reading full [] false false (Some state) buffered next looked drained i shut none = absurd (let n = ap length (drained refl) in let h = buffered_full (length buffered) none in omega (arith, n, h))
 
-  pub idle_shown : (service : Service) (cause : Option StopCause) (flow : Option Flight) (out : List ℕ) (journal : List Entry) (closing ended : Bool) (body : Option BodyState) (buffered : List ℕ) (next : HeadStep) → FlightFits flow (length out) →
-      idle_at (is_some cause) flow closing out body next ≡ is_idle (view_at serves service cause flow out journal closing ended body buffered next)
-  idle_shown service (Some why) None out journal closing ended body buffered next fits = refl
-  idle_shown service (Some why) (Some flow) out journal closing ended body buffered next fits = refl
-  idle_shown service None None out journal closing ended body buffered next fits =
-      idle_none out closing body next ∙ ap (λ b. b && no_nodes (cond (starts_at false closing out body next) (0 ∷ []) []) && true) (sym (shown_none out))
-  idle_shown service None (Some flow) out journal closing ended body buffered next fits = sym (is_false _ (busy flow out fits))
+  pub idle_shown : (service : Service) (cause : Option StopCause) (flow : Option Flight) (out : List ℕ) (tail : ℕ) (journal : List Entry) (closing ended : Bool) (body : Option BodyState) (buffered : List ℕ) (next : HeadStep) → FlightFits flow (length out) →
+      idle_at (is_some cause) flow closing out body next ≡ is_idle (view_at serves service cause flow out tail journal closing ended body buffered next)
+  idle_shown service (Some why) None out tail journal closing ended body buffered next fits = refl
+  idle_shown service (Some why) (Some flow) out tail journal closing ended body buffered next fits = refl
+  idle_shown service None None out tail journal closing ended body buffered next fits =
+      idle_none out closing body next ∙ ap (λ b. b && no_nodes (cond (starts_at false closing out body next) (0 ∷ []) []) && true) (sym (kept_shown tail out))
+  idle_shown service None (Some flow) out tail journal closing ended body buffered next fits = sym (is_false _ (busy flow out fits))
 
-  pub sound : FullDecides → (service : Service) (cause : Option StopCause) (flow : Option Flight) (out : List ℕ) (journal : List Entry) (closing ended : Bool) (body : Option BodyState) (buffered : List ℕ) (next : HeadStep) →
-      (is_some cause ≡ false → next ≡ head_step buffered) → (is_some cause ≡ true → out ≡ []) → (is_some cause ≡ true → flow ≡ None) → FlightFits flow (length out) → (is_some body ≡ true → buffered ≡ []) → (is_some body ≡ true → rest_of body [] ≡ Short) → (is_some cause ≡ false → IsLogged (is_some flow) journal) → IsSound (view_at serves service cause flow out journal closing ended body buffered next)
-  sound full service (Some why) (Some flow) out journal closing ended body buffered next looked dropped quit fits drained unended told = absurd (let e : Some flow ≡ None = quit refl in cc)
-  sound full service (Some why) None out journal closing ended body buffered next looked dropped quit fits drained unended told = record {
-    unsent = λ h. unsent None out refl (dropped refl);
+  pub sound : FullDecides → (service : Service) (cause : Option StopCause) (flow : Option Flight) (out : List ℕ) (tail : ℕ) (journal : List Entry) (closing ended : Bool) (body : Option BodyState) (buffered : List ℕ) (next : HeadStep) →
+      (is_some cause ≡ false → next ≡ head_step buffered) → (is_some cause ≡ true → out ≡ []) → (is_some cause ≡ true → flow ≡ None) → FlightFits flow (length out) → (is_some body ≡ true → buffered ≡ []) → (is_some body ≡ true → rest_of body [] ≡ Short) → (is_some cause ≡ false → IsLogged (is_some flow) journal) → IsSound (view_at serves service cause flow out tail journal closing ended body buffered next)
+  sound full service (Some why) (Some flow) out tail journal closing ended body buffered next looked dropped quit fits drained unended told = absurd (let e : Some flow ≡ None = quit refl in cc)
+  sound full service (Some why) None out tail journal closing ended body buffered next looked dropped quit fits drained unended told = record {
+    unsent = λ h. unsent None out tail refl (dropped refl);
     unready = λ h. refl;
     unasked = λ h. refl;
     unread = λ h. refl;
@@ -317,7 +334,7 @@ module _ (serves : Serves) where
     shuts = λ h trees later. cc;
     closes = λ h s e trees more later. cc;
   }
-  sound full service None None out journal closing ended body buffered next looked dropped quit fits drained unended told = record {
+  sound full service None None out tail journal closing ended body buffered next looked dropped quit fits drained unended told = record {
     unsent = λ h. cc;
     unready = λ h. cc;
     unasked = λ h. refl;
@@ -327,14 +344,14 @@ module _ (serves : Serves) where
     absent = λ h. cc;
     roomy = λ room h. (room_some false closing ended buffered room h).3;
     silent = silent_at false closing ended buffered;
-    reads = λ h s. reading full out closing ended body buffered next (looked refl) drained (idle_parts out closing body next h) s;
-    idle = λ h trees later. let i = idle_parts out closing body next h in quiet service out journal closing body buffered next trees later i.unsent i.waits (looked refl) drained unended;
-    logged = λ h trees later. let i = idle_parts out closing body next h in quiet_logs service journal closing body buffered next trees later (told refl) i.waits (looked refl) drained unended;
+    reads = λ h s. reading full out closing ended body buffered next (looked refl) drained (idle_parts tail out closing body next h) s;
+    idle = λ h trees later. let i = idle_parts tail out closing body next h in quiet service out journal closing body buffered next trees later i.unsent i.waits (looked refl) drained unended;
+    logged = λ h trees later. let i = idle_parts tail out closing body next h in quiet_logs service journal closing body buffered next trees later (told refl) i.waits (looked refl) drained unended;
     shut = λ l h trees later. let i = shut_parts out closing ended body next h in quiet service out journal closing body buffered next trees later i.unsent i.waits (looked refl) drained unended;
-    shuts = λ h trees later. shuts_by service out journal closing ended body buffered next trees later (idle_parts out closing body next h) (looked refl) drained unended;
+    shuts = λ h trees later. shuts_by service out journal closing ended body buffered next trees later (idle_parts tail out closing body next h) (looked refl) drained unended;
     closes = λ l h e trees more later. closed service out journal closing ended body buffered next trees more later h e;
   }
-  sound full service None (Some flow) out journal closing ended body buffered next looked dropped quit fits drained unended told = record {
+  sound full service None (Some flow) out tail journal closing ended body buffered next looked dropped quit fits drained unended told = record {
     unsent = λ h. cc;
     unready = λ h. cc;
     unasked = λ h. cc;

@@ -17,7 +17,7 @@ use Rattle.http_connection.specs.Times.{awaited_by, due_of, soonest, mark_by}
 use Rattle.http_connection.specs.Rests.{Serves, service_in}
 
 abbrev pub view_of_parts : Serves → Conn → ConnView
-view_of_parts site s = view_at site (service_in site s.local s.peer) s.cause s.flight s.out s.journal.items s.closing s.ended s.body s.buffered s.next
+view_of_parts site s = view_at site (service_in site s.local s.peer) s.cause s.flight s.out s.tail s.journal.items s.closing s.ended s.body s.buffered s.next
 
 pub went_until : (due due' : Option ℕ) (ground : Ground) (old new : ConnView) (came went : List ℕ) (started : List Start) → Went ground old new came went started → Went ground (until due old) (until due' new) came went started
 went_until due due' ground old new came went started w = record {
@@ -87,7 +87,7 @@ dead_waits s h = by s.cause refl h
     by None e h = cc
     by (Some cause) e h =
         ap
-        (λ (c : Option StopCause). due_of (awaited_by (shut_at (is_some c) s.flight s.closing s.ended s.out s.body s.next) (not (no_bytes (pending_at s.flight s.out))) (is_some s.flight || starts s.body s.next) (no_entries s.journal.items) (not (no_bytes s.buffered))) s.times)
+        (λ (c : Option StopCause). due_of (awaited_by (shut_at (is_some c) s.flight s.closing s.ended s.out s.body s.next) (not (no_bytes (pending_at s.flight s.out s.tail))) (is_some s.flight || starts s.body s.next) (no_entries s.journal.items) (not (no_bytes s.buffered))) s.times)
         e
 
 -- the bytes and the entries that are there
@@ -122,7 +122,7 @@ given_up site s n due now e le cause flow out journal = GivesUp due refl e le (r
   before = alive s due e;
   held = refl;
   why = cause;
-  pending = unsent n.flight n.out flow out;
+  pending = unsent n.flight n.out n.tail flow out;
   starts = ap (map start_of) journal ∙ sym (append-nil (map start_of s.journal.items));
   logs = ap (map log_of) journal ∙ sym (append-nil (map log_of s.journal.items));
   logged = λ all l. subst (λ x. Logged x all) (sym (ap (map log_of) journal)) l;
@@ -145,23 +145,23 @@ marks_by mark moment now result p f p' f' q g q' g' e m ep ef ep' ef' =
     ∙ (ap (λ b. mark_by mark moment q g q' b) ef' ∙ ap (λ n. mark_by mark n q g q' g') (sym m)))))
 
 -- the mark after one that was stopped
-pub mark_rests : (mark moment now : ℕ) (p f q g : Bool) (flight : Option Flight) (out : List ℕ) → now ≡ moment → p ≡ q → f ≡ g → flight ≡ None → out ≡ [] →
-    mark_by mark moment p f false false ≡ mark_by mark now q g (not (no_bytes (pending_at flight out))) (in_flight flight out)
-mark_rests mark moment now p f q g flight out m ep ef none empty =
+pub mark_rests : (mark moment now : ℕ) (p f q g : Bool) (flight : Option Flight) (out : List ℕ) (tail : ℕ) → now ≡ moment → p ≡ q → f ≡ g → flight ≡ None → out ≡ [] →
+    mark_by mark moment p f false false ≡ mark_by mark now q g (not (no_bytes (pending_at flight out tail))) (in_flight flight out)
+mark_rests mark moment now p f q g flight out tail m ep ef none empty =
     ap (λ b. mark_by mark moment b f false false) ep ∙ (ap (λ b. mark_by mark moment q b false false) ef ∙ (ap (λ n. mark_by mark n q g false false) (sym m)
-    ∙ (ap (λ xs. mark_by mark now q g (not (no_bytes xs)) false) (sym (unsent flight out none empty))
-    ∙ ap (λ b. mark_by mark now q g (not (no_bytes (pending_at flight out))) b) (sym (ap (λ h. in_flight h out) none ∙ ap (λ o. not (no_bytes o)) empty)))))
+    ∙ (ap (λ xs. mark_by mark now q g (not (no_bytes xs)) false) (sym (unsent flight out tail none empty))
+    ∙ ap (λ b. mark_by mark now q g (not (no_bytes (pending_at flight out tail))) b) (sym (ap (λ h. in_flight h out) none ∙ ap (λ o. not (no_bytes o)) empty)))))
 
 -- the mark after one with which a further one starts
-pub mark_begins : (mark moment result : ℕ) (p' f' : Bool) (flight : Option Flight) (out : List ℕ) (q' g' : Bool) → result ≡ mark_by mark moment false false p' f' → flight ≡ None → out ≡ [] → p' ≡ q' → f' ≡ g' →
-    result ≡ mark_by mark moment (not (no_bytes (pending_at flight out))) (in_flight flight out) q' g'
-mark_begins mark moment result p' f' flight out q' g' e none empty ep ef =
+pub mark_begins : (mark moment result : ℕ) (p' f' : Bool) (flight : Option Flight) (out : List ℕ) (tail : ℕ) (q' g' : Bool) → result ≡ mark_by mark moment false false p' f' → flight ≡ None → out ≡ [] → p' ≡ q' → f' ≡ g' →
+    result ≡ mark_by mark moment (not (no_bytes (pending_at flight out tail))) (in_flight flight out) q' g'
+mark_begins mark moment result p' f' flight out tail q' g' e none empty ep ef =
     e ∙ (ap (λ b. mark_by mark moment false false b f') ep ∙ (ap (λ b. mark_by mark moment false false q' b) ef
-    ∙ (ap (λ xs. mark_by mark moment (not (no_bytes xs)) false q' g') (sym (unsent flight out none empty))
-    ∙ ap (λ b. mark_by mark moment (not (no_bytes (pending_at flight out))) b q' g') (sym (ap (λ h. in_flight h out) none ∙ ap (λ o. not (no_bytes o)) empty)))))
+    ∙ (ap (λ xs. mark_by mark moment (not (no_bytes xs)) false q' g') (sym (unsent flight out tail none empty))
+    ∙ ap (λ b. mark_by mark moment (not (no_bytes (pending_at flight out tail))) b q' g') (sym (ap (λ h. in_flight h out) none ∙ ap (λ o. not (no_bytes o)) empty)))))
 
-pub mark_starts : (mark moment : ℕ) (flight flight' : Option Flight) (out out' : List ℕ) → flight ≡ None → out ≡ [] → flight' ≡ None → out' ≡ [] →
-    mark_by mark moment false false false false ≡ mark_by mark moment (not (no_bytes (pending_at flight out))) (in_flight flight out) (not (no_bytes (pending_at flight' out'))) (in_flight flight' out')
-mark_starts mark moment flight flight' out out' none empty none' empty' =
-    mark_begins mark moment (mark_by mark moment false false false false) false false flight out (not (no_bytes (pending_at flight' out'))) (in_flight flight' out') refl none empty
-    (ap (λ xs. not (no_bytes xs)) (sym (unsent flight' out' none' empty'))) (sym (ap (λ h. in_flight h out') none' ∙ ap (λ o. not (no_bytes o)) empty'))
+pub mark_starts : (mark moment : ℕ) (flight flight' : Option Flight) (out out' : List ℕ) (tail tail' : ℕ) → flight ≡ None → out ≡ [] → flight' ≡ None → out' ≡ [] →
+    mark_by mark moment false false false false ≡ mark_by mark moment (not (no_bytes (pending_at flight out tail))) (in_flight flight out) (not (no_bytes (pending_at flight' out' tail'))) (in_flight flight' out')
+mark_starts mark moment flight flight' out out' tail tail' none empty none' empty' =
+    mark_begins mark moment (mark_by mark moment false false false false) false false flight out tail (not (no_bytes (pending_at flight' out' tail'))) (in_flight flight' out') refl none empty
+    (ap (λ xs. not (no_bytes xs)) (sym (unsent flight' out' tail' none' empty'))) (sym (ap (λ h. in_flight h out') none' ∙ ap (λ o. not (no_bytes o)) empty'))

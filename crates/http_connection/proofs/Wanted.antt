@@ -45,26 +45,26 @@ first_is c false full None (node ∷ ready) jobs empty shut = refl
 first_is c false full None [] (job ∷ jobs) empty shut = refl
 first_is c false full None [] [] empty shut = last_is c false full empty shut
 
-first_shown : (x : Serves) (service : Service) (cause : Option StopCause) (flight : Option Flight) (out : List ℕ) (journal : List Entry) (closing ended : Bool) (body : Option BodyState) (buffered : List ℕ) (next : HeadStep) (c : ℕ) (due full : Bool) →
-    first_of c (room_if due (room_at (is_some cause) closing ended buffered)) (number_first (ready_at (is_some cause) flight closing out body next)) (job_first (jobs_of flight)) (not full && not (no_bytes (pending_at flight out))) (shut_at (is_some cause) flight closing ended out body next)
-    ≡ first_doable due full (wants_at c (view_at x service cause flight out journal closing ended body buffered next))
+first_shown : (x : Serves) (service : Service) (cause : Option StopCause) (flight : Option Flight) (out : List ℕ) (tail : ℕ) (journal : List Entry) (closing ended : Bool) (body : Option BodyState) (buffered : List ℕ) (next : HeadStep) (c : ℕ) (due full : Bool) →
+    first_of c (room_if due (room_at (is_some cause) closing ended buffered)) (number_first (ready_at (is_some cause) flight closing out body next)) (job_first (jobs_of flight)) (not full && not (no_bytes (pending_at flight out tail))) (shut_at (is_some cause) flight closing ended out body next)
+    ≡ first_doable due full (wants_at c (view_at x service cause flight out tail journal closing ended body buffered next))
 unfolding wants_at
-first_shown x service cause flight out journal closing ended body buffered next c due full =
-    first_is c due full (room_at (is_some cause) closing ended buffered) (ready_at (is_some cause) flight closing out body next) (jobs_of flight) (no_bytes (pending_at flight out)) (shut_at (is_some cause) flight closing ended out body next)
+first_shown x service cause flight out tail journal closing ended body buffered next c due full =
+    first_is c due full (room_at (is_some cause) closing ended buffered) (ready_at (is_some cause) flight closing out body next) (jobs_of flight) (no_bytes (pending_at flight out tail)) (shut_at (is_some cause) flight closing ended out body next)
 
 no_bytes_is : (xs : List ℕ) → eqb (length xs) 0 ≡ no_bytes xs
 no_bytes_is [] = refl
 no_bytes_is (x ∷ xs) = let e : eqb (length (x ∷ xs)) 0 ≡ false = grind (arith, nat_tests) in e
 
 -- the same of what the code asks
-pub next_is : (x : Serves) (service : Service) (cause : Option StopCause) (flight : Option Flight) (out pending : List ℕ) (journal : List Entry) (closing ended : Bool) (body : Option BodyState) (buffered : List ℕ) (next : HeadStep) (c : ℕ) (due full : Bool) (room runs asks : Option ℕ) (empty shut : Bool) →
+pub next_is : (x : Serves) (service : Service) (cause : Option StopCause) (flight : Option Flight) (out : List ℕ) (tail : ℕ) (pending : List ℕ) (journal : List Entry) (closing ended : Bool) (body : Option BodyState) (buffered : List ℕ) (next : HeadStep) (c : ℕ) (due full : Bool) (room runs asks : Option ℕ) (empty shut : Bool) →
     room ≡ room_if due (room_at (is_some cause) closing ended buffered) → runs ≡ number_first (ready_at (is_some cause) flight closing out body next) → asks ≡ job_first (jobs_of flight) →
-    pending ≡ pending_at flight out → empty ≡ eqb (length pending) 0 → shut ≡ shut_at (is_some cause) flight closing ended out body next →
-    first_of c room runs asks (not full && not empty) shut ≡ first_doable due full (wants_at c (view_at x service cause flight out journal closing ended body buffered next))
-next_is x service cause flight out pending journal closing ended body buffered next c due full room runs asks empty shut er eu ea ep ee es =
+    pending ≡ pending_at flight out tail → empty ≡ eqb (length pending) 0 → shut ≡ shut_at (is_some cause) flight closing ended out body next →
+    first_of c room runs asks (not full && not empty) shut ≡ first_doable due full (wants_at c (view_at x service cause flight out tail journal closing ended body buffered next))
+next_is x service cause flight out tail pending journal closing ended body buffered next c due full room runs asks empty shut er eu ea ep ee es =
     ap (λ t. first_of c t runs asks (not full && not empty) shut) er
     ∙ ap (λ t. first_of c (room_if due (room_at (is_some cause) closing ended buffered)) t asks (not full && not empty) shut) eu
     ∙ ap (λ t. first_of c (room_if due (room_at (is_some cause) closing ended buffered)) (number_first (ready_at (is_some cause) flight closing out body next)) t (not full && not empty) shut) ea
     ∙ ap (λ t. first_of c (room_if due (room_at (is_some cause) closing ended buffered)) (number_first (ready_at (is_some cause) flight closing out body next)) (job_first (jobs_of flight)) (not full && not t) shut) (ee ∙ no_bytes_is pending ∙ ap no_bytes ep)
-    ∙ ap (λ t. first_of c (room_if due (room_at (is_some cause) closing ended buffered)) (number_first (ready_at (is_some cause) flight closing out body next)) (job_first (jobs_of flight)) (not full && not (no_bytes (pending_at flight out))) t) es
-    ∙ first_shown x service cause flight out journal closing ended body buffered next c due full
+    ∙ ap (λ t. first_of c (room_if due (room_at (is_some cause) closing ended buffered)) (number_first (ready_at (is_some cause) flight closing out body next)) (job_first (jobs_of flight)) (not full && not (no_bytes (pending_at flight out tail))) t) es
+    ∙ first_shown x service cause flight out tail journal closing ended body buffered next c due full

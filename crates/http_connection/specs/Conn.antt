@@ -110,22 +110,22 @@ shut_at stopped flight closing ended out body next = stopped ||
     ((closing || ended) && idle_at false flight closing out body next)
 
 -- the bytes that are to be written next
-abbrev pub pending_at : Option Flight → List ℕ → List ℕ
-pending_at flight out = pending_of flight out
+abbrev pub pending_at : Option Flight → List ℕ → (tail : ℕ) → List ℕ
+pending_at flight out tail = pending_of flight out tail
 
 abbrev pub no_entries : List Entry → Bool
 no_entries [] = true
 no_entries (entry ∷ journal) = false
 
 -- a connection by its parts
-abbrev pub view_at : Serves → Service → Option StopCause → Option Flight → List ℕ → List Entry → Bool
+abbrev pub view_at : Serves → Service → Option StopCause → Option Flight → List ℕ → (tail : ℕ) → List Entry → Bool
     → Bool →
     Option BodyState → List ℕ → HeadStep → ConnView
-view_at x service cause flight out journal closing ended body buffered next =
+view_at x service cause flight out tail journal closing ended body buffered next =
     record {
       held = true;
       cause = cause;
-      pending = pending_at flight out;
+      pending = pending_at flight out tail;
       starts = map start_of journal;
       logs = map log_of journal;
       course = record {
@@ -149,7 +149,7 @@ view_at x service cause flight out journal closing ended body buffered next =
 abbrev pub awaited_at : Conn → Awaited
 awaited_at conn = awaited_by
     (shut_at (is_some conn.cause) conn.flight conn.closing conn.ended conn.out conn.body conn.next)
-    (not (no_bytes (pending_at conn.flight conn.out)))
+    (not (no_bytes (pending_at conn.flight conn.out conn.tail)))
     (is_some conn.flight || starts conn.body conn.next)
     (no_entries conn.journal.items)
     (not (no_bytes conn.buffered))
@@ -165,7 +165,7 @@ until due v = record v { deadline = due }
 abbrev pub view_of : Serves → Conn → ConnView
 view_of x conn = until (due_at conn)
     (view_at x
-    (service_in x conn.local conn.peer) conn.cause conn.flight conn.out conn.journal.items
+    (service_in x conn.local conn.peer) conn.cause conn.flight conn.out conn.tail conn.journal.items
     conn.closing conn.ended conn.body conn.buffered conn.next)
 
 -- Each byte that is buffered may begin a head, whose request adds less than this to the bytes for its peer and to what is left to do
@@ -220,8 +220,8 @@ begun_by mark moment between buffered = if between && not (no_bytes buffered) th
 
 abbrev pub mark_ran : ℕ → Conn → Conn → ℕ
 mark_ran moment old new = mark_by old.times.mark moment
-    (not (no_bytes (pending_at old.flight old.out))) (in_flight old.flight old.out)
-    (not (no_bytes (pending_at new.flight new.out))) (in_flight new.flight new.out)
+    (not (no_bytes (pending_at old.flight old.out old.tail))) (in_flight old.flight old.out)
+    (not (no_bytes (pending_at new.flight new.out new.tail))) (in_flight new.flight new.out)
 
 -- The mark after an event at this moment. Each write sets it; so does the first byte that is buffered
 -- after a request that came to its end; and so does a step by which bytes come to be pending or a

@@ -23,7 +23,8 @@ use served_site::ServedSite;
 use std::alloc::Global;
 
 /// One connection: the bytes that are buffered and what they begin, the request in flight, the bytes that are kept for the
-/// peer, the journal of its requests, how long it waits, and how long it waits at least.
+/// peer, and how many of them are the tail of a body in chunks once a page is over, the journal of its requests, how long it
+/// waits, and how long it waits at least.
 #[derive(Drop)]
 pub struct Conn {
     pub(crate) local: Addr,
@@ -31,6 +32,7 @@ pub struct Conn {
     pub(crate) buffered: ByteQueue,
     pub(crate) flight: Option<Flight>,
     pub(crate) out: ByteQueue,
+    pub(crate) tail: usize,
     pub(crate) journal: Vec<Entry>,
     pub(crate) next: HeadStep,
     pub(crate) body: Option<BodyState>,
@@ -93,6 +95,7 @@ impl Conn {
             buffered,
             flight: None,
             out: ByteQueue::new(alloc),
+            tail: 0,
             journal: Vec::new(alloc),
             next,
             body: None,
@@ -110,9 +113,9 @@ impl Conn {
 
     /// The bytes that are to be written next.
     pub fn pending(&self) -> &[u8]
-        ensures { result.now ≡ pending_at self.now.flight self.now.out }
+        ensures { result.now ≡ pending_at self.now.flight self.now.out self.now.tail }
     {
-        pending(&self.flight, &self.out)
+        pending(&self.flight, &self.out, self.tail)
     }
 
     /// The job of a node; none where it has no job that waits.
@@ -245,7 +248,7 @@ impl Conn {
     {
         awaited_of(
             self.is_shut(),
-            is_pending(&self.flight, &self.out),
+            is_pending(&self.flight, &self.out, self.tail),
             self.flight.is_some() || self.starts(),
             is_fresh(&self.journal),
             !self.buffered.is_empty(),

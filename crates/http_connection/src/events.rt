@@ -126,10 +126,10 @@ impl Conn {
             }
             None => return StepAnswer::Skipped,
         }
-        let before = sending(&self.flight, &self.out);
+        let before = sending(&self.flight, &self.out, self.tail);
         match answered(alloc, &mut self.flight, node, &mut self.out, answer) {
             Ok(()) => {
-                let after = sending(&self.flight, &self.out);
+                let after = sending(&self.flight, &self.out, self.tail);
                 self.times.mark = marked(self.times.mark, moment, before, after);
                 StepAnswer::Done { taken: 0 }
             }
@@ -189,7 +189,7 @@ impl Conn {
             (Run conn node) result self.old self.new }
         ensures patterns { space.new.patterns ≡ space.old.patterns }
     {
-        let before = sending(&self.flight, &self.out);
+        let before = sending(&self.flight, &self.out, self.tail);
         let ground = match &self.flight {
             Some(flight) => served.ground(server_of(flight), length_of(flight)),
             None => unreachable!(),
@@ -216,11 +216,13 @@ impl Conn {
                     closing,
                     log,
                     level,
+                    tail,
                 },
             ) => {
                 finish(&mut self.journal, log);
                 self.closing = closing;
-                let after = sending(&self.flight, &self.out);
+                self.tail = tail;
+                let after = sending(&self.flight, &self.out, self.tail);
                 self.times.mark = marked(self.times.mark, moment, before, after);
                 paced_on(
                     &mut self.times.pace,
@@ -290,7 +292,8 @@ impl Conn {
             Ok(Ran::On(onward)) => {
                 put(&mut self.flight, onward.flight);
                 self.closing = onward.closing;
-                let after = sending(&self.flight, &self.out);
+                self.tail = onward.tail;
+                let after = sending(&self.flight, &self.out, self.tail);
                 self.times.mark = marked(self.times.mark, moment, AT_REST, after);
                 paced_on(
                     &mut self.times.pace,

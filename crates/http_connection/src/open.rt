@@ -73,6 +73,7 @@ pub(crate) fn refuse(
         closing: true,
         log: Some((code, size)),
         level,
+        tail: 0,
     })
 }
 

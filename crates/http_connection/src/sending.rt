@@ -20,10 +20,10 @@ pub(crate) fn begun(mark: u64, moment: u64, is_between: bool, buffered: &ByteQue
 }
 
 // Whether bytes are to be written next.
-pub(crate) fn is_pending(flight: &Option<Flight>, out: &ByteQueue) -> bool
-    ensures { result ≡ not (no_bytes (pending_at flight.now out.now)) }
+pub(crate) fn is_pending(flight: &Option<Flight>, out: &ByteQueue, tail: usize) -> bool
+    ensures { result ≡ not (no_bytes (pending_at flight.now out.now tail)) }
 {
-    !pending(flight, out).is_empty()
+    !pending(flight, out, tail).is_empty()
 }
 
 // Whether no request was started.
@@ -43,12 +43,12 @@ pub(crate) fn is_in_flight(flight: &Option<Flight>, out: &ByteQueue) -> bool
     }
 }
 
-pub(crate) fn sending(flight: &Option<Flight>, out: &ByteQueue) -> Sending
-    ensures pending { result.pending ≡ not (no_bytes (pending_at flight.now out.now)) }
+pub(crate) fn sending(flight: &Option<Flight>, out: &ByteQueue, tail: usize) -> Sending
+    ensures pending { result.pending ≡ not (no_bytes (pending_at flight.now out.now tail)) }
     ensures in_flight { result.in_flight ≡ in_flight flight.now out.now }
 {
     Sending {
-        pending: is_pending(flight, out),
+        pending: is_pending(flight, out, tail),
         in_flight: is_in_flight(flight, out),
     }
 }

@@ -35,6 +35,7 @@ fn with_broken(onward: Onward, broken: bool) -> Onward
         flight: onward.flight,
         log: onward.log,
         level: onward.level,
+        tail: onward.tail,
     }
 }
 

@@ -69,14 +69,17 @@ pub fn add(framing: &mut Option<ChunkState>, out: &mut Vec<u8>, bytes: &[u8], ro
     }
 }
 
-/// Adds the end of the body.
-pub fn end(framing: Option<ChunkState>, out: &mut Vec<u8>) -> Result<(), OutOfMemory>
+/// Adds the end of the body, and answers how many bytes it has.
+pub fn end(framing: Option<ChunkState>, out: &mut Vec<u8>) -> Result<usize, OutOfMemory>
     ensures ends { OnOk result (out.new.items ≡ out.old.items ++ framed_as framing []) }
+    ensures tail { IfOk result (λ tail. tail ≡ length (framed_as framing [])) }
     ensures len { vec_len out.old ≤ vec_len out.new }
 {
-    if let Some(mut chunks) = framing {
-        out.reserve(END_ROOM)?;
-        chunks.end(out);
-    }
-    Ok(())
+    let Some(mut chunks) = framing else {
+        return Ok(0);
+    };
+    let before = out.len();
+    out.reserve(END_ROOM)?;
+    chunks.end(out);
+    Ok(out.len() - before)
 }

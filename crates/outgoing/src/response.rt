@@ -1,6 +1,6 @@
 // The bytes of a response that are written next.
 ghost use Rattle.std.specs.Prelude.{◌≡◌, ℕ, ◌+◌, ◌*◌, ◌<◌, ◌≤◌, List, [], ◌++◌, length, take, drop, vec_len, vec_capacity, None, Some, is_some, IfOk, OnOk, OnErr, if◌then◌else◌};
-ghost use Rattle.outgoing.specs.Leaving.{Leaving, IsFull, most, to_come, waiting};
+ghost use Rattle.outgoing.specs.Leaving.{Leaving, IsFull, framed_as, most, to_come, waiting};
 
 use crate::framing::{add, begun, end};
 use byte_text::{ByteQueue, OutOfMemory};
@@ -149,14 +149,18 @@ impl Outgoing {
         Ok(())
     }
 
-    /// Ends the body, and hands all that is still to be written to the queue. After want of memory
-    /// the queue is as before.
-    pub fn finish(self, out: &mut ByteQueue) -> Result<(), OutOfMemory>
+    /// Ends the body, and hands all that is still to be written to the queue: how many of these
+    /// bytes are the tail of a body in chunks, its last chunk and the empty one; 0 of one that isn't
+    /// in chunks. After want of memory the queue is as before.
+    pub fn finish(self, out: &mut ByteQueue) -> Result<usize, OutOfMemory>
         ensures ok { OnOk result (out.new ≡ out.old ++ to_come self []) }
+        ensures tail { IfOk result (λ tail. tail ≡ length (framed_as self.block [])) }
+        ensures few { waiting self.block < 4096 }
         ensures err { OnErr result (out.new ≡ out.old) }
     {
         let mut bytes = self.bytes;
-        end(self.framing, &mut bytes)?;
-        out.append(&bytes.as_slice()[self.start..])
+        let tail = end(self.framing, &mut bytes)?;
+        out.append(&bytes.as_slice()[self.start..])?;
+        Ok(tail)
     }
 }

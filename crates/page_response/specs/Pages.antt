@@ -1,5 +1,5 @@
 -- What is still to come of a page of parts.
-use Rattle.std.specs.Prelude.{◌≡◌, ℕ, ◌+◌, ◌*◌, false, List, length}
+use Rattle.std.specs.Prelude.{◌≡◌, ℕ, ◌+◌, ◌*◌, ◌<◌, false, is_some, Option, List, [], ◌++◌, length}
 use Rattle.file_tree.specs.Tree.{Trees}
 use Rattle.ngx_pattern.specs.Pattern.{Pattern as SetPattern}
 use Rattle.site_model.specs.declared.site.Site.{Site}
@@ -12,7 +12,7 @@ use Rattle.family_meaning.specs.Line.{Left}
 use Rattle.family_order.specs.Acts.{IsOver}
 use Rattle.family_rest.specs.Reached.{Reached}
 use Rattle.family_rest.specs.Still.{still, subs_still}
-use Rattle.outgoing.specs.Leaving.{to_come}
+use Rattle.outgoing.specs.Leaving.{framed_as, to_come, waiting}
 use Rattle.subrequests.specs.Moved.{files, meant}
 use Rattle.page_response.specs.declared.pages.Pages.{Pages}
 
@@ -49,6 +49,16 @@ IsReached w patterns site p = (texts : ℕ → List ℕ) → Reached w (meant w 
 -- All its nodes are over but that of the main request, which has come to its answer.
 abbrev pub IsAllOver : World → List SetPattern → Site → Trees → Pages → Type 0
 IsAllOver w patterns site trees p = (answer : Answer) × IsOver (meant w patterns site (files trees p.family) p.family) answer
+
+-- What is kept ends in the tail of a body in chunks, of `tail` bytes: the chunk of what is left for no whole block, where there is
+-- any, and the empty chunk. A body that isn't in chunks has no tail.
+pub record EndsIn (before : Option (List ℕ)) (tail : ℕ) (out : List ℕ) : Type 0 where
+  pub front : List ℕ
+  pub block : Option (List ℕ)
+  pub kind : is_some block ≡ is_some before
+  pub few : waiting block < 4096
+  pub ends : out ≡ front ++ framed_as block []
+  pub size : tail ≡ length (framed_as block [])
 
 -- no node goes on
 abbrev pub AreClosed : List Piece → Type 0

@@ -5,4 +5,4 @@
 
 mod pages;
 
-pub use pages::Pages;
+pub use pages::{Finished, Pages};

@@ -1,5 +1,5 @@
 // A page of parts on its way to the peer.
-ghost use Rattle.std.specs.Prelude.{◌≡◌, ◌≤◌, ◌<◌, ◌+◌, ◌++◌, ℕ, List, [], IfOk, IfSome, OnOk, Some, None, length, take, slice_get, true, if◌then◌else◌};
+ghost use Rattle.std.specs.Prelude.{◌≡◌, ◌≤◌, ◌<◌, ◌+◌, ◌++◌, ℕ, List, [], IfOk, IfSome, OnOk, Some, None, is_some, length, take, slice_get, true, if◌then◌else◌};
 ghost use Rattle.file_tree.specs.Tree.{Trees};
 ghost use Rattle.ngx_pattern.specs.Pattern.{Pattern as SetPattern};
 ghost use Rattle.outgoing.specs.Leaving.{most, to_come};
@@ -8,7 +8,7 @@ ghost use Rattle.request_meaning.specs.Serving.{World};
 ghost use Rattle.request_phases.specs.Rounds.{IsGround};
 ghost use Rattle.site_model.specs.declared.site.Site.{Site as SiteRow};
 ghost use Rattle.subrequests.specs.Moved.{IsFromAt, IsWhole, fits_at};
-ghost use Rattle.page_response.specs.Pages.{AreClosed, IsAllOver, IsReached, IsSame, bytes_left, nodes_asked, pages_left, whole_length};
+ghost use Rattle.page_response.specs.Pages.{AreClosed, EndsIn, IsAllOver, IsReached, IsSame, bytes_left, nodes_asked, pages_left, whole_length};
 ghost use Rattle.page_response.specs.Ran.{RunsTo};
 
 use byte_text::{ByteQueue, OutOfMemory};
@@ -34,6 +34,14 @@ pub struct Pages {
     pub steps: u64,
 }
 
+/// What a page that is over was: how many bytes its body has; and how many of the bytes that are kept for the peer
+/// are the tail of a body in chunks, its last chunk and the empty one, 0 of one that isn't in chunks.
+#[derive(Clone, Copy)]
+pub struct Finished {
+    pub size: u64,
+    pub tail: usize,
+}
+
 /// A page takes no more steps than this.
 const MOST_STEPS: u64 = u64::MAX;
 
@@ -55,6 +63,7 @@ fn put_rest(order: &mut Order, outgoing: &mut Outgoing, sent: u64) -> Result<u64
         ≡ to_come outgoing.old (filled (λ _. []) order.old.pieces ++ more)) }
     ensures log { IfOk result (λ total. AreClosed order.old.pieces →
         total ≡ sent + length (filled (λ _. []) order.old.pieces)) }
+    ensures kind { OnOk result (is_some outgoing.new.block ≡ is_some outgoing.old.block) }
 {
     let mut sent = sent;
     for _ in 0..MOST_PIECES {
@@ -238,18 +247,19 @@ impl Pages {
     }
 
     /// A page whose nodes are all over is put after what is kept for the peer, whole: how many
-    /// bytes its body has.
+    /// bytes its body has, and its tail.
     ///
     /// # Errors
     /// `OutOfMemory`.
-    pub fn finish(self, out: &mut ByteQueue) -> Result<u64, OutOfMemory>
+    pub fn finish(self, out: &mut ByteQueue) -> Result<Finished, OutOfMemory>
         requires { IsWhole self.family }
         ensures put { OnOk result ((w : World) (patterns : List SetPattern) (site : SiteRow)
             (trees : Trees) → IsAllOver w patterns site trees self
             → out.new ≡ out.old ++ bytes_left w patterns site trees self) }
-        ensures log { IfOk result (λ size. (w : World) (patterns : List SetPattern) (site : SiteRow)
+        ensures log { IfOk result (λ f. (w : World) (patterns : List SetPattern) (site : SiteRow)
             (trees : Trees) → IsAllOver w patterns site trees self
-            → size ≡ whole_length w patterns site trees self) }
+            → f.size ≡ whole_length w patterns site trees self) }
+        ensures tail { IfOk result (λ f. EndsIn self.outgoing.block f.tail out.new) }
     {
         let Pages {
             family,
@@ -262,8 +272,8 @@ impl Pages {
         let Family { mut order, .. } = family;
         let mut outgoing = outgoing;
         order.end(0);
-        let sent = put_rest(&mut order, &mut outgoing, sent)?;
-        outgoing.finish(out)?;
-        Ok(sent)
+        let size = put_rest(&mut order, &mut outgoing, sent)?;
+        let tail = outgoing.finish(out)?;
+        Ok(Finished { size, tail })
     }
 }

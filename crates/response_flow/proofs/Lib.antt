@@ -2,3 +2,4 @@ mod Begins
 mod Goes
 mod Writing
 mod Wanting
+mod Showing

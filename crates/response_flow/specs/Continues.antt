@@ -42,7 +42,7 @@ IfOn TooMany P = Unit {0}
 
 -- what ran in its place, with the flight that is there then
 abbrev pub ran_in : Option Flight → Passed → Ran
-ran_in flight (passes.On closing log level) = On (record { flight = flight; closing = closing; log = log; level = level })
+ran_in flight (passes.On closing log level tail) = On (record { flight = flight; closing = closing; log = log; level = level; tail = tail })
 ran_in flight passes.TooMany = TooMany
 
 -- a node of a page that ran in its place: whether that ends the page; none where it asks for too many subrequests

@@ -1,5 +1,5 @@
 -- A response in flight: what is still to come of it, what it waits for, and how far it is.
-use Rattle.std.specs.Prelude.{◌≡◌, ℕ, ◌≤◌, ◌+◌, ◌-◌, ◌*◌, ◌^◌, ◌==◌, Bool, true, false, not, ◌&&◌, ◌||◌, List, [], ◌∷◌, length, take, is_none, Option, None, Some, if◌then◌else◌}
+use Rattle.std.specs.Prelude.{◌≡◌, ℕ, ◌≤◌, ◌+◌, ◌-◌, ◌*◌, ◌/◌, ◌^◌, ◌==◌, min, nat_le, Bool, true, false, not, ◌&&◌, ◌||◌, List, [], ◌∷◌, length, take, is_none, Option, None, Some, if◌then◌else◌}
 use Rattle.file_tree.specs.Tree.{Trees}
 use Rattle.ngx_outside.specs.Views.{Job, no_bytes}
 use Rattle.ngx_pattern.specs.Pattern.{Pattern as SetPattern}
@@ -58,9 +58,30 @@ abbrev pub pending_by : Flight → List ℕ → List ℕ
 pending_by (Alone flow) out = take (shown_by flow.value.stage) out
 pending_by (Page p) out = p.pages.value.outgoing.pending
 
-abbrev pub pending_of : Option Flight → List ℕ → List ℕ
-pending_of None out = take shown_most out
-pending_of (Some flight) out = pending_by flight out
+-- How many bytes are shown of those that are kept once a response is over. Of a body in chunks whole chunks are shown, of 4104
+-- bytes, as long as they fit; and its tail, its last chunk and the empty one, where 4107 bytes fit. Chunks end at all that is kept
+-- without the tail, and at whole chunks before. A body that isn't in chunks has no tail.
+unfoldable pub shown_kept : (tail size : ℕ) → ℕ
+shown_kept tail size =
+    if tail == 0 || nat_le (size - tail + 4107) shown_most then min size shown_most
+    else size - tail - 4104 * ((size - tail - shown_most + 4103) / 4104)
+
+-- What is shown of `size` bytes is at most 65536; no less than ends at any whole chunk that fits; and whatever is written of it,
+-- the rest of it is still shown then.
+pub record ShowsMost (tail size : ℕ) : Type 0 where
+  pub few : shown_kept tail size ≤ shown_most
+  pub most : (chunks : ℕ) → size - tail - 4104 * chunks ≤ shown_most → size - tail - 4104 * chunks ≤ shown_kept tail size
+  pub stays : (count : ℕ) → count ≤ shown_kept tail size → shown_kept tail size ≤ count + shown_kept tail (size - count)
+
+-- the bytes that are written next, where the last `tail` of those that are kept are the tail of a body in chunks
+abbrev pub pending_of : Option Flight → List ℕ → (tail : ℕ) → List ℕ
+pending_of None out tail = take (shown_kept tail (length out)) out
+pending_of (Some flight) out tail = pending_by flight out
+
+-- those of which they are the first
+abbrev pub unsent_of : Option Flight → List ℕ → List ℕ
+unsent_of None out = out
+unsent_of (Some flight) out = pending_by flight out
 
 abbrev pub jobs_by : Flight → List Job
 jobs_by (Alone flow) = flow_jobs (Some flow)

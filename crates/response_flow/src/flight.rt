@@ -24,14 +24,16 @@ pub enum Flight {
 }
 
 /// What became of a request that went on: how it goes on, if it isn't over; whether the connection
-/// closes after it; its status and the length of its body in bytes once it is over; and the number
-/// of the level that answers where its head was put now.
+/// closes after it; its status and the length of its body in bytes once it is over; the number
+/// of the level that answers where its head was put now; and once a page is over, how many of the
+/// bytes that are kept are the tail of a body in chunks, else 0.
 #[derive(Drop)]
 pub struct Onward {
     pub flight: Option<Flight>,
     pub closing: bool,
     pub log: Option<(u16, u64)>,
     pub level: Option<u32>,
+    pub tail: usize,
 }
 
 /// What became of a request that ran.
@@ -43,13 +45,15 @@ pub enum Ran {
 }
 
 /// What became of a request that ran in its place, where it is kept how it goes on: whether the connection closes after
-/// it, what is logged, and the number of the level that answers.
+/// it, what is logged, the number of the level that answers, and how many of the bytes that are kept are the tail of a body
+/// in chunks.
 #[derive(Drop)]
 pub enum Passed {
     On {
         closing: bool,
         log: Option<(u16, u64)>,
         level: Option<u32>,
+        tail: usize,
     },
     /// It asks for one subrequest more than the thousand that are opened for one response.
     TooMany,

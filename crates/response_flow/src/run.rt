@@ -83,6 +83,7 @@ fn alone(onward: FlowOnward) -> Onward
         closing,
         log,
         level,
+        tail: 0,
     }
 }
 
@@ -109,15 +110,16 @@ fn ends(
 {
     row_tells_still();
     let status = pages.status;
-    let size = pages.finish(out)?;
+    let finished = pages.finish(out)?;
     if out.len() > MOST_KEPT {
         return Err(OutOfMemory);
     }
     Ok(Onward {
         flight: None,
         closing,
-        log: Some((status, size)),
+        log: Some((status, finished.size)),
         level,
+        tail: finished.tail,
     })
 }
 
@@ -181,6 +183,7 @@ fn run_page(
                 closing,
                 log: None,
                 level,
+                tail: 0,
             }))
         }
         Ok(FamilyRan::TooMany) => {
@@ -330,12 +333,14 @@ fn goes_on(flight: &mut Option<Flight>, onward: Onward) -> Passed
         closing,
         log,
         level,
+        tail,
     } = onward;
     put(flight, next);
     Passed::On {
         closing,
         log,
         level,
+        tail,
     }
 }
 
@@ -448,6 +453,7 @@ fn sends(flight: &mut Option<Flight>, size: usize, closing: bool) -> Passed
         closing,
         log,
         level: None,
+        tail: 0,
     }
 }
 
@@ -516,6 +522,7 @@ pub fn run_in_place(
             closing,
             log: None,
             level: None,
+            tail: 0,
         }),
         None => Ok(Passed::TooMany),
     }

@@ -1,5 +1,5 @@
 // What a response waits for, and what is written of it.
-ghost use Rattle.std.specs.Prelude.{◌≡◌, ◌≤◌, ◌<◌, ◌+◌, ℕ, List, take, length, option_copied, is_some, Some};
+ghost use Rattle.std.specs.Prelude.{◌≡◌, ◌≤◌, ◌<◌, ◌+◌, ◌-◌, ◌*◌, ◌/◌, ℕ, List, take, length, option_copied, is_some, Some};
 ghost use Rattle.file_tree.specs.Tree.{Trees};
 ghost use Rattle.ngx_outside.specs.Views.{ask_in};
 ghost use Rattle.ngx_pattern.specs.Pattern.{Pattern as SetPattern};
@@ -10,7 +10,7 @@ ghost use Rattle.subrequests.specs.Families.{over_node};
 ghost use Rattle.subrequests.specs.Moved.{IsWhole};
 ghost use Rattle.subrequests.specs.Wants.{first_job as job_first, first_of, is_among};
 ghost use Rattle.request_flow.specs.Flows.{shown_most};
-ghost use Rattle.response_flow.specs.Flights.{FlightFits, FlightReached, FlightServedBy, flight_left, flight_rest, flight_tree, are_done as are_done_nodes, ends_first as ends_first_page, is_last as is_last_node, is_stuck as is_stuck_page, jobs_of, pending_of, ready_of};
+ghost use Rattle.response_flow.specs.Flights.{FlightFits, FlightReached, FlightServedBy, flight_left, flight_rest, flight_tree, are_done as are_done_nodes, ends_first as ends_first_page, is_last as is_last_node, is_stuck as is_stuck_page, jobs_of, pending_of, ready_of, shown_kept, unsent_of};
 ghost use Rattle.response_flow.specs.Flights.{page_left};
 ghost use Rattle.response_flow.specs.Writes.{Writes, with_bytes};
 ghost use Rattle.outgoing.specs.Leaving.{most};
@@ -26,6 +26,36 @@ use request_flow::{may_run, shown_by, waits, wrote};
 /// No more bytes than these are shown as pending.
 const SHOWN: usize = 65536;
 
+/// How many bytes the chunk of a whole block has.
+const CHUNK: usize = 4104;
+
+/// The room that the tail of a body in chunks is given.
+const TAIL_ROOM: usize = 4107;
+
+/// How many of the bytes before a tail are shown, up to the end of a whole chunk, where the tail isn't shown.
+fn whole_chunks(before: usize) -> usize
+    requires { 61429 < before }
+    ensures { result ≡ before - 4104 * ((before - 65536 + 4103) / 4104) }
+{
+    let over = before.saturating_sub(SHOWN) + (CHUNK - 1);
+    before - over / CHUNK * CHUNK
+}
+
+/// How many bytes are shown of the `size` that are kept once a response is over, of which the last `tail` are the tail of a body in
+/// chunks.
+fn shown_in(tail: usize, size: usize) -> usize
+    ensures { result ≡ shown_kept tail size }
+{
+    if tail == 0 {
+        return size.min(SHOWN);
+    }
+    let before = size.saturating_sub(tail);
+    if before <= SHOWN - TAIL_ROOM {
+        return size.min(SHOWN);
+    }
+    whole_chunks(before)
+}
+
 fn first_bytes(out: &ByteQueue, most: usize) -> &[u8]
     ensures { result.now ≡ take most out.now }
 {
@@ -33,13 +63,13 @@ fn first_bytes(out: &ByteQueue, most: usize) -> &[u8]
     &bytes[..most.min(bytes.len())]
 }
 
-/// The bytes that are written next, where these are kept for the peer.
-#[tactic(auto, unfolding(request_flow::specs::Flows::shown_most))]
-pub fn pending<'a>(flight: &'a Option<Flight>, out: &'a ByteQueue) -> &'a [u8]
-    ensures { result.now ≡ pending_of flight.now out.now }
+/// The bytes that are written next, where these are kept for the peer, of which the last `tail` are the tail of a
+/// body in chunks once a page is over.
+pub fn pending<'a>(flight: &'a Option<Flight>, out: &'a ByteQueue, tail: usize) -> &'a [u8]
+    ensures { result.now ≡ pending_of flight.now out.now tail }
 {
     match flight {
-        None => first_bytes(out, SHOWN),
+        None => first_bytes(out, shown_in(tail, out.len())),
         Some(Flight::Alone(flow)) => first_bytes(out, shown_by(&flow.stage)),
         Some(Flight::Page(page)) => page.pages.outgoing.pending(),
     }
@@ -193,12 +223,12 @@ fn page_written(page: &mut PageFlow, count: usize)
 /// The first of the pending bytes were written, with the flight in its place. It takes no memory.
 pub fn written(flight: &mut Option<Flight>, out: &mut ByteQueue, count: usize)
     requires some { 0 < count }
-    requires count { count ≤ length (pending_of flight.old out.old) }
+    requires count { count ≤ length (unsent_of flight.old out.old) }
     requires fits { FlightFits flight.old (length out.old) }
     ensures writes { (w : World) (patterns : List SetPattern) (site : SiteRow) (trees : Trees) →
         Writes (flight_rest w patterns site flight.old trees)
         (flight_rest w patterns site flight.new trees)
-        out.old out.new (take count (pending_of flight.old out.old)) }
+        out.old out.new (take count (unsent_of flight.old out.old)) }
     ensures reached { (w : World) (patterns : List SetPattern) (site : SiteRow) →
         FlightReached w patterns site flight.old → FlightReached w patterns site flight.new }
     ensures fits { FlightFits flight.new (length out.new) }

@@ -5,7 +5,7 @@ use Rattle.page_response.proofs.Moving as moving
 use Rattle.page_response.proofs.pages.put_rest.Goals as goal
 
 pub loop-init : goal.loop-init
-loop-init c = record { put = λ more. refl; log = refl; closed = λ closed. closed }
+loop-init c = record { put = λ more. refl; log = refl; closed = λ closed. closed; kind = refl }
 
 pub loop-preserved : goal.loop-preserved
 loop-preserved c =
@@ -23,12 +23,16 @@ loop-preserved c =
           let before = i.log in
           omega (arith, total, both, before);
       closed = λ closed j. c.used.ensures.opened j ∙ i.closed closed j;
+      kind = c.in_ok-put_all.ensures.kind ∙ i.kind;
     }
 
 pub returns-then-count-eq0-clause-put : goal.returns-then-count-eq0-clause-put
 returns-then-count-eq0-clause-put c = λ closed more.
     let none = moving.none_left c.loop.order.pieces (ap length (sym c.front-front.ensures.value) ∙ c.if-count-eq0.true) c.front-front.ensures.gives (c.loop.invariant.closed closed) in
     ap (λ xs. to_come c.loop.outgoing (xs ++ more)) (sym none) ∙ c.loop.invariant.put more
+
+pub returns-then-count-eq0-clause-kind : goal.returns-then-count-eq0-clause-kind
+returns-then-count-eq0-clause-kind c = c.loop.invariant.kind
 
 pub returns-then-count-eq0-clause-log : goal.returns-then-count-eq0-clause-log
 returns-then-count-eq0-clause-log c = λ closed.

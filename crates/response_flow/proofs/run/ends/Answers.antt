@@ -6,9 +6,9 @@ use Rattle.response_flow.proofs.run.ends.Goals as goal
 
 pub returns-clause-ends : goal.returns-clause-ends
 returns-clause-ends c = λ w patterns site trees before from first over continues.
-    goes.ends c.row_tells_still.ensures w patterns site trees c.args.pages before from c.finish.new.out first c.args.closing c.in_ok-size.size c.args.level c.requires.whole over
-    (c.in_ok-size.ensures.put w patterns site trees over ∙ ap (λ o. o ++ bytes_left w patterns site trees c.args.pages) c.requires.unsent)
-    (c.in_ok-size.ensures.log w patterns site trees over) continues
+    goes.ends c.row_tells_still.ensures w patterns site trees c.args.pages before from c.finish.new.out first c.args.closing c.in_ok-finished.finished.size c.args.level c.requires.whole over
+    (c.in_ok-finished.ensures.put w patterns site trees over ∙ ap (λ o. o ++ bytes_left w patterns site trees c.args.pages) c.requires.unsent)
+    (c.in_ok-finished.ensures.log w patterns site trees over) continues
 
 pub returns-clause-kept : goal.returns-clause-kept
 unfolding most_kept

@@ -47,7 +47,7 @@ returns-in-Ok-clause-steps c = λ x now conn.
         ask = job;
         waits = asks;
         fits = fits;
-        went = went_until _ _ _ _ _ [] [] [] (goes_went x (Answers job c.args.answer) service s.cause s.flight f' s.out out' s.journal.items s.journal.items s.closing s.closing s.ended s.body s.buffered s.next None live refl refl (sym (append-nil (logged_in s.journal.items))) (subst (λ b. IsLogged b s.journal.items) (ap is_some is ∙ ap is_some p) (s.logged live))
+        went = went_until _ _ _ _ _ [] [] [] (goes_went x (Answers job c.args.answer) service s.cause s.flight f' s.out out' s.tail s.tail s.journal.items s.journal.items s.closing s.closing s.ended s.body s.buffered s.next None live refl refl (sym (append-nil (logged_in s.journal.items))) (subst (λ b. IsLogged b s.journal.items) (ap is_some is ∙ ap is_some p) (s.logged live))
             (λ trees from. told_keeps x s.flight flight there.0 f' s.out out' s.closing trees is p by
             (told_in_place x s.flight flight there.0 f' s.out out' s.closing trees is p (told.goes (world_of x flight) x.patterns x.served.site trees s.closing job asks from)) led));
       };
@@ -66,7 +66,7 @@ returns-in-Err-clause-steps c = λ x now conn.
     let flies = flies_by s.flight c.args.node c.in-Some.ask.now (sym c.ask.ensures ∙ ap option_copied c.in-Some.is) in
     let live = waits_live s.cause s.flight flies.0 s.quit flies.1 in
     record {
-      own = λ tells led course. refused_until _ _ now _ _ (refused x now service s.cause s.flight c.put.new.slot s.out c.clear.new.self s.journal.items s.journal.items s.closing s.closing s.ended s.ended s.body s.body s.buffered s.buffered s.next s.next live c.put.ensures c.clear.ensures refl);
+      own = λ tells led course. refused_until _ _ now _ _ (refused x now service s.cause s.flight c.put.new.slot s.out c.clear.new.self s.tail s.tail s.journal.items s.journal.items s.closing s.closing s.ended s.ended s.body s.body s.buffered s.buffered s.next s.next live c.put.ensures c.clear.ensures refl);
       reached = λ led. ∣ subst (ReachedIn x) (sym c.put.ensures) tt ∣₁;
       left = stopped_left stop.Memory s.cause s.flight c.put.new.slot s.out c.clear.new.self s.closing s.closing s.buffered s.buffered live;
       ended = refl;

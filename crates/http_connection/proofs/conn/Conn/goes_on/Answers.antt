@@ -42,7 +42,7 @@ returns-in-Ok-On-clause-steps c = λ now conn.
     let flight = c.in-Some.flight in
     let f' = c.run_in_place.new.flight in
     let ran = ran_in f' c.in-Ok-On.field-0 in
-    let onward : Onward = record { flight = f'; closing = c.in-Ok-On.closing; log = c.in-Ok-On.log; level = c.in-Ok-On.level } in
+    let onward : Onward = record { flight = f'; closing = c.in-Ok-On.closing; log = c.in-Ok-On.log; level = c.in-Ok-On.level; tail = c.in-Ok-On.tail } in
     let on : ran ≡ On onward = ap (ran_in f') c.in-Ok-On.field-0-is in
     let is : s.flight ≡ Some flight = c.in-Some.is in
     let live = waits_live s.cause s.flight flight s.quit is in
@@ -58,7 +58,7 @@ returns-in-Ok-On-clause-steps c = λ now conn.
     record {
       own = λ tells led course. (
         ready_contains (ready_at (is_some s.cause) s.flight s.closing s.out s.body s.next) c.args.node c.requires.ready,
-        Goes [] (inl refl) (went_until _ _ _ _ _ [] [] [] (goes_went x (Raceless x.served.raceless) service s.cause s.flight f' s.out c.run_in_place.new.out s.journal.items c.finish.new.journal.items s.closing onward.closing s.ended s.body s.buffered s.next onward.log live (same_length s.journal.items c.finish.new.journal.items starts) starts c.finish.ensures.log
+        Goes [] (inl refl) (went_until _ _ _ _ _ [] [] [] (goes_went x (Raceless x.served.raceless) service s.cause s.flight f' s.out c.run_in_place.new.out s.tail onward.tail s.journal.items c.finish.new.journal.items s.closing onward.closing s.ended s.body s.buffered s.next onward.log live (same_length s.journal.items c.finish.new.journal.items starts) starts c.finish.ensures.log
             (subst (λ b. IsLogged b c.finish.new.journal.items) (not_over (is_some onward.log) (is_some onward.flight) over ∙ ap is_some p) c.finish.ensures.logged)
             (λ trees told. ran_keeps x g s.flight flight onward f' s.out c.run_in_place.new.out s.closing trees p runs by (λ raceless reached. on_runs _ _ _ _ _ _ _ _ ran onward on (runs_of _ _ _ trees s.flight flight _ _ _ ran is (c.in-Ok-On.ensures.runs trees raceless) reached)) tells led told))),
       );
@@ -86,7 +86,7 @@ returns-in-Ok-TooMany-clause-steps c = λ now conn.
     record {
       own = λ tells led course. ran_until _ _ _ now c.args.node _ _ (
         ready_contains (ready_at (is_some s.cause) s.flight s.closing s.out s.body s.next) c.args.node c.requires.ready,
-        goes_halts x now service 1000 s.cause s.flight f' s.out out' s.journal.items s.journal.items s.closing s.closing s.ended s.ended s.body s.body s.buffered s.buffered s.next s.next live c.put.ensures c.clear.ensures refl
+        goes_halts x now service 1000 s.cause s.flight f' s.out out' s.tail s.tail s.journal.items s.journal.items s.closing s.closing s.ended s.ended s.body s.body s.buffered s.buffered s.next s.next live c.put.ensures c.clear.ensures refl
             (λ told trees. ran_over x g s.flight flight trees runs (λ raceless reached. over_runs _ _ _ _ _ _ _ _ ran (ap (ran_in was') c.in-Ok-TooMany.field-0-is) (runs_of _ _ _ trees s.flight flight _ _ _ ran is (c.in-Ok-TooMany.ensures.runs trees raceless) reached)) tells led told),
       );
       reached = λ led. ∣ subst (ReachedIn x) (sym c.put.ensures) tt ∣₁;
@@ -104,7 +104,7 @@ returns-in-Err-clause-steps c = λ now conn.
     let is : s.flight ≡ Some c.in-Some.flight = c.in-Some.is in
     let live = waits_live s.cause s.flight c.in-Some.flight s.quit is in
     record {
-      own = λ tells led course. refused_until _ _ now _ _ (refused x now service s.cause s.flight c.put-in-Err.new.slot s.out c.clear-in-Err.new.self s.journal.items s.journal.items s.closing s.closing s.ended s.ended s.body s.body s.buffered s.buffered s.next s.next live c.put-in-Err.ensures c.clear-in-Err.ensures refl);
+      own = λ tells led course. refused_until _ _ now _ _ (refused x now service s.cause s.flight c.put-in-Err.new.slot s.out c.clear-in-Err.new.self s.tail s.tail s.journal.items s.journal.items s.closing s.closing s.ended s.ended s.body s.body s.buffered s.buffered s.next s.next live c.put-in-Err.ensures c.clear-in-Err.ensures refl);
       reached = λ led. ∣ subst (ReachedIn x) (sym c.put-in-Err.ensures) tt ∣₁;
       left = stopped_left stop.Memory s.cause s.flight c.put-in-Err.new.slot s.out c.clear-in-Err.new.self s.closing s.closing s.buffered s.buffered live;
       ended = refl;
@@ -119,7 +119,7 @@ returns-in-Ok-On-clause-times c = λ now conn m.
     let flight = c.in-Some.flight in
     let f' = c.run_in_place.new.flight in
     let ran = ran_in f' c.in-Ok-On.field-0 in
-    let onward : Onward = record { flight = f'; closing = c.in-Ok-On.closing; log = c.in-Ok-On.log; level = c.in-Ok-On.level } in
+    let onward : Onward = record { flight = f'; closing = c.in-Ok-On.closing; log = c.in-Ok-On.log; level = c.in-Ok-On.level; tail = c.in-Ok-On.tail } in
     let on : ran ≡ On onward = ap (ran_in f') c.in-Ok-On.field-0-is in
     let is : s.flight ≡ Some flight = c.in-Some.is in
     let g = c.ground-ground.result in
@@ -140,7 +140,7 @@ pub returns-in-Ok-TooMany-clause-times : goal.returns-in-Ok-TooMany-clause-times
 returns-in-Ok-TooMany-clause-times c = λ now conn m.
     let s = c.args.self.now in
     record {
-      mark = c.marked-self.ensures ∙ mark_rests s.times.mark c.args.moment now.moment _ _ _ _ c.put.new.slot c.clear.new.self m c.sending-before.ensures.pending c.sending-before.ensures.in_flight c.put.ensures c.clear.ensures;
+      mark = c.marked-self.ensures ∙ mark_rests s.times.mark c.args.moment now.moment _ _ _ _ c.put.new.slot c.clear.new.self s.tail m c.sending-before.ensures.pending c.sending-before.ensures.in_flight c.put.ensures c.clear.ensures;
       head = refl;
       pace = λ alive. cc;
     }
@@ -151,7 +151,7 @@ invariant_of-self-in-Ok-On c =
     let flight = c.in-Some.flight in
     let f' = c.run_in_place.new.flight in
     let ran = ran_in f' c.in-Ok-On.field-0 in
-    let onward : Onward = record { flight = f'; closing = c.in-Ok-On.closing; log = c.in-Ok-On.log; level = c.in-Ok-On.level } in
+    let onward : Onward = record { flight = f'; closing = c.in-Ok-On.closing; log = c.in-Ok-On.log; level = c.in-Ok-On.level; tail = c.in-Ok-On.tail } in
     let on : ran ≡ On onward = ap (ran_in f') c.in-Ok-On.field-0-is in
     let is : s.flight ≡ Some flight = c.in-Some.is in
     let live = waits_live s.cause s.flight flight s.quit is in

@@ -41,9 +41,9 @@ returns-in-Ok-On-clause-steps c = λ conn.
     (ran_over x site start (length s.journal.items) s.next s.buffered n.buffered n.body f' s.out n.out o.closing o.log ran)) in
     record {
       own = λ tells led course. ran_until _ _ _ start 0 _ _ (subst
-          (λ f. Contains (ready_at (is_some s.cause) f s.closing s.out s.body s.next) 0 × Ran start (view_at x site s.cause f s.out s.journal.items s.closing s.ended s.body s.buffered s.next) (view_at x site s.cause f' n.out n.journal.items o.closing s.ended n.body n.buffered n.next)) (sym c.requires.none) (
+          (λ f. Contains (ready_at (is_some s.cause) f s.closing s.out s.body s.next) 0 × Ran start (view_at x site s.cause f s.out s.tail s.journal.items s.closing s.ended s.body s.buffered s.next) (view_at x site s.cause f' n.out o.tail n.journal.items o.closing s.ended n.body n.buffered n.next)) (sym c.requires.none) (
             node_ready (starts_at (is_some s.cause) s.closing s.out s.body s.next) c.requires.ready,
-            ran_went x c.head_stays.ensures c.refusal_stays.ensures c.size_fits.ensures site start s.cause f' s.out n.out s.journal.items n.journal.items entry.0 s.closing o.closing s.ended s.body n.body s.buffered n.buffered s.next n.next o.log st.0 st.1 st.3 looked entry.1 (entry.2 ∙ ap log_ran on) entry.3 tells ran told,
+            ran_went x c.head_stays.ensures c.refusal_stays.ensures c.size_fits.ensures site start s.cause f' s.out n.out s.tail o.tail s.journal.items n.journal.items entry.0 s.closing o.closing s.ended s.body n.body s.buffered n.buffered s.next n.next o.log st.0 st.1 st.3 looked entry.1 (entry.2 ∙ ap log_ran on) entry.3 tells ran told,
           ));
       reached = λ led. ∣ subst (ReachedIn x) p (on_by _ ran' o on c.in-Ok-On.ensures.reached) ∣₁;
       left = subst (λ f. left_at s.cause f' n.out o.closing n.buffered < left_at s.cause f s.out s.closing s.buffered) (sym c.requires.none)
@@ -72,9 +72,9 @@ returns-in-Ok-TooMany-clause-steps c = λ conn.
     let told : IsLogged false s.journal.items = subst (λ f. IsLogged (is_some f) s.journal.items) c.requires.none (s.logged st.0) in
     record {
       own = λ tells led course. ran_until _ _ _ start 0 _ _ (subst
-          (λ f. Contains (ready_at (is_some s.cause) f s.closing s.out s.body s.next) 0 × Ran start (view_at x site s.cause f s.out s.journal.items s.closing s.ended s.body s.buffered s.next) (view_at x site (Some (stop.SubLimit 1000)) f' out' n.journal.items s.closing s.ended None buffered' n.next)) (sym c.requires.none) (
+          (λ f. Contains (ready_at (is_some s.cause) f s.closing s.out s.body s.next) 0 × Ran start (view_at x site s.cause f s.out s.tail s.journal.items s.closing s.ended s.body s.buffered s.next) (view_at x site (Some (stop.SubLimit 1000)) f' out' s.tail n.journal.items s.closing s.ended None buffered' n.next)) (sym c.requires.none) (
             node_ready (starts_at (is_some s.cause) s.closing s.out s.body s.next) c.requires.ready,
-            ran_halts x c.head_stays.ensures c.size_fits.ensures site start 1000 s.cause f' s.out out' s.journal.items n.journal.items entry.0 s.closing s.closing s.ended s.ended s.body None s.buffered buffered' s.next n.next st.0 st.1 st.3 looked c.put.ensures c.clear.ensures entry.1 (entry.2 ∙ ap log_ran over) entry.3 tells ran told,
+            ran_halts x c.head_stays.ensures c.size_fits.ensures site start 1000 s.cause f' s.out out' s.tail s.tail s.journal.items n.journal.items entry.0 s.closing s.closing s.ended s.ended s.body None s.buffered buffered' s.next n.next st.0 st.1 st.3 looked c.put.ensures c.clear.ensures entry.1 (entry.2 ∙ ap log_ran over) entry.3 tells ran told,
           ));
       reached = λ led. ∣ subst (ReachedIn x) (sym c.put.ensures) tt ∣₁;
       left = stopped_left (stop.SubLimit 1000) s.cause s.flight f' s.out out' s.closing s.closing s.buffered buffered' st.0;
@@ -91,7 +91,7 @@ returns-in-Err-clause-steps c = λ conn.
     let start : Start = record { moment = c.args.moment; tree = c.args.tree } in
     let st = starts_if (is_some s.cause) s.closing s.out s.body s.next c.requires.ready in
     record {
-      own = λ tells led course. refused_until _ _ start _ _ (refused x start (service_in x s.local s.peer) s.cause s.flight c.put-in-Err.new.slot s.out c.clear-in-Err.new.self s.journal.items n.journal.items s.closing s.closing s.ended s.ended s.body None s.buffered c.clear-in-Err-2.new.self s.next n.next st.0 c.put-in-Err.ensures c.clear-in-Err.ensures c.in-Err.ensures.kept);
+      own = λ tells led course. refused_until _ _ start _ _ (refused x start (service_in x s.local s.peer) s.cause s.flight c.put-in-Err.new.slot s.out c.clear-in-Err.new.self s.tail s.tail s.journal.items n.journal.items s.closing s.closing s.ended s.ended s.body None s.buffered c.clear-in-Err-2.new.self s.next n.next st.0 c.put-in-Err.ensures c.clear-in-Err.ensures c.in-Err.ensures.kept);
       reached = λ led. ∣ subst (ReachedIn x) (sym c.put-in-Err.ensures) tt ∣₁;
       left = stopped_left stop.Memory s.cause s.flight c.put-in-Err.new.slot s.out c.clear-in-Err.new.self s.closing s.closing s.buffered c.clear-in-Err-2.new.self st.0;
       ended = refl;
@@ -134,7 +134,7 @@ returns-in-Ok-On-clause-times c = λ conn.
     let now : Start = record { moment = c.args.moment; tree = c.args.tree } in
     let st = starts_if (is_some s.cause) s.closing s.out s.body s.next c.requires.ready in
     record {
-      mark = mark_begins s.times.mark c.args.moment c.marked-self.result _ _ s.flight s.out _ _ c.marked-self.ensures c.requires.none st.4 c.sending-after.ensures.pending c.sending-after.ensures.in_flight;
+      mark = mark_begins s.times.mark c.args.moment c.marked-self.result _ _ s.flight s.out s.tail _ _ c.marked-self.ensures c.requires.none st.4 c.sending-after.ensures.pending c.sending-after.ensures.in_flight;
       head = refl;
       pace = λ on. subst (λ f. PaceRan x now f s c.put-in-Ok-On.new.slot c.paced_on.new.pace) (sym c.requires.none) (record {
         told = values_at c.args.served.now c.in-Ok-On.onward.level;
@@ -148,7 +148,7 @@ returns-in-Ok-TooMany-clause-times c = λ conn.
     let s = c.args.self.now in
     let st = starts_if (is_some s.cause) s.closing s.out s.body s.next c.requires.ready in
     record {
-      mark = mark_starts s.times.mark c.args.moment s.flight c.put.new.slot s.out c.clear.new.self c.requires.none st.4 c.put.ensures c.clear.ensures;
+      mark = mark_starts s.times.mark c.args.moment s.flight c.put.new.slot s.out c.clear.new.self s.tail s.tail c.requires.none st.4 c.put.ensures c.clear.ensures;
       head = refl;
       pace = λ alive. cc;
     }

@@ -1,7 +1,7 @@
 use Rattle.std.proofs.Common.{◌≡◌, Bool, true, false, inl, [], ◌<◌, ◌≤◌, ap, sym, subst, length, refl, arith}
 use Rattle.std.specs.Prelude.{is_some}
 use Rattle.http_connection.proofs.Moves.{not_stopped, wrote_went, goes_left}
-use Rattle.http_connection.proofs.Writes.{wrote_rest, wrote_reached}
+use Rattle.http_connection.proofs.Writes.{shown_within, wrote_rest, wrote_reached}
 use Rattle.http_connection.specs.Steps.{IsLogged}
 use Rattle.http_connection.specs.Conn.{pending_at}
 use Rattle.http_connection.proofs.Timed.{went_until}
@@ -17,16 +17,16 @@ returns-clause-steps c = λ x now conn.
     let s = c.args.self.now in
     let service = service_in x s.local s.peer in
     let some : 0 < c.args.count = omega (arith, c.if-count-eq0.false) in
-    let within : c.args.count ≤ length (pending_at s.flight s.out) = omega (arith, c.if-count-pending.false, ap length c.pending.ensures) in
-    let live = not_stopped s.cause s.flight s.out c.args.count s.dropped s.quit some within in
+    let within : c.args.count ≤ length (pending_at s.flight s.out s.tail) = omega (arith, c.if-count-pending.false, ap length c.pending.ensures) in
+    let live = not_stopped s.cause s.flight s.out s.tail c.args.count s.dropped s.quit some within in
     let w = c.written in
     let f' = w.new.flight in
     record {
       own = λ tells led course. (
         some,
         within,
-        went_until _ _ _ _ _ [] _ [] (wrote_went x service s.cause s.flight f' s.out w.new.out s.journal.items s.closing s.ended s.body s.buffered s.next c.args.count live
-            (λ trees. wrote_rest x s.flight f' f' s.flight s.out w.new.out c.args.count trees refl refl w.ensures.by w.ensures.writes)
+        went_until _ _ _ _ _ [] _ [] (wrote_went x service s.cause s.flight f' s.out w.new.out s.tail s.journal.items s.closing s.ended s.body s.buffered s.next c.args.count live
+            (λ trees. wrote_rest x s.flight f' f' s.flight s.out w.new.out s.tail c.args.count trees within refl refl w.ensures.by w.ensures.writes)
             (subst (λ b. IsLogged b s.journal.items) (sym w.ensures.kind) (s.logged live))),
       );
       reached = λ led. wrote_reached x s.flight f' f' s.flight refl refl w.ensures.by w.ensures.reached w.ensures.kind led;
@@ -40,8 +40,8 @@ pub invariant_of-self : goal.invariant_of-self
 invariant_of-self c =
     let s = c.args.self.now in
     let some : 0 < c.args.count = omega (arith, c.if-count-eq0.false) in
-    let within : c.args.count ≤ length (pending_at s.flight s.out) = omega (arith, c.if-count-pending.false, ap length c.pending.ensures) in
-    let live = not_stopped s.cause s.flight s.out c.args.count s.dropped s.quit some within in
+    let within : c.args.count ≤ length (pending_at s.flight s.out s.tail) = omega (arith, c.if-count-pending.false, ap length c.pending.ensures) in
+    let live = not_stopped s.cause s.flight s.out s.tail c.args.count s.dropped s.quit some within in
     let w = c.written in
     record {
       looked = s.looked;
@@ -56,4 +56,8 @@ invariant_of-self c =
     }
 
 pub written-requires-clause-count : goal.written-requires-clause-count
-written-requires-clause-count c = omega (arith, c.if-count-pending.false, ap length c.pending.ensures)
+written-requires-clause-count c =
+    let s = c.args.self.now in
+    let within : c.args.count ≤ length (pending_at s.flight s.out s.tail) = omega (arith, c.if-count-pending.false, ap length c.pending.ensures) in
+    let few = shown_within s.flight s.out s.tail in
+    omega (arith, within, few)

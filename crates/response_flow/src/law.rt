@@ -1,0 +1,9 @@
+// A law of what is shown of the bytes that are kept once a response is over.
+ghost use Rattle.std.specs.Prelude.{ℕ};
+ghost use Rattle.response_flow.specs.Flights.{ShowsMost};
+
+/// What is shown of the bytes that are kept once a response is over is at most 65536 bytes, no fewer than end at any whole chunk
+/// that fits, and stays shown whatever is written of it.
+pub fn shown_are_most()
+    ensures { (tail size : ℕ) → ShowsMost tail size }
+{}
