@@ -2,7 +2,7 @@ use addition_filter::AdditionFilter;
 use byte_text::{ByteText, OutOfMemory};
 use filter_api::{BodyFilter, Chain, Facts};
 use ssi_filter::SsiFilter;
-use ssi_text::{Param, Params, Part, SsiState};
+use ssi_text::{Name, Param, Params, Part, SsiState};
 use std::alloc::Global;
 use std::process::Abort;
 use std::test::Fail;
@@ -132,7 +132,7 @@ fn parameters_are_given_back(rt: HostRuntime) -> Result<(), Fail> {
     let mut params = Params::new(rt.alloc());
     assert!(rt; params.is_empty());
     params.push(Param {
-        name: ByteText::new(rt.alloc()),
+        name: Name::lowercase(rt.alloc(), b"")?,
         value: ByteText::new(rt.alloc()),
     })?;
     assert_eq!(rt; Params::from_vec(params.into_vec()).len(), 1);

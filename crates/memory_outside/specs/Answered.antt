@@ -1,13 +1,13 @@
 -- What files in memory tell of their answers.
 use Rattle.std.specs.Prelude.{ℕ, Bool, true, false, List, map, Option, None, Some}
-use Rattle.ngx_outside.specs.Records.{FileAnswer, Stood, Held, Failed}
+use Rattle.ngx_outside.specs.Records.{FileAnswer, Stat, Bytes, Failed}
 use Rattle.memory_outside.specs.declared.answers.Answers.{Answers}
 use Rattle.memory_outside.specs.declared.answers.FileTold.{FileTold}
 use Rattle.memory_outside.specs.declared.answers.FileTold.TheVariants as file
 
 abbrev pub file_answer : FileTold → FileAnswer
-file_answer (file.Stood node) = Stood node
-file_answer (file.Held bytes) = Held bytes
+file_answer (file.Stat node) = Stat node
+file_answer (file.Bytes bytes) = Bytes bytes
 file_answer file.Failed = Failed
 
 -- the answers that were kept, where all were

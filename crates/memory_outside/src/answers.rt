@@ -1,6 +1,6 @@
 // What was answered, as far as there is memory to keep it.
 ghost use Rattle.std.specs.Prelude.{◌≡◌, ◌++◌, ◌∷◌, [], true, false};
-ghost use Rattle.ngx_outside.specs.Records.{Adds, Stood, Held, Failed as FileFailed};
+ghost use Rattle.ngx_outside.specs.Records.{Adds, Stat, Bytes, Failed as FileFailed};
 ghost use Rattle.memory_outside.specs.Answered.{files_told, numbers_told};
 
 use byte_text::{ByteText, OutOfMemory};
@@ -17,8 +17,8 @@ pub struct Answers<T: Drop> {
 /// What a stat or a read of a file answered.
 #[derive(Drop)]
 pub enum FileTold {
-    Stood(Node),
-    Held(ByteText),
+    Stat(Node),
+    Bytes(ByteText),
     Failed,
 }
 
@@ -56,18 +56,18 @@ impl<T: Drop> Answers<T> {
 /// Keeps what a stat found.
 #[tactic(auto, using(crate::proofs::Kept::file_added))]
 pub(crate) fn tell_node(answers: &mut Answers<FileTold>, node: Node)
-    ensures { Adds (Stood node) (files_told answers.old) (files_told answers.new) }
+    ensures { Adds (Stat node) (files_told answers.old) (files_told answers.new) }
 {
-    answers.add(FileTold::Stood(node));
+    answers.add(FileTold::Stat(node));
 }
 
 /// Keeps the bytes that a read added.
 #[tactic(auto, using(crate::proofs::Kept::file_added, crate::proofs::Kept::files_stopped))]
 pub(crate) fn tell_bytes(alloc: Global, answers: &mut Answers<FileTold>, bytes: &[u8])
-    ensures { Adds (Held bytes.now) (files_told answers.old) (files_told answers.new) }
+    ensures { Adds (Bytes bytes.now) (files_told answers.old) (files_told answers.new) }
 {
     match ByteText::from_slice(alloc, bytes) {
-        Ok(kept) => answers.add(FileTold::Held(kept)),
+        Ok(kept) => answers.add(FileTold::Bytes(kept)),
         Err(OutOfMemory) => answers.stop(),
     }
 }

@@ -22,13 +22,13 @@ Adds {A} a old new = (later : List A) → new ≡ Some later → (earlier : List
 
 -- what a file job was answered
 pub data FileAnswer : Type 0 where
-  Stood : (node : Node) → FileAnswer
-  Held : (bytes : List ℕ) → FileAnswer
+  Stat : (node : Node) → FileAnswer
+  Bytes : (bytes : List ℕ) → FileAnswer
   Failed : FileAnswer
 
 abbrev pub answer_of : JobAnswer → FileAnswer
-answer_of (answer.Stat node) = Stood node
-answer_of (answer.Read bytes) = Held bytes.now
+answer_of (answer.Stat node) = Stat node
+answer_of (answer.Read bytes) = Bytes bytes.now
 
 -- an event, with its bytes as they were given
 pub data Given : Type 0 where
@@ -127,12 +127,12 @@ of_clock (Gone conn) = []
 
 -- what a stat or a read of a file answered
 abbrev pub stat_answer : {E : Type 0} → Result Node E → FileAnswer
-stat_answer (Ok node) = Stood node
+stat_answer (Ok node) = Stat node
 stat_answer (Err e) = Failed
 
 -- what a read of a file answered that lends this block
 abbrev pub block_answer : {E : Type 0} → List ℕ → Result (Unit {0}) E → FileAnswer
-block_answer block (Ok u) = Held block
+block_answer block (Ok u) = Bytes block
 block_answer block (Err e) = Failed
 
 -- A read that added bytes is told with these. One that added none is told too: with the bytes that
@@ -140,5 +140,5 @@ block_answer block (Err e) = Failed
 abbrev pub ReadTold : {E : Type 0} → List ℕ → List ℕ → Result (Unit {0}) E →
     Option (List FileAnswer) → Option (List FileAnswer) → Type 0
 ReadTold old new (Ok u) before after = (added : List ℕ) → new ≡ old ++ added →
-    Adds (Held added) before after
+    Adds (Bytes added) before after
 ReadTold old new (Err e) before after = (answer : FileAnswer) × Adds answer before after

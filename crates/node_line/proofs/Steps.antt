@@ -10,8 +10,8 @@ use Rattle.request_meaning.specs.Replies.{or_stub, script}
 use Rattle.family_meaning.specs.Line.{Line, has_node, joined, opened, reply_of, with_bytes, with_stub, ended as line_reply}
 use Rattle.family_meaning.specs.Line.Line.{Nil, Bytes, Gives, Waits, Stubs}
 use Rattle.family_meaning.specs.Moves.{Quiet, Moves, AllEnd, IsGood, KeepsBody, Thinks as LineThinks}
-use Rattle.family_meaning.specs.Moves.Thinks.{Here, Reads as LineReads, ThereBytes, InWait, InStub}
-use Rattle.family_meaning.specs.Moves.Quiet.{Learns as LineLearns, Places as LinePlaces, Placed as LinePlaced, Merges as LineMerges, Opens as LineOpens, Asks as LineAsks, Hears as LineHears, Leaves as LineLeaves, Chooses as LineChooses, Parts as LineParts, Gone as LineGone, PastBytes, Within as WithinWait, WithinStub as WithinLineStub}
+use Rattle.family_meaning.specs.Moves.Thinks.{Here, Reads as LineReads, ThereBytes, ThereNode, ThereWait, ThereStub, InWait, InStub}
+use Rattle.family_meaning.specs.Moves.Quiet.{Learns as LineLearns, Places as LinePlaces, Placed as LinePlaced, Merges as LineMerges, Opens as LineOpens, Asks as LineAsks, Hears as LineHears, Leaves as LineLeaves, Chooses as LineChooses, Parts as LineParts, Gone as LineGone, PastBytes, PastNode, PastWait, PastStub, Within as WithinWait, WithinStub as WithinLineStub}
 use Rattle.family_meaning.specs.Moves.Moves.{Quietly, ByTable}
 use Rattle.family_order.specs.Acts.{Does, Acts, Goes}
 use Rattle.family_order.specs.Acts.Acts.{Thinks, Reads, Learns, Places, Placed, Merges, Opens, Asks, Within, Hears, Ends, WithinStub, Decides}
@@ -28,7 +28,7 @@ use Rattle.node_turn.specs.Turns.Works.{Rests as WorksRest, Reads as WorksRead, 
 use Rattle.node_line.specs.Stances.{Opening, Own, Seat, Spot, filling, owned, place_by, stance_at, stance_so, under}
 use Rattle.node_line.specs.Stances.Own.{Beside, Below}
 use Rattle.node_line.specs.Stances.Seat.{InRow, Inside}
-use Rattle.node_line.specs.Stances.Spot.{Whole, Behind, For, Stubbed}
+use Rattle.node_line.specs.Stances.Spot.{Whole, Behind, After, For, Stubbed}
 use Rattle.node_line.proofs.Keeping.{keeps_body, keeps_under}
 
 then_goes : {w : World} {tree : Tree} {a b c : Family} {v v' v'' : Vars} → Goes w tree a v b v' → Goes w tree b v' c v'' → Goes w tree a v c v''
@@ -77,9 +77,18 @@ unfolding under
 under_thinks [] a b vars vars' t = t
 under_thinks (c ∷ bytes) a b vars vars' t = ThereBytes (under_thinks bytes a b vars vars' t)
 
+past_thinks : (ahead a b : Line) (vars vars' : Vars) → LineThinks a vars b vars' → LineThinks (joined ahead a) vars (joined ahead b) vars'
+unfolding joined
+past_thinks Nil a b vars vars' t = t
+past_thinks (Bytes bytes ahead) a b vars vars' t = ThereBytes (past_thinks ahead a b vars vars' t)
+past_thinks (Gives node left m ahead) a b vars vars' t = ThereNode (past_thinks ahead a b vars vars' t)
+past_thinks (Waits node own left k ahead) a b vars vars' t = ThereWait (past_thinks ahead a b vars vars' t)
+past_thinks (Stubs own stub ahead) a b vars vars' t = ThereStub (past_thinks ahead a b vars vars' t)
+
 pub spot_thinks : (s : Spot) (a b : Line) (vars vars' : Vars) → LineThinks a vars b vars' → LineThinks (filling s a) vars (filling s b) vars'
 spot_thinks Whole a b vars vars' t = t
 spot_thinks (Behind bytes s) a b vars vars' t = spot_thinks s (under bytes a) (under bytes b) vars vars' (under_thinks bytes a b vars vars' t)
+spot_thinks (After ahead s) a b vars vars' t = spot_thinks s (joined ahead a) (joined ahead b) vars vars' (past_thinks ahead a b vars vars' t)
 spot_thinks (For node left k rest s) a b vars vars' t = spot_thinks s (Waits node a left k rest) (Waits node b left k rest) vars vars' (InWait t)
 spot_thinks (Stubbed stub rest s) a b vars vars' t = spot_thinks s (Stubs a stub rest) (Stubs b stub rest) vars vars' (InStub t)
 
@@ -94,9 +103,18 @@ module _ (w : World) (tree : Tree) where
   under_quiet count [] a b q = q
   under_quiet count (c ∷ bytes) a b q = let r = under_quiet count bytes a b q in record { quiet = PastBytes r.quiet; counts = r.counts }
 
+  past_quiet : (count : ℕ) (ahead a b : Line) → Step count a b → Step count (joined ahead a) (joined ahead b)
+  unfolding joined
+  past_quiet count Nil a b q = q
+  past_quiet count (Bytes bytes ahead) a b q = let r = past_quiet count ahead a b q in record { quiet = PastBytes r.quiet; counts = r.counts }
+  past_quiet count (Gives node left m ahead) a b q = let r = past_quiet count ahead a b q in record { quiet = PastNode r.quiet; counts = r.counts }
+  past_quiet count (Waits node own left k ahead) a b q = let r = past_quiet count ahead a b q in record { quiet = PastWait r.quiet; counts = r.counts }
+  past_quiet count (Stubs own stub ahead) a b q = let r = past_quiet count ahead a b q in record { quiet = PastStub r.quiet; counts = r.counts }
+
   pub spot_quiet : (count : ℕ) (s : Spot) (a b : Line) → Step count a b → Step count (filling s a) (filling s b)
   spot_quiet count Whole a b q = q
   spot_quiet count (Behind bytes s) a b q = spot_quiet count s (under bytes a) (under bytes b) (under_quiet count bytes a b q)
+  spot_quiet count (After ahead s) a b q = spot_quiet count s (joined ahead a) (joined ahead b) (past_quiet count ahead a b q)
   spot_quiet count (For node left k rest s) a b q = spot_quiet count s (Waits node a left k rest) (Waits node b left k rest) (record { quiet = WithinWait q.quiet; counts = q.counts })
   spot_quiet count (Stubbed stub rest s) a b q = spot_quiet count s (Stubs a stub rest) (Stubs b stub rest) (record { quiet = WithinLineStub q.quiet; counts = q.counts })
 

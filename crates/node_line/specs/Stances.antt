@@ -3,7 +3,7 @@ use Rattle.std.specs.Prelude.{◌≡◌, ℕ, List, [], ◌∷◌, Option, None,
 use Rattle.file_tree.specs.Tree.{Tree}
 use Rattle.acts.specs.Vars.{Vars}
 use Rattle.request_meaning.specs.Serving.{World, Serving, Answer, Reply}
-use Rattle.family_meaning.specs.Line.{Line}
+use Rattle.family_meaning.specs.Line.{Line, joined}
 use Rattle.family_meaning.specs.Line.Line.{Nil, Bytes, Gives, Waits, Stubs}
 use Rattle.family_order.specs.Acts.{Goes}
 use Rattle.family_order.specs.Items.{Stance, Family}
@@ -17,17 +17,19 @@ unfoldable pub under : (bytes : List ℕ) → Line → Line
 under [] line = line
 under (b ∷ bytes) line = Bytes (b ∷ []) (under bytes line)
 
--- Where a line is within others: it is a whole; or is after bytes that wait; or is the one for whose reply a node
--- waits, before more; or that of a subrequest with a stub, before more.
+-- Where a line is within others: it is a whole; or is after bytes that wait, or after another line; or is the one for
+-- whose reply a node waits, before more; or that of a subrequest with a stub, before more.
 pub data Spot : Type 0 where
   Whole : Spot
   Behind : (bytes : List ℕ) → Spot → Spot
+  After : (ahead : Line) → Spot → Spot
   For : (node left : ℕ) → (Reply → Serving Answer) → (rest : Line) → Spot → Spot
   Stubbed : (stub : List ℕ) → (rest : Line) → Spot → Spot
 
 abbrev pub filling : Spot → Line → Line
 filling Whole line = line
 filling (Behind bytes spot) line = filling spot (under bytes line)
+filling (After ahead spot) line = filling spot (joined ahead line)
 filling (For node left k rest spot) line = filling spot (Waits node line left k rest)
 filling (Stubbed stub rest spot) line = filling spot (Stubs line stub rest)
 

@@ -1,5 +1,5 @@
 -- Nodes whose bytes come to no other make no difference to what is said of others; nor does how many subrequests a node has.
-use Rattle.std.proofs.Common.{◌≡◌, ℕ, zero, suc, ◌==◌, ◌&&◌, Bool, true, false, not, cond, List, Option, None, Some, slice_get, refl, sym, ap, ◌∙◌}
+use Rattle.std.proofs.Common.{◌≡◌, ℕ, zero, suc, ◌==◌, ◌&&◌, nat_lt, Bool, true, false, not, cond, List, Option, None, Some, slice_get, refl, sym, ap, ◌∙◌}
 use Rattle.family_meaning.specs.Line.{Line}
 use Rattle.family_meaning.specs.Line.Line.{Nil, Gives, Waits, Stubs}
 use Rattle.family_order.specs.Items.Stance.{Going, Waiting, Apart}
@@ -8,7 +8,8 @@ use Rattle.node_turn.specs.declared.node.Node.{Node}
 use Rattle.node_turn.specs.declared.node.Place.{Place}
 use Rattle.node_turn.specs.declared.node.Place.TheVariants.{Row, Stub, Captured}
 use Rattle.node_line.specs.Stances.{under}
-use Rattle.node_seats.specs.Seats.{Doing, asking_line, withheld_text, is_captured, line_from, place_stance, put_by, row_stance, stance_in, stance_of, stub_in, waited_line}
+use Rattle.node_seats.proofs.Inners.{ahead_same, inners_same, no_inner}
+use Rattle.node_seats.specs.Seats.{Doing, ahead_line, asking_line, inner_line, inner_lines, is_asked, is_inner, most_nodes, withheld_text, is_captured, line_from, place_stance, put_by, row_stance, stance_in, stance_of, stub_in, waited_line}
 
 -- A node and another with its number that is in the same place and does the same.
 pub record IsAsMuch (d d' : Doing) (j : ℕ) (n n' : Node) : Type 0 where
@@ -16,13 +17,15 @@ pub record IsAsMuch (d d' : Doing) (j : ℕ) (n n' : Node) : Type 0 where
   pub parent : n.parent ≡ n'.parent
   pub left : n.left ≡ n'.left
   pub asks : n.asks ≡ n'.asks
+  pub before : n.before ≡ n'.before
+  pub over : n.over ≡ n'.over
   pub capturing : is_capturing n.stage ≡ is_capturing n'.stage
   pub act : d.act j n ≡ d'.act j n'
   pub heard : d.heard j n ≡ d'.heard j n'
 
 -- the same node, which does so
 pub as_much : (d d' : Doing) (j : ℕ) (n : Node) → d.act j n ≡ d'.act j n → d.heard j n ≡ d'.heard j n → IsAsMuch d d' j n n
-as_much d d' j n act heard = record { place = refl; parent = refl; left = refl; asks = refl; capturing = refl; act = act; heard = heard }
+as_much d d' j n act heard = record { place = refl; parent = refl; left = refl; asks = refl; before = refl; over = refl; capturing = refl; act = act; heard = heard }
 
 -- the bytes of a node come to no other
 abbrev pub is_free : Option Node → Bool
@@ -89,6 +92,39 @@ module _ (d : Doing) (nodes : List Node) (d' : Doing) (nodes' : List Node) (besi
           ∙ ap (λ m. waited_line below j c (slice_get nodes c) (Gives j n'.left m rest)) e.act
           ∙ same_waited below below' ih j c (Gives j n'.left (d'.act j n') rest)
 
+  free_inner : (below : ℕ → Node → Line → Line) (x : ℕ) (n : Node) (c : ℕ) (o : Option Node) (rest : Line) → is_free o ≡ true → inner_line below x n c o rest ≡ rest
+  free_inner below x n c None rest e = refl
+  free_inner below x n c (Some m) rest e = no_inner below x n c m rest (by (is_captured m.place) refl)
+    where
+      by : (b : Bool) → is_captured m.place ≡ b → is_inner x n c m ≡ false
+      by true f = absurd (no (ap not (sym f) ∙ e))
+        where
+          no : false ≡ true → ⊥
+          no g = cc
+      by false f = ap (λ b. b && ((m.parent == x) && (nat_lt x c && (not m.over && not (is_asked c n.asks))))) f
+
+  same_inner : (below below' : ℕ → Node → Line → Line) → Below below below' → (x : ℕ) (n n' : Node) → n.asks ≡ n'.asks → (c : ℕ) (rest : Line) →
+      inner_line below x n c (slice_get nodes c) rest ≡ inner_line below' x n' c (slice_get nodes' c) rest
+  same_inner below below' ih x n n' asks c rest = by (beside c)
+    where
+      put_same : (s : Option (List ℕ)) (m m' : Node) → IsAsMuch d d' c m m' → put_by s (below c m) rest ≡ put_by s (below' c m') rest
+      put_same None m m' e = ih c m m' rest e
+      put_same (Some stub) m m' e = ap (λ line. Stubs line stub rest) (ih c m m' Nil e)
+
+      both : (m m' : Node) → IsAsMuch d d' c m m' → inner_line below x n c (Some m) rest ≡ inner_line below' x n' c (Some m') rest
+      both m m' e =
+          ap (λ line. cond (is_captured m.place && ((m.parent == x) && (nat_lt x c && (not m.over && not (is_asked c n.asks))))) (under m.before line) rest) (put_same (stub_in m.place) m m' e)
+          ∙ ap (λ b. cond (is_captured m.place && ((m.parent == x) && (nat_lt x c && (not m.over && not (is_asked c n.asks))))) (under b (put_by (stub_in m.place) (below' c m') rest)) rest) e.before
+          ∙ ap (λ p. cond (is_captured p && ((m.parent == x) && (nat_lt x c && (not m.over && not (is_asked c n.asks))))) (under m'.before (put_by (stub_in p) (below' c m') rest)) rest) e.place
+          ∙ ap (λ i. cond (is_captured m'.place && ((i == x) && (nat_lt x c && (not m.over && not (is_asked c n.asks))))) (under m'.before (put_by (stub_in m'.place) (below' c m') rest)) rest) e.parent
+          ∙ ap (λ o. cond (is_captured m'.place && ((m'.parent == x) && (nat_lt x c && (not o && not (is_asked c n.asks))))) (under m'.before (put_by (stub_in m'.place) (below' c m') rest)) rest) e.over
+          ∙ ap (λ a. cond (is_captured m'.place && ((m'.parent == x) && (nat_lt x c && (not m'.over && not (is_asked c a))))) (under m'.before (put_by (stub_in m'.place) (below' c m') rest)) rest) asks
+
+      by : Beside d d' c (slice_get nodes c) (slice_get nodes' c) → inner_line below x n c (slice_get nodes c) rest ≡ inner_line below' x n' c (slice_get nodes' c) rest
+      by (Neither e f) = ap (λ o. inner_line below x n c o rest) e ∙ sym (ap (λ o. inner_line below' x n' c o rest) f)
+      by (Both m m' e f same) = ap (λ o. inner_line below x n c o rest) e ∙ both m m' same ∙ sym (ap (λ o. inner_line below' x n' c o rest) f)
+      by (Free e f) = free_inner below x n c (slice_get nodes c) rest e ∙ sym (free_inner below' x n' c (slice_get nodes' c) rest f)
+
   same_line : (levels : ℕ) → Below (line_from d nodes levels) (line_from d' nodes' levels)
   unfolding line_from
   same_line zero j n n' rest e =
@@ -96,8 +132,11 @@ module _ (d : Doing) (nodes : List Node) (d' : Doing) (nodes' : List Node) (besi
       ∙ ap (λ l. under (withheld_text n'.place) (Gives j l (d.act j n) rest)) e.left
       ∙ ap (λ m. under (withheld_text n'.place) (Gives j n'.left m rest)) e.act
   same_line (suc levels) j n n' rest e =
-      ap (λ p. under (withheld_text p) (asking_line d nodes (line_from d nodes levels) j n n.asks rest)) e.place
-      ∙ ap (under (withheld_text n'.place)) (same_asking (line_from d nodes levels) (line_from d' nodes' levels) (same_line levels) j n n' rest e n.asks
+      ap (λ p. ahead_line p (inner_lines (line_from d nodes levels) nodes j n most_nodes) (under (withheld_text p) (asking_line d nodes (line_from d nodes levels) j n n.asks rest))) e.place
+      ∙ ahead_same n'.place (inner_lines (line_from d nodes levels) nodes j n most_nodes) (inner_lines (line_from d' nodes' levels) nodes' j n' most_nodes)
+      (inners_same (line_from d nodes levels) nodes j n (line_from d' nodes' levels) nodes' n' most_nodes (λ c h r. same_inner (line_from d nodes levels) (line_from d' nodes' levels) (same_line levels) j n n' e.asks c r))
+      (under (withheld_text n'.place) (asking_line d nodes (line_from d nodes levels) j n n.asks rest))
+      ∙ ap (λ l. ahead_line n'.place (inner_lines (line_from d' nodes' levels) nodes' j n' most_nodes) (under (withheld_text n'.place) l)) (same_asking (line_from d nodes levels) (line_from d' nodes' levels) (same_line levels) j n n' rest e n.asks
       ∙ ap (λ a. asking_line d' nodes' (line_from d' nodes' levels) j n' a rest) e.asks)
 
   -- what is said of a node that is in the same place and does the same

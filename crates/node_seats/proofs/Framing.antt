@@ -16,7 +16,7 @@ use Rattle.node_turn.specs.declared.node.Node.{Node}
 use Rattle.node_line.specs.Stances.{Opening}
 use Rattle.node_line.proofs.Steps as steps
 use Rattle.node_seats.specs.Seats.{doing_by, most_levels, seen, stance_in}
-use Rattle.node_seats.proofs.Located.{false_true}
+use Rattle.node_seats.proofs.Above.{false_true}
 
 module _ (laws : ShowsTheSame) (w : World) (patterns : List SetPattern) (site : Site) (main : Main) (row : Order) (nodes : List Node) (texts : ℕ → List ℕ) where
   abbrev before : Family

@@ -1,5 +1,5 @@
 -- A node that isn't in the row comes to a subrequest: it waits for its bytes.
-use Rattle.std.proofs.Common.{◌≡◌, ℕ, suc, ◌+◌, ◌==◌, Bool, true, false, cond, is_none, List, [], Option, None, Some, slice_get, refl, sym, ap, ◌∙◌, subst}
+use Rattle.std.proofs.Common.{◌≡◌, ℕ, suc, ◌+◌, ◌==◌, Bool, true, false, cond, List, [], Option, None, Some, slice_get, refl, sym, ap, ◌∙◌, subst}
 use Rattle.std.proofs.lemmas.Bool.{eqb-true}
 use Rattle.acts.specs.Vars.{Vars}
 use Rattle.acts.specs.Act.{Call, Inner}
@@ -23,16 +23,17 @@ use Rattle.node_turn.specs.declared.node.Place.TheVariants.{Row, Stub, Captured}
 use Rattle.node_line.specs.Stances.{Opening, Own, Spot, filling, owned, stance_so, under}
 use Rattle.node_line.specs.Stances.Own.{Beside, Below}
 use Rattle.node_line.specs.Stances.Seat.{InRow as InItsRow, Inside}
-use Rattle.node_line.specs.Stances.Spot.{Behind}
+use Rattle.node_line.specs.Stances.Spot.{After, Behind}
 use Rattle.node_line.proofs.Steps as steps
-use Rattle.node_seats.specs.Seats.{Doing, doing_by, withheld_text, is_captured, is_heard, line_from, most_levels, place_stance, put_by, row_stance, seen, stance_in, stance_of, stub_in, waited_line}
-use Rattle.node_seats.proofs.Located.{Located, SameWaiting, StandsAs, above_line, false_true, waited_is}
+use Rattle.node_seats.specs.Seats.{Doing, ahead_line, asking_line, doing_by, inner_line, inner_lines, is_asked, is_inner, most_nodes, withheld_text, is_captured, is_heard, line_from, most_levels, place_stance, put_by, row_stance, seen, stance_in, stance_of, stub_in, waited_line}
+use Rattle.node_seats.proofs.Above.{eq_self, false_true}
+use Rattle.node_seats.proofs.Inners.{ahead_first, inners_same, no_inner}
+use Rattle.node_seats.proofs.Located.{Located, StandsAs, above_line, asked_not, waited_is}
 use Rattle.node_seats.proofs.Others as others_are
-use Rattle.node_seats.proofs.Others.{SameOrMore, is_its, its_free}
-use Rattle.node_seats.proofs.Others.SameOrMore.{Same, Its}
+use Rattle.node_seats.proofs.Others.{Changed, SameOrMore}
 use Rattle.node_seats.proofs.Paths.{on_path, path_top}
 use Rattle.node_seats.proofs.Framing as framing
-use Rattle.node_seats.proofs.Seated.{here_is, in_row_is, line_alone}
+use Rattle.node_seats.proofs.Seated.{IsBare, ahead_of, here_is, in_row_is, line_bare, self_inner}
 
 -- The node waits for one more, which is a subrequest of it whose bytes come to it; what the others do is the same.
 pub record Waits_too (d : Doing) (nodes : List Node) (d' : Doing) (nodes' : List Node) (at number : ℕ) (old new member : Node) : Type 0 where
@@ -44,6 +45,9 @@ pub record Waits_too (d : Doing) (nodes : List Node) (d' : Doing) (nodes' : List
   pub none : member.asks ≡ None
   pub captured : is_captured member.place ≡ true
   pub parent : member.parent ≡ at
+  pub bare : IsBare nodes' number member
+  pub not_yet : (m : Node) → slice_get nodes number ≡ Some m → is_inner at old number m ≡ false
+  pub rest : (j : ℕ) → (j == at) ≡ false → (j == number) ≡ false → slice_get nodes j ≡ slice_get nodes' j
   pub others : (j : ℕ) → (j == at) ≡ false → SameOrMore at (slice_get nodes j) (slice_get nodes' j)
   pub acts : (j : ℕ) (n : Node) → (j == at) ≡ false → d.act j n ≡ d'.act j n
   pub heard : (j : ℕ) (n : Node) → (j == at) ≡ false → d.heard j n ≡ d'.heard j n
@@ -62,29 +66,6 @@ part_begins w number l child rest = by child.stub
     by (Some stub) = refl
 
 module _ (d : Doing) (nodes : List Node) (d' : Doing) (nodes' : List Node) (at number : ℕ) (old new member : Node) (r : Waits_too d nodes d' nodes' at number old new member) where
-  pub same_waiting : SameWaiting d nodes d' nodes'
-  same_waiting = record {
-    there = λ j n e w. kept j n e w (r.others j (not_it j n e w));
-    act = λ j n e w. sym (r.acts j n (not_it j n e w));
-    heard = λ j n e w. sym (r.heard j n (not_it j n e w));
-  }
-    where
-      some_is : (x y : Node) → Some x ≡ Some y → x ≡ y
-      some_is x y e = cc
-
-      kept : (j : ℕ) (n : Node) → slice_get nodes j ≡ Some n → is_none n.asks ≡ false → SameOrMore at (slice_get nodes j) (slice_get nodes' j) → slice_get nodes' j ≡ Some n
-      kept j n e w (Same f) = sym f ∙ e
-      kept j n e w (Its f g) = absurd (false_true (sym w ∙ its_free at n (sym (ap (is_its at) e) ∙ f)))
-
-      not_it : (j : ℕ) (n : Node) → slice_get nodes j ≡ Some n → is_none n.asks ≡ false → (j == at) ≡ false
-      not_it j n e w = by (j == at) refl
-        where
-          by : (b : Bool) → (j == at) ≡ b → b ≡ false
-          by true f =
-              let same : n ≡ old = some_is n old (sym e ∙ ap (slice_get nodes) (eqb-true j at f) ∙ r.there) in
-              absurd (false_true (sym w ∙ ap (λ (x : Node). is_none x.asks) same ∙ ap is_none r.free))
-          by false f = refl
-
   -- the line of the subrequest, before more
   pub member_line : (levels : ℕ) (rest : Line) → waited_line (line_from d' nodes' levels) at number (slice_get nodes' number) rest ≡ part (stub_in member.place) (withheld_text member.place) number member.left (d'.act number member) rest
   member_line levels rest =
@@ -92,39 +73,102 @@ module _ (d : Doing) (nodes : List Node) (d' : Doing) (nodes' : List Node) (at n
       ∙ by (stub_in member.place)
     where
       by : (s : Option (List ℕ)) → put_by s (line_from d' nodes' levels number member) rest ≡ part s (withheld_text member.place) number member.left (d'.act number member) rest
-      by None = line_alone d' nodes' levels number member rest r.none
-      by (Some stub) = ap (λ line. Stubs line stub rest) (line_alone d' nodes' levels number member Nil r.none)
+      by None = line_bare d' nodes' levels number member rest r.none r.bare
+      by (Some stub) = ap (λ line. Stubs line stub rest) (line_bare d' nodes' levels number member Nil r.none r.bare)
 
   -- the line of the node then, where the body is a part of its own
-  pub included_line : (depth spare : ℕ) (rest : Line) → is_capturing new.stage ≡ false →
-      line_from d' nodes' (suc depth + spare) at new rest ≡ under (withheld_text new.place) (part (stub_in member.place) (withheld_text member.place) number member.left (d'.act number member) (Gives at new.left (d'.act at new) rest))
+  pub included_line : (depth spare : ℕ) (rest : Line) → is_capturing new.stage ≡ false → line_from d' nodes' (suc depth + spare) at new rest
+      ≡ ahead_line new.place (inner_lines (line_from d' nodes' (depth + spare)) nodes' at new most_nodes)
+      (under (withheld_text new.place) (part (stub_in member.place) (withheld_text member.place) number member.left (d'.act number member) (Gives at new.left (d'.act at new) rest)))
   included_line depth spare rest e =
-      above_line d' nodes' depth spare at number new rest r.asks
-      ∙ ap (λ b. under (withheld_text new.place) (cond b (Waits at (waited_line (line_from d' nodes' (depth + spare)) at number (slice_get nodes' number) Nil) new.left (d'.heard at new) rest)
-      (waited_line (line_from d' nodes' (depth + spare)) at number (slice_get nodes' number) (Gives at new.left (d'.act at new) rest)))) e
-      ∙ ap (under (withheld_text new.place)) (member_line (depth + spare) (Gives at new.left (d'.act at new) rest))
+      let below = line_from d' nodes' (depth + spare) in
+      let ahead : Line → Line = λ line. ahead_line new.place (inner_lines (line_from d' nodes' (depth + spare)) nodes' at new most_nodes) (under (withheld_text new.place) line) in
+      above_line d' nodes' depth spare at new rest
+      ∙ ap (λ a. ahead (asking_line d' nodes' below at new a rest)) r.asks
+      ∙ ap (λ b. ahead (cond b (Waits at (waited_line below at number (slice_get nodes' number) Nil) new.left (d'.heard at new) rest) (waited_line below at number (slice_get nodes' number) (Gives at new.left (d'.act at new) rest)))) e
+      ∙ ap ahead (member_line (depth + spare) (Gives at new.left (d'.act at new) rest))
 
   -- and where it goes into a variable
-  pub asked_line : (depth spare : ℕ) (rest : Line) → is_capturing new.stage ≡ true →
-      line_from d' nodes' (suc depth + spare) at new rest ≡ under (withheld_text new.place) (Waits at (part (stub_in member.place) (withheld_text member.place) number member.left (d'.act number member) Nil) new.left (d'.heard at new) rest)
+  pub asked_line : (depth spare : ℕ) (rest : Line) → is_capturing new.stage ≡ true → line_from d' nodes' (suc depth + spare) at new rest
+      ≡ ahead_line new.place (inner_lines (line_from d' nodes' (depth + spare)) nodes' at new most_nodes)
+      (under (withheld_text new.place) (Waits at (part (stub_in member.place) (withheld_text member.place) number member.left (d'.act number member) Nil) new.left (d'.heard at new) rest))
   asked_line depth spare rest e =
-      above_line d' nodes' depth spare at number new rest r.asks
-      ∙ ap (λ b. under (withheld_text new.place) (cond b (Waits at (waited_line (line_from d' nodes' (depth + spare)) at number (slice_get nodes' number) Nil) new.left (d'.heard at new) rest)
-      (waited_line (line_from d' nodes' (depth + spare)) at number (slice_get nodes' number) (Gives at new.left (d'.act at new) rest)))) e
-      ∙ ap (λ line. under (withheld_text new.place) (Waits at line new.left (d'.heard at new) rest)) (member_line (depth + spare) Nil)
+      let below = line_from d' nodes' (depth + spare) in
+      let ahead : Line → Line = λ line. ahead_line new.place (inner_lines (line_from d' nodes' (depth + spare)) nodes' at new most_nodes) (under (withheld_text new.place) line) in
+      above_line d' nodes' depth spare at new rest
+      ∙ ap (λ a. ahead (asking_line d' nodes' below at new a rest)) r.asks
+      ∙ ap (λ b. ahead (cond b (Waits at (waited_line below at number (slice_get nodes' number) Nil) new.left (d'.heard at new) rest) (waited_line below at number (slice_get nodes' number) (Gives at new.left (d'.act at new) rest)))) e
+      ∙ ap (λ line. ahead (Waits at line new.left (d'.heard at new) rest)) (member_line (depth + spare) Nil)
+
+  pub changes : is_captured new.place ≡ is_captured old.place → new.parent ≡ old.parent → Changed d nodes d' nodes' at old new
+  changes captured parent = record { there = r.there; then = r.then; captured = captured; parent = parent; others = r.others; acts = r.acts; heard = r.heard }
+
+  -- the lines of its other subrequests are the same
+  module _ (up : ℕ) (heard : is_heard up nodes at old ≡ true) (captured : is_captured new.place ≡ is_captured old.place) (parent : new.parent ≡ old.parent) where
+    pub lines_same : (levels : ℕ) (rest : Line) → inner_lines (line_from d nodes levels) nodes at old most_nodes rest ≡ inner_lines (line_from d' nodes' levels) nodes' at new most_nodes rest
+    lines_same levels = inners_same (line_from d nodes levels) nodes at old (line_from d' nodes' levels) nodes' new most_nodes (λ c h rest. by c rest (c == at) (c == number) refl refl)
+      where
+        none_yet : (c : ℕ) (o : Option Node) (rest : Line) → c ≡ number → slice_get nodes c ≡ o → inner_line (line_from d nodes levels) at old c o rest ≡ rest
+        none_yet c None rest it e = refl
+        none_yet c (Some m) rest it e =
+            no_inner (line_from d nodes levels) at old c m rest (ap (λ i. is_inner at old i m) it ∙ r.not_yet m (sym (ap (slice_get nodes) it) ∙ e))
+
+        apart : (c : ℕ) → (c == number) ≡ false → (number == c) ≡ false
+        apart c e = by (number == c) refl
+          where
+            by : (b : Bool) → (number == c) ≡ b → b ≡ false
+            by true f = absurd (false_true (sym e ∙ ap (λ i. c == i) (eqb-true number c f) ∙ eq_self c))
+            by false f = refl
+
+        by : (c : ℕ) (rest : Line) (a b : Bool) → (c == at) ≡ a → (c == number) ≡ b → inner_line (line_from d nodes levels) at old c (slice_get nodes c) rest ≡ inner_line (line_from d' nodes' levels) at new c (slice_get nodes' c) rest
+        by c rest true b e f =
+            let it = eqb-true c at e in
+            ap (λ i. inner_line (line_from d nodes levels) at old i (slice_get nodes c) rest) it ∙ self_inner (line_from d nodes levels) at old (slice_get nodes c) rest
+            ∙ sym (ap (λ i. inner_line (line_from d' nodes' levels) at new i (slice_get nodes' c) rest) it ∙ self_inner (line_from d' nodes' levels) at new (slice_get nodes' c) rest)
+        by c rest false true e f =
+            let it = eqb-true c number f in
+            none_yet c (slice_get nodes c) rest it refl
+            ∙ sym (asked_not (line_from d' nodes' levels) at new c (slice_get nodes' c) rest (ap (is_asked c) r.asks ∙ ap (λ i. number == i) it ∙ eq_self number))
+        by c rest false false e f =
+            let ch = changes captured parent in
+            others_are.own_inner d nodes d' nodes' up at old new heard ch (line_from d nodes levels) (line_from d' nodes' levels) (others_are.off_line d nodes d' nodes' up at old new heard ch levels) c rest (r.rest c e f)
+            (ap (is_asked c) r.free ∙ sym (ap (is_asked c) r.asks ∙ apart c f))
+
+    pub ahead_is : (levels : ℕ) → ahead_of d' nodes' levels at new ≡ ahead_of d nodes levels at old
+    ahead_is levels = by new.place old.place captured
+      where
+        by : (p q : Place) → is_captured p ≡ is_captured q → ahead_line p (inner_lines (line_from d' nodes' levels) nodes' at new most_nodes) Nil ≡ ahead_line q (inner_lines (line_from d nodes levels) nodes at old most_nodes) Nil
+        by Row Row e = refl
+        by Row (Stub stub text) e = refl
+        by Row (Captured stub text) e = absurd (false_true e)
+        by (Stub stub text) Row e = refl
+        by (Stub stub text) (Stub stub' text') e = refl
+        by (Stub stub text) (Captured stub' text') e = absurd (false_true e)
+        by (Captured stub text) Row e = absurd (false_true (sym e))
+        by (Captured stub text) (Stub stub' text') e = absurd (false_true (sym e))
+        by (Captured stub text) (Captured stub' text') e = sym (lines_same levels Nil)
+
+    pub ahead_so : (levels : ℕ) (rest : Line) → ahead_line new.place (inner_lines (line_from d' nodes' levels) nodes' at new most_nodes) rest ≡ joined (ahead_of d nodes levels at old) rest
+    ahead_so levels rest = ahead_first d' nodes' levels at new rest ∙ ap (λ a. joined a rest) (ahead_is levels)
 
   -- what is said of the one that has the line
-  module _ (levels up depth : ℕ) (q : Located levels d nodes up (suc depth) at old) (like : StandsAs old new) where
+  module _ (levels up depth : ℕ) (q : Located levels d nodes at old up (suc depth) at old) (heard : is_heard up nodes at old ≡ true) (like : StandsAs old new) where
     pub included_is : is_capturing new.stage ≡ false →
-        stance_in d' nodes' levels q.h ≡ owned q.own (filling (Behind (withheld_text new.place) q.spot) (part (stub_in member.place) (withheld_text member.place) number member.left (d'.act number member) (Gives at new.left (d'.act at new) q.rest)))
-    included_is e = q.is d' nodes' same_waiting new r.then like ∙ ap (λ line. owned q.own (filling q.spot line)) (included_line depth q.spare q.rest e)
+        stance_in d' nodes' levels q.h ≡ owned q.own (filling (Behind (withheld_text new.place) (After (ahead_of d nodes (depth + q.spare) at old) q.spot)) (part (stub_in member.place) (withheld_text member.place) number member.left (d'.act number member) (Gives at new.left (d'.act at new) q.rest)))
+    included_is e =
+        q.is d' nodes' new (changes like.captured like.parent) new r.then like
+        ∙ ap (λ line. owned q.own (filling q.spot line)) (included_line depth q.spare q.rest e
+        ∙ ahead_so up heard like.captured like.parent (depth + q.spare) (under (withheld_text new.place) (part (stub_in member.place) (withheld_text member.place) number member.left (d'.act number member) (Gives at new.left (d'.act at new) q.rest))))
 
     pub asked_is : is_capturing new.stage ≡ true →
-        stance_in d' nodes' levels q.h ≡ owned q.own (filling (Behind (withheld_text new.place) q.spot) (Waits at (part (stub_in member.place) (withheld_text member.place) number member.left (d'.act number member) Nil) new.left (d'.heard at new) q.rest))
-    asked_is e = q.is d' nodes' same_waiting new r.then like ∙ ap (λ line. owned q.own (filling q.spot line)) (asked_line depth q.spare q.rest e)
+        stance_in d' nodes' levels q.h ≡ owned q.own (filling (Behind (withheld_text new.place) (After (ahead_of d nodes (depth + q.spare) at old) q.spot)) (Waits at (part (stub_in member.place) (withheld_text member.place) number member.left (d'.act number member) Nil) new.left (d'.heard at new) q.rest))
+    asked_is e =
+        q.is d' nodes' new (changes like.captured like.parent) new r.then like
+        ∙ ap (λ line. owned q.own (filling q.spot line)) (asked_line depth q.spare q.rest e
+        ∙ ahead_so up heard like.captured like.parent (depth + q.spare) (under (withheld_text new.place) (Waits at (part (stub_in member.place) (withheld_text member.place) number member.left (d'.act number member) Nil) new.left (d'.heard at new) q.rest)))
 
     -- it doesn't wait in the other nodes
-    pub alone_is : stance_in d nodes levels q.h ≡ owned q.own (filling (Behind (withheld_text old.place) q.spot) (Gives at old.left (d.act at old) q.rest))
+    pub alone_is : stance_in d nodes levels q.h ≡ owned q.own (filling (Behind (withheld_text old.place) (After (ahead_of d nodes (depth + q.spare) at old) q.spot)) (Gives at old.left (d.act at old) q.rest))
     alone_is = here_is levels d nodes up depth at old r.there r.free q
 
   -- what is said of one in the row
@@ -146,22 +190,7 @@ module _ (d : Doing) (nodes : List Node) (d' : Doing) (nodes' : List Node) (at n
   module _ (levels up : ℕ) (heard : is_heard up nodes at old ≡ true) (captured_same : is_captured new.place ≡ is_captured old.place) (parent_same : new.parent ≡ old.parent) where
     pub others_same : (h : ℕ) → ((j : ℕ) (n : Node) → on_path up nodes at (Some old) j ≡ true → (j == h) ≡ false → slice_get nodes j ≡ Some n → is_captured n.place ≡ true) →
         (j : ℕ) → (j == h) ≡ false → stance_in d nodes levels j ≡ stance_in d' nodes' levels j
-    others_same h path j other = by (on_path up nodes at (Some old) j) refl
-      where
-        none_some : (x : Node) → None ≡ Some x → ⊥
-        none_some x f = cc
-
-        missing : slice_get nodes j ≡ None → (b : Bool) → (j == at) ≡ b → b ≡ false
-        missing e true f = absurd (none_some old (sym e ∙ ap (slice_get nodes) (eqb-true j at f) ∙ r.there))
-        missing e false f = refl
-
-        of : (o : Option Node) → slice_get nodes j ≡ o → on_path up nodes at (Some old) j ≡ true → stance_in d nodes levels j ≡ stance_in d' nodes' levels j
-        of None e on = others_are.none_stance d nodes d' nodes' up at old new r.there r.then heard captured_same parent_same r.others r.acts r.heard levels j (missing e (j == at) refl) e
-        of (Some n) e on = others_are.hidden_stance d nodes d' nodes' up at old new r.there r.then heard captured_same parent_same r.others r.acts r.heard levels j n e (path j n on other e)
-
-        by : (b : Bool) → on_path up nodes at (Some old) j ≡ b → stance_in d nodes levels j ≡ stance_in d' nodes' levels j
-        by true f = of (slice_get nodes j) refl f
-        by false f = others_are.off_stance d nodes d' nodes' up at old new r.there r.then heard captured_same parent_same r.others r.acts r.heard levels j f
+    others_same h path = others_are.changed_same d nodes d' nodes' up at old new heard (changes captured_same parent_same) levels h path
 
     pub row_others_same : is_captured old.place ≡ false → (j : ℕ) → (j == at) ≡ false → stance_in d nodes levels j ≡ stance_in d' nodes' levels j
     row_others_same free = others_same at (λ j n on other e. absurd (false_true (sym other ∙ path_top up nodes at old j free on)))
@@ -207,23 +236,26 @@ module _ (laws : ShowsTheSame) (w : World) (patterns : List SetPattern) (site : 
 
     -- ---- in a line
 
-    module _ (q : Located most_levels (doing_by w patterns site main texts) nodes most_levels 1 at old) (open_h : is_open q.h row.pieces ≡ true) (other : (row.nodes == q.h) ≡ false) where
+    module _ (q : Located most_levels (doing_by w patterns site main texts) nodes at old most_levels 1 at old) (open_h : is_open q.h row.pieces ≡ true) (other : (row.nodes == q.h) ≡ false) where
+      abbrev within : Spot
+      within = After (ahead_of (doing_by w patterns site main texts) nodes (0 + q.spare) at old) q.spot
+
       spot : Spot
-      spot = Behind (withheld_text old.place) q.spot
+      spot = Behind (withheld_text old.place) (After (ahead_of (doing_by w patterns site main texts) nodes (0 + q.spare) at old) q.spot)
 
       others_then : (j : ℕ) → (j == q.h) ≡ false → stance_in (doing_by w patterns site main texts) nodes most_levels j ≡ stance_in (doing_by w patterns site main texts) nodes' most_levels j
       others_then = others_same (doing_by w patterns site main texts) nodes (doing_by w patterns site main texts) nodes' at number old new member r most_levels most_levels heard_so like.captured like.parent q.h q.path
 
-      begins_so : IsAlike before (doing q.h (stance_so (Inside q.own (Behind (withheld_text old.place) q.spot) q.rest) at old.left (act old)) before)
+      begins_so : IsAlike before (doing q.h (stance_so (Inside q.own (Behind (withheld_text old.place) within) q.rest) at old.left (act old)) before)
       begins_so =
-          framing.begins laws w patterns site main row nodes texts q.h (stance_so (Inside q.own (Behind (withheld_text old.place) q.spot) q.rest) at old.left (act old))
-          (alone_is (doing_by w patterns site main texts) nodes (doing_by w patterns site main texts) nodes' at number old new member r most_levels most_levels 0 q like)
+          framing.begins laws w patterns site main row nodes texts q.h (stance_so (Inside q.own (Behind (withheld_text old.place) within) q.rest) at old.left (act old))
+          (alone_is (doing_by w patterns site main texts) nodes (doing_by w patterns site main texts) nodes' at number old new member r most_levels most_levels 0 q heard_so like)
 
       -- its body is a part of the node's own
       pub included : is_capturing new.stage ≡ false → Works vars (act old) (Inner child (act new)) → Opening w tree 1 before vars (seen w patterns site main (with_child at row) nodes' texts) vars
       unfolding spot under
       included e acts =
-          let line : List ℕ → Option (List ℕ) → List ℕ → ℕ → Serving Answer → ℕ → Stance = λ withheld s t a m b. owned q.own (filling (Behind withheld q.spot) (part s t number a m (Gives at b (act new) q.rest))) in
+          let line : List ℕ → Option (List ℕ) → List ℕ → ℕ → Serving Answer → ℕ → Stance = λ withheld s t a m b. owned q.own (filling (Behind withheld within) (part s t number a m (Gives at b (act new) q.rest))) in
           let t = line (withheld_text old.place) child.stub [] l (script w l child) old.left in
           let rest = Gives at old.left (act new) q.rest in
           steps.alike begins_so
@@ -231,7 +263,7 @@ module _ (laws : ShowsTheSame) (w : World) (patterns : List SetPattern) (site : 
           (steps.then (subst (λ x. Opening w tree 1 (doing q.h (owned q.own (filling spot (Gives at old.left (Inner child (act new)) q.rest))) before) vars (doing q.h (owned q.own (filling spot x)) before) vars) (part_begins w number l child rest)
           (steps.opens_any w tree laws q.h at old.left before open_h q.own spot q.rest number l child (act new) vars deep))
           (framing.opens laws w patterns site main row nodes texts nodes' q.h others_then at t (shown q.own (filling spot (part child.stub [] number l (script w l child) rest)))
-          (sym (included_is (doing_by w patterns site main texts) nodes (doing_by w patterns site main texts) nodes' at number old new member r most_levels most_levels 0 q like e
+          (sym (included_is (doing_by w patterns site main texts) nodes (doing_by w patterns site main texts) nodes' at number old new member r most_levels most_levels 0 q heard_so like e
           ∙ ap (λ p. line (withheld_text p) (stub_in member.place) (withheld_text member.place) member.left (node_act w patterns site main member (texts number)) new.left) place ∙ member_so (line (withheld_text old.place))))
           well goes_on (hides numbered) other tree vars)))
 
@@ -239,14 +271,14 @@ module _ (laws : ShowsTheSame) (w : World) (patterns : List SetPattern) (site : 
       pub asked : is_capturing new.stage ≡ true → Works vars (act old) (Call child heard) → Opening w tree 1 before vars (seen w patterns site main (with_child at row) nodes' texts) vars
       unfolding spot under
       asked e acts =
-          let line : List ℕ → Option (List ℕ) → List ℕ → ℕ → Serving Answer → ℕ → Stance = λ withheld s t a m b. owned q.own (filling (Behind withheld q.spot) (Waits at (part s t number a m Nil) b heard q.rest)) in
+          let line : List ℕ → Option (List ℕ) → List ℕ → ℕ → Serving Answer → ℕ → Stance = λ withheld s t a m b. owned q.own (filling (Behind withheld within) (Waits at (part s t number a m Nil) b heard q.rest)) in
           let t = line (withheld_text old.place) child.stub [] l (script w l child) old.left in
           steps.alike begins_so
           (steps.then (steps.works w tree laws q.h at (Inside q.own spot q.rest) old.left before open_h vars (act old) (Call child heard) acts)
           (steps.then (subst (λ x. Opening w tree 1 (doing q.h (owned q.own (filling spot (Gives at old.left (Call child heard) q.rest))) before) vars (doing q.h (owned q.own (filling spot (Waits at x old.left heard q.rest))) before) vars) (part_begins w number l child Nil)
           (steps.asks_any w tree laws q.h at old.left before open_h q.own spot q.rest number l child heard vars deep))
           (framing.opens laws w patterns site main row nodes texts nodes' q.h others_then at t (shown q.own (filling spot (Waits at (part child.stub [] number l (script w l child) Nil) old.left heard q.rest)))
-          (sym (asked_is (doing_by w patterns site main texts) nodes (doing_by w patterns site main texts) nodes' at number old new member r most_levels most_levels 0 q like e
+          (sym (asked_is (doing_by w patterns site main texts) nodes (doing_by w patterns site main texts) nodes' at number old new member r most_levels most_levels 0 q heard_so like e
           ∙ ap (λ p. line (withheld_text p) (stub_in member.place) (withheld_text member.place) member.left (node_act w patterns site main member (texts number)) new.left) place ∙ member_so (line (withheld_text old.place))))
           well goes_on (hides numbered) other tree vars)))
 

@@ -1,4 +1,6 @@
 pub mod Paths
+pub mod Above
+pub mod Inners
 pub mod Located
 pub mod Others
 pub mod Besides
@@ -6,5 +8,7 @@ pub mod Seated
 pub mod Stepping
 pub mod Framing
 pub mod Included
+pub mod Beginning
 pub mod Returned
+pub mod Ending
 pub mod Walks

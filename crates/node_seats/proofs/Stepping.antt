@@ -16,9 +16,9 @@ use Rattle.node_turn.specs.Turns.{PlacesAs, Works}
 use Rattle.node_turn.specs.declared.node.Node.{Node}
 use Rattle.node_turn.specs.declared.node.Place.{Place}
 use Rattle.node_turn.specs.declared.node.Place.TheVariants.{Row, Stub, Captured}
-use Rattle.node_line.specs.Stances.{Opening, stance_so}
+use Rattle.node_line.specs.Stances.{Opening, Spot, stance_so}
 use Rattle.node_line.specs.Stances.Seat.{Inside}
-use Rattle.node_line.specs.Stances.Spot.{Behind}
+use Rattle.node_line.specs.Stances.Spot.{After, Behind}
 use Rattle.node_line.proofs.Steps as steps
 use Rattle.node_seats.specs.Seats.{doing_by, most_levels, seen, stance_in}
 use Rattle.node_seats.proofs.Located.{StandsAs}
@@ -97,15 +97,16 @@ module _ (laws : ShowsTheSame) (w : World) (patterns : List SetPattern) (site : 
       no : false ≡ true → ⊥
       no e = cc
 
-      go : (text : List ℕ) → s.seat old.place ≡ Inside l.own (Behind text l.spot) l.rest → s.seat new.place ≡ Inside l.own (Behind (text ++ some) l.spot) l.rest → Opening w tree 0 before vars after vars
-      go text was then =
+      go : (text : List ℕ) (spot : Spot) → s.seat old.place ≡ Inside l.own (Behind text spot) l.rest → s.seat new.place ≡ Inside l.own (Behind (text ++ some) spot) l.rest → Opening w tree 0 before vars after vars
+      go text spot was then =
           steps.alike begins
           (subst (λ t. Opening w tree 0 (doing s.h t before) vars after vars) (sym (ap (λ q. stance_so q at old.left (act old)) was))
-          (steps.then (steps.holds w tree laws s.h at old.left before goes_on l.own l.spot l.rest text some (act old) (act new) vars acts)
-          (subst (λ t. Opening w tree 0 (doing s.h t before) vars after vars) (ap (λ q. stance_so q at new.left (act new)) then ∙ ap (λ n. stance_so (Inside l.own (Behind (text ++ some) l.spot) l.rest) at n (act new)) left)
+          (steps.then (steps.holds w tree laws s.h at old.left before goes_on l.own spot l.rest text some (act old) (act new) vars acts)
+          (subst (λ t. Opening w tree 0 (doing s.h t before) vars after vars) (ap (λ q. stance_so q at new.left (act new)) then ∙ ap (λ n. stance_so (Inside l.own (Behind (text ++ some) spot) l.rest) at n (act new)) left)
           (steps.alike (ends before row nodes' new r like refl refl refl (λ j e. refl)) steps.stays))))
 
       by : (p : Place) → old.place ≡ p → Opening w tree 0 before vars after vars
       by Row e = absurd (no (sym apart ∙ ap is_in_row e))
-      by (Stub stub text) e = go text (ap s.seat e ∙ l.is (Stub stub text)) (ap s.seat (place ∙ ap (withheld_more some) e) ∙ l.is (Stub stub (text ++ some)))
-      by (Captured stub text) e = go text (ap s.seat e ∙ l.is (Captured stub text)) (ap s.seat (place ∙ ap (withheld_more some) e) ∙ l.is (Captured stub (text ++ some)))
+      by (Stub stub text) e = go text l.spot (ap s.seat e ∙ l.is (Stub stub text)) (ap s.seat (place ∙ ap (withheld_more some) e) ∙ l.is (Stub stub (text ++ some)))
+      by (Captured stub text) e =
+          go text (After l.ahead l.spot) (ap s.seat e ∙ l.is (Captured stub text)) (ap s.seat (place ∙ ap (withheld_more some) e) ∙ l.is (Captured stub (text ++ some)))

@@ -1,5 +1,5 @@
 -- Where the nodes of a family are, and what is said there of each.
-use Rattle.std.specs.Prelude.{ℕ, zero, suc, ◌==◌, ◌&&◌, ◌||◌, Bool, true, false, not, List, [], Option, None, Some, is_none, slice_get, if◌then◌else◌}
+use Rattle.std.specs.Prelude.{◌≡◌, ◌≤◌, ◌<◌, ℕ, zero, suc, ◌==◌, ◌&&◌, ◌||◌, nat_lt, Bool, true, false, not, List, [], Option, None, Some, is_none, slice_get, if◌then◌else◌}
 use Rattle.ngx_pattern.specs.Pattern.{Pattern as SetPattern}
 use Rattle.ngx_variables.specs.declared.request.Main.{Main}
 use Rattle.site_model.specs.declared.site.Site.{Site}
@@ -47,6 +47,21 @@ doing_by w patterns site main texts = record {
   heard = λ j n reply. node_heard w patterns site main n (texts j) reply.body;
 }
 
+-- ---- subrequests
+
+abbrev pub is_asked : (child : ℕ) → Option ℕ → Bool
+is_asked child None = false
+is_asked child (Some asked) = asked == child
+
+-- The bytes of the second of these nodes, with their numbers, come to the first, which has opened it and doesn't wait for them; it
+-- isn't over.
+abbrev pub is_inner : (node : ℕ) → Node → (child : ℕ) → Node → Bool
+is_inner node n child m = is_captured m.place && ((m.parent == node) && (nat_lt node child && (not m.over && not (is_asked child n.asks))))
+
+-- no node has this number or a higher one
+unfoldable pub most_nodes : ℕ
+most_nodes = 1001
+
 -- ---- lines
 
 -- a line before more of another, or apart from it where there is a stub
@@ -68,10 +83,28 @@ asking_line d nodes below node n (Some child) rest =
     if is_capturing n.stage then Waits node (waited_line below node child (slice_get nodes child) Nil) n.left (d.heard node n) rest
     else waited_line below node child (slice_get nodes child) (Gives node n.left (d.act node n) rest)
 
+-- The line of a subrequest whose bytes come to a node, after those that the node has before it; nothing of any other node.
+abbrev pub inner_line : (below : ℕ → Node → Line → Line) → (node : ℕ) → Node → (child : ℕ) → Option Node → (rest : Line) → Line
+inner_line below node n child None rest = rest
+inner_line below node n child (Some m) rest = if is_inner node n child m then under m.before (put_by (stub_in m.place) (below child m) rest) else rest
+
+-- the lines of all such subrequests with a number below `count`, one after another
+unfoldable pub inner_lines : (below : ℕ → Node → Line → Line) → List Node → (node : ℕ) → Node → (count : ℕ) → (rest : Line) → Line
+inner_lines below nodes node n zero rest = rest
+inner_lines below nodes node n (suc count) rest = inner_lines below nodes node n count (inner_line below node n count (slice_get nodes count) rest)
+
+-- those that come before the bytes that a node withholds: only one whose bytes come to its parent goes on beside its subrequests
+abbrev pub ahead_line : Place → (inner : Line → Line) → (rest : Line) → Line
+ahead_line Row inner rest = rest
+ahead_line (Stub stub text) inner rest = rest
+ahead_line (Captured stub text) inner rest = inner rest
+
 -- The line of a node with all that comes to it, from at most `levels` levels below, before more of another.
 unfoldable pub line_from : Doing → List Node → (levels : ℕ) → (node : ℕ) → Node → (rest : Line) → Line
 line_from d nodes zero node n rest = under (withheld_text n.place) (Gives node n.left (d.act node n) rest)
-line_from d nodes (suc levels) node n rest = under (withheld_text n.place) (asking_line d nodes (line_from d nodes levels) node n n.asks rest)
+line_from d nodes (suc levels) node n rest =
+    ahead_line n.place (inner_lines (line_from d nodes levels) nodes node n most_nodes)
+    (under (withheld_text n.place) (asking_line d nodes (line_from d nodes levels) node n n.asks rest))
 
 -- ---- stances
 
@@ -103,25 +136,43 @@ seen w patterns site main row nodes texts = record { row = row; output = []; sta
 
 -- ---- seats
 
-abbrev pub is_asked : (child : ℕ) → Option ℕ → Bool
-is_asked child None = false
-is_asked child (Some asked) = asked == child
+-- a node goes on, and waits for the bytes of the subrequest with this number, or takes them up beside its own
+abbrev pub hears : (node : ℕ) → (child : ℕ) → Node → Bool
+hears node child n = not n.over && (is_asked child n.asks || (is_captured n.place && (nat_lt node child && nat_lt child most_nodes)))
 
--- a node goes on, and waits for the bytes of the subrequest with this number
-abbrev pub hears : (child : ℕ) → Node → Bool
-hears child n = not n.over && is_asked child n.asks
-
-abbrev pub heard_by : (above : Node → Bool) → (child : ℕ) → Option Node → Bool
-heard_by above child None = false
-heard_by above child (Some n) = hears child n && above n
+abbrev pub heard_by : (above : Node → Bool) → (node child : ℕ) → Option Node → Bool
+heard_by above node child None = false
+heard_by above node child (Some n) = hears node child n && above n
 
 -- A node, at most `levels` levels below the main request, is in the row or in a line of its own; or its bytes come to
 -- one that waits for them, of which the same holds.
 unfoldable pub is_heard : (levels : ℕ) → List Node → (at : ℕ) → Node → Bool
 is_heard zero nodes at n = not (is_captured n.place)
-is_heard (suc levels) nodes at n = not (is_captured n.place) || heard_by (is_heard levels nodes n.parent) at (slice_get nodes n.parent)
+is_heard (suc levels) nodes at n = not (is_captured n.place) || heard_by (is_heard levels nodes n.parent) n.parent at (slice_get nodes n.parent)
 
 -- a node goes on by itself
 abbrev pub is_seated : List Node → (at : ℕ) → Option Node → Bool
 is_seated nodes at None = false
 is_seated nodes at (Some n) = is_none n.asks && is_heard 50 nodes at n
+
+-- ---- subrequests whose bytes come to a node
+
+abbrev pub inner_in : (node : ℕ) → Option Node → (child : ℕ) → Option Node → Bool
+inner_in node None child m = false
+inner_in node (Some n) child None = false
+inner_in node (Some n) child (Some m) = is_inner node n child m
+
+-- none with a number from `from` on, below `to`
+abbrev pub NoInner : List Node → (node from to : ℕ) → Type 0
+NoInner nodes node from to = (child : ℕ) → from ≤ child → child < to → inner_in node (slice_get nodes node) child (slice_get nodes child) ≡ false
+
+-- The first from this number on; none, where there is none.
+abbrev pub IsNextInner : List Node → (node from : ℕ) → Option ℕ → Type 0
+IsNextInner nodes node from None = NoInner nodes node from most_nodes
+IsNextInner nodes node from (Some child) =
+    (from ≤ child) × (child < most_nodes) × (inner_in node (slice_get nodes node) child (slice_get nodes child) ≡ true) × NoInner nodes node from child
+
+-- the bytes of a node come so to its parent
+abbrev pub inner_of_its : List Node → (at : ℕ) → Option Node → Bool
+inner_of_its nodes at None = false
+inner_of_its nodes at (Some n) = inner_in n.parent (slice_get nodes n.parent) at (Some n)

@@ -4,4 +4,4 @@
 
 mod seats;
 
-pub use seats::{is_seated, is_withheld};
+pub use seats::{comes_beside, is_seated, is_withheld, next_inner};

@@ -1,6 +1,6 @@
 // Whether a node is where its steps are seen.
 ghost use Rattle.std.specs.Prelude.{◌≡◌, slice_get};
-ghost use Rattle.node_seats.specs.Seats.{hears as hearing, is_asked as asked_for, is_captured, is_heard as heard, is_seated as has_seat};
+ghost use Rattle.node_seats.specs.Seats.{IsNextInner, hears as hearing, inner_in, inner_of_its, is_asked as asked_for, is_captured, is_heard as heard, is_inner as inner_of, is_seated as has_seat};
 
 use node_turn::{Node, Place};
 
@@ -25,11 +25,68 @@ fn is_asked(child: u32, asks: Option<u32>) -> bool
     }
 }
 
-/// Whether a node goes on and waits for the bytes of the subrequest with this number.
-fn hears(node: &Node, child: u32) -> bool
-    ensures { result ≡ hearing child node.now }
+/// No node has this number or a higher one.
+const MOST_NODES: u32 = 1001;
+
+/// Whether the bytes of the second of these nodes, with their numbers, come to the first, which has opened it and doesn't wait
+/// for them; it isn't over.
+fn is_inner(at: u32, node: &Node, child: u32, inner: &Node) -> bool
+    ensures { result ≡ inner_of at node.now child inner.now }
 {
-    !node.over && is_asked(child, node.asks)
+    is_withheld(&inner.place)
+        && inner.parent == at
+        && at < child
+        && !inner.over
+        && !is_asked(child, node.asks)
+}
+
+/// Whether the bytes of the second of the nodes with these numbers come so to the first.
+fn is_inner_in(nodes: &[Node], at: u32, child: u32) -> bool
+    ensures { result ≡ inner_in at (slice_get nodes.now at) child (slice_get nodes.now child) }
+{
+    let Some(node) = nodes.get(at as usize) else {
+        return false;
+    };
+    let Some(inner) = nodes.get(child as usize) else {
+        return false;
+    };
+    is_inner(at, node, child, inner)
+}
+
+/// The first node, with this number or a higher one, whose bytes come to the node with the number `at`, which has opened it and
+/// doesn't wait for them; it isn't over.
+pub fn next_inner(nodes: &[Node], at: u32, from: u32) -> Option<u32>
+    ensures { IsNextInner nodes.now at from result }
+{
+    for child in from..MOST_NODES {
+        if child as usize >= nodes.len() {
+            return None;
+        }
+        if is_inner_in(nodes, at, child) {
+            return Some(child);
+        }
+    }
+    None
+}
+
+/// Whether the bytes of the node with this number come to its parent, which doesn't wait for them.
+pub fn comes_beside(nodes: &[Node], at: u32) -> bool
+    ensures { result ≡ inner_of_its nodes.now at (slice_get nodes.now at) }
+{
+    match nodes.get(at as usize) {
+        Some(node) => is_inner_in(nodes, node.parent, at),
+        None => false,
+    }
+}
+
+/// Whether a node with this number goes on, and takes up the bytes of the subrequest with that number.
+#[tactic(auto, unfolding(crate::specs::Seats::most_nodes))]
+fn hears(at: u32, node: &Node, child: u32) -> bool
+    ensures { result ≡ hearing at child node.now }
+{
+    !node.over
+        && (is_asked(child, node.asks)
+            || (is_withheld(&node.place) && at < child && child < MOST_NODES))
 }
 
 /// Whether the bytes of a node with this number, which is at most `levels` levels below the main request, are seen: the
@@ -43,7 +100,8 @@ fn is_heard(nodes: &[Node], at: u32, node: &Node, levels: u32) -> bool
         }
         return match nodes.get(node.parent as usize) {
             None => false,
-            Some(above) => hears(above, at) && is_heard(nodes, node.parent, above, levels - 1),
+            Some(above) => hears(node.parent, above, at)
+                && is_heard(nodes, node.parent, above, levels - 1),
         };
     }
     true

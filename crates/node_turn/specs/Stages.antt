@@ -177,6 +177,7 @@ pub record IsSameNode (old new : Node) : Type 0 where
   pub children : new.children ≡ old.children
   pub over : new.over ≡ old.over
   pub asks : new.asks ≡ old.asks
+  pub before : new.before ≡ old.before
 
 -- ---- whether it can run
 

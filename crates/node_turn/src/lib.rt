@@ -17,4 +17,4 @@ pub use lending::lend;
 pub use node::{Body, Capture, Node, Place, Source, Stage};
 pub use phase::answering;
 pub use slot::{put, take};
-pub use turn::{Placed, Turn, places, takes, turns, withhold, withholds};
+pub use turn::{MOST_WITHHELD, Placed, Turn, places, takes, turns, withhold, withholds};

@@ -77,8 +77,8 @@ pub enum Place {
         stub: ByteText,
         text: ByteText,
     },
-    /// To its parent, which waits for its body: these bytes of it came so far. It may have a stub
-    /// that takes the place of an empty body, or of one with a status of 400 or above.
+    /// To its parent: these bytes of its body came so far. It may have a stub that takes the place
+    /// of an empty body, or of one with a status of 400 or above.
     Captured {
         stub: Option<ByteText>,
         text: ByteText,
@@ -99,6 +99,9 @@ pub struct Node {
     /// The number of the subrequest for whose body it waits, if there is one.
     pub asks: Option<u32>,
     pub place: Place,
+    /// The bytes of its parent that come right before its own, where its own come to its parent,
+    /// which doesn't wait for them.
+    pub before: ByteText,
     /// Its phases, in which the main request's method alone counts.
     pub phases: Phases,
     /// Its job, or its last one, and from which byte on its file is read next.

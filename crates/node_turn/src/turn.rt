@@ -218,7 +218,7 @@ pub fn places(
 }
 
 /// No more bytes than these are withheld of a body of which it isn't known whether it is shown.
-const MOST_WITHHELD: usize = 1048576;
+pub const MOST_WITHHELD: usize = 1048576;
 
 /// More bytes of a node came that are withheld.
 ///

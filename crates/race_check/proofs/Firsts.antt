@@ -11,7 +11,7 @@ use Rattle.race_check.specs.declared.listed.LevelLists.{LevelLists}
 use Rattle.race_check.specs.declared.listed.ListKind.{ListKind}
 use Rattle.race_check.specs.declared.listed.ListKind.TheVariants as kinds
 use Rattle.race_check.specs.Names.{has}
-use Rattle.race_check.specs.Lists.{lists_of, in_own, in_list, sets_by_auth, AreHeld, read_by_others}
+use Rattle.race_check.specs.Lists.{lists_of, in_own, in_list, sets_by_auth, AreInLevels, read_by_others}
 use Rattle.race_check.specs.Told.{AreFirst, in_first}
 use Rattle.race_check.proofs.Shared.{read_once, set_once}
 
@@ -42,7 +42,7 @@ beside false false false false false true z = refl
 beside false false false false false false true = refl
 beside false false false false false false false = refl
 
-module _ (site : Site) (levels : List ℕ) (lists : LevelLists) (held : AreHeld site levels lists) (first : FirstLists) (are : AreFirst site first) where
+module _ (site : Site) (levels : List ℕ) (lists : LevelLists) (lists_so : AreInLevels site levels lists) (first : FirstLists) (are : AreFirst site first) where
   abbrev of : ListKind → List ℕ → List ℕ → Bool
   of kind name numbers = list_any (in_list site kind name) numbers
 
@@ -58,11 +58,11 @@ module _ (site : Site) (levels : List ℕ) (lists : LevelLists) (held : AreHeld 
       let by : Bool → Bool → Bool → Bool = λ x y z. ((own || x) || y) || z in
       beside own index pages auth_sets (i && has first.index name) (p && has first.pages name) (a && has first.auth_sets name)
       ∙ ap (λ b. by ((i && b) || index) ((p && has first.pages name) || pages) ((a && has first.auth_sets name) || auth_sets)) (are.by_index name)
-      ∙ ap (λ b. by b ((p && has first.pages name) || pages) ((a && has first.auth_sets name) || auth_sets)) (sym (held.index (in_list site kinds.Index name)))
+      ∙ ap (λ b. by b ((p && has first.pages name) || pages) ((a && has first.auth_sets name) || auth_sets)) (sym (lists_so.index (in_list site kinds.Index name)))
       ∙ ap (λ b. by (of kinds.Index name (lists_of site kinds.Index levels)) ((p && b) || pages) ((a && has first.auth_sets name) || auth_sets)) (are.by_pages name)
-      ∙ ap (λ b. by (of kinds.Index name (lists_of site kinds.Index levels)) b ((a && has first.auth_sets name) || auth_sets)) (sym (held.pages (in_list site kinds.Pages name)))
+      ∙ ap (λ b. by (of kinds.Index name (lists_of site kinds.Index levels)) b ((a && has first.auth_sets name) || auth_sets)) (sym (lists_so.pages (in_list site kinds.Pages name)))
       ∙ ap (λ b. by (of kinds.Index name (lists_of site kinds.Index levels)) (of kinds.Pages name (lists_of site kinds.Pages levels)) ((a && b) || auth_sets)) (are.by_auth_sets name)
-      ∙ ap (by (of kinds.Index name (lists_of site kinds.Index levels)) (of kinds.Pages name (lists_of site kinds.Pages levels))) (sym (held.auth_sets (in_list site kinds.AuthSets name)))
+      ∙ ap (by (of kinds.Index name (lists_of site kinds.Index levels)) (of kinds.Pages name (lists_of site kinds.Pages levels))) (sym (lists_so.auth_sets (in_list site kinds.AuthSets name)))
       ∙ sym (read_once site name levels)
 
   pub set_with : (name : List ℕ) → (list_any (sets_by_auth site name) lists.auth_sets.others.items || (lists.auth_sets.has_first && has first.sets name)) ≡ list_any (λ n. auth_sets_it name (values_seen site (raw_level site n))) levels
@@ -70,5 +70,5 @@ module _ (site : Site) (levels : List ℕ) (lists : LevelLists) (held : AreHeld 
       let others = list_any (sets_by_auth site name) lists.auth_sets.others.items in
       or_turned others (lists.auth_sets.has_first && has first.sets name)
       ∙ ap (λ b. (lists.auth_sets.has_first && b) || others) (are.set_there name)
-      ∙ sym (held.auth_sets (sets_by_auth site name))
+      ∙ sym (lists_so.auth_sets (sets_by_auth site name))
       ∙ sym (set_once site name levels)

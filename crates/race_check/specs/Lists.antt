@@ -10,7 +10,7 @@ use Rattle.site_whole.specs.Whole.{index_at, pages_at, auth_sets_at, tries_seen}
 use Rattle.race_meaning.specs.Reads.{in_text, in_tries, in_target}
 use Rattle.race_check.specs.declared.listed.ListKind.{ListKind}
 use Rattle.race_check.specs.declared.listed.ListKind.TheVariants as kinds
-use Rattle.race_check.specs.declared.listed.HeldLists.{HeldLists}
+use Rattle.race_check.specs.declared.listed.KindLists.{KindLists}
 use Rattle.race_check.specs.declared.listed.LevelLists.{LevelLists}
 use Rattle.race_check.specs.Numbers.{number_of}
 
@@ -44,16 +44,16 @@ in_own name l = in_text name (text_of l.place) || in_tries name (option_map trie
 
 -- lists by their numbers, of which the first, under the number 0, is apart from the others: one of them passes a test where one
 -- of those numbers does
-abbrev pub IsHeld : List ℕ → HeldLists → Type 0
-IsHeld numbers lists =
+abbrev pub AreOfKind : List ℕ → KindLists → Type 0
+AreOfKind numbers lists =
     (test : ℕ → Bool)
     → list_any test numbers ≡ ((lists.has_first && test 0) || list_any test lists.others.items)
 
 -- the lists of each kind that hold in levels, by the levels' numbers
-pub record AreHeld (site : Site) (levels : List ℕ) (lists : LevelLists) : Type 0 where
-  pub index : IsHeld (lists_of site kinds.Index levels) lists.index
-  pub pages : IsHeld (lists_of site kinds.Pages levels) lists.pages
-  pub auth_sets : IsHeld (lists_of site kinds.AuthSets levels) lists.auth_sets
+pub record AreInLevels (site : Site) (levels : List ℕ) (lists : LevelLists) : Type 0 where
+  pub index : AreOfKind (lists_of site kinds.Index levels) lists.index
+  pub pages : AreOfKind (lists_of site kinds.Pages levels) lists.pages
+  pub auth_sets : AreOfKind (lists_of site kinds.AuthSets levels) lists.auth_sets
 
 -- a variable is read by values of levels, or by one of these lists, the first of each kind aside
 abbrev pub read_by_others : Site → (levels : List ℕ) → LevelLists → List ℕ → Bool

@@ -1,7 +1,7 @@
 // The lists of values that levels share, each once.
 ghost use Rattle.std.specs.Prelude.{◌≡◌, ◌↔◌, ◌++◌, ℕ, Bool, Contains, IfOk, OnOk};
 ghost use Rattle.std.specs.List.{list_any};
-ghost use Rattle.race_check.specs.Lists.{list_number, lists_of, IsHeld, AreHeld};
+ghost use Rattle.race_check.specs.Lists.{list_number, lists_of, AreOfKind, AreInLevels};
 ghost use Rattle.race_check.specs.Numbers.{number_of};
 
 use byte_text::OutOfMemory;
@@ -78,14 +78,14 @@ fn shared_lists(
 /// The lists of a kind that hold in levels: whether the site's first list of the kind is one of them, and the numbers of the
 /// others, each once.
 #[derive(Drop)]
-pub struct HeldLists {
+pub struct KindLists {
     pub has_first: bool,
     pub others: Vec<u32>,
 }
 
 /// Lists by these numbers, the first apart from the others.
-fn first_apart(alloc: Global, numbers: &[u32]) -> Result<HeldLists, OutOfMemory>
-    ensures { IfOk result (λ lists. IsHeld numbers.now lists) }
+fn first_apart(alloc: Global, numbers: &[u32]) -> Result<KindLists, OutOfMemory>
+    ensures { IfOk result (λ lists. AreOfKind numbers.now lists) }
 {
     let mut has_first = false;
     let mut others = Vec::new(alloc);
@@ -96,16 +96,16 @@ fn first_apart(alloc: Global, numbers: &[u32]) -> Result<HeldLists, OutOfMemory>
             others.push(*number)?;
         }
     }
-    Ok(HeldLists { has_first, others })
+    Ok(KindLists { has_first, others })
 }
 
-fn held_lists(
+fn kind_lists(
     alloc: Global,
     site: &Site,
     levels: &[u32],
     kind: ListKind,
-) -> Result<HeldLists, OutOfMemory>
-    ensures { IfOk result (λ lists. IsHeld (lists_of site.now kind levels.now) lists) }
+) -> Result<KindLists, OutOfMemory>
+    ensures { IfOk result (λ lists. AreOfKind (lists_of site.now kind levels.now) lists) }
 {
     let numbers = shared_lists(alloc, site, levels, kind)?;
     let lists = first_apart(alloc, numbers.as_slice())?;
@@ -115,18 +115,18 @@ fn held_lists(
 /// The lists that hold in levels, of each kind.
 #[derive(Drop)]
 pub struct LevelLists {
-    pub index: HeldLists,
-    pub pages: HeldLists,
-    pub auth_sets: HeldLists,
+    pub index: KindLists,
+    pub pages: KindLists,
+    pub auth_sets: KindLists,
 }
 
 /// The lists that hold in these levels.
 pub fn lists_in(alloc: Global, site: &Site, levels: &[u32]) -> Result<LevelLists, OutOfMemory>
-    ensures { IfOk result (λ lists. AreHeld site.now levels.now lists) }
+    ensures { IfOk result (λ lists. AreInLevels site.now levels.now lists) }
 {
     Ok(LevelLists {
-        index: held_lists(alloc, site, levels, ListKind::Index)?,
-        pages: held_lists(alloc, site, levels, ListKind::Pages)?,
-        auth_sets: held_lists(alloc, site, levels, ListKind::AuthSets)?,
+        index: kind_lists(alloc, site, levels, ListKind::Index)?,
+        pages: kind_lists(alloc, site, levels, ListKind::Pages)?,
+        auth_sets: kind_lists(alloc, site, levels, ListKind::AuthSets)?,
     })
 }

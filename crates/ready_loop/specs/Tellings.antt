@@ -1,6 +1,6 @@
 -- The events that a core was given, beside what its links, its files and its clock answered.
 use Rattle.std.specs.Prelude.{◌≡◌, ℕ, Bool, if◌then◌else◌, List, [], ◌∷◌, ◌++◌, flat_map, Option, None, Some}
-use Rattle.ngx_outside.specs.Records.{Given, LinkAnswer, FileAnswer, Stood, Held, beside_link, of_links, of_files, of_clock}
+use Rattle.ngx_outside.specs.Records.{Given, LinkAnswer, FileAnswer, Stat, Bytes, beside_link, of_links, of_files, of_clock}
 use Rattle.ready_loop.specs.declared.jobs.JobResult.{JobResult}
 use Rattle.ready_loop.specs.declared.jobs.JobResult.TheVariants as found
 
@@ -51,5 +51,5 @@ pub record StandBeside (events events' : Option (List Given))
 
 -- what the files answered, by what was found
 abbrev pub answer_found : JobResult → List ℕ → FileAnswer
-answer_found (found.Node node) block = Stood node
-answer_found found.Block block = Held block
+answer_found (found.Node node) block = Stat node
+answer_found found.Block block = Bytes block

@@ -3,3 +3,4 @@ pub mod Commands
 pub mod Split
 pub mod Moves
 pub mod Laws
+pub mod Names

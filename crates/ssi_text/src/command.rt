@@ -1,8 +1,9 @@
 // What the inside of a command says.
 ghost use Rattle.std.specs.Prelude.{◌≡◌, ℕ, ◌+◌, ◌-◌, ◌<◌, ◌≤◌, ◌==◌, ◌&&◌, length, take, drop, IfOk, IfSome, MatchOption};
 ghost use Rattle.std.specs.List.{prefix_len};
-ghost use Rattle.ssi_text.specs.Commands.{is_space as is_space_byte, is_word as is_word_byte, lowercase as lowercase_of, is_quote as is_quote_byte, is_escape, unescaped as unescaped_of, assigned as assigned_of, param_at, params as params_of, made as made_of};
+ghost use Rattle.ssi_text.specs.Commands.{is_space as is_space_byte, is_word as is_word_byte, is_quote as is_quote_byte, is_escape, unescaped as unescaped_of, assigned as assigned_of, param_at, params as params_of, made as made_of};
 
+use crate::name::Name;
 use crate::part::{Param, Params, Part};
 use crate::place::{is_quote, quoted_len, rest_of};
 use byte_text::{ByteText, OutOfMemory};
@@ -34,15 +35,6 @@ fn word_len(bytes: &[u8]) -> usize
     ensures within { result ≤ length bytes.now }
 {
     bytes.iter().take_while(|b| is_word(**b)).count()
-}
-
-/// A name in lower case.
-fn lowercase(alloc: Global, name: &[u8]) -> Result<ByteText, OutOfMemory>
-    ensures { IfOk result (λ text. text ≡ lowercase_of name.now) }
-{
-    let mut bytes = name.to_vec(alloc)?;
-    bytes.as_mut_slice().make_ascii_lowercase();
-    Ok(ByteText::from_vec(bytes))
 }
 
 /// Whether the first byte is a backslash, and the next a quote or a backslash.
@@ -101,7 +93,7 @@ fn assigned(alloc: Global, name: &[u8], bytes: &[u8]) -> Result<Option<(Param, u
     match quoted_len(*quote, rest) {
         Some(len) => {
             let value = unescaped(alloc, &rest[..len - 1])?;
-            let name_text = lowercase(alloc, name)?;
+            let name_text = Name::lowercase(alloc, name)?;
             let param = Param {
                 name: name_text,
                 value,
@@ -162,7 +154,7 @@ pub fn made(alloc: Global, inside: &[u8]) -> Result<Part, OutOfMemory>
     }
     match params(alloc, rest_of(bytes, len))? {
         Some(params) => {
-            let name = lowercase(alloc, &bytes[..len])?;
+            let name = Name::lowercase(alloc, &bytes[..len])?;
             Ok(Part::Command { name, params })
         }
         None => Ok(Part::Bad),

@@ -3,11 +3,13 @@
 
 mod command;
 mod laws;
+mod name;
 mod part;
 mod place;
 mod scan;
 mod state;
 
 pub use laws::{pieces_make_no_difference, what_is_undecided_is_open};
+pub use name::Name;
 pub use part::{Param, Params, Part};
 pub use state::SsiState;

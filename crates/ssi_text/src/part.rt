@@ -1,6 +1,7 @@
 // The parts of a document.
 ghost use Rattle.std.specs.Prelude.{◌≡◌, ℕ, ◌==◌, List, [], ◌∷◌, ◌++◌, length, OnOk, OnErr};
 
+use crate::name::Name;
 use byte_text::{ByteText, OutOfMemory};
 use std::alloc::Global;
 use std::marker::Model;
@@ -8,7 +9,7 @@ use std::marker::Model;
 /// A parameter of a command: its name in lower case, and its value.
 #[derive(Clone, Debug, Drop)]
 pub struct Param {
-    pub name: ByteText,
+    pub name: Name,
     pub value: ByteText,
 }
 
@@ -84,7 +85,7 @@ pub enum Part {
     /// Bytes that are taken as they are. Neighbours count as one.
     Text(ByteText),
     /// A command of a document, its name in lower case.
-    Command { name: ByteText, params: Params },
+    Command { name: Name, params: Params },
     /// A command that isn't well formed, or none that ends within its bound.
     Bad,
     /// The place of what `add_before_body` adds.

@@ -54,7 +54,7 @@ module _ (laws : ShowsTheSame) (w : World) (patterns : List SetPattern) (site : 
   put texts texts' agree = members.replaced w patterns site main texts texts' nodes at old new there none (same.asks ∙ none) agree
 
   stands_so : StandsAs old new
-  stands_so = members.stands_as old new same.parent same_place
+  stands_so = members.stands_as old new same.parent same_place same.before same.over
 
   abbrev Agree : (texts texts' : ℕ → List ℕ) → Type 0
   Agree texts texts' = (j : ℕ) → (j == at) ≡ false → texts j ≡ texts' j

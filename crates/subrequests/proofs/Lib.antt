@@ -10,4 +10,5 @@ mod Taking
 mod Asking
 mod Opening
 mod Returns
+mod Including
 mod Beginning

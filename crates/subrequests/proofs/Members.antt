@@ -1,6 +1,7 @@
 -- A node of a family of nodes, and another in its place.
-use Rattle.std.proofs.Common.{◌≡◌, ◌≢◌, ◌≤◌, ◌<◌, ℕ, zero, suc, ◌==◌, ◌&&◌, is_none, Bool, true, false, cond, not, List, [], ◌∷◌, ◌++◌, length, drop, set, slice_get, Option, None, Some, refl, sym, ap, ◌∙◌, subst, unwrap_or}
+use Rattle.std.proofs.Common.{◌≡◌, ◌≢◌, ◌≤◌, ◌<◌, ℕ, zero, suc, ◌==◌, ◌&&◌, is_none, nat_lt, Bool, true, false, cond, not, List, [], ◌∷◌, ◌++◌, length, drop, set, slice_get, Option, None, Some, refl, sym, ap, ◌∙◌, subst, unwrap_or, arith}
 use Rattle.std.proofs.lemmas.Bool.{eqb-true}
+use Rattle.std.proofs.lemmas.Bool.Decides.{nat_tests}
 use Rattle.acts.specs.Vars.{Vars}
 use Rattle.acts.specs.Act.{Done, Inner, settled}
 use Rattle.file_tree.specs.Tree.{Tree, Trees, text_of}
@@ -19,12 +20,12 @@ use Rattle.family_order.proofs.Wells.{step-well}
 use Rattle.postpone_filter.specs.Runs.Call.{Append, AddChild, End}
 use Rattle.node_turn.specs.Stages.{IsSameNode, hand_at, withheld_more, node_act, node_heard, text_in, item_asked, is_asking}
 use Rattle.subrequests.specs.Families.{IsSound, captured_at, goes_on_at, reads_text, text_at, texts_of}
-use Rattle.node_seats.specs.Seats.{Doing, doing_by, withheld_text, is_captured, is_heard, is_seated, most_levels, place_stance, row_stance, seen, stance_in, stance_of, stub_in}
+use Rattle.node_seats.specs.Seats.{Doing, NoInner, doing_by, inner_in, is_asked, is_inner, most_nodes, withheld_text, is_captured, is_heard, is_seated, most_levels, place_stance, row_stance, seen, stance_in, stance_of, stub_in}
 use Rattle.node_seats.proofs.Besides.{Beside, IsAsMuch, as_much, is_free, same_stance, still_stance}
 use Rattle.node_seats.proofs.Besides.Beside.{Neither, Both, Free}
 use Rattle.node_seats.proofs.Framing as framing
 use Rattle.node_seats.proofs.Located.{StandsAs}
-use Rattle.node_seats.proofs.Seated.{Replaced, Seated, in_row_is, line_alone, seated}
+use Rattle.node_seats.proofs.Seated.{IsBare, Replaced, Seated, in_row_is, line_alone, seated}
 use Rattle.node_seats.proofs.Stepping as stepping
 use Rattle.subrequests.specs.Moved.{SameTexts}
 use Rattle.node_line.specs.Stances.{Opening, place_by, stance_at, under}
@@ -118,14 +119,14 @@ replaced w patterns site main texts texts' nodes at old new there none free agre
   heard = λ j n e. ap (λ t reply. node_heard w patterns site main n t reply.body) (agree j e);
 }
 
-pub stands_as : (old new : Node) → new.parent ≡ old.parent → new.place ≡ old.place → StandsAs old new
-stands_as old new parent place = record { parent = parent; captured = ap is_captured place; stub = ap stub_in place; row = ap is_in_row place }
+pub stands_as : (old new : Node) → new.parent ≡ old.parent → new.place ≡ old.place → new.before ≡ old.before → new.over ≡ old.over → StandsAs old new
+stands_as old new parent place before over = record { parent = parent; captured = ap is_captured place; stub = ap stub_in place; row = ap is_in_row place; before = before; over = over }
 
 -- where more bytes of it are withheld
-pub holds_as : (old new : Node) (bytes : List ℕ) → new.parent ≡ old.parent → new.place ≡ withheld_more bytes old.place → StandsAs old new
-holds_as old new bytes parent place =
+pub holds_as : (old new : Node) (bytes : List ℕ) → new.parent ≡ old.parent → new.place ≡ withheld_more bytes old.place → new.before ≡ old.before → new.over ≡ old.over → StandsAs old new
+holds_as old new bytes parent place before over =
     let is = by old.place in
-    record { parent = parent; captured = ap is_captured place ∙ is.0; stub = ap stub_in place ∙ is.1; row = ap is_in_row place ∙ is.2 }
+    record { parent = parent; captured = ap is_captured place ∙ is.0; stub = ap stub_in place ∙ is.1; row = ap is_in_row place ∙ is.2; before = before; over = over }
   where
     by : (p : Place) → (is_captured (withheld_more bytes p) ≡ is_captured p) × (stub_in (withheld_more bytes p) ≡ stub_in p) × (is_in_row (withheld_more bytes p) ≡ is_in_row p)
     by InRow = (refl, refl, refl)
@@ -194,6 +195,51 @@ seat_and_open w patterns site main row nodes texts at old there sound goes_on e 
     let s = its_seat w patterns site main row nodes texts at old there sound goes_on e in
     (s, seat_open w patterns site main row nodes texts at old sound s)
 
+-- ---- subrequests whose bytes come to a node
+
+none_some_node : (x : Node) → None ≡ Some x → ⊥
+none_some_node x e = cc
+
+less_of : (a b : ℕ) → nat_lt a b ≡ true → a < b
+less_of a b e = grind (arith, nat_tests, e)
+
+pub past_end : (nodes : List Node) (c : ℕ) → length nodes ≤ c → slice_get nodes c ≡ None
+past_end [] c h = refl
+past_end (n ∷ nodes) zero h = absurd (omega (arith, h))
+past_end (n ∷ nodes) (suc c) h = past_end nodes c (omega (arith, h))
+
+pub in_most : (number : ℕ) → number < 1001 → nat_lt number most_nodes ≡ true
+unfolding most_nodes
+in_most number few = grind (arith, nat_tests, few)
+
+-- the last node has none
+pub bare_last : (nodes : List Node) (number : ℕ) (n : Node) → length nodes ≡ suc number → IsBare nodes number n
+bare_last nodes number n size c m there = by (nat_lt number c) refl
+  where
+    none : (a b : Bool) → (a && (b && false)) ≡ false
+    none false b = refl
+    none true false = refl
+    none true true = refl
+
+    by : (b : Bool) → nat_lt number c ≡ b → is_inner number n c m ≡ false
+    by true e = let h = less_of number c e in absurd (none_some_node m (sym (past_end nodes c (omega (arith, h, size))) ∙ there))
+    by false e = ap (λ b. is_captured m.place && ((m.parent == number) && (b && (not m.over && not (is_asked c n.asks))))) e ∙ none (is_captured m.place) (m.parent == number)
+
+-- so it is of one that was found to have none
+pub bare_found : (nodes : List Node) (at : ℕ) (n : Node) → slice_get nodes at ≡ Some n → length nodes ≤ 1001 → NoInner nodes at 0 most_nodes → IsBare nodes at n
+unfolding most_nodes
+bare_found nodes at n here few none c m there = by (nat_lt c 1001) refl
+  where
+    least : (k : ℕ) → 0 ≤ k
+    least k = omega arith
+
+    more : nat_lt c 1001 ≡ false → 1001 ≤ c
+    more e = grind (arith, nat_tests, e)
+
+    by : (b : Bool) → nat_lt c 1001 ≡ b → is_inner at n c m ≡ false
+    by true e = sym (ap (λ o. inner_in at o c (slice_get nodes c)) here ∙ ap (inner_in at (Some n) c) there) ∙ none c (least c) (less_of c 1001 e)
+    by false e = let h = more e in absurd (none_some_node m (sym (past_end nodes c (omega (arith, h, few))) ∙ there))
+
 -- ---- steps of a node in its seat
 
 module _ (laws : ShowsTheSame) (w : World) (patterns : List SetPattern) (site : Site) (main : Main) (row : Row) (nodes : List Node) (texts : ℕ → List ℕ) (at : ℕ) (old : Node)
@@ -217,13 +263,13 @@ module _ (laws : ShowsTheSame) (w : World) (patterns : List SetPattern) (site : 
       Opening w tree 0 before vars (seen w patterns site main row (set nodes at new) texts) vars'
   turned vars' new same place acts =
       stepping.turned laws w patterns site main row nodes texts at old (its_seat w patterns site main row nodes texts at old there sound goes_on seat)
-      tree vars h_open (set nodes at new) new (put new same.asks) (stands_as old new same.parent place) same.left place vars' acts
+      tree vars h_open (set nodes at new) new (put new same.asks) (stands_as old new same.parent place same.before same.over) same.left place vars' acts
 
   pub worked : (new : Node) → IsSameNode old new → new.place ≡ old.place → Works vars (act old) (act new) →
       Opening w tree 0 before vars (seen w patterns site main row (set nodes at new) texts) vars
   worked new same place acts =
       stepping.worked laws w patterns site main row nodes texts at old (its_seat w patterns site main row nodes texts at old there sound goes_on seat)
-      tree vars h_open (set nodes at new) new (put new same.asks) (stands_as old new same.parent place) same.left place acts
+      tree vars h_open (set nodes at new) new (put new same.asks) (stands_as old new same.parent place same.before same.over) same.left place acts
 
   -- what is said of the others where neither it nor the other come to another
   pub others_same : (nodes' : List Node) → is_captured old.place ≡ false → ((j : ℕ) → (j == at) ≡ false → slice_get nodes j ≡ slice_get nodes' j) → is_free (slice_get nodes' at) ≡ true →
@@ -246,7 +292,7 @@ module _ (laws : ShowsTheSame) (w : World) (patterns : List SetPattern) (site : 
   came row' new same apart opened well (Withheld rows place acts) =
       subst (λ (r : Row). Opening w tree 0 before vars (seen w patterns site main r (set nodes at new) texts) vars) (sym rows)
       (stepping.withheld laws w patterns site main row nodes texts at old (its_seat w patterns site main row nodes texts at old there sound goes_on seat)
-      tree vars h_open (set nodes at new) new (put new same.asks) (holds_as old new (hand_at old.stage) same.parent place) same.left apart place (acts w patterns site main (texts at)))
+      tree vars h_open (set nodes at new) new (put new same.asks) (holds_as old new (hand_at old.stage) same.parent place same.before same.over) same.left apart place (acts w patterns site main (texts at)))
   came row' new same apart opened well (Joined stub some any was place rows acts good) =
       let f = placing at some before in
       let after = stance_in (doing_by w patterns site main texts) (set nodes at new) most_levels in
@@ -262,7 +308,7 @@ module _ (laws : ShowsTheSame) (w : World) (patterns : List SetPattern) (site : 
       begun =
           ap (stance_of (doing_by w patterns site main texts) nodes most_levels at) there
           ∙ ap (place_stance (doing_by w patterns site main texts) nodes most_levels at old) was
-          ∙ ap (λ line. Apart line stub) (line_alone (doing_by w patterns site main texts) nodes (suc most_levels) at old Nil (asks_none nodes at old there seat)
+          ∙ ap (λ line. Apart line stub) (line_alone (doing_by w patterns site main texts) nodes (suc most_levels) at old Nil (asks_none nodes at old there seat) (ap is_captured was)
           ∙ ap (λ p. under (withheld_text p) (Gives at old.left (node_act w patterns site main old (texts at)) Nil)) was)
 
       by : (j : ℕ) (b : Bool) → (j == at) ≡ b → cond b (Going old.left (node_act w patterns site main new (texts at))) (stance_in (doing_by w patterns site main texts) nodes most_levels j)
@@ -335,7 +381,7 @@ module _ (laws : ShowsTheSame) (w : World) (patterns : List SetPattern) (site : 
       begun =
           ap (stance_of (doing_by w patterns site main texts) nodes most_levels at) there
           ∙ ap (place_stance (doing_by w patterns site main texts) nodes most_levels at old) d.is.place
-          ∙ ap (λ line. Apart line d.stub) (line_alone (doing_by w patterns site main texts) nodes (suc most_levels) at old Nil (asks_none nodes at old there seat)
+          ∙ ap (λ line. Apart line d.stub) (line_alone (doing_by w patterns site main texts) nodes (suc most_levels) at old Nil (asks_none nodes at old there seat) (ap is_captured d.is.place)
           ∙ ap (λ p. under (withheld_text p) (Gives at old.left (node_act w patterns site main old (texts at)) Nil)) d.is.place
           ∙ ap (λ m. under d.is.text (Gives at old.left m Nil)) done)
 
@@ -394,9 +440,13 @@ module _ (laws : ShowsTheSame) (w : World) (patterns : List SetPattern) (site : 
       by : (s : Option (List ℕ)) → place_stance (doing_by w patterns site main texts) nodes' most_levels number member (place_by s) ≡ stance_at number (place_by s) member.left (node_act w patterns site main member (texts number))
       by None = ap (row_stance (doing_by w patterns site main texts) nodes' most_levels number member) alone
       by (Some text) =
-          ap (λ line. Apart line text) (line_alone (doing_by w patterns site main texts) nodes' (suc most_levels) number member Nil alone
+          ap (λ line. Apart line text) (line_alone (doing_by w patterns site main texts) nodes' (suc most_levels) number member Nil alone (ap is_captured place ∙ free_place stub)
           ∙ ap (λ t. under t (Gives number member.left (node_act w patterns site main member (texts number)) Nil)) (withheld place))
         where
+          free_place : (o : Option (List ℕ)) → is_captured (place_by o) ≡ false
+          free_place None = refl
+          free_place (Some t) = refl
+
           withheld : member.place ≡ place_by stub → withheld_text member.place ≡ []
           withheld e = ap withheld_text e ∙ none_withheld stub
             where
@@ -503,7 +553,7 @@ told_same w patterns site main nodes texts at old children waits j there = stanc
     does = doing_by w patterns site main texts
 
     much : (i : ℕ) → IsAsMuch (doing_by w patterns site main texts) (doing_by w patterns site main texts) i old (record old { children = children; waits = waits })
-    much i = record { place = refl; parent = refl; left = refl; asks = refl; capturing = refl; act = refl; heard = refl }
+    much i = record { place = refl; parent = refl; left = refl; asks = refl; before = refl; over = refl; capturing = refl; act = refl; heard = refl }
 
     here : (i : ℕ) → (i == at) ≡ true → slice_get nodes i ≡ Some old
     here i e = ap (slice_get nodes) (same_number i at e) ∙ there

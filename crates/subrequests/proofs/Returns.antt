@@ -1,5 +1,5 @@
 -- A node is over for whose body its parent waits.
-use Rattle.std.proofs.Common.{◌≡◌, ◌≢◌, ℕ, suc, ◌+◌, ◌==◌, ◌&&◌, ◌||◌, is_none, Bool, not, true, false, cond, List, [], ◌++◌, get_or, length, set, slice_get, None, Some, refl, sym, ap, ◌∙◌, subst, zero, take, ◌≤◌, ◌∷◌, arith, nat_le}
+use Rattle.std.proofs.Common.{◌≡◌, ◌≢◌, ℕ, suc, ◌+◌, ◌==◌, ◌&&◌, ◌||◌, nat_lt, Bool, not, true, false, cond, List, [], ◌++◌, get_or, length, set, slice_get, None, Some, refl, sym, ap, ◌∙◌, subst, zero, take, ◌≤◌, ◌∷◌, arith, nat_le}
 use Rattle.std.proofs.lemmas.Bool.Decides.{nat_tests}
 use Rattle.acts.specs.Vars.{Vars}
 use Rattle.acts.specs.Act.{Done}
@@ -22,9 +22,12 @@ use Rattle.node_turn.specs.declared.node.Place.{Place}
 use Rattle.node_turn.specs.declared.node.Place.TheVariants.{Row as InRow, Stub, Captured}
 use Rattle.node_line.specs.Stances.{Opening}
 use Rattle.node_line.specs.Stubs.{IsKept}
-use Rattle.node_seats.specs.Seats.{doing_by, withheld_text, is_captured, is_heard, is_seated, most_levels, seen, stub_in}
+use Rattle.node_seats.specs.Seats.{NoInner, doing_by, inner_in, inner_of_its, is_asked, is_inner, most_nodes, withheld_text, is_captured, is_heard, is_seated, most_levels, seen, stub_in}
 use Rattle.node_seats.proofs.Included.{Waits_too}
-use Rattle.node_seats.proofs.Located.{Located, StandsAs, above_is, locate}
+use Rattle.node_seats.proofs.Above.{Takes, above_is}
+use Rattle.node_seats.proofs.Above.Takes.{Asks, Includes}
+use Rattle.node_seats.proofs.Located.{Located, StandsAs, locate}
+use Rattle.node_seats.proofs.Seated.{IsBare}
 use Rattle.node_seats.proofs.Others.{SameOrMore, is_its}
 use Rattle.node_seats.proofs.Others.SameOrMore.{Same, Its}
 use Rattle.node_seats.proofs.Returned as returned
@@ -66,7 +69,7 @@ body_so stub [] status e = cc
 body_so stub (b ∷ body) status e = ap (λ c. cond c stub (b ∷ body)) (tested (length body) (nat_le 400 status) false e)
 
 -- the status to which it has come
-end_is : (w : World) (patterns : List SetPattern) (site : Site) (main : Main) (n : Node) (text : List ℕ) (answer : Answer) → is_ending n.stage ≡ true → node_act w patterns site main n text ≡ Done answer → end_status n.stage ≡ answer.status
+pub end_is : (w : World) (patterns : List SetPattern) (site : Site) (main : Main) (n : Node) (text : List ℕ) (answer : Answer) → is_ending n.stage ≡ true → node_act w patterns site main n text ≡ Done answer → end_status n.stage ≡ answer.status
 end_is w patterns site main n text answer e done = by n.stage e done
   where
     done_is : (x : Serving Answer) (a b : Answer) → x ≡ Done a → x ≡ Done b → a ≡ b
@@ -105,7 +108,7 @@ pub as_replied : (text : List ℕ) (p p' : Node) → HasReply text p p' → AsRe
 as_replied text p p' (Hears capturing same place file acts) = record { left = same.left; over = same.over; asks = same.asks; captured = ap is_captured (sym place); parent = sym same.parent; file = file }
 as_replied text p p' (Withholds free apart is) =
     let place : p'.place ≡ withheld_more text p.place = ap (λ (n : Node). n.place) is in
-    let like = members.holds_as p p' text (ap (λ (n : Node). n.parent) is) place in
+    let like = members.holds_as p p' text (ap (λ (n : Node). n.parent) is) place (ap (λ (n : Node). n.before) is) (ap (λ (n : Node). n.over) is) in
     record {
       left = ap (λ (n : Node). n.left) is;
       over = ap (λ (n : Node). n.over) is;
@@ -117,10 +120,31 @@ as_replied text p p' (Withholds free apart is) =
 
 -- and is where it was
 pub stands_so : (text : List ℕ) (p p' : Node) → HasReply text p p' → StandsAs p' p
-stands_so text p p' (Hears capturing same place file acts) = members.stands_as p' p (sym same.parent) (sym place)
+stands_so text p p' (Hears capturing same place file acts) = members.stands_as p' p (sym same.parent) (sym place) (sym same.before) (sym same.over)
 stands_so text p p' (Withholds free apart is) =
-    let like = members.holds_as p p' text (ap (λ (n : Node). n.parent) is) (ap (λ (n : Node). n.place) is) in
-    record { parent = sym like.parent; captured = sym like.captured; stub = sym like.stub; row = sym like.row }
+    let like = members.holds_as p p' text (ap (λ (n : Node). n.parent) is) (ap (λ (n : Node). n.place) is) (ap (λ (n : Node). n.before) is) (ap (λ (n : Node). n.over) is) in
+    record { parent = sym like.parent; captured = sym like.captured; stub = sym like.stub; row = sym like.row; before = sym like.before; over = sym like.over }
+
+-- a subrequest whose bytes come to a node
+pub inner_all : (x : ℕ) (n : Node) (c : ℕ) (m : Node) → is_captured m.place ≡ true → m.parent ≡ x → nat_lt x c ≡ true → m.over ≡ false → is_asked c n.asks ≡ false → is_inner x n c m ≡ true
+inner_all x n c m captured parent less over asks =
+    ap (λ b. b && ((m.parent == x) && (nat_lt x c && (not m.over && not (is_asked c n.asks))))) captured
+    ∙ ap (λ b. b && (nat_lt x c && (not m.over && not (is_asked c n.asks)))) (ap (λ i. i == x) parent ∙ members.eq_self x)
+    ∙ ap (λ b. b && (not m.over && not (is_asked c n.asks))) less
+    ∙ ap (λ b. not b && not (is_asked c n.asks)) over
+    ∙ ap not asks
+
+over_none : (x : ℕ) (n : Node) (c : ℕ) (m : Node) → m.over ≡ true → is_inner x n c m ≡ false
+over_none x n c m e = ap (λ o. is_captured m.place && ((m.parent == x) && (nat_lt x c && (not o && not (is_asked c n.asks))))) e ∙ none (is_captured m.place) (m.parent == x) (nat_lt x c)
+  where
+    none : (a b f : Bool) → (a && (b && (f && false))) ≡ false
+    none false b f = refl
+    none true false f = refl
+    none true true false = refl
+    none true true true = refl
+
+same_some : {A : Type 0} (x y : A) → Some x ≡ Some y → x ≡ y
+same_some x y e = cc
 
 -- the node, which is over then, and its parent, which has its bytes then
 pub record Returned (row : Row) (nodes : List Node) (at : ℕ) (old gone p p' : Node) (text : List ℕ) : Type 0 where
@@ -134,6 +158,7 @@ pub record Returned (row : Row) (nodes : List Node) (at : ℕ) (old gone p p' : 
   pub over : gone.over ≡ true
   pub parent : slice_get nodes old.parent ≡ Some p
   pub asks : p.asks ≡ Some at
+  pub bare : IsBare nodes at old
   pub heard : is_heard 49 nodes old.parent p ≡ true
   pub goes_on : is_open old.parent row.pieces ≡ true
   pub is_open_too : is_open at row.pieces ≡ true
@@ -145,13 +170,14 @@ abbrev pub gone_of : Node → Place → Node
 gone_of old place = record old { place = place; over = true }
 
 pub returns_is : (row : Row) (nodes : List Node) (at : ℕ) (old : Node) (place : Place) (p p' : Node) (text : List ℕ) → slice_get nodes at ≡ Some old → IsSound row nodes → is_at is_ending (slice_get nodes at) ≡ true →
-    is_seated nodes at (slice_get nodes at) ≡ true → IsTaken old.stage text old.place place → p ≡ get_or (set nodes at (gone_of old place)) old.parent p → AsReplied p p' →
+    is_seated nodes at (slice_get nodes at) ≡ true → NoInner nodes at 0 most_nodes → inner_of_its nodes at (slice_get nodes at) ≡ false → IsTaken old.stage text old.place place → p ≡ get_or (set nodes at (gone_of old place)) old.parent p → AsReplied p p' →
     Returned row nodes at old (gone_of old place) p p' text
-returns_is row nodes at old place p p' text there sound ends seat places is reply =
+returns_is row nodes at old place p p' text there sound ends seat no_inner apart_so places is reply =
     let none = members.asks_none nodes at old there seat in
     let captured = ap is_captured places.place in
     let above = above_is 49 nodes at old (subst (λ l. is_heard l nodes at old ≡ true) levels_are (members.heard_above nodes at old there seat)) captured in
-    let apart = not_itself above.waiting none above.there above.asks in
+    let asks = asks_it above.waiting above.there above.takes in
+    let apart = not_itself above.waiting none above.there asks in
     let then = get_set_other nodes at old.parent (gone_of old place) apart ∙ above.there in
     let same : p ≡ above.waiting = wholes.some_same p above.waiting (sym (wholes.found_there (set nodes at (gone_of old place)) old.parent p above.waiting then is) ∙ then) in
     record {
@@ -164,7 +190,8 @@ returns_is row nodes at old place p p' text there sound ends seat places is repl
       file = (refl, refl);
       over = refl;
       parent = above.there ∙ ap Some (sym same);
-      asks = ap (λ (n : Node). n.asks) same ∙ above.asks;
+      asks = ap (λ (n : Node). n.asks) same ∙ asks;
+      bare = members.bare_found nodes at old there sound.few no_inner;
       heard = subst (λ (n : Node). is_heard 49 nodes old.parent n ≡ true) (sym same) above.heard;
       goes_on = members.open_there row nodes old.parent above.waiting above.there above.goes_on sound;
       is_open_too = wholes.open_is is_ending row nodes at sound ends;
@@ -174,6 +201,17 @@ returns_is row nodes at old place p p' text there sound ends seat places is repl
   where
     none_some : (x : ℕ) → None ≡ Some x → ⊥
     none_some x e = cc
+
+    false_so : false ≡ true → ⊥
+    false_so e = cc
+
+    -- the one that takes up its bytes waits for them
+    asks_it : (q : Node) → slice_get nodes old.parent ≡ Some q → Takes old.parent at q → q.asks ≡ Some at
+    asks_it q here (Asks asks) = asks
+    asks_it q here (Includes is_there less few asks) =
+        let over = members.not_over row nodes at old there sound (wholes.open_is is_ending row nodes at sound ends) in
+        absurd (false_so (sym (ap (inner_of_its nodes at) (sym there) ∙ apart_so) ∙ ap (λ o. inner_in old.parent o at (Some old)) here
+        ∙ inner_all old.parent q at old (ap is_captured places.place) refl less over asks))
 
     -- it isn't its own parent, since that waits
     not_itself : (q : Node) → old.asks ≡ None → slice_get nodes old.parent ≡ Some q → q.asks ≡ Some at → old.parent ≢ at
@@ -228,19 +266,21 @@ module _ (row : Row) (nodes : List Node) (at : ℕ) (old gone p p' : Node) (text
       none = r.none;
       captured = ap is_captured r.taken.place;
       parent = refl;
+      bare = r.bare;
+      not_yet = λ m e. over_none old.parent p' at m (ap (λ (n : Node). n.over) (same_some m gone (sym e ∙ gone_there)) ∙ r.over);
+      rest = λ j e f. get_set_other (set nodes at gone) old.parent j p' (members.other_number j old.parent e) ∙ get_set_other nodes at j gone (members.other_number j at f);
       others = λ j e. others j e (j == at) refl;
       acts = λ j n e. refl;
       heard = λ j n e. refl;
     }
       where
-        its : (n : Node) → is_captured n.place ≡ true → n.parent ≡ old.parent → n.asks ≡ None → is_its old.parent (Some n) ≡ true
-        its n a b c =
-            ap (λ x. x && ((n.parent == old.parent) && is_none n.asks)) a ∙ ap (λ i. (i == old.parent) && is_none n.asks) b ∙ ap (λ x. x && is_none n.asks) (members.eq_self old.parent) ∙ ap is_none c
+        its : (n : Node) → is_captured n.place ≡ true → n.parent ≡ old.parent → is_its old.parent (Some n) ≡ true
+        its n a b = ap (λ x. x && (n.parent == old.parent)) a ∙ ap (λ i. i == old.parent) b ∙ members.eq_self old.parent
 
         others : (j : ℕ) → (j == old.parent) ≡ false → (b : Bool) → (j == at) ≡ b → SameOrMore old.parent (slice_get (set (set nodes at gone) old.parent p') j) (slice_get nodes j)
         others j e true f =
-            Its (ap (λ i. is_its old.parent (slice_get (set (set nodes at gone) old.parent p') i)) (members.same_number j at f) ∙ ap (is_its old.parent) gone_there ∙ its gone (ap is_captured r.taken.then) r.same_parent r.none_then)
-            (ap (λ i. is_its old.parent (slice_get nodes i)) (members.same_number j at f) ∙ ap (is_its old.parent) r.there ∙ its old (ap is_captured r.taken.place) refl r.none)
+            Its (ap (λ i. is_its old.parent (slice_get (set (set nodes at gone) old.parent p') i)) (members.same_number j at f) ∙ ap (is_its old.parent) gone_there ∙ its gone (ap is_captured r.taken.then) r.same_parent)
+            (ap (λ i. is_its old.parent (slice_get nodes i)) (members.same_number j at f) ∙ ap (is_its old.parent) r.there ∙ its old (ap is_captured r.taken.place) refl)
         others j e false f = Same (get_set_other (set nodes at gone) old.parent j p' (members.other_number j old.parent e) ∙ get_set_other nodes at j gone (members.other_number j at f))
 
     -- what comes to its parent
@@ -269,7 +309,7 @@ module _ (row : Row) (nodes : List Node) (at : ℕ) (old gone p p' : Node) (text
 
         heard_so : is_heard 49 (set (set nodes at gone) old.parent p') old.parent p' ≡ true
         heard_so =
-            returned.parent_heard (doing_by w patterns site main texts) nodes (doing_by w patterns site main texts) (set (set nodes at gone) old.parent p') old.parent at p p' old (waits texts) 49 r.reply.captured r.reply.parent r.heard
+            returned.parent_heard nodes (set (set nodes at gone) old.parent p') old.parent p p' 49 r.parent (waits texts).others r.reply.captured r.reply.parent r.heard
 
         well : IsWell (seen w patterns site main row nodes texts)
         well = members.seen_well w patterns site main row nodes texts sound
@@ -287,7 +327,7 @@ module _ (row : Row) (nodes : List Node) (at : ℕ) (old gone p p' : Node) (text
             let both = still_open (h == at) (is_open h row.pieces) (sym (closed h) ∙ members.open_there row' (set (set nodes at gone) old.parent p') h host there over sound') in
             (both.0, turned h both.1)
 
-        located : is_in_row p'.place ≡ false → Located most_levels (doing_by w patterns site main texts) (set (set nodes at gone) old.parent p') 49 2 old.parent p'
+        located : is_in_row p'.place ≡ false → Located most_levels (doing_by w patterns site main texts) (set (set nodes at gone) old.parent p') old.parent p' 49 2 old.parent p'
         located apart =
             locate most_levels (doing_by w patterns site main texts) (set (set nodes at gone) old.parent p') 49 2 old.parent p' (get_set_same (set nodes at gone) old.parent p' p parent_then)
             (r.reply.over ∙ members.not_over row nodes old.parent p r.parent sound r.goes_on) size heard_so apart
@@ -329,7 +369,7 @@ module _ (row : Row) (nodes : List Node) (at : ℕ) (old gone p p' : Node) (text
         let both : row' ≡ ended at (appended old.parent (chosen done.0) row) = rows ∙ ap (ended at) now in
         subst (λ (x : Row). Opening w tree 0 (seen w patterns site main row nodes texts) vars (seen w patterns site main x nodes_then texts) vars) (sym both)
         (returned.shows laws w patterns site main row nodes (set (set nodes at gone) old.parent p') texts old.parent at p p' old (waits texts) r.reply.parent 49
-        (returned.parent_heard (doing_by w patterns site main texts) nodes (doing_by w patterns site main texts) (set (set nodes at gone) old.parent p') old.parent at p p' old (waits texts) 49 r.reply.captured r.reply.parent r.heard)
+        (returned.parent_heard nodes (set (set nodes at gone) old.parent p') old.parent p p' 49 r.parent (waits texts).others r.reply.captured r.reply.parent r.heard)
         tree vars r.is_open_too r.goes_on (members.seen_well w patterns site main row nodes texts sound)
         done.0
         (λ j. ap (λ (x : Row). is_open j x.pieces) (sym now) ∙ opened j)

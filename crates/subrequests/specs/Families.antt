@@ -97,6 +97,19 @@ pub data HasReply (body : List ℕ) (old new : Node) : Type 0 where
       HasReply body old new
   Withholds : is_capturing old.stage ≡ false → is_in_row old.place ≡ false → new ≡ record old { asks = None; place = withheld_more body old.place } → HasReply body old new
 
+-- More bytes come before those of a node that are withheld, whose bytes come to its parent.
+pub record HasFirst (text : List ℕ) (old new : Node) : Type 0 where
+  pub stub : Option (List ℕ)
+  pub own : List ℕ
+  pub was : old.place ≡ Captured stub own
+  pub is : new ≡ record old { place = Captured stub (text ++ own) }
+
+-- A node whose bytes come to its parent has one more subrequest, whose bytes come after those that it has so far.
+pub record IsInnerOpened (old new : Node) (before : List ℕ) : Type 0 where
+  pub stub : Option (List ℕ)
+  pub was : old.place ≡ Captured stub before
+  pub is : new ≡ record old { children = new.children; waits = new.waits; place = Captured stub [] }
+
 -- The row has a place for each node that isn't over, and for no other. The main request's place comes after all others,
 -- and no other node waits for its bytes. And there are no more nodes than make one response.
 pub record IsSound (row : Row) (nodes : List Node) : Type 0 where
@@ -106,13 +119,14 @@ pub record IsSound (row : Row) (nodes : List Node) : Type 0 where
   pub going : (j : ℕ) → is_open j row.pieces ≡ goes_on_at (slice_get nodes j)
   pub first : captured_at (slice_get nodes 0) ≡ false
 
--- The nodes have one more: that of a subrequest, for which the one with a number asks, and whose bytes go there.
-pub record IsPushed (old new : List Node) (at : ℕ) (place : Place) (asking : Node) (child : Child) : Type 0 where
+-- The nodes have one more: that of a subrequest, for which the one with a number asks, and whose bytes go there, after these of that one.
+pub record IsPushed (old new : List Node) (at : ℕ) (place : Place) (bytes : List ℕ) (asking : Node) (child : Child) : Type 0 where
   pub member : Node
   pub items : new ≡ old ++ member ∷ []
   pub left : member.left ≡ asking.left - 1
   pub over : member.over ≡ false
   pub goes : member.place ≡ place
+  pub before : member.before ≡ bytes
   pub parent : member.parent ≡ at
   pub asks : member.asks ≡ None
   pub fresh : reads_text member.stage ≡ false

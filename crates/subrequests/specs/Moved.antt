@@ -21,7 +21,7 @@ use Rattle.family_rest.specs.Still.{still, subs_still}
 use Rattle.ssi_exec.specs.Scenes.{child_seen}
 use Rattle.ssi_exec.specs.declared.document.Child.{Child}
 use Rattle.node_turn.specs.Stages.{main_of, node_act}
-use Rattle.subrequests.specs.Families.{IsPushed, IsSound, reads_text, texts_of}
+use Rattle.subrequests.specs.Families.{IsInnerOpened, IsPushed, IsSound, reads_text, texts_of}
 use Rattle.node_seats.specs.Seats.{seen}
 use Rattle.node_turn.specs.Nodes.{after_phases, bytes_for}
 use Rattle.node_line.specs.Stances.{Opening}
@@ -75,10 +75,24 @@ pub record IsAsking (at : ℕ) (child : Child) (old new : Family) (n : Node) : T
   pub row : new.order ≡ with_child at old.order
   pub asking : Node
   pub asks : asking ≡ record n { children = asking.children; asks = Some old.order.nodes }
-  pub pushed : IsPushed (slice_set old.nodes at asking) new.nodes at (Captured child.stub []) asking child
+  pub pushed : IsPushed (slice_set old.nodes at asking) new.nodes at (Captured child.stub []) [] asking child
 
 abbrev pub AsksAt : (at : ℕ) → Child → (old new : Family) → Type 0
 AsksAt at child old new = (n : Node) → slice_get old.nodes at ≡ Some n → IsAsking at child old new n
+
+-- The subrequest opens whose body comes to a node that may have one more, after the bytes that it has so far: it has a place in the row, and
+-- its node is the last.
+pub record IsInner (at : ℕ) (child : Child) (old new : Family) (n : Node) : Type 0 where
+  pub free : n.asks ≡ None
+  pub deep : n.left ≢ 0
+  pub row : new.order ≡ with_child at old.order
+  pub opening : Node
+  pub before : List ℕ
+  pub opens : IsInnerOpened n opening before
+  pub pushed : IsPushed (slice_set old.nodes at opening) new.nodes at (Captured child.stub []) before opening child
+
+abbrev pub InnerAt : (at : ℕ) → Child → (old new : Family) → Type 0
+InnerAt at child old new = (n : Node) → slice_get old.nodes at ≡ Some n → IsInner at child old new n
 
 -- The texts are the same that nodes read.
 abbrev pub SameTexts : List Node → (texts texts' : ℕ → List ℕ) → Type 0

@@ -1,5 +1,5 @@
 // The node of a subrequest.
-ghost use Rattle.std.specs.Prelude.{◌≡◌, ℕ, List, [], IfOk, OnOk, Some, None, true, false, slice_get};
+ghost use Rattle.std.specs.Prelude.{◌≡◌, ℕ, List, [], IfOk, OnOk, Some, None, true, false, is_some, slice_get, unwrap_or, if◌then◌else◌};
 ghost use Rattle.http_types.specs.declared.words.Method.TheVariants.{Get as GetMethod};
 ghost use Rattle.ngx_variables.specs.declared.request.Role.TheVariants.{Content as ContentRole};
 ghost use Rattle.ngx_pattern.specs.Pattern.{Pattern as SetPattern};
@@ -9,7 +9,7 @@ ghost use Rattle.request_meaning.specs.Serving.{World};
 ghost use Rattle.site_model.specs.declared.site.Site.{Site as SiteRow};
 ghost use Rattle.ssi_exec.specs.Scenes.{child_seen};
 ghost use Rattle.node_turn.specs.Stages.{node_act};
-ghost use Rattle.subrequests.specs.Families.{IsPushed, place_for, reads_text};
+ghost use Rattle.subrequests.specs.Families.{IsInnerOpened, IsPushed, place_for, reads_text};
 ghost use Rattle.node_turn.specs.Nodes.{of_method};
 ghost use Rattle.node_turn.specs.declared.node.Node.{Node as NodeView};
 
@@ -19,7 +19,7 @@ use file_tree::Ask;
 use http_moment::LocalDate;
 use http_types::{Addr, Method, Version};
 use ngx_variables::{Groups, Main, Request, Role};
-use node_turn::{Node, Place, Stage};
+use node_turn::{Node, Place, Stage, take};
 use req_head::HeadFields;
 use request_phases::Phases;
 use rewrite_code::Progress;
@@ -116,7 +116,8 @@ fn place_of(alloc: Global, stub: Option<ByteText>, captured: bool) -> Place
     }
 }
 
-/// The node of a subrequest before its phases begin.
+/// The node of a subrequest before its phases begin, whose body is captured after these bytes of its
+/// parent, or isn't.
 fn child_node(
     alloc: Global,
     level: u32,
@@ -124,14 +125,15 @@ fn child_node(
     parent: u32,
     left: u32,
     child: Child,
-    captured: bool,
+    captured: Option<ByteText>,
 ) -> Node
     ensures left { result.left ≡ left }
     ensures over { result.over ≡ false }
     ensures parent { result.parent ≡ parent }
     ensures asks { result.asks ≡ None }
     ensures fresh { reads_text result.stage ≡ false }
-    ensures place { result.place ≡ place_for captured child.stub }
+    ensures place { result.place ≡ place_for (is_some captured) child.stub }
+    ensures before { result.before ≡ unwrap_or captured [] }
     ensures acts { (w : World) (patterns : List SetPattern) (site : SiteRow) (main : MainView)
         (text : List ℕ) → node_act w patterns site main result text
         ≡ script w left (child_seen (of_method method main) child) }
@@ -143,13 +145,16 @@ fn child_node(
         stub,
         waited: _,
     } = child;
+    let is_captured = captured.is_some();
+    let before = captured.unwrap_or(ByteText::new(alloc));
     Node {
         parent,
         left,
         children: 0,
         waits: None,
         asks: None,
-        place: place_of(alloc, stub, captured),
+        place: place_of(alloc, stub, is_captured),
+        before,
         phases: child_phases(alloc, level, method, path, args),
         ask: Ask::Stat {
             path: ByteText::new(alloc),
@@ -162,16 +167,18 @@ fn child_node(
 }
 
 /// Puts the node of a subrequest, which the node with this number asks for, after the other nodes.
+/// Its body is captured after these bytes of that node, or isn't.
 pub(crate) fn push_child(
     alloc: Global,
     level: u32,
     nodes: &mut Nodes,
     at: u32,
     child: Child,
-    captured: bool,
+    captured: Option<ByteText>,
 ) -> Result<(), OutOfMemory>
     ensures { OnOk result ((n : NodeView) → slice_get nodes.old at ≡ Some n
-        → IsPushed nodes.old nodes.new at (place_for captured child.stub) n child) }
+        → IsPushed nodes.old nodes.new at (place_for (is_some captured) child.stub)
+        (unwrap_or captured []) n child) }
 {
     let Some(node) = nodes.as_slice().get(at as usize) else {
         return Err(OutOfMemory);
@@ -184,11 +191,37 @@ pub(crate) fn push_child(
 
 /// A node has one more subrequest, for whose end it waits or doesn't.
 pub(crate) fn put_child(node: &mut Node, id: u32, waited: bool)
-    ensures { node.new ≡ record node.old { children = node.new.children; waits = node.new.waits } }
+    ensures others { node.new ≡ record node.old {
+      children = node.new.children;
+      waits = node.new.waits;
+    } }
+    ensures waits { node.new.waits ≡ (if waited then Some id else node.old.waits) }
 {
     node.children = node.children.saturating_add(1);
     if waited {
         node.waits = Some(id);
+    }
+}
+
+/// A node whose bytes come to its parent has one more subrequest, for whose end it waits or doesn't:
+/// the bytes that come before those of that.
+pub(crate) fn put_inner(
+    alloc: Global,
+    node: &mut Node,
+    id: u32,
+    waited: bool,
+) -> Result<ByteText, OutOfMemory>
+    ensures opened { IfOk result (λ before. IsInnerOpened node.old node.new before) }
+    ensures waits { OnOk result
+        (node.new.waits ≡ (if waited then Some id else node.old.waits)) }
+{
+    match &mut node.place {
+        Place::Captured { stub: _, text } => {
+            let before = take(text, ByteText::new(alloc));
+            put_child(node, id, waited);
+            Ok(before)
+        }
+        _ => Err(OutOfMemory),
     }
 }
 

@@ -9,21 +9,23 @@ ghost use Rattle.request_phases.specs.declared.ground.Ground.{Ground as GroundVi
 ghost use Rattle.site_model.specs.declared.site.Site.{Site as SiteRow};
 ghost use Rattle.node_turn.specs.Stages.{is_ending, is_in_row as in_row, is_placing, is_serving, is_turning, item_asked};
 ghost use Rattle.subrequests.specs.Families.{AreDone, captured_at, goes_on_at, in_row_at, over_node};
-ghost use Rattle.node_seats.specs.Seats.{is_seated as has_seat};
+ghost use Rattle.node_seats.specs.Seats.{IsNextInner, NoInner, inner_of_its, is_seated as has_seat, most_nodes};
 ghost use Rattle.std.specs.List.{list_all};
-ghost use Rattle.subrequests.specs.Moved.{AsksAt, BeginsWith, Comes, IsDone, IsFromAt, IsWhole, Keeps, OpensAt, OverrunsBy, SameFiles, Steps, files, fits_at, meant, stands};
+ghost use Rattle.subrequests.specs.Moved.{AsksAt, BeginsWith, Comes, InnerAt, IsDone, IsFromAt, IsWhole, Keeps, OpensAt, OverrunsBy, SameFiles, Steps, files, fits_at, meant, stands};
 ghost use Rattle.subrequests.specs.Runs.{runs_at};
 ghost use Rattle.subrequests.specs.Wants.{Stands};
 ghost use Rattle.subrequests.specs.Ran.{RunsTo, StepsTo};
 ghost use Rattle.subrequests.specs.declared.family.Stepped.TheVariants.{On as GoesOn, Rests as RestsNow};
 
-use crate::child::{blank_main, push_child, put_asks, put_child};
+use crate::child::{blank_main, push_child, put_asks, put_child, put_inner};
 use crate::hear::hears;
 use crate::next_step::{Next, is_in_row, next_of};
 use crate::nodes::Nodes;
-use crate::returning::{comes_some, put_reply, put_shown, taken};
+use crate::returning::{
+    both, comes_some, put_before, put_first, put_reply, put_shown, take_before, taken,
+};
 use crate::wants::can_run;
-use byte_text::OutOfMemory;
+use byte_text::{ByteText, OutOfMemory};
 use family_order::shows_the_same;
 use family_rest::{quiet_is_exact, row_tells_still};
 use file_tree::{Ask, JobAnswer};
@@ -31,7 +33,7 @@ use http_types::Method;
 use ngx_pattern::PatternSet;
 use ngx_variables::{Main, VarTable};
 use node_line::{comes, decides, is_kept};
-use node_seats::is_seated;
+use node_seats::{comes_beside, is_seated, is_withheld, next_inner};
 use node_turn::{Node, Place, Stage, Turn, answering, lend, places, takes, turns};
 use postpone_filter::Order;
 use request_phases::{Ground, Outcome, Phases};
@@ -97,8 +99,7 @@ fn may_ask(node: &Node, count: usize) -> bool
     node.asks.is_none() && node.left > 0 && count < MOST_NODES
 }
 
-/// Whether a node may open a subrequest beside it, where there are `count` nodes. One whose bytes don't go to the row
-/// waits for those of its subrequests.
+/// Whether a node whose bytes go to the row may open a subrequest beside it, where there are `count` nodes.
 fn may_open(node: &Node, count: usize) -> bool
     ensures row { result ≡ true → in_row node.now.place ≡ true }
     ensures free { result ≡ true → node.now.asks ≡ None }
@@ -196,6 +197,7 @@ impl Family {
             waits: None,
             asks: None,
             place: Place::Row,
+            before: ByteText::new(alloc),
             phases,
             ask,
             start: 0,
@@ -321,8 +323,13 @@ impl Family {
                     self.open_at(alloc, ground, at, child)?;
                     return Ok(true);
                 }
+                let is_inner = is_withheld(&node.place);
                 if self.nodes.len() >= MOST_NODES {
                     return Ok(false);
+                }
+                if is_inner {
+                    self.inner_at(alloc, ground, at, child)?;
+                    return Ok(true);
                 }
                 self.ask_at(alloc, ground, at, child)?;
                 Ok(true)
@@ -365,13 +372,41 @@ impl Family {
         }
         let id = self.order.add_child(alloc, at)?;
         put_child(self.nodes.node_mut(at as usize), id, child.waited);
+        push_child(alloc, ground.server.level, &mut self.nodes, at, child, None)?;
+        Ok(())
+    }
+
+    /// A subrequest opens of a node whose bytes come to its parent: those of the subrequest come where
+    /// the node has come to, and it goes on. The subrequest has a place in the order at which nothing is
+    /// placed.
+    #[inline(never)]
+    fn inner_at(
+        &mut self,
+        alloc: Global,
+        ground: &Ground<'_>,
+        at: u32,
+        child: Child,
+    ) -> Result<(), OutOfMemory>
+        requires whole { IsWhole self.old }
+        requires there { goes_on_at (slice_get self.old.nodes at) ≡ true }
+        ensures opens { OnOk result (InnerAt at child self.old self.new) }
+        ensures whole { OnOk result (IsWhole self.new) }
+        ensures tree { OnOk result (self.new.tree ≡ self.old.tree) }
+        ensures same { OnOk result
+            ((self.new.main ≡ self.old.main) × (self.new.vars ≡ self.old.vars)) }
+    {
+        if !may_ask(self.nodes.node_at(at as usize), self.nodes.len()) {
+            return Err(OutOfMemory);
+        }
+        let id = self.order.add_child(alloc, at)?;
+        let before = put_inner(alloc, self.nodes.node_mut(at as usize), id, child.waited)?;
         push_child(
             alloc,
             ground.server.level,
             &mut self.nodes,
             at,
             child,
-            false,
+            Some(before),
         )?;
         Ok(())
     }
@@ -399,7 +434,14 @@ impl Family {
         }
         let id = self.order.add_child(alloc, at)?;
         put_asks(self.nodes.node_mut(at as usize), id);
-        push_child(alloc, ground.server.level, &mut self.nodes, at, child, true)?;
+        push_child(
+            alloc,
+            ground.server.level,
+            &mut self.nodes,
+            at,
+            child,
+            Some(ByteText::new(alloc)),
+        )?;
         Ok(())
     }
 
@@ -464,6 +506,12 @@ impl Family {
         ensures tree { OnOk result (self.new.tree ≡ self.old.tree) }
     {
         shows_the_same();
+        if self.next_inner_of(at, 0).is_some() {
+            return Err(OutOfMemory);
+        }
+        if self.is_inner_at(at) {
+            return Ok(self.include_at(alloc, at)?);
+        }
         if self.shows_parent(at) {
             return Ok(self.show_at(alloc, at)?);
         }
@@ -477,6 +525,65 @@ impl Family {
         }
         put_reply(alloc, self.nodes.node_mut(parent as usize), text)?;
         Ok(parent)
+    }
+
+    /// The first subrequest of a node, with this number or above, whose bytes come to it and for which
+    /// it doesn't wait.
+    fn next_inner_of(&self, at: u32, from: u32) -> Option<u32>
+        ensures { IsNextInner self.now.nodes at from result }
+    {
+        next_inner(self.nodes.as_slice(), at, from)
+    }
+
+    /// Whether the bytes of a node come to its parent, which doesn't wait for them.
+    fn is_inner_at(&self, at: u32) -> bool
+        ensures { result ≡ inner_of_its self.now.nodes at (slice_get self.now.nodes at) }
+    {
+        comes_beside(self.nodes.as_slice(), at)
+    }
+
+    /// A node whose bytes come to its parent, which doesn't wait for them, has come to its answer: it is
+    /// over, and its bytes, or its stub in their place, come before those of the next subrequest of its
+    /// parent, whose number this is, or the parent's own.
+    #[inline(never)]
+    fn include_at(&mut self, alloc: Global, at: u32) -> Result<u32, OutOfMemory>
+        requires whole { IsWhole self.old }
+        requires there { stands is_ending self.old at }
+        requires inner { inner_of_its self.old.nodes at (slice_get self.old.nodes at) ≡ true }
+        requires bare { NoInner self.old.nodes at 0 most_nodes }
+        requires seated { has_seat self.old.nodes at (slice_get self.old.nodes at)
+            ≡ true }
+        requires child { at ≢ 0 }
+        ensures steps { OnOk result ((patterns : List SetPattern) (g : GroundView) →
+            Steps patterns g self.old self.new) }
+        ensures whole { OnOk result (IsWhole self.new) }
+        ensures ended { OnOk result
+            (goes_on_at (slice_get self.new.nodes at) ≡ false) }
+        ensures tree { OnOk result (self.new.tree ≡ self.old.tree) }
+    {
+        shows_the_same();
+        self.order.end(at);
+        let node = self.nodes.node_mut(at as usize);
+        let text = taken(alloc, &node.stage, &mut node.place)?;
+        let parent = node.parent;
+        let before = take_before(alloc, node);
+        let text = both(before, text.as_slice())?;
+        match self.next_inner_of(parent, at) {
+            Some(next) => {
+                if next as usize >= self.nodes.len() {
+                    return Err(OutOfMemory);
+                }
+                put_before(alloc, self.nodes.node_mut(next as usize), text)?;
+                Ok(parent)
+            }
+            None => {
+                if parent as usize >= self.nodes.len() {
+                    return Err(OutOfMemory);
+                }
+                put_first(alloc, self.nodes.node_mut(parent as usize), text)?;
+                Ok(parent)
+            }
+        }
     }
 
     /// Whether the parent of a node, which waits for its body, has a stub, and is shown because of
@@ -505,6 +612,8 @@ impl Family {
         requires whole { IsWhole self.old }
         requires there { stands is_ending self.old at }
         requires withheld { captured_at (slice_get self.old.nodes at) ≡ true }
+        requires beside { inner_of_its self.old.nodes at (slice_get self.old.nodes at) ≡ false }
+        requires bare { NoInner self.old.nodes at 0 most_nodes }
         requires seated { has_seat self.old.nodes at (slice_get self.old.nodes at)
             ≡ true }
         requires child { at ≢ 0 }

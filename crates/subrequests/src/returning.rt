@@ -1,11 +1,11 @@
 // What a node whose body its parent waits for gives back, and how the parent goes on with it.
-ghost use Rattle.std.specs.Prelude.{◌≡◌, IfOk, OnOk, None};
+ghost use Rattle.std.specs.Prelude.{◌≡◌, ◌++◌, [], true, IfOk, OnOk, None};
 ghost use Rattle.node_turn.specs.declared.node.Place.TheVariants.{Row as RowView};
-ghost use Rattle.subrequests.specs.Families.{HasReply, IsTaken, end_status, is_stubbed as stubbed};
+ghost use Rattle.subrequests.specs.Families.{HasFirst, HasReply, IsTaken, end_status, is_stubbed as stubbed};
 
 use crate::next_step::is_in_row;
 use byte_text::{ByteText, OutOfMemory};
-use node_turn::{Capture, Node, Place, Stage, put, take, withhold};
+use node_turn::{Capture, MOST_WITHHELD, Node, Place, Stage, put, take, withhold};
 use ssi_values::Table;
 use std::alloc::Global;
 
@@ -108,4 +108,50 @@ pub(crate) fn put_shown(node: &mut Node)
 {
     node.asks = None;
     put(&mut node.place, Place::Row);
+}
+
+/// A node is over: the bytes of its parent that it keeps before its own.
+pub(crate) fn take_before(alloc: Global, node: &mut Node) -> ByteText
+    ensures node { node.new ≡ record node.old { before = []; over = true } }
+    ensures taken { result ≡ node.old.before }
+{
+    node.over = true;
+    take(&mut node.before, ByteText::new(alloc))
+}
+
+/// A text before another.
+pub(crate) fn both(first: ByteText, second: &[u8]) -> Result<ByteText, OutOfMemory>
+    ensures { IfOk result (λ both. both ≡ first ++ second.now) }
+{
+    if first.len().saturating_add(second.len()) > MOST_WITHHELD {
+        return Err(OutOfMemory);
+    }
+    let mut both = first;
+    both.extend(second)?;
+    Ok(both)
+}
+
+/// More bytes of its parent come right before those of a node.
+pub(crate) fn put_before(alloc: Global, node: &mut Node, text: ByteText) -> Result<(), OutOfMemory>
+    ensures { OnOk result (node.new ≡ record node.old { before = text ++ node.old.before }) }
+{
+    let after = take(&mut node.before, ByteText::new(alloc));
+    let before = both(text, after.as_slice())?;
+    put(&mut node.before, before);
+    Ok(())
+}
+
+/// Bytes come before those of a node that are withheld.
+pub(crate) fn put_first(alloc: Global, node: &mut Node, text: ByteText) -> Result<(), OutOfMemory>
+    ensures { OnOk result (HasFirst text node.old node.new) }
+{
+    match &mut node.place {
+        Place::Captured { stub: _, text: own } => {
+            let after = take(own, ByteText::new(alloc));
+            let all = both(text, after.as_slice())?;
+            put(own, all);
+            Ok(())
+        }
+        _ => Err(OutOfMemory),
+    }
 }

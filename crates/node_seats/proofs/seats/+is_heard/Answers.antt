@@ -10,7 +10,7 @@ pub returns-in-None : goal.returns-in-None
 returns-in-None t c =
     let nodes = c.args.nodes.now in
     let n = c.args.node.now in
-    sym (ap (heard_by (is_heard (c.args.levels - 1) nodes n.parent) c.args.at) (walks.there_none nodes n.parent c.in-None.ensures.lookup.3))
+    sym (ap (heard_by (is_heard (c.args.levels - 1) nodes n.parent) n.parent c.args.at) (walks.there_none nodes n.parent c.in-None.ensures.lookup.3))
     ∙ walks.above_heard c.args.levels nodes c.args.at n (sym c.is_withheld.ensures ∙ c.if-is_withheld.true) c.if-levels-eq0.false
 
 pub returns-then-hears : goal.returns-then-hears
@@ -20,7 +20,7 @@ returns-then-hears t c =
     let is = c.in-Some.ensures.lookup in
     let above = is_heard (c.args.levels - 1) nodes n.parent c.in-Some.above.now in
     c.is_heard.ensures ∙ ap (λ b. b && above) (sym (sym c.hears.ensures ∙ c.if-hears.true))
-    ∙ sym (ap (heard_by (is_heard (c.args.levels - 1) nodes n.parent) c.args.at) (walks.there_some nodes n.parent c.in-Some.above.now is.3.0 is.1))
+    ∙ sym (ap (heard_by (is_heard (c.args.levels - 1) nodes n.parent) n.parent c.args.at) (walks.there_some nodes n.parent c.in-Some.above.now is.3.0 is.1))
     ∙ walks.above_heard c.args.levels nodes c.args.at n (sym c.is_withheld.ensures ∙ c.if-is_withheld.true) c.if-levels-eq0.false
 
 pub returns-else-hears : goal.returns-else-hears
@@ -30,7 +30,7 @@ returns-else-hears t c =
     let is = c.in-Some.ensures.lookup in
     let above = is_heard (c.args.levels - 1) nodes n.parent c.in-Some.above.now in
     c.if-hears.false ∙ ap (λ b. b && above) (sym (sym c.hears.ensures ∙ c.if-hears.false))
-    ∙ sym (ap (heard_by (is_heard (c.args.levels - 1) nodes n.parent) c.args.at) (walks.there_some nodes n.parent c.in-Some.above.now is.3.0 is.1))
+    ∙ sym (ap (heard_by (is_heard (c.args.levels - 1) nodes n.parent) n.parent c.args.at) (walks.there_some nodes n.parent c.in-Some.above.now is.3.0 is.1))
     ∙ walks.above_heard c.args.levels nodes c.args.at n (sym c.is_withheld.ensures ∙ c.if-is_withheld.true) c.if-levels-eq0.false
 
 pub returns : goal.returns

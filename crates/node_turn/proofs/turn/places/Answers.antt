@@ -42,6 +42,7 @@ returns-clause-node c =
       children = ap (λ (x : Node). x.children) is;
       over = ap (λ (x : Node). x.over) is;
       asks = ap (λ (x : Node). x.asks) is;
+      before = ap (λ (x : Node). x.before) is;
     }
 
 pub returns-clause-file : goal.returns-clause-file

@@ -21,6 +21,7 @@ returns c = λ n is.
       left = made.left ∙ (c.saturating_sub-left.ensures ∙ ap (λ (x : Node). x.left - 1) same);
       over = made.over;
       goes = made.place;
+      before = made.before;
       parent = made.parent;
       asks = made.asks;
       fresh = made.fresh;

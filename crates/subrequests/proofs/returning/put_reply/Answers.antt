@@ -8,7 +8,7 @@ pub returns-in-Captures : goal.returns-in-Captures
 returns-in-Captures c =
     let n = c.args.node.now in
     let was = sym c.take.ensures.taken ∙ c.in-Captures.is in
-    Hears (ap is_capturing was) (record { parent = refl; left = refl; children = refl; over = refl; asks = refl }) refl (refl, refl)
+    Hears (ap is_capturing was) (record { parent = refl; left = refl; children = refl; over = refl; asks = refl; before = refl }) refl (refl, refl)
     (λ w patterns site main text.
     ap (λ s. stage_act w patterns site (lent main n.phases) n.left (asked_path n.ask) s text) c.put.ensures.put
     ∙ ap (λ s. stage_heard w patterns site (lent main n.phases) n.left (asked_path n.ask) s text c.args.body) (sym was))

@@ -1,8 +1,9 @@
-use Rattle.std.proofs.Common.{◌≡◌, ◌≢◌, ◌+◌, suc, length, set, None, Some, refl, sym, ap, ◌∙◌, subst, arith}
+use Rattle.std.proofs.Common.{◌≡◌, ◌≢◌, ◌+◌, suc, length, set, [], None, Some, refl, sym, ap, ◌∙◌, subst, arith}
 use Rattle.postpone_filter.specs.Row.{Row}
 use Rattle.node_turn.specs.declared.node.Node.{Node}
 use Rattle.node_seats.specs.Seats.{is_captured}
-use Rattle.subrequests.specs.Families.{IsSound}
+use Rattle.node_turn.specs.declared.node.Place.TheVariants.{Captured}
+use Rattle.subrequests.specs.Families.{IsPushed, IsSound}
 use Rattle.subrequests.specs.Moved.{IsAsking}
 use Rattle.subrequests.proofs.Members as members
 use Rattle.subrequests.proofs.Sets.{get_set_same, length_set}
@@ -26,7 +27,7 @@ returns-clause-asks c = λ n is.
       row = c.in_ok-id.ensures.row;
       asking = new;
       asks = c.put_asks.ensures ∙ ap (λ i. record here { children = new.children; asks = Some i }) c.in_ok-id.ensures.child;
-      pushed = c.in_ok-push_child.ensures new (get_set_same nodes at new here there);
+      pushed = subst (λ b. IsPushed (set nodes at new) c.push_child.new.nodes at (Captured c.args.child.stub []) b new c.args.child) c.new.ensures (c.in_ok-push_child.ensures new (get_set_same nodes at new here there));
     })
 
 pub returns-clause-whole : goal.returns-clause-whole

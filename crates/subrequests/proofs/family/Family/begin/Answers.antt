@@ -15,7 +15,7 @@ returns-clause-begins c = λ ps tree texts first table same.
     let g = c.args.ground.now in
     let site = g.site.now in
     let w = world_in ps g shipped in
-    let n : Node = record { parent = 0; left = 50; children = 0; waits = None; asks = None; place = InRow; phases = c.lend.new.phases; ask = c.args.ask; start = 0; stage = c.in_ok-stage.stage; over = false } in
+    let n : Node = record { parent = 0; left = 50; children = 0; waits = None; asks = None; place = InRow; before = c.new-2.result; phases = c.lend.new.phases; ask = c.args.ask; start = 0; stage = c.in_ok-stage.stage; over = false } in
     let path = asked_path c.args.ask in
     let back : lent c.lend.new.main c.lend.new.phases ≡ c.args.phases = beginning.given c.blank_main-main.result c.lend.new.main c.args.phases c.lend.new.phases c.lend.ensures.main c.lend.ensures.phases in
     beginning.begins c.shows_the_same.ensures w tree ps site c.lend.new.main c.in_ok-order.order c.push.new.self texts c.args.vars n first c.in_ok-order.ensures (c.in_ok-push.ensures.items ∙ ap (λ ns. ns ++ n ∷ []) c.new-nodes.ensures) refl refl refl
@@ -24,5 +24,5 @@ returns-clause-begins c = λ ps tree texts first table same.
 
 pub returns-clause-whole : goal.returns-clause-whole
 returns-clause-whole c =
-    let n : Node = record { parent = 0; left = 50; children = 0; waits = None; asks = None; place = InRow; phases = c.lend.new.phases; ask = c.args.ask; start = 0; stage = c.in_ok-stage.stage; over = false } in
+    let n : Node = record { parent = 0; left = 50; children = 0; waits = None; asks = None; place = InRow; before = c.new-2.result; phases = c.lend.new.phases; ask = c.args.ask; start = 0; stage = c.in_ok-stage.stage; over = false } in
     beginning.sound c.in_ok-order.order c.push.new.self n c.in_ok-order.ensures (c.in_ok-push.ensures.items ∙ ap (λ ns. ns ++ n ∷ []) c.new-nodes.ensures) refl refl

@@ -35,7 +35,7 @@ returns-clause-opens c = λ ps n is tree texts.
     let child = child_seen (main_of f.main here) c.args.child in
     let l = pushed.member.left in
     let below = pushed.left in
-    let kept = ap (λ (x : Node). x.left) c.put_child.ensures in
+    let kept = ap (λ (x : Node). x.left) c.put_child.ensures.others in
     let row : here.place ≡ InRow = wholes.row_is here.place (subst (λ (x : Node). is_in_row x.place ≡ true) looked (c.may_open.ensures.row c.if-not-may_open.false)) in
     let free : here.asks ≡ None = subst (λ (x : Node). x.asks ≡ None) looked (c.may_open.ensures.free c.if-not-may_open.false) in
     let some : here.left ≢ 0 = subst (λ (x : Node). x.left ≢ 0) looked (c.may_open.ensures.deep c.if-not-may_open.false) in
@@ -45,8 +45,8 @@ returns-clause-opens c = λ ps n is tree texts.
     (subst (λ (r : Row). Opening w tree 1 (doing at (Going here.left (Inner child (node_act w ps site f.main here (texts at)))) (seen w ps site f.main f.order nodes texts)) f.vars (seen w ps site f.main r c.push_child.new.nodes texts) f.vars) (sym c.in_ok-id.ensures.row)
     (subst (λ ns. Opening w tree 1 (doing at (Going here.left (Inner child (node_act w ps site f.main here (texts at)))) (seen w ps site f.main f.order nodes texts)) f.vars (seen w ps site f.main (with_child at f.order) ns texts) f.vars) (sym pushed.items)
     (members.opened c.shows_the_same.ensures w ps site f.main f.order nodes texts at here there free tree f.vars (c.requires.whole.going at ∙ c.requires.there) child l new pushed.member deep row
-    (ap (λ (x : Node). x.place) c.put_child.ensures ∙ row) (ap (λ (x : Node). x.asks) c.put_child.ensures ∙ free) kept (ap (λ (x : Node). node_act w ps site f.main x (texts at)) c.put_child.ensures) refl pushed.goes pushed.asks
-    (λ text. pushed.acts w ps site f.main text ∙ ap (λ (x : Node). script w l (child_seen (main_of f.main x) c.args.child)) c.put_child.ensures)
+    (ap (λ (x : Node). x.place) c.put_child.ensures.others ∙ row) (ap (λ (x : Node). x.asks) c.put_child.ensures.others ∙ free) kept (ap (λ (x : Node). node_act w ps site f.main x (texts at)) c.put_child.ensures.others) refl pushed.goes pushed.asks
+    (λ text. pushed.acts w ps site f.main text ∙ ap (λ (x : Node). script w l (child_seen (main_of f.main x) c.args.child)) c.put_child.ensures.others)
     c.requires.whole.count)))
 
 pub returns-clause-files : goal.returns-clause-files
@@ -58,7 +58,7 @@ returns-clause-files c = λ trees j n is reads.
     let new = c.put_child.new.node in
     let there = wholes.not_over nodes at here c.requires.there c.node_mut.ensures.value in
     let pushed = c.in_ok-push_child.ensures new (get_set_same nodes at new here there) in
-    members.set_texts trees nodes at here new there (members.same_text trees here new (ap (λ (x : Node). x.ask) c.put_child.ensures, ap (λ (x : Node). x.start) c.put_child.ensures)) j
+    members.set_texts trees nodes at here new there (members.same_text trees here new (ap (λ (x : Node). x.ask) c.put_child.ensures.others, ap (λ (x : Node). x.start) c.put_child.ensures.others)) j
     ∙ (members.more_files trees (set nodes at new) pushed.member pushed.fresh j n (subst (λ ns. slice_get ns j ≡ Some n) pushed.items is) reads
     ∙ ap (λ ns. texts_of trees ns j) (sym pushed.items))
 
@@ -71,7 +71,7 @@ returns-clause-whole c =
     let new = c.put_child.new.node in
     let there = wholes.not_over nodes at here c.requires.there c.node_mut.ensures.value in
     let pushed = c.in_ok-push_child.ensures new (get_set_same nodes at new here there) in
-    let withheld = members.set_sound f.order f.order nodes at here new there c.requires.whole c.requires.whole.well refl (λ j. refl) (ap (λ (x : Node). x.over) c.put_child.ensures) (ap (λ (x : Node). is_captured x.place) c.put_child.ensures) in
+    let withheld = members.set_sound f.order f.order nodes at here new there c.requires.whole c.requires.whole.well refl (λ j. refl) (ap (λ (x : Node). x.over) c.put_child.ensures.others) (ap (λ (x : Node). is_captured x.place) c.put_child.ensures.others) in
     let size : length (set nodes at new) ≡ length nodes = length_set nodes at new in
     let few = c.may_open.ensures.few c.if-not-may_open.false in
     subst (IsSound c.add_child.new.self) (sym pushed.items)

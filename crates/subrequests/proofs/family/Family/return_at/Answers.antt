@@ -1,6 +1,8 @@
+use Rattle.std.proofs.Common.{sym, ◌∙◌}
 use Rattle.request_meaning.specs.Laws.{shipped}
 use Rattle.request_phases.specs.Rounds.{world_in}
 use Rattle.node_turn.specs.Stages.{is_ending}
+use Rattle.subrequests.proofs.Including as including
 use Rattle.subrequests.proofs.Returns as returning
 use Rattle.subrequests.proofs.Wholes as wholes
 use Rattle.subrequests.proofs.family.Family.return_at.Goals as goal
@@ -15,7 +17,7 @@ returns-clause-steps c = λ ps g.
     let old = c.node_mut-node.result.now in
     let p = c.node_mut.result.now in
     let there = wholes.here_is is_ending nodes at old c.requires.there c.node_mut-node.ensures.value in
-    let is = returning.returns_is f.order nodes at old c.taken.new.place p c.put_reply.new.node c.in_ok-text.text there c.requires.whole c.requires.there c.requires.seated c.in_ok-text.ensures c.node_mut.ensures.value (returning.as_replied c.in_ok-text.text p c.put_reply.new.node c.in_ok-put_reply.ensures) in
+    let is = returning.returns_is f.order nodes at old c.taken.new.place p c.put_reply.new.node c.in_ok-text.text there c.requires.whole c.requires.there c.requires.seated (including.none_found nodes at 0 c.next_inner_of.result c.next_inner_of.ensures (sym c.is_some.ensures ∙ c.if-is_some.false)) (sym c.is_inner_at.ensures ∙ c.if-is_inner_at.false) c.in_ok-text.ensures c.node_mut.ensures.value (returning.as_replied c.in_ok-text.text p c.put_reply.new.node c.in_ok-put_reply.ensures) in
     let gone = returning.gone_of old c.taken.new.place in
     wholes.both_ways c.shows_the_same.ensures ps g f _ 0 (returning.as_many f.order nodes at old gone p c.put_reply.new.node c.in_ok-text.text is)
     (λ tree texts. returning.opening f.order nodes at old gone p c.put_reply.new.node c.in_ok-text.text is c.shows_the_same.ensures w ps site f.main tree f.vars c.requires.whole c.requires.child c.in_ok-put_reply.ensures texts c.end.new.self c.end.ensures.row c.end.ensures.opened)
@@ -29,7 +31,7 @@ returns-clause-whole c =
     let old = c.node_mut-node.result.now in
     let p = c.node_mut.result.now in
     let there = wholes.here_is is_ending nodes at old c.requires.there c.node_mut-node.ensures.value in
-    let is = returning.returns_is f.order nodes at old c.taken.new.place p c.put_reply.new.node c.in_ok-text.text there c.requires.whole c.requires.there c.requires.seated c.in_ok-text.ensures c.node_mut.ensures.value (returning.as_replied c.in_ok-text.text p c.put_reply.new.node c.in_ok-put_reply.ensures) in
+    let is = returning.returns_is f.order nodes at old c.taken.new.place p c.put_reply.new.node c.in_ok-text.text there c.requires.whole c.requires.there c.requires.seated (including.none_found nodes at 0 c.next_inner_of.result c.next_inner_of.ensures (sym c.is_some.ensures ∙ c.if-is_some.false)) (sym c.is_inner_at.ensures ∙ c.if-is_inner_at.false) c.in_ok-text.ensures c.node_mut.ensures.value (returning.as_replied c.in_ok-text.text p c.put_reply.new.node c.in_ok-put_reply.ensures) in
     returning.whole f.order nodes at old (returning.gone_of old c.taken.new.place) p c.put_reply.new.node c.in_ok-text.text is c.end.new.self c.requires.whole c.requires.child c.end.ensures.row c.end.ensures.opened
 
 pub returns-clause-ended : goal.returns-clause-ended
@@ -40,5 +42,17 @@ returns-clause-ended c =
     let old = c.node_mut-node.result.now in
     let p = c.node_mut.result.now in
     let there = wholes.here_is is_ending nodes at old c.requires.there c.node_mut-node.ensures.value in
-    let is = returning.returns_is f.order nodes at old c.taken.new.place p c.put_reply.new.node c.in_ok-text.text there c.requires.whole c.requires.there c.requires.seated c.in_ok-text.ensures c.node_mut.ensures.value (returning.as_replied c.in_ok-text.text p c.put_reply.new.node c.in_ok-put_reply.ensures) in
+    let is = returning.returns_is f.order nodes at old c.taken.new.place p c.put_reply.new.node c.in_ok-text.text there c.requires.whole c.requires.there c.requires.seated (including.none_found nodes at 0 c.next_inner_of.result c.next_inner_of.ensures (sym c.is_some.ensures ∙ c.if-is_some.false)) (sym c.is_inner_at.ensures ∙ c.if-is_inner_at.false) c.in_ok-text.ensures c.node_mut.ensures.value (returning.as_replied c.in_ok-text.text p c.put_reply.new.node c.in_ok-put_reply.ensures) in
     returning.is_over f.order nodes at old (returning.gone_of old c.taken.new.place) p c.put_reply.new.node c.in_ok-text.text is
+
+pub include_at-requires-clause-bare : goal.include_at-requires-clause-bare
+include_at-requires-clause-bare c = including.none_found c.args.self.now.nodes c.args.at 0 c.next_inner_of.result c.next_inner_of.ensures (sym c.is_some.ensures ∙ c.if-is_some.false)
+
+pub include_at-requires-clause-inner : goal.include_at-requires-clause-inner
+include_at-requires-clause-inner c = sym c.is_inner_at.ensures ∙ c.if-is_inner_at.true
+
+pub show_at-requires-clause-bare : goal.show_at-requires-clause-bare
+show_at-requires-clause-bare c = including.none_found c.args.self.now.nodes c.args.at 0 c.next_inner_of.result c.next_inner_of.ensures (sym c.is_some.ensures ∙ c.if-is_some.false)
+
+pub show_at-requires-clause-beside : goal.show_at-requires-clause-beside
+show_at-requires-clause-beside c = sym c.is_inner_at.ensures ∙ c.if-is_inner_at.false

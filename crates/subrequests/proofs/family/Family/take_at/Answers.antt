@@ -125,6 +125,46 @@ returns-in_ok-ask_at-in-Opens-clause-steps c = λ ps on.
     (ap (λ (m : Main). main_of m new) (sym is.main) ∙ (ap (λ (m : Main). main_of m new) is.main ∙ is.method)) (sym (ap is_in_row is.place) ∙ sym c.is_in_row.ensures ∙ c.if-is_in_row.false) waits works)
     (λ trees. asking.same_texts f between end at old new child there is.node is.place refl refl a (λ trees. taking.same_file trees old new is.start is.file) trees)
 
+pub returns-then-is_inner-clause-steps : goal.returns-then-is_inner-clause-steps
+returns-then-is_inner-clause-steps c = λ ps on.
+    let f = c.args.self.now in
+    let g = c.args.ground.now in
+    let site = g.site.now in
+    let w = world_in ps g shipped in
+    let nodes = f.nodes in
+    let at = c.args.at in
+    let old = c.node_mut-node.result.now in
+    let new = c.takes.new.node in
+    let is = c.in_ok-turn.ensures in
+    let there = wholes.here_is is_serving nodes at old c.requires.there c.node_mut-node.ensures.value in
+    let goes_on = wholes.open_is is_serving f.order nodes at c.requires.whole c.requires.there in
+    let laws = c.shows_the_same.ensures in
+    let end = c.inner_at.new.self in
+    let child = c.in-Opens.child in
+    let between = record f { main = c.takes.new.main; nodes = set nodes at new } in
+    let done = c.in_ok-inner_at-in-Opens.ensures in
+    let a = done.opens new (get_set_same nodes at new old there) in
+    wholes.both_ways laws ps g f end 1 (asking.inner_grows f between end at old new child there is.node is.place refl refl a)
+    (λ tree texts.
+    let works = subst (TakesTo (main_of f.main old) f.vars (node_act w ps site f.main old (texts at)) (node_act w ps site f.main new (texts at)) (node_heard w ps site f.main new (texts at))) c.in-Opens.is (is.acts ps (texts at)) in
+    asking.inner f between end at old new child there is.node is.place refl refl a laws w ps site c.requires.whole goes_on c.requires.seated tree texts (done.same.0 ∙ is.main) done.same.1
+    (ap (λ (m : Main). main_of m new) (sym is.main) ∙ (ap (λ (m : Main). main_of m new) is.main ∙ is.method)) done.whole.few works)
+    (λ trees. asking.inner_texts f between end at old new child there is.node is.place refl refl a (λ trees. taking.same_file trees old new is.start is.file) trees)
+
+pub inner_at-requires-clause-whole : goal.inner_at-requires-clause-whole
+inner_at-requires-clause-whole c =
+    let f = c.args.self.now in
+    members.set_sound f.order f.order f.nodes c.args.at c.node_mut-node.result.now c.takes.new.node
+    (wholes.here_is is_serving f.nodes c.args.at c.node_mut-node.result.now c.requires.there c.node_mut-node.ensures.value) c.requires.whole c.requires.whole.well refl (λ j. refl) c.in_ok-turn.ensures.node.over
+    (ap is_captured c.in_ok-turn.ensures.place)
+
+pub inner_at-requires-clause-there : goal.inner_at-requires-clause-there
+inner_at-requires-clause-there c =
+    let f = c.args.self.now in
+    let there = wholes.here_is is_serving f.nodes c.args.at c.node_mut-node.result.now c.requires.there c.node_mut-node.ensures.value in
+    ap goes_on_at (get_set_same f.nodes c.args.at c.takes.new.node c.node_mut-node.result.now there) ∙ (ap not c.in_ok-turn.ensures.node.over
+    ∙ (ap goes_on_at (sym there) ∙ wholes.going_is is_serving (slice_get f.nodes c.args.at) c.requires.there))
+
 pub returns-in_ok-ask_at-in-Asks-clause-steps : goal.returns-in_ok-ask_at-in-Asks-clause-steps
 returns-in_ok-ask_at-in-Asks-clause-steps c = λ ps on.
     let f = c.args.self.now in

@@ -1,6 +1,6 @@
 use Rattle.std.proofs.Common.{ap, sym, ◌∙◌}
 use Rattle.std.specs.List.{list_any}
-use Rattle.race_check.proofs.listed.held_lists.Goals as goal
+use Rattle.race_check.proofs.listed.kind_lists.Goals as goal
 
 pub returns : goal.returns
 returns c = λ test.
