@@ -11,3 +11,4 @@ pub mod Least
 pub mod Writes
 pub mod Going
 pub mod Readies
+pub mod Tails

@@ -14,7 +14,7 @@ use Rattle.http_types.specs.declared.words.Addr.{Addr}
 use Rattle.answers_meaning.specs.Asking.{Service}
 use Rattle.answers_meaning.specs.Answers.{Answer, then_closes, responses, bytes_in, logs_in, close_in, heavy_in}
 use Rattle.response_flow.specs.declared.flight.Flight.{Flight}
-use Rattle.response_flow.specs.Flights.{flight_left, flight_tree, jobs_of, most_kept, pending_of, ready_by}
+use Rattle.response_flow.specs.Flights.{TailFits, flight_left, flight_tree, jobs_of, most_kept, pending_of, ready_by}
 use Rattle.request_flow.specs.Rests.{Rest, closes_after}
 use Rattle.request_opening.specs.Openings.{service_of}
 use Rattle.ngx_pattern.specs.Pattern.{Pattern as SetPattern}
@@ -25,6 +25,7 @@ use Rattle.body_frame.specs.declared.state.BodyState.{BodyState}
 use Rattle.http_connection.specs.Steps.{starts, past_body, logged_in}
 use Rattle.http_connection.specs.declared.times.Awaited.{Awaited}
 use Rattle.http_connection.specs.declared.times.Pace.{Pace}
+use Rattle.http_connection.specs.Tails.{PendsWhole}
 use Rattle.http_connection.specs.Times.{awaited_by, due_of, mark_by, IsPaced, PacedFor}
 
 -- what is to come on a connection that is opened now, with these ends, where the race check names
@@ -193,6 +194,12 @@ abbrev pub ended_by : Event → StepAnswer → Bool → Bool
 ended_by (Ended conn) (Done taken) ended = true
 ended_by e a ended = ended
 
+-- The tail after an event that stopped nothing: a run sets it to that of the page that it ends; else it stays the same.
+abbrev pub TailAfter : Event → StepAnswer → (old new : Conn) → Type 0
+TailAfter (Run conn node) (Done taken) old new =
+    is_some new.cause ≡ false → TailFits old.flight new.flight new.tail new.out
+TailAfter e a old new = new.tail ≡ old.tail
+
 -- What an event does to its connection, in a site that says the truth of itself, where steps have
 -- led to the response in flight; and these lead on.
 pub record StepsConn (x : Serves) (now : Start) (e : Event) (a : StepAnswer)
@@ -204,6 +211,7 @@ pub record StepsConn (x : Serves) (now : Start) (e : Event) (a : StepAnswer)
   pub ended : new.ended ≡ ended_by e a old.ended
   pub taken : TakesNone e a
   pub asked : asked_of new ≤ asked_of old ⊎ asked_of new ≤ now.tree
+  pub tail : TailAfter e a old new
 
 -- a request is in flight: it isn't over, or some of its response is unsent
 abbrev pub in_flight : Option Flight → List ℕ → Bool
@@ -282,3 +290,7 @@ AllExact = (x : Serves) (conn : Conn) → IsExact (view_of x conn)
 -- no connection holds more bytes of its input than these, nor keeps more for its peer
 abbrev pub AllBounded : Type 0
 AllBounded = (conn : Conn) → (length conn.buffered ≤ 8192) × (length conn.out ≤ most_kept)
+
+-- what is pending of a response in chunks that is over is all that is kept, or ends where a chunk ends, by the lengths
+abbrev pub AllPendWhole : Type 0
+AllPendWhole = (conn : Conn) → conn.flight ≡ None → ∥ PendsWhole conn.tail conn.out (pending_at conn.flight conn.out conn.tail) ∥₁

@@ -4,3 +4,4 @@ pub mod Steps
 pub mod Conn
 pub mod Times
 pub mod Wants
+pub mod Tails

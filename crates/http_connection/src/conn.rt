@@ -2,9 +2,10 @@
 ghost use Rattle.std.specs.Prelude.{◌≡◌, ◌≤◌, ◌<◌, ◌+◌, ◌-◌, ◌^◌, ◌⊎◌, ◌||◌, true, false, [], length, is_some, IfOk, Some, None};
 ghost use Rattle.req_head.specs.Step.{head_step};
 ghost use Rattle.response_flow.specs.Flights.{FlightFits};
-ghost use Rattle.http_connection.specs.Facts.{fits_prop};
+ghost use Rattle.http_connection.specs.Facts.{fits_prop, tail_prop};
 ghost use Rattle.http_connection.specs.Rests.{Serves};
 ghost use Rattle.http_connection.specs.Steps.{starts, rest_of, logged_in, IsLogged};
+ghost use Rattle.http_connection.specs.Tails.{KeepsTail};
 ghost use Rattle.http_connection.specs.Times.{NoneShorter};
 ghost use Rattle.body_frame.specs.Outcome.{Short};
 
@@ -45,6 +46,7 @@ pub struct Conn {
     ghost dropped: { is_some cause ≡ true → out ≡ [] },
     ghost quit: { is_some cause ≡ true → flight ≡ None },
     ghost flying: { FlightFits flight (length out) } by { fits_prop flight (length out) },
+    ghost tailed: { KeepsTail flight tail out } by { tail_prop flight tail out },
     ghost few: { length buffered ≤ 8192 },
     ghost drained: { is_some body ≡ true → buffered ≡ [] },
     ghost unended: { is_some body ≡ true → rest_of body [] ≡ Short },
@@ -294,6 +296,7 @@ impl Conn {
         ensures journal { self.new.journal.items ≡ self.old.journal.items }
         ensures ended { self.new.ended ≡ self.old.ended }
         ensures times { self.new.times ≡ self.old.times }
+        ensures tail { self.new.tail ≡ self.old.tail }
     {
         put(&mut self.flight, None);
         self.out.clear();

@@ -1,7 +1,8 @@
 // Laws of connections, which those that hold many rest on.
-ghost use Rattle.http_connection.specs.Conn.{AllSound, AllExact, AllBounded};
+ghost use Rattle.http_connection.specs.Conn.{AllSound, AllExact, AllBounded, AllPendWhole};
 
 use req_head::full_decides;
+use response_flow::shown_end_whole;
 
 /// What a connection shows is sound: one that isn't live has nothing to do; one that is idle, or live and to be closed, has
 /// nothing more to come; one that is idle and isn't to be closed reads; and one is closed before its input's end only where
@@ -23,3 +24,11 @@ pub fn connections_are_exact()
 pub fn connections_are_bounded()
     ensures { AllBounded }
 {}
+
+/// What is pending of a response that is over and whose body is in chunks is all that is kept of it, or ends where a chunk ends,
+/// by the lengths: after it come as many bytes as some chunks of whole blocks and the tail in which the body ends have.
+pub fn connections_pend_whole()
+    ensures { AllPendWhole }
+{
+    shown_end_whole();
+}

@@ -15,6 +15,8 @@ mod times;
 mod wants;
 
 pub use conn::Conn;
-pub use law::{connections_are_bounded, connections_are_exact, connections_are_sound};
+pub use law::{
+    connections_are_bounded, connections_are_exact, connections_are_sound, connections_pend_whole,
+};
 pub use times::{Awaited, Pace, Times};
 pub use wants::next_want;

@@ -1,11 +1,11 @@
 // A request is opened: its server is chosen, and it starts.
-ghost use Rattle.std.specs.Prelude.{◌≡◌, ◌≤◌, ◌<◌, ◌+◌, not, true, [], length, is_some, IfOk};
+ghost use Rattle.std.specs.Prelude.{◌≡◌, ◌≤◌, ◌<◌, ◌+◌, not, true, [], length, is_some, IfOk, None};
 ghost use Rattle.ngx_outside.specs.Views.{Start};
 ghost use Rattle.answers_meaning.specs.Asking.{stated_length as length_stated};
 ghost use Rattle.request_meaning.specs.Serving.{is_head as is_head_method};
 ghost use Rattle.request_flow.specs.Flows.{asking_most};
 ghost use Rattle.response_flow.specs.Continues.{IfOn};
-ghost use Rattle.response_flow.specs.Flights.{FlightFits, flight_left, flight_tree, page_most};
+ghost use Rattle.response_flow.specs.Flights.{FlightFits, TailFits, flight_left, flight_tree, page_most};
 ghost use Rattle.http_connection.specs.Rests.{ReachedIn, Serves};
 ghost use Rattle.http_connection.specs.Steps.{OpenedTo, Refuses};
 
@@ -65,6 +65,7 @@ pub(crate) fn refuse(
     ensures fits { IfOk result (λ o. FlightFits o.flight (length out.new)) }
     ensures lowers { IfOk result (λ o. length out.new + flight_left o.flight
         (length out.new) < page_most + asking_most) }
+    ensures tail { IfOk result (λ o. TailFits None o.flight o.tail out.new) }
     ensures kept { space.new.patterns ≡ space.old.patterns }
 {
     let size = put_refusal(space, out, code, moment, no_body)?;
@@ -103,6 +104,7 @@ pub(crate) fn open(
     ensures lowers { IfOk result (λ ran. IfOn ran (λ o. length out.new + flight_left o.flight
         (length out.new) < page_most + asking_most)) }
     ensures asked { IfOk result (λ ran. IfOn ran (λ o. flight_tree o.flight ≤ meeting.tree)) }
+    ensures tail { IfOk result (λ ran. IfOn ran (λ o. TailFits None o.flight o.tail out.new)) }
     ensures kept { space.new.patterns ≡ space.old.patterns }
 {
     match served.choose(meeting.local, head.host.as_slice(), &mut space.patterns) {

@@ -5,7 +5,7 @@ ghost use Rattle.req_head.specs.Step.{head_step};
 ghost use Rattle.ngx_outside.specs.declared.event.Entry.{Entry as Logged};
 ghost use Rattle.request_flow.specs.Flows.{asking_most};
 ghost use Rattle.response_flow.specs.Continues.{IfOn};
-ghost use Rattle.response_flow.specs.Flights.{FlightFits, flight_left, flight_tree, page_most};
+ghost use Rattle.response_flow.specs.Flights.{FlightFits, TailFits, flight_left, flight_tree, page_most};
 ghost use Rattle.http_connection.specs.Rests.{AreRaceless, ReachedIn, Serves, service_in, rest_in, values_at};
 ghost use Rattle.req_head.specs.declared.head.Head.{Head as RequestHead};
 ghost use Rattle.req_head.specs.declared.head.HeadStep.TheVariants.{Head as AtHead, More as AwaitsMore};
@@ -115,6 +115,7 @@ pub(crate) fn run_one(
         (length out.new) < page_most + asking_most)) }
     ensures asked { IfOk result (λ ran. IfOn ran (λ o.
         flight_tree o.flight ≤ setting.entry.meeting.tree)) }
+    ensures tail { IfOk result (λ ran. IfOn ran (λ o. TailFits None o.flight o.tail out.new)) }
     ensures patterns { space.new.patterns ≡ space.old.patterns }
 {
     let Setting { served, meeting } = setting;

@@ -122,6 +122,7 @@ impl Pages {
             → length self.new.outgoing.pending ≤ most }
         ensures others { (self.new.steps ≡ self.old.steps) × (self.new.status ≡ self.old.status)
             × (self.new.family.tree ≡ self.old.family.tree) }
+        ensures kind { is_some self.new.outgoing.block ≡ is_some self.old.outgoing.block }
     {
         row_tells_still();
         let front = self.family.order.front();
@@ -147,6 +148,7 @@ impl Pages {
             → length self.new.outgoing.pending ≤ most }
         ensures others { (self.new.steps ≡ self.old.steps) × (self.new.status ≡ self.old.status)
             × (self.new.family.tree ≡ self.old.family.tree) }
+        ensures kind { is_some self.new.outgoing.block ≡ is_some self.old.outgoing.block }
     {
         for _ in 0..MOST_PIECES {
             if !self.pump_one() {
@@ -172,6 +174,8 @@ impl Pages {
         requires bounded { length self.old.outgoing.pending ≤ most }
         ensures ran { IfOk result (λ ran. RunsTo patterns.old ground.now self.old self.new ran) }
         ensures tree { OnOk result (self.new.family.tree ≡ self.old.family.tree) }
+        ensures kind { OnOk result (is_some self.new.outgoing.block
+            ≡ is_some self.old.outgoing.block) }
         ensures kept { patterns.new ≡ patterns.old }
     {
         steps_keep_still();
@@ -238,6 +242,7 @@ impl Pages {
         ensures lowers { 0 < count → pages_left self.new < pages_left self.old }
         ensures others { (self.new.status ≡ self.old.status)
             × (self.new.family.tree ≡ self.old.family.tree) }
+        ensures kind { is_some self.new.outgoing.block ≡ is_some self.old.outgoing.block }
     {
         self.outgoing.used(count);
         if self.steps > 0 {

@@ -3,3 +3,5 @@ mod Goes
 mod Writing
 mod Wanting
 mod Showing
+mod Tails
+mod Ending

@@ -42,7 +42,7 @@ pub data Shown (tail size : ℕ) : Type 0 where
   Whole : size - tail ≤ 61429 → min size 65536 ≡ shown_kept tail size → Shown tail size
   Chunks : 61429 < size - tail → shown_kept tail size ≡ size - tail - 4104 * ((size - tail - 65536 + 4103) / 4104) → Shown tail size
 
-shown_is : (tail size : ℕ) → Shown tail size
+pub shown_is : (tail size : ℕ) → Shown tail size
 shown_is tail size = ⊎_elim
     (λ some. ⊎_elim
     (λ full. Chunks full (sym (chunks_shown tail size _ some full refl)))

@@ -1,10 +1,11 @@
 -- A response in flight: what is still to come of it, what it waits for, and how far it is.
-use Rattle.std.specs.Prelude.{◌≡◌, ℕ, ◌≤◌, ◌+◌, ◌-◌, ◌*◌, ◌/◌, ◌^◌, ◌==◌, min, nat_le, Bool, true, false, not, ◌&&◌, ◌||◌, List, [], ◌∷◌, length, take, is_none, Option, None, Some, if◌then◌else◌}
+use Rattle.std.specs.Prelude.{◌≡◌, ℕ, ◌≤◌, ◌+◌, ◌-◌, ◌*◌, ◌/◌, ◌^◌, ◌==◌, min, nat_le, Bool, true, false, not, ◌&&◌, ◌||◌, List, [], ◌∷◌, length, take, is_none, Option, None, Some, if◌then◌else◌, ◌++◌, ◌⊎◌, is_some}
 use Rattle.file_tree.specs.Tree.{Trees}
 use Rattle.ngx_outside.specs.Views.{Job, no_bytes}
 use Rattle.ngx_pattern.specs.Pattern.{Pattern as SetPattern}
 use Rattle.site_model.specs.declared.site.Site.{Site}
 use Rattle.request_meaning.specs.Serving.{World}
+use Rattle.chunk_out.specs.Chunks.{block_size, chunk}
 use Rattle.outgoing.specs.Leaving.{most}
 use Rattle.std.specs.List.{list_all}
 use Rattle.node_turn.specs.Stages.{is_ending}
@@ -12,7 +13,7 @@ use Rattle.node_turn.specs.declared.node.Node.{Node}
 use Rattle.subrequests.specs.Families.{over_node}
 use Rattle.subrequests.specs.Moved.{IsWhole}
 use Rattle.subrequests.specs.Wants as family
-use Rattle.page_response.specs.Pages.{IsReached, bytes_left, nodes_asked, pages_left, whole_length}
+use Rattle.page_response.specs.Pages.{EndsIn, IsReached, bytes_left, nodes_asked, pages_left, whole_length}
 use Rattle.page_response.specs.declared.pages.Pages.{Pages}
 use Rattle.request_flow.specs.Flows.{IsServedBy, flow_fits, flow_left, flow_rest, is_sending, may_run, shown_by, shown_most, stage_length, stage_server, tree_asked, jobs_of as flow_jobs}
 use Rattle.request_flow.specs.Reached.{FlowReached}
@@ -73,6 +74,19 @@ pub record ShowsMost (tail size : ℕ) : Type 0 where
   pub most : (chunks : ℕ) → size - tail - 4104 * chunks ≤ shown_most → size - tail - 4104 * chunks ≤ shown_kept tail size
   pub stays : (count : ℕ) → count ≤ shown_kept tail size → shown_kept tail size ≤ count + shown_kept tail (size - count)
 
+-- A chunk ends at this place of what is kept of a body in chunks, by the lengths: after it come as many bytes as some chunks of whole
+-- blocks, of 4104 bytes each, and the tail have.
+pub record EndsChunk (place tail size : ℕ) : Type 0 where
+  pub chunks : ℕ
+  pub after : place + (4104 * chunks + tail) ≡ size
+
+-- How many bytes are shown of what is kept of a body in chunks: all of them, or those up to a place where a chunk ends by its length.
+-- Of a whole block the chunk has 4104 bytes.
+pub record ShowsWhole : Type 0 where
+  pub ends : (before : Option (List ℕ)) (tail : ℕ) (gone out : List ℕ) → is_some before ≡ true → EndsIn before tail (gone ++ out) →
+      (shown_kept tail (length out) ≡ length out) ⊎ EndsChunk (shown_kept tail (length out)) tail (length out)
+  pub blocks : (block : List ℕ) → length block ≡ block_size → length (chunk block) ≡ 4104
+
 -- the bytes that are written next, where the last `tail` of those that are kept are the tail of a body in chunks
 abbrev pub pending_of : Option Flight → List ℕ → (tail : ℕ) → List ℕ
 pending_of None out tail = take (shown_kept tail (length out)) out
@@ -82,6 +96,28 @@ pending_of (Some flight) out tail = pending_by flight out
 abbrev pub unsent_of : Option Flight → List ℕ → List ℕ
 unsent_of None out = out
 unsent_of (Some flight) out = pending_by flight out
+
+-- How many of the bytes that are kept are the tail of a body, where the bytes of it that wait tell whether it is in chunks. While
+-- a response is in flight nothing is a tail yet.
+abbrev pub TailIn : (before : Option (List ℕ)) → Option Flight → (tail : ℕ) → (out : List ℕ) → Type 0
+TailIn before None tail out = EndsIn before tail out
+TailIn before (Some flight) tail out = tail ≡ 0
+
+-- the tail of some body, in chunks or not
+abbrev pub HasTail : (tail : ℕ) → (out : List ℕ) → Type 0
+HasTail tail out = (before : Option (List ℕ)) × EndsIn before tail out
+
+-- the tail of the page that was in flight; where none was, of some body
+abbrev pub EndsAs : (was : Option Flight) → (tail : ℕ) → (out : List ℕ) → Type 0
+EndsAs None tail out = HasTail tail out
+EndsAs (Some (Alone flow)) tail out = HasTail tail out
+EndsAs (Some (Page p)) tail out = EndsIn p.pages.value.outgoing.block tail out
+
+-- How many of the bytes that are kept are a tail after a run, by what was in flight before it and what is now: where a page was
+-- in flight and is over, the tail of its body, in chunks exactly where that page is; where a response is still in flight, none.
+abbrev pub TailFits : (was is : Option Flight) → (tail : ℕ) → (out : List ℕ) → Type 0
+TailFits was None tail out = EndsAs was tail out
+TailFits was (Some flight) tail out = tail ≡ 0
 
 abbrev pub jobs_by : Flight → List Job
 jobs_by (Alone flow) = flow_jobs (Some flow)

@@ -1,5 +1,5 @@
 // A page begins.
-ghost use Rattle.std.specs.Prelude.{◌≡◌, IfOk, List};
+ghost use Rattle.std.specs.Prelude.{◌≡◌, IfOk, List, [], Some, None, if◌then◌else◌};
 ghost use Rattle.file_tree.specs.Tree.{Trees, text_of};
 ghost use Rattle.node_turn.specs.Stages.{item_asked};
 ghost use Rattle.request_flow.specs.Sents.{known_tree};
@@ -70,6 +70,8 @@ pub(crate) fn opened(
         Opens patterns ground.now start p.pages.value) }
     ensures by { IfOk result (λ p. (p.server ≡ start.request.value.server)
         × (p.length ≡ start.request.value.length)) }
+    ensures kind { IfOk result (λ p. p.pages.value.outgoing.block
+        ≡ (if start.page.chunked then Some [] else None)) }
 {
     reached_stays_well();
     row_tells_still();

@@ -1,5 +1,5 @@
 // A response goes on.
-ghost use Rattle.std.specs.Prelude.{◌≡◌, ◌≤◌, ◌<◌, ◌+◌, not, [], Bool, List, ℕ, true, false, length, is_some, option_map, IfOk, OnOk, None, Some};
+ghost use Rattle.std.specs.Prelude.{◌≡◌, ◌≤◌, ◌<◌, ◌+◌, not, [], Bool, List, ℕ, true, false, length, is_some, option_map, IfOk, OnOk, None, Some, if◌then◌else◌};
 ghost use Rattle.file_tree.specs.Tree.{Trees};
 ghost use Rattle.ngx_pattern.specs.Pattern.{Pattern as SetPattern};
 ghost use Rattle.pattern_search.specs.Found.{patterns_seen};
@@ -13,7 +13,7 @@ ghost use Rattle.request_phases.specs.Rounds.{IsGround, world_in};
 ghost use Rattle.subrequests.specs.Moved.{IsDone, IsWhole};
 ghost use Rattle.subrequests.specs.Wants.{is_among};
 ghost use Rattle.outgoing.specs.Leaving.{most};
-ghost use Rattle.page_response.specs.Pages.{IsAllOver, IsReached, pages_left};
+ghost use Rattle.page_response.specs.Pages.{EndsIn, IsAllOver, IsReached, pages_left};
 ghost use Rattle.request_flow.specs.Flows.{asking_most, flow_fits, flow_left, flow_rest, tree_asked};
 ghost use Rattle.request_flow.specs.Flows.{IsServedBy};
 ghost use Rattle.request_opening.specs.Openings.{main_at};
@@ -29,7 +29,7 @@ ghost use Rattle.response_flow.specs.declared.flight.PageFlow.{PageFlow as PageF
 ghost use Rattle.request_phases.specs.declared.ground.Ground.{Ground as GroundView};
 ghost use Rattle.page_response.specs.Ran.{RunsTo};
 ghost use Rattle.response_flow.specs.declared.flight.Flight.TheVariants.{Alone as AloneFlight, Page as PageFlight};
-ghost use Rattle.response_flow.specs.Flights.{FlightFits, FlightReached, FlightServedBy, flight_left, flight_length, flight_rest, flight_server, flight_tree, most_kept, page_left, page_most, ready_of, sends_alone};
+ghost use Rattle.response_flow.specs.Flights.{FlightFits, FlightReached, FlightServedBy, TailFits, TailIn, flight_left, flight_length, flight_rest, flight_server, flight_tree, most_kept, page_left, page_most, ready_of, sends_alone};
 
 use crate::flight::{Flight, Onward, PageFlow, Passed, Ran};
 use crate::open::opened;
@@ -71,6 +71,7 @@ fn alone(onward: FlowOnward) -> Onward
     ensures by { (server length : ℕ) → IsServedBy server length onward.flow
         → FlightServedBy server length result.flight }
     ensures tree { flight_tree result.flight ≡ tree_asked onward.flow }
+    ensures tail { (out : List ℕ) → TailIn None result.flight result.tail out }
 {
     let FlowOnward {
         flow,
@@ -107,6 +108,7 @@ fn ends(
     ensures over { IfOk result (λ o. (o.flight ≡ None) × (is_some o.log ≡ true)) }
     ensures closes { IfOk result (λ o. o.closing ≡ closing) }
     ensures kept { IfOk result (λ o. length out.new ≤ most_kept) }
+    ensures tail { IfOk result (λ o. EndsIn pages.outgoing.block o.tail out.new) }
 {
     row_tells_still();
     let status = pages.status;
@@ -160,6 +162,8 @@ fn run_page(
     ensures asked { IfOk result (λ ran. IfOn ran (λ o.
         flight_tree o.flight ≤ page.pages.value.family.tree)) }
     ensures closes { IfOk result (λ ran. IfOn ran (λ o. o.closing ≡ closing)) }
+    ensures tail { IfOk result (λ ran. IfOn ran (λ o.
+        TailIn page.pages.value.outgoing.block o.flight o.tail out.new)) }
     ensures kept { space.new.patterns ≡ space.old.patterns }
 {
     let PageFlow {
@@ -227,6 +231,8 @@ fn opens(
     ensures asked { IfOk result (λ ran. IfOn ran (λ o.
         flight_tree o.flight ≤ known_tree start.page.known)) }
     ensures closes { IfOk result (λ ran. IfOn ran (λ o. o.closing ≡ start.closing)) }
+    ensures tail { IfOk result (λ ran. IfOn ran (λ o.
+        TailIn (if start.page.chunked then Some [] else None) o.flight o.tail out.new)) }
     ensures kept { space.new.patterns ≡ space.old.patterns }
 {
     let closing = start.closing;
@@ -268,6 +274,7 @@ pub fn start(
     ensures by { IfOk result (λ ran. IfOn ran (λ o.
         FlightServedBy server ground.now.length o.flight)) }
     ensures asked { IfOk result (λ ran. IfOn ran (λ o. flight_tree o.flight ≤ opening.tree)) }
+    ensures tail { IfOk result (λ ran. IfOn ran (λ o. TailFits None o.flight o.tail out.new)) }
     ensures kept { space.new.patterns ≡ space.old.patterns }
 {
     match flow_start(space, ground, server, opening, out)? {
@@ -313,6 +320,8 @@ pub fn run_on(
     ensures asked { IfOk result (λ ran. IfOn ran (λ o.
         flight_tree o.flight ≤ flight_tree (Some flight))) }
     ensures closes { IfOk result (λ ran. IfOn ran (λ o. closing ≡ true → o.closing ≡ true)) }
+    ensures tail { IfOk result (λ ran. IfOn ran (λ o.
+        TailFits (Some flight) o.flight o.tail out.new)) }
     ensures kept { space.new.patterns ≡ space.old.patterns }
 {
     match flight {
@@ -370,6 +379,8 @@ fn page_passes(
     ensures done { IfOk result (λ over. over ≡ Some true → IsWhole pages.new.family →
         (ps : List SetPattern) (h : GroundView) → IsDone ps h pages.new.family) }
     ensures tree { OnOk result (pages.new.family.tree ≡ pages.old.family.tree) }
+    ensures kind { OnOk result (is_some pages.new.outgoing.block
+        ≡ is_some pages.old.outgoing.block) }
     ensures kept { space.new.patterns ≡ space.old.patterns }
 {
     match pages.run(space.alloc, ground, &mut space.patterns, at)? {
@@ -398,6 +409,8 @@ fn page_ends(
     ensures closes { IfOk result (λ passed. IfOn (ran_in flight.new passed) (λ o.
         o.closing ≡ closing)) }
     ensures kept { IfOk result (λ passed. length out.new ≤ most_kept) }
+    ensures tail { IfOk result (λ passed. IfOn (ran_in flight.new passed) (λ o.
+        TailFits flight.old o.flight o.tail out.new)) }
 {
     match take(flight, None) {
         Some(Flight::Page(page)) => {
@@ -440,6 +453,8 @@ fn sends(flight: &mut Option<Flight>, size: usize, closing: bool) -> Passed
     ensures asked { IfOn (ran_in flight.new result) (λ o.
         flight_tree o.flight ≤ flight_tree flight.old) }
     ensures closes { IfOn (ran_in flight.new result) (λ o. closing ≡ true → o.closing ≡ true) }
+    ensures tail { (out : List ℕ) → IfOn (ran_in flight.new result) (λ o.
+        TailFits flight.old o.flight o.tail out) }
 {
     let log = match flight {
         Some(Flight::Alone(flow)) => sends_on(flow, size),
@@ -500,6 +515,8 @@ pub fn run_in_place(
         flight_tree o.flight ≤ flight_tree flight.old)) }
     ensures closes { IfOk result (λ passed. IfOn (ran_in flight.new passed) (λ o.
         closing ≡ true → o.closing ≡ true)) }
+    ensures tail { IfOk result (λ passed. IfOn (ran_in flight.new passed) (λ o.
+        TailFits flight.old o.flight o.tail out.new)) }
     ensures kept { space.new.patterns ≡ space.old.patterns }
 {
     if is_sending(flight) {

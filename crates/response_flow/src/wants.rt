@@ -1,5 +1,5 @@
 // What a response waits for, and what is written of it.
-ghost use Rattle.std.specs.Prelude.{◌≡◌, ◌≤◌, ◌<◌, ◌+◌, ◌-◌, ◌*◌, ◌/◌, ℕ, List, take, length, option_copied, is_some, Some};
+ghost use Rattle.std.specs.Prelude.{◌≡◌, ◌≤◌, ◌<◌, ◌+◌, ◌-◌, ◌*◌, ◌/◌, ℕ, List, take, drop, length, option_copied, is_some, Some, None};
 ghost use Rattle.file_tree.specs.Tree.{Trees};
 ghost use Rattle.ngx_outside.specs.Views.{ask_in};
 ghost use Rattle.ngx_pattern.specs.Pattern.{Pattern as SetPattern};
@@ -238,6 +238,7 @@ pub fn written(flight: &mut Option<Flight>, out: &mut ByteQueue, count: usize)
         → FlightServedBy server length flight.new }
     ensures tree { flight_tree flight.new ≡ flight_tree flight.old }
     ensures kind { is_some flight.new ≡ is_some flight.old }
+    ensures used { flight.old ≡ None → out.new ≡ drop count out.old }
 {
     match flight {
         None => out.used(count),

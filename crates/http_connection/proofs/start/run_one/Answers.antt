@@ -1,6 +1,6 @@
-use Rattle.std.proofs.Common.{refl, sym, subst, ap, ◌∙◌, vec_len, arith}
+use Rattle.std.proofs.Common.{None, refl, sym, subst, ap, ◌∙◌, vec_len, arith}
 use Rattle.std.specs.Prelude.{is_some, not, ◌||◌}
-use Rattle.response_flow.specs.Flights.{flight_tree}
+use Rattle.response_flow.specs.Flights.{TailFits, flight_tree}
 use Rattle.response_flow.specs.declared.flight.Onward.{Onward}
 use Rattle.http_connection.specs.Rests.{ReachedIn, Serves, service_in, rest_in, values_at}
 use Rattle.http_connection.specs.Steps.{Opened, RanOne, RanOver, is_heavy, start_in}
@@ -75,3 +75,8 @@ returns-in_ok-onward-in-Bad-clause-asked c =
     let r = c.in_ok-onward-in-Bad.ensures.refuses (start_in c.args.setting.meeting) refl in
     let e = ap flight_tree r.over in
     omega (arith, e)
+
+pub returns-in-Ok-On-clause-tail : goal.returns-in-Ok-On-clause-tail
+returns-in-Ok-On-clause-tail c =
+    let o = c.in-Ok-On.opened in
+    subst (λ (o : Onward). TailFits None o.flight o.tail c.open.new.out) (sym c.with_broken-onward.ensures) (on_by _ c.in-Ok-On.field-0 o c.in-Ok-On.field-0-is c.in-Ok-On.ensures.tail)

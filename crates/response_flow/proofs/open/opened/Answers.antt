@@ -2,6 +2,7 @@ use Rattle.std.proofs.Common.{◌≡◌, length, sym, ap, ◌∙◌, subst}
 use Rattle.file_tree.specs.Tree.{Trees}
 use Rattle.subrequests.specs.Moved.{BeginsWith, IsWhole, files}
 use Rattle.subrequests.specs.declared.family.Family.{Family}
+use Rattle.page_response.specs.declared.pages.Pages.{Pages}
 use Rattle.request_flow.specs.declared.flow.InPhases.{InPhases}
 use Rattle.response_flow.specs.Opens.{Opens, known_text}
 use Rattle.response_flow.proofs.Begins as begins
@@ -33,3 +34,6 @@ returns-clause-opens c = λ patterns.
       few = begins.few p made.steps made.bounded;
       tree = tree;
     })
+
+pub returns-clause-kind : goal.returns-clause-kind
+returns-clause-kind c = ap (λ (x : Pages). x.outgoing.block) c.in_ok-new.ensures.ok ∙ c.in_ok-pages.ensures.outgoing.1

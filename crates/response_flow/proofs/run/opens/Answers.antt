@@ -1,6 +1,6 @@
 use Rattle.std.proofs.Common.{◌≤◌, ◌+◌, [], Some, None, length, refl, sym, subst}
 use Rattle.response_flow.specs.Continues.{IfOn}
-use Rattle.response_flow.specs.Flights.{flight_left, flight_tree}
+use Rattle.response_flow.specs.Flights.{TailIn, flight_left, flight_tree}
 use Rattle.response_flow.proofs.Goes as goes
 use Rattle.response_flow.proofs.run.opens.Goals as goal
 
@@ -30,3 +30,7 @@ returns-clause-lowers c =
 pub returns-clause-asked : goal.returns-clause-asked
 returns-clause-asked c =
     subst (λ n. IfOn c.in_ok-run_page.field-0 (λ o. flight_tree o.flight ≤ n)) (c.in_ok-page.ensures.opens c.args.space.now.patterns).tree c.in_ok-run_page.ensures.asked
+
+pub returns-clause-tail : goal.returns-clause-tail
+returns-clause-tail c =
+    subst (λ b. IfOn c.in_ok-run_page.field-0 (λ o. TailIn b o.flight o.tail c.run_page.new.out)) c.in_ok-page.ensures.kind c.in_ok-run_page.ensures.tail

@@ -1,13 +1,16 @@
 use Rattle.std.proofs.Common.{◌≡◌, [], length, true, None, Some, refl, sym, ap, ◌∙◌, subst}
+use Rattle.std.specs.Prelude.{is_some}
 use Rattle.request_meaning.specs.Laws.{shipped}
+use Rattle.page_response.specs.declared.pages.Pages.{Pages}
 use Rattle.request_phases.specs.Rounds.{world_in}
 use Rattle.subrequests.specs.Moved.{files}
-use Rattle.response_flow.specs.Continues.{IfOn, RunsOn, ran_as}
-use Rattle.response_flow.specs.Flights.{FlightFits, FlightReached, FlightServedBy, flight_length, flight_rest, flight_server, page_left}
+use Rattle.response_flow.specs.Continues.{IfOn, RunsOn, ran_as, ran_in}
+use Rattle.response_flow.specs.Flights.{FlightFits, FlightReached, FlightServedBy, TailFits, flight_length, flight_rest, flight_server, page_left}
 use Rattle.response_flow.specs.declared.flight.Flight.{Flight}
 use Rattle.response_flow.specs.declared.flight.PageFlow.{PageFlow}
 use Rattle.response_flow.specs.declared.flight.Flight.TheVariants.{Page}
 use Rattle.response_flow.proofs.Goes as goes
+use Rattle.response_flow.proofs.Tails.{ran_page_as}
 use Rattle.response_flow.proofs.run.run_in_place.Goals as goal
 
 pub returns-in-Some-Alone-clause-runs : goal.returns-in-Some-Alone-clause-runs
@@ -57,3 +60,23 @@ pub returns-then-is_sending-clause-runs : goal.returns-then-is_sending-clause-ru
 returns-then-is_sending-clause-runs c = λ trees raceless reached.
     let patterns = c.args.space.now.patterns in
     c.sends.ensures.runs (world_in patterns c.args.ground.now shipped) patterns c.args.ground.now.site.now trees c.args.out.now
+
+pub returns-in-Some-Alone-clause-tail : goal.returns-in-Some-Alone-clause-tail
+returns-in-Some-Alone-clause-tail c =
+    let was = c.args.flight.now in
+    let out = c.run_on.new.out in
+    let is = c.in-Some-Alone.is ∙ (sym c.take.ensures.taken ∙ c.in-Some.is) in
+    subst (λ ran. IfOn ran (λ o. TailFits was o.flight o.tail out)) (sym c.passed.ensures)
+    (subst (λ f. IfOn c.in_ok-ran-in-Some-Alone.ran (λ o. TailFits f o.flight o.tail out)) (sym is) c.in_ok-ran-in-Some-Alone.ensures.tail)
+
+pub returns-in_ok-page_ends-in-Some-true-clause-tail : goal.returns-in_ok-page_ends-in-Some-true-clause-tail
+returns-in_ok-page_ends-in-Some-true-clause-tail c =
+    let page = c.in-Some-Page.page in
+    let p = page.pages.value in
+    let q = c.page_passes.new.pages in
+    let is : c.args.flight.now ≡ Some (Page page) = c.in-Some-Page.is ∙ ap (λ f. Some f) c.in-Some-Page.field-0-is in
+    let page' : PageFlow = record page { pages = record page.pages { value = q } } in
+    let kind = c.in_ok-over-in-Some-Page.ensures.kind ∙ ap (λ (x : Pages). is_some x.outgoing.block) c.deref_mut.ensures.value in
+    let ran = ran_in c.page_ends.new.flight c.in_ok-page_ends-in-Some-true.field-0 in
+    let out = c.page_ends.new.out in
+    subst (λ f. IfOn ran (λ o. TailFits f o.flight o.tail out)) (sym is) (ran_page_as page page' ran out kind c.in_ok-page_ends-in-Some-true.ensures.tail)

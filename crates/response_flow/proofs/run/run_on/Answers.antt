@@ -9,11 +9,12 @@ use Rattle.request_flow.specs.Pages.{GoesTo, IfPage, IsServed, start_rest}
 use Rattle.request_flow.specs.Reached.{PageReached, WentReached}
 use Rattle.request_flow.specs.Rests.{Follows}
 use Rattle.request_flow.specs.declared.page.PageStart.{PageStart}
-use Rattle.response_flow.specs.Continues.{RunsOn}
-use Rattle.response_flow.specs.Flights.{FlightServedBy, IsReachedBy, flight_length, flight_server, ready_by, rest_of}
+use Rattle.response_flow.specs.Continues.{IfOn, RunsOn}
+use Rattle.response_flow.specs.Flights.{FlightServedBy, IsReachedBy, TailFits, flight_length, flight_server, ready_by, rest_of}
 use Rattle.response_flow.specs.declared.flight.Flight.{Flight}
 use Rattle.response_flow.proofs.Goes as goes
 use Rattle.response_flow.proofs.Wanting.{alone_runs}
+use Rattle.response_flow.proofs.Tails.{alone_fits, ran_alone, ran_page}
 use Rattle.response_flow.proofs.run.run_on.Goals as goal
 
 pub run_on-requires-clause-runs : goal.run_on-requires-clause-runs
@@ -66,3 +67,21 @@ returns-in_ok-opens-in-Page-2-clause-runs c = λ trees raceless reached.
     raceless (subst (PageReached w patterns site) same (subst (WentReached w patterns site) c.in-Page-2.is (ran.reached (subst (IsReachedBy w patterns site) c.in-Alone.is reached))))
     (subst (λ r. Follows site r (start_rest w patterns site trees p) out [] c.args.closing p.closing None (Some p.level)) (ap (rest_of w patterns site trees) (sym c.in-Alone.is))
     (subst (λ o. Follows site (flow_rest w patterns site (Some flow) trees) (start_rest w patterns site trees p) out o c.args.closing p.closing None (Some p.level)) put follows))
+
+pub returns-in-On-clause-tail : goal.returns-in-On-clause-tail
+returns-in-On-clause-tail c =
+    let o = c.alone.result in
+    let out = c.run_on.new.out in
+    subst (λ (f : Flight). TailFits (Some f) o.flight o.tail out) (sym c.in-Alone.is) (alone_fits c.in-Alone.flow None o.flight o.tail out (c.alone.ensures.tail out))
+
+pub returns-in_ok-opens-in-Page-2-clause-tail : goal.returns-in_ok-opens-in-Page-2-clause-tail
+returns-in_ok-opens-in-Page-2-clause-tail c =
+    let ran = c.in_ok-opens-in-Page-2.field-0 in
+    let out = c.opens.new.out in
+    subst (λ (f : Flight). IfOn ran (λ o. TailFits (Some f) o.flight o.tail out)) (sym c.in-Alone.is) (ran_alone c.in-Alone.flow _ ran out c.in_ok-opens-in-Page-2.ensures.tail)
+
+pub returns-in_ok-run_page-in-Page-clause-tail : goal.returns-in_ok-run_page-in-Page-clause-tail
+returns-in_ok-run_page-in-Page-clause-tail c =
+    let ran = c.in_ok-run_page-in-Page.field-0 in
+    let out = c.run_page.new.out in
+    subst (λ (f : Flight). IfOn ran (λ o. TailFits (Some f) o.flight o.tail out)) (sym c.in-Page.is) (ran_page c.in-Page.page ran out c.in_ok-run_page-in-Page.ensures.tail)

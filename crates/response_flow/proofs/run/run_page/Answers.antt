@@ -1,4 +1,5 @@
-use Rattle.std.proofs.Common.{◌≡◌, true, List, [], None, refl, sym, subst}
+use Rattle.std.proofs.Common.{◌≡◌, true, List, [], None, refl, sym, ap, ◌∙◌, subst}
+use Rattle.std.specs.Prelude.{is_some}
 use Rattle.request_meaning.specs.Laws.{shipped}
 use Rattle.request_phases.specs.Rounds.{world_in}
 use Rattle.request_phases.specs.declared.ground.Ground.{Ground}
@@ -9,6 +10,7 @@ use Rattle.page_response.specs.declared.pages.Pages.{Pages}
 use Rattle.response_flow.specs.Continues.{Continues}
 use Rattle.response_flow.specs.Flights.{page_left}
 use Rattle.response_flow.proofs.Goes as goes
+use Rattle.response_flow.proofs.Tails.{over_tail}
 use Rattle.response_flow.proofs.run.run_page.Goals as goal
 
 pub returns-then-is_done-clause-runs : goal.returns-then-is_done-clause-runs
@@ -27,3 +29,13 @@ returns-then-is_done-clause-runs c = λ trees before from first raceless reached
     (subst (λ x. IsAllOver w patterns site trees x) (sym c.into_inner.ensures) (done c.if-is_done.true go.whole patterns g (files trees q.family)))
     (subst (λ x. Continues site before (page_left w patterns site trees x) from [] first c.args.closing None c.args.level) (sym c.into_inner.ensures)
     (goes.moved site before _ _ from [] [] first c.args.closing c.args.level left refl continues))
+
+pub returns-then-is_done-clause-tail : goal.returns-then-is_done-clause-tail
+returns-then-is_done-clause-tail c =
+    let p = c.args.page.pages.value in
+    let q = c.into_inner.result in
+    let o = c.in_ok-ends-in-Ok-Rests.field-0 in
+    let e = c.in_ok-ends-in-Ok-Rests.ensures in
+    over_tail p.outgoing.block q.outgoing.block o.flight o.tail c.ends.new.out
+    (ap (λ (x : Pages). is_some x.outgoing.block) c.into_inner.ensures ∙ (c.in-Ok-Rests.ensures.kind ∙ ap (λ (x : Pages). is_some x.outgoing.block) c.deref_mut-inside.ensures.value))
+    e.over.0 e.tail

@@ -4,11 +4,12 @@ use Rattle.request_flow.specs.Flows.{IsServedBy, flow_rest, going_on, may_run}
 use Rattle.request_flow.specs.Reached.{FlowReached}
 use Rattle.request_flow.specs.declared.flow.Flow.{Flow}
 use Rattle.std.specs.Global.{Box}
-use Rattle.response_flow.specs.Flights.{FlightFits, flight_rest, ready_of}
+use Rattle.response_flow.specs.Flights.{FlightFits, TailFits, TailIn, flight_rest, ready_of}
 use Rattle.response_flow.specs.declared.flight.Flight.{Flight}
 use Rattle.response_flow.specs.declared.flight.Flight.TheVariants.{Alone}
 use Rattle.response_flow.proofs.Goes as goes
 use Rattle.response_flow.proofs.Wanting.{alone_runs}
+use Rattle.response_flow.proofs.Tails.{alone_fits, plain_ends}
 use Rattle.response_flow.proofs.run.sends.Goals as goal
 
 -- it is over where it is logged, and goes on else
@@ -68,3 +69,10 @@ returns-else-is_some-clause-reached c = λ w patterns site.
 pub returns-else-is_some-clause-by : goal.returns-else-is_some-clause-by
 returns-else-is_some-clause-by c = λ server length.
     subst (λ f. IsServedBy server length f) (still c.sends_on-log.new.flow c.sends_on-log.result (sym c.is_some.ensures ∙ c.if-is_some.false)) (c.sends_on-log.ensures.by server length)
+
+pub returns-then-is_some-clause-tail : goal.returns-then-is_some-clause-tail
+returns-then-is_some-clause-tail c = λ out.
+    let flow = c.in-Some-Alone.flow in
+    let is = is_alone c.args.flight.now c.in-Some-Alone.field-0 flow c.in-Some-Alone.is c.in-Some-Alone.field-0-is in
+    let next = c.put.new.slot in
+    subst (λ f. TailFits f next 0 out) (sym is) (alone_fits flow None next 0 out (subst (λ f. TailIn None f 0 out) (sym c.put.ensures) (plain_ends out)))

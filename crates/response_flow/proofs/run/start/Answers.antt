@@ -14,6 +14,7 @@ use Rattle.request_flow.specs.Rests.{Follows, opened_rest}
 use Rattle.request_flow.specs.declared.page.PageStart.{PageStart}
 use Rattle.response_flow.specs.Continues.{RunsOn}
 use Rattle.response_flow.proofs.Goes as goes
+use Rattle.response_flow.proofs.Tails.{none_fits, ran_none}
 use Rattle.response_flow.proofs.run.start.Goals as goal
 
 pub returns-in-On-clause-runs : goal.returns-in-On-clause-runs
@@ -59,3 +60,9 @@ returns-in_ok-opens-in-Page-clause-runs c = λ trees raceless.
     (c.in_ok-opens-in-Page.ensures.runs trees before out false)
     raceless (subst (PageReached w patterns site) same (subst (WentReached w patterns site) c.in-Page.is ran.reached))
     (subst (λ o. Follows site before (start_rest w patterns site trees p) out o false p.closing None (Some p.level)) put follows)
+
+pub returns-in-On-clause-tail : goal.returns-in-On-clause-tail
+returns-in-On-clause-tail c = none_fits None c.alone.result.flight c.alone.result.tail c.start.new.out (c.alone.ensures.tail c.start.new.out)
+
+pub returns-in_ok-opens-in-Page-clause-tail : goal.returns-in_ok-opens-in-Page-clause-tail
+returns-in_ok-opens-in-Page-clause-tail c = ran_none _ c.in_ok-opens-in-Page.field-0 c.opens.new.out c.in_ok-opens-in-Page.ensures.tail

@@ -8,6 +8,7 @@ use Rattle.http_connection.specs.Conn.{view_at}
 use Rattle.http_connection.proofs.Kept.{buffered_few, buffered_drained, none_fits, none_buffered}
 use Rattle.http_connection.proofs.Moves.{room_some, arrived_went, arrived_left, some_taken, refused, stopped_left}
 use Rattle.http_connection.proofs.Timed.{went_until, refused_until}
+use Rattle.http_connection.proofs.Tails.{stopped_tail}
 use Rattle.http_connection.proofs.conn.Conn.arrived.Goals as goal
 use Rattle.http_connection.specs.Rests.{service_in}
 use Rattle.response_flow.specs.Flights.{flight_tree}
@@ -42,6 +43,7 @@ returns-in-Ok-clause-steps c = λ site now conn.
       ended = refl;
       taken = tt;
       asked = inl (omega arith);
+      tail = refl;
     }
 
 pub returns-in-Err-clause-steps : goal.returns-in-Err-clause-steps
@@ -58,6 +60,7 @@ returns-in-Err-clause-steps c = λ site now conn.
       ended = refl;
       taken = tt;
       asked = inl (let e = ap flight_tree c.put.ensures in omega (arith, e));
+      tail = refl;
     }
 
 pub invariant_of-self : goal.invariant_of-self
@@ -86,6 +89,7 @@ invariant_of-self c =
       unended = drops.unended;
       logged = s.logged;
       brief = s.brief;
+      tailed = s.tailed;
     }
 
 pub invariant_of-self-in-Err : goal.invariant_of-self-in-Err
@@ -99,4 +103,5 @@ invariant_of-self-in-Err c = record {
   unended = λ h. cc;
   logged = λ h. cc;
   brief = c.args.self.now.brief;
+  tailed = (let s = c.args.self.now in stopped_tail s.flight c.put.new.slot s.tail s.out c.clear.new.self c.put.ensures c.clear.ensures s.tailed);
 }

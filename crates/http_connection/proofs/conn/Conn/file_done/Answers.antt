@@ -10,6 +10,7 @@ use Rattle.http_connection.proofs.Moves.{goes_went, goes_left, refused, stopped_
 use Rattle.http_connection.proofs.Kept.{never, none_fits}
 use Rattle.http_connection.proofs.Going.{flies_by, flight_of, told_in_place, told_keeps, told_reached}
 use Rattle.http_connection.proofs.Timed.{went_until, refused_until, marks_by}
+use Rattle.http_connection.proofs.Tails.{flying_tail, stopped_tail}
 use Rattle.http_connection.proofs.conn.Conn.file_done.Goals as goal
 use Rattle.http_connection.specs.Rests.{ReachedIn, service_in, world_of}
 use Rattle.response_flow.specs.Flights.{FlightReached, FlightServedBy, flight_length, flight_server, flight_tree, jobs_of}
@@ -57,6 +58,7 @@ returns-in-Ok-clause-steps c = λ x now conn.
       ended = refl;
       taken = refl;
       asked = inl (let a = told.asked in omega (arith, a));
+      tail = refl;
     }
 
 pub returns-in-Err-clause-steps : goal.returns-in-Err-clause-steps
@@ -72,6 +74,7 @@ returns-in-Err-clause-steps c = λ x now conn.
       ended = refl;
       taken = tt;
       asked = inl (let e = ap flight_tree c.put.ensures in omega (arith, e));
+      tail = refl;
     }
 
 pub invariant_of-self : goal.invariant_of-self
@@ -91,6 +94,7 @@ invariant_of-self c =
       unended = s.unended;
       logged = λ h. subst (λ b. IsLogged b s.journal.items) (ap is_some is ∙ sym c.in-Ok.ensures.flies) (s.logged h);
       brief = s.brief;
+      tailed = flying_tail s.flight c.answered.new.flight s.tail s.out c.answered.new.out (ap is_some is) c.in-Ok.ensures.flies s.tailed;
     }
 
 pub invariant_of-self-in-Err : goal.invariant_of-self-in-Err
@@ -106,6 +110,7 @@ invariant_of-self-in-Err c =
       unended = s.unended;
       logged = λ h. cc;
       brief = s.brief;
+      tailed = stopped_tail s.flight c.put.new.slot s.tail s.out c.clear.new.self c.put.ensures c.clear.ensures s.tailed;
     }
 
 pub returns-in-Ok-clause-times : goal.returns-in-Ok-clause-times

@@ -12,6 +12,7 @@ use Rattle.http_connection.proofs.Opens.{level_is}
 use Rattle.http_connection.proofs.Readies.{ready_contains, ready_flying}
 use Rattle.served_site.specs.Served.{raw_server}
 use Rattle.http_connection.proofs.Timed.{went_until, ran_until, refused_until, marks_by, mark_rests}
+use Rattle.http_connection.proofs.Tails.{fits_tail, stopped_tail}
 use Rattle.http_connection.proofs.conn.Conn.goes_on.Goals as goal
 use Rattle.http_connection.specs.Rests.{ReachedIn, Serves, service_in, rest_in, values_at}
 use Rattle.response_flow.specs.Continues.{ran_in}
@@ -67,6 +68,7 @@ returns-in-Ok-On-clause-steps c = λ now conn.
       ended = refl;
       taken = refl;
       asked = inl asked;
+      tail = λ alive. on_by _ ran onward on c.in-Ok-On.ensures.tail;
     }
 
 pub returns-in-Ok-TooMany-clause-steps : goal.returns-in-Ok-TooMany-clause-steps
@@ -94,6 +96,7 @@ returns-in-Ok-TooMany-clause-steps c = λ now conn.
       ended = refl;
       taken = refl;
       asked = inl (let e = ap flight_tree c.put.ensures in omega (arith, e));
+      tail = λ alive. cc;
     }
 
 pub returns-in-Err-clause-steps : goal.returns-in-Err-clause-steps
@@ -110,6 +113,7 @@ returns-in-Err-clause-steps c = λ now conn.
       ended = refl;
       taken = tt;
       asked = inl (let e = ap flight_tree c.put-in-Err.ensures in omega (arith, e));
+      tail = refl;
     }
 
 pub returns-in-Ok-On-clause-times : goal.returns-in-Ok-On-clause-times
@@ -165,6 +169,7 @@ invariant_of-self-in-Ok-On c =
       unended = s.unended;
       logged = λ h. subst (λ b. IsLogged b c.finish.new.journal.items) (not_over (is_some onward.log) (is_some onward.flight) (on_by _ ran onward on c.in-Ok-On.ensures.over)) c.finish.ensures.logged;
       brief = c.paced_on.ensures.least;
+      tailed = fits_tail s.flight f' onward.tail c.run_in_place.new.out (on_by _ ran onward on c.in-Ok-On.ensures.tail);
     }
 
 pub invariant_of-self : goal.invariant_of-self
@@ -180,6 +185,7 @@ invariant_of-self c =
       unended = s.unended;
       logged = λ h. cc;
       brief = s.brief;
+      tailed = stopped_tail s.flight c.put.new.slot s.tail s.out c.clear.new.self c.put.ensures c.clear.ensures s.tailed;
     }
 
 pub invariant_of-self-in-Err : goal.invariant_of-self-in-Err
@@ -195,6 +201,7 @@ invariant_of-self-in-Err c =
       unended = s.unended;
       logged = λ h. cc;
       brief = s.brief;
+      tailed = stopped_tail s.flight c.put-in-Err.new.slot s.tail s.out c.clear-in-Err.new.self c.put-in-Err.ensures c.clear-in-Err.ensures s.tailed;
     }
 
 pub returns-in-Err-clause-times : goal.returns-in-Err-clause-times

@@ -23,6 +23,7 @@ returns-then-not-is_ready-clause-steps c = λ conn.
       ended = refl;
       taken = tt;
       asked = inl (omega arith);
+      tail = refl;
     }
 
 pub returns-then-is_some-clause-steps : goal.returns-then-is_some-clause-steps

@@ -4,8 +4,9 @@ use Rattle.std.specs.List.{Contains}
 use Rattle.ngx_outside.specs.Views.{Start, Ran}
 use Rattle.ngx_outside.specs.declared.event.StopCause.TheVariants as stop
 use Rattle.request_flow.specs.Flows.{asking_most}
-use Rattle.response_flow.specs.Flights.{FlightFits, flight_left, flight_tree, page_most}
+use Rattle.response_flow.specs.Flights.{FlightFits, TailFits, flight_left, flight_tree, page_most}
 use Rattle.http_connection.specs.Rests.{ReachedIn, Serves, service_in, rest_in, values_at}
+use Rattle.http_connection.specs.Tails.{KeepsTail}
 use Rattle.http_connection.specs.Times.{LevelFor}
 use Rattle.http_connection.proofs.Going.{on_by}
 use Rattle.http_connection.specs.Steps.{log_ran, RanOne, RanOver, IsLogged}
@@ -13,6 +14,8 @@ use Rattle.http_connection.specs.Conn.{view_at, starts_at, ready_at, left_at, Pa
 use Rattle.http_connection.proofs.Begins.{ran_few, ran_drained, ran_unended}
 use Rattle.http_connection.proofs.Moves.{starts_if, node_ready, ran_on_one, ran_over_one, ran_over, ran_went, ran_halts, ran_left, entered_logged, lighter, refused, stopped_left}
 use Rattle.http_connection.proofs.Timed.{ran_until, refused_until, mark_begins, mark_starts}
+use Rattle.http_connection.proofs.Kept.{none_buffered, none_fits}
+use Rattle.http_connection.proofs.Tails.{fits_tail, stopped_tail}
 use Rattle.http_connection.proofs.conn.Conn.starts_one.Goals as goal
 
 never : {A : Type 0} (b : Bool) → b ≡ false → b ≡ true → A
@@ -51,6 +54,7 @@ returns-in-Ok-On-clause-steps c = λ conn.
       ended = refl;
       taken = refl;
       asked = inr (subst (λ f. flight_tree f ≤ c.args.tree) p (on_by _ ran' o on c.in-Ok-On.ensures.asked));
+      tail = λ alive. subst (λ f. TailFits f f' o.tail n.out) (sym c.requires.none) (subst (λ f. TailFits None f o.tail n.out) p (on_by _ ran' o on c.in-Ok-On.ensures.tail));
     }
 
 pub returns-in-Ok-TooMany-clause-steps : goal.returns-in-Ok-TooMany-clause-steps
@@ -81,6 +85,7 @@ returns-in-Ok-TooMany-clause-steps c = λ conn.
       ended = refl;
       taken = refl;
       asked = inl (let e = ap flight_tree c.put.ensures in omega (arith, e));
+      tail = λ alive. cc;
     }
 
 pub returns-in-Err-clause-steps : goal.returns-in-Err-clause-steps
@@ -97,6 +102,7 @@ returns-in-Err-clause-steps c = λ conn.
       ended = refl;
       taken = tt;
       asked = inl (let e = ap flight_tree c.put-in-Err.ensures in omega (arith, e));
+      tail = refl;
     }
 
 pub invariant_of-self-in-Ok-On : goal.invariant_of-self-in-Ok-On
@@ -125,6 +131,39 @@ invariant_of-self-in-Ok-On c =
       logged = λ h. subst (IsLogged (is_some f')) (sym entry.3) (entered_logged (is_some f') s.journal.items entry.0 o.log (entry.2 ∙ ap log_ran on) (subst (λ f. IsLogged (is_some f) s.journal.items) c.requires.none (s.logged st.0))
           (ran_over x site start (vec_len s.journal) s.next s.buffered n.buffered n.body f' s.out n.out o.closing o.log ran));
       brief = c.paced_on.ensures.least;
+      tailed = subst (λ f. KeepsTail f o.tail n.out) p (fits_tail None o.flight o.tail n.out (on_by _ ran' o on c.in-Ok-On.ensures.tail));
+    }
+
+pub invariant_of-self : goal.invariant_of-self
+invariant_of-self c =
+    let s = c.args.self.now in
+    record {
+      looked = λ h. cc;
+      dropped = λ h. c.clear.ensures;
+      quit = λ h. c.put.ensures;
+      flying = none_fits c.put.new.slot c.clear.new.self c.put.ensures c.clear.ensures;
+      few = none_buffered c.clear-in-Ok-TooMany.new.self c.clear-in-Ok-TooMany.ensures;
+      drained = λ h. cc;
+      unended = λ h. cc;
+      logged = λ h. cc;
+      brief = s.brief;
+      tailed = stopped_tail s.flight c.put.new.slot s.tail s.out c.clear.new.self c.put.ensures c.clear.ensures s.tailed;
+    }
+
+pub invariant_of-self-in-Err : goal.invariant_of-self-in-Err
+invariant_of-self-in-Err c =
+    let s = c.args.self.now in
+    record {
+      looked = λ h. cc;
+      dropped = λ h. c.clear-in-Err.ensures;
+      quit = λ h. c.put-in-Err.ensures;
+      flying = none_fits c.put-in-Err.new.slot c.clear-in-Err.new.self c.put-in-Err.ensures c.clear-in-Err.ensures;
+      few = none_buffered c.clear-in-Err-2.new.self c.clear-in-Err-2.ensures;
+      drained = λ h. cc;
+      unended = λ h. cc;
+      logged = λ h. cc;
+      brief = s.brief;
+      tailed = stopped_tail s.flight c.put-in-Err.new.slot s.tail s.out c.clear-in-Err.new.self c.put-in-Err.ensures c.clear-in-Err.ensures s.tailed;
     }
 
 pub returns-in-Ok-On-clause-times : goal.returns-in-Ok-On-clause-times

@@ -1,4 +1,5 @@
 use Rattle.http_connection.proofs.Kept.{none_fits}
+use Rattle.http_connection.proofs.Tails.{stopped_tail}
 use Rattle.http_connection.proofs.conn.Conn.stop.Goals as goal
 
 pub invariant_of-self : goal.invariant_of-self
@@ -14,4 +15,5 @@ invariant_of-self c =
       unended = s.unended;
       logged = λ h. cc;
       brief = s.brief;
+      tailed = stopped_tail s.flight c.put.new.slot s.tail s.out c.clear.new.self c.put.ensures c.clear.ensures s.tailed;
     }

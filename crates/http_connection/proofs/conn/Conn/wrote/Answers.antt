@@ -5,6 +5,7 @@ use Rattle.http_connection.proofs.Writes.{shown_within, wrote_rest, wrote_reache
 use Rattle.http_connection.specs.Steps.{IsLogged}
 use Rattle.http_connection.specs.Conn.{pending_at}
 use Rattle.http_connection.proofs.Timed.{went_until}
+use Rattle.http_connection.proofs.Tails.{wrote_tail}
 use Rattle.http_connection.proofs.conn.Conn.wrote.Goals as goal
 use Rattle.http_connection.specs.Rests.{service_in}
 
@@ -34,6 +35,7 @@ returns-clause-steps c = λ x now conn.
       ended = refl;
       taken = refl;
       asked = inl (let a = w.ensures.tree in omega (arith, a));
+      tail = refl;
     }
 
 pub invariant_of-self : goal.invariant_of-self
@@ -53,6 +55,7 @@ invariant_of-self c =
       unended = s.unended;
       logged = λ h. subst (λ b. IsLogged b s.journal.items) (sym w.ensures.kind) (s.logged h);
       brief = s.brief;
+      tailed = wrote_tail s.flight w.new.flight s.tail c.args.count s.out w.new.out w.ensures.kind w.ensures.used s.tailed;
     }
 
 pub written-requires-clause-count : goal.written-requires-clause-count

@@ -8,6 +8,7 @@ loop-init c = record {
   reached = λ w patterns site reached. reached;
   whole = λ whole. whole;
   bounded = λ bounded. bounded;
+  kind = refl;
   others = (refl, refl, refl);
 }
 
@@ -20,6 +21,7 @@ loop-preserved c =
       reached = λ w patterns site reached. e.reached w patterns site (i.reached w patterns site reached);
       whole = λ whole. e.whole (i.whole whole);
       bounded = λ bounded. e.bounded (i.bounded bounded);
+      kind = e.kind ∙ i.kind;
       others = (e.others.0 ∙ i.others.0, e.others.1 ∙ i.others.1, e.others.2 ∙ i.others.2);
     }
 
