@@ -3,7 +3,7 @@ use Rattle.std.proofs.Common.{◌≡◌, ℕ, List, [], ◌∷◌, length, Ok, r
 use Rattle.conf_text.specs.declared.directive.Directive.{Directive}
 use Rattle.conf_include.specs.declared.stop.Stop.{Stop}
 use Rattle.conf_include.specs.declared.stop.Stop.TheVariants as stop
-use Rattle.conf_include.specs.Expansion.{Tally, Faulty, Outcome, ◌>>=◌, put_all}
+use Rattle.conf_include.specs.Expansion.{Tally, Faulty, Expansion, ◌>>=◌, put_all}
 use Rattle.conf_include.specs.Steps.{StopsAs, onto}
 use Rattle.conf_include.proofs.PutLaws.{all_go, all_stop, all_done}
 
@@ -20,20 +20,20 @@ stop_same (stop.Failed fault) o p ps is h = tt
 stop_same stop.OutOfMemory o p ps is h = tt
 
 -- a stop after directives
-pub stop_onto : (e : Stop) (lines : List Directive) (depth : ℕ) (o : Outcome) (ps : List (List ℕ)) → StopsAs e o ps → StopsAs e (onto lines depth o) ps
+pub stop_onto : (e : Stop) (lines : List Directive) (depth : ℕ) (o : Expansion) (ps : List (List ℕ)) → StopsAs e o ps → StopsAs e (onto lines depth o) ps
 stop_onto (stop.Fault fault) lines depth o ps h = ap (onto lines depth) h
 stop_onto (stop.Failed fault) lines depth o ps h = tt
 stop_onto stop.OutOfMemory lines depth o ps h = tt
 
 -- one of several items stops
-pub stop_all : {A : Type 0} (put : A → Tally → Outcome) (x : A) (xs : List A) (e : Stop) (lines : List Directive) (depth : ℕ) (t : Tally) (ps : List (List ℕ)) → StopsAs e (onto lines depth (put x t)) ps → StopsAs e (onto lines depth (put_all put (x ∷ xs) t)) ps
+pub stop_all : {A : Type 0} (put : A → Tally → Expansion) (x : A) (xs : List A) (e : Stop) (lines : List Directive) (depth : ℕ) (t : Tally) (ps : List (List ℕ)) → StopsAs e (onto lines depth (put x t)) ps → StopsAs e (onto lines depth (put_all put (x ∷ xs) t)) ps
 stop_all put x xs (stop.Fault fault) lines depth t ps h = all_stop put x xs lines depth t (fault, ps) h
 stop_all put x xs (stop.Failed fault) lines depth t ps h = tt
 stop_all put x xs stop.OutOfMemory lines depth t ps h = tt
 
 -- What is left of several items, at one of them, and at their end.
 
-pub run_stop : {A : Type 0} (put : A → Tally → Outcome) (all start left rest : List A) (x : A) (e : Stop) (before lines : List Directive) (depth : ℕ) (t₀ t : Tally) (ps : List (List ℕ))
+pub run_stop : {A : Type 0} (put : A → Tally → Expansion) (all start left rest : List A) (x : A) (e : Stop) (before lines : List Directive) (depth : ℕ) (t₀ t : Tally) (ps : List (List ℕ))
     → left ≡ x ∷ rest → onto lines depth (put_all put left t) ≡ onto before depth (put_all put start t₀) → start ≡ all
     → StopsAs e (onto lines depth (put x t)) ps → StopsAs e (onto before depth (put_all put all t₀)) ps
 run_stop put all start left rest x e before lines depth t₀ t ps next same from h =
@@ -41,12 +41,12 @@ run_stop put all start left rest x e before lines depth t₀ t ps next same from
     (sym (ap (λ l. onto lines depth (put_all put l t)) (sym next) ∙ same ∙ ap (λ l. onto before depth (put_all put l t₀)) from))
     (stop_all put x rest e lines depth t ps h)
 
-pub run_go : {A : Type 0} (put : A → Tally → Outcome) (left rest : List A) (x : A) (lines now : List Directive) (depth : ℕ) (t u : Tally) (first : Outcome)
+pub run_go : {A : Type 0} (put : A → Tally → Expansion) (left rest : List A) (x : A) (lines now : List Directive) (depth : ℕ) (t u : Tally) (first : Expansion)
     → left ≡ x ∷ rest → onto lines depth (put_all put left t) ≡ first → onto lines depth (put x t) ≡ Ok (now, u) → onto now depth (put_all put rest u) ≡ first
 run_go put left rest x lines now depth t u first next same h =
     sym (all_go put x rest lines now depth t u h) ∙ ap (λ l. onto lines depth (put_all put l t)) (sym next) ∙ same
 
-pub run_done : {A : Type 0} (put : A → Tally → Outcome) (all start left : List A) (before lines : List Directive) (depth : ℕ) (t₀ t : Tally)
+pub run_done : {A : Type 0} (put : A → Tally → Expansion) (all start left : List A) (before lines : List Directive) (depth : ℕ) (t₀ t : Tally)
     → left ≡ [] → onto lines depth (put_all put left t) ≡ onto before depth (put_all put start t₀) → start ≡ all → onto before depth (put_all put all t₀) ≡ Ok (lines, t)
 run_done put all start left before lines depth t₀ t none same from =
     ap (λ l. onto before depth (put_all put l t₀)) (sym from) ∙ sym same ∙ ap (λ l. onto lines depth (put_all put l t)) none ∙ all_done put lines depth t

@@ -9,7 +9,7 @@ use Rattle.conf_text.specs.declared.fault.FaultKind.TheVariants.{ReadFault}
 use Rattle.conf_text.specs.Reading.{reading}
 use Rattle.conf_include.specs.Paths.{path_of, is_mask}
 use Rattle.conf_include.specs.Listings.{Names}
-use Rattle.conf_include.specs.Expansion.{Spot, spot, Tally, Outcome, fault_about, include_word, named_by, with_paths, directives_in, text_in, open_file}
+use Rattle.conf_include.specs.Expansion.{Spot, spot, Tally, Expansion, fault_about, include_word, named_by, with_paths, directives_in, text_in, open_file}
 use Rattle.conf_include.specs.Asked.{IsIn, IsPart, TheMain, Included, IsInclude, IsAskedAt, ForMain, ForFile, ForFolder}
 use Rattle.ngx_outside.specs.Seen.{FilesSeen}
 use Rattle.conf_include.specs.declared.stop.Stop.{Stop}
@@ -114,7 +114,7 @@ one_read tree names main path paths number bytes date own d within at part there
 part_of : (tree : Tree) (names : Names) (main : List ℕ) (paths : List (List ℕ)) (at : Spot) (path : List ℕ) → IsNamed tree names main paths at path → IsPart tree names main (length paths) path
 part_of tree names main paths at path is = Included is.line is.word is.read.part is.read.among is.says is.named is.read.within
 
-pub opened_by : (tree : Tree) (path : List ℕ) (before : List (List ℕ)) (o : Outcome) (lines : List Directive) (u : Tally) → o ≡ Ok (lines, u) → OpenedIf tree path before o → Opened tree path before u lines
+pub opened_by : (tree : Tree) (path : List ℕ) (before : List (List ℕ)) (o : Expansion) (lines : List Directive) (u : Tally) → o ≡ Ok (lines, u) → OpenedIf tree path before o → Opened tree path before u lines
 opened_by tree path before o lines u is h = subst (OpenedIf tree path before) is h
 
 pub opened_read : (tree : Tree) (names : Names) (main : List ℕ) (at : Spot) (path : List ℕ) (t u : Tally) (lines : List Directive)

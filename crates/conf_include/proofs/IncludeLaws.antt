@@ -4,7 +4,7 @@ use Rattle.file_tree.specs.Tree.{Tree}
 use Rattle.conf_text.specs.declared.directive.Directive.{Directive}
 use Rattle.conf_include.specs.declared.stop.Stop.{Stop}
 use Rattle.conf_include.specs.Listings.{Names}
-use Rattle.conf_include.specs.Expansion.{Spot, spot, Tally, Outcome, ◌>>=◌, deepened, include_word, put_all, put_word, put_line, put_lines, open_file, put_file}
+use Rattle.conf_include.specs.Expansion.{Spot, spot, Tally, Expansion, ◌>>=◌, deepened, include_word, put_all, put_word, put_line, put_lines, open_file, put_file}
 use Rattle.conf_include.specs.Steps.{StopsAs, one_less, onto}
 use Rattle.conf_include.proofs.AnswerLaws.{stop_bind, stop_same, stop_onto}
 use Rattle.conf_include.proofs.PutLaws.{onto_deeper}
@@ -41,14 +41,14 @@ file_opened tree names main left below at path t u inner lines depth h k =
     ap (onto lines depth) (after_less tree names main left below at path t h ∙ ap (λ r. r >>= λ opened. put_lines tree names main below opened.0 opened.1) k)
 
 -- a directive that is no include
-pub line_plain : (file : Spot → List ℕ → Tally → Outcome) (named : List ℕ → List (List ℕ)) (d : Directive) (t : Tally) (lines now : List Directive) (depth : ℕ)
+pub line_plain : (file : Spot → List ℕ → Tally → Expansion) (named : List ℕ → List (List ℕ)) (d : Directive) (t : Tally) (lines now : List Directive) (depth : ℕ)
     → include_word d ≡ None → now ≡ lines ++ deepened depth d ∷ [] → onto lines depth (put_line file named d t) ≡ Ok (now, t)
 unfolding put_line
 line_plain file named d t lines now depth h is =
     ap (λ w. onto lines depth (put_word file named d w t)) h ∙ sym (ap (λ l. Ok (l, t)) is)
 
 -- an include, by the files in its place
-pub line_include : (file : Spot → List ℕ → Tally → Outcome) (named : List ℕ → List (List ℕ)) (d : Directive) (word : List ℕ) (t : Tally) (lines : List Directive) (depth : ℕ)
+pub line_include : (file : Spot → List ℕ → Tally → Expansion) (named : List ℕ → List (List ℕ)) (d : Directive) (word : List ℕ) (t : Tally) (lines : List Directive) (depth : ℕ)
     → include_word d ≡ Some word → onto lines depth (put_line file named d t) ≡ onto lines (depth + d.depth) (put_all (file (spot d.file d.line)) (named word) t)
 unfolding put_line
 line_include file named d word t lines depth h =

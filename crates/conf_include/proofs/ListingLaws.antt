@@ -15,7 +15,7 @@ use Rattle.conf_include.specs.Listings.{Names}
 use Rattle.conf_include.specs.Paths.{front_of, last_of, folder_of, is_mask}
 use Rattle.conf_include.specs.Masks.{matches}
 use Rattle.conf_include.specs.Expansion.{paths_named}
-use Rattle.conf_include.specs.Steps.{Found}
+use Rattle.conf_include.specs.Steps.{FindsNames}
 use Rattle.std.proofs.lemmas.Bool.{cond-true}
 
 -- a text that is borrowed
@@ -85,7 +85,7 @@ pub child_same : (a b : Tree) (folder name : List ℕ) → ((path : List ℕ) �
 child_same a b folder name same h = record { some = h.some; one = h.one; there = λ none. h.there (same (child_path folder name) ∙ none) }
 
 -- the names that were listed are found
-pub found_done : (tells : Bool) (a tree : Tree) (folder : List ℕ) (old out : List (List ℕ)) → old ≡ [] → tells ≡ true → ((path : List ℕ) → a path ≡ tree path) → Listed tells a folder old out → Found tree folder out
+pub found_done : (tells : Bool) (a tree : Tree) (folder : List ℕ) (old out : List (List ℕ)) → old ≡ [] → tells ≡ true → ((path : List ℕ) → a path ≡ tree path) → Listed tells a folder old out → FindsNames tree folder out
 found_done tells a tree folder old out empty told same listed =
     let all : out ≡ listed.added = listed.all ∙ ap (λ l. l ++ listed.added) empty in
     record {
@@ -101,7 +101,7 @@ nothing [] h = refl
 nothing (x ∷ xs) h = absurd (h x (0, omega arith, refl))
 
 -- found names in order are the folder's listing
-pub found_listing : (tree : Tree) (folder : List ℕ) (found listed : List (List ℕ)) → Found tree folder found → IsStrictlySortedBy byte_order listed → ((name : List ℕ) → Contains listed name ↔ Contains found name) → IsListing tree folder listed
+pub found_listing : (tree : Tree) (folder : List ℕ) (found listed : List (List ℕ)) → FindsNames tree folder found → IsStrictlySortedBy byte_order listed → ((name : List ℕ) → Contains listed name ↔ Contains found name) → IsListing tree folder listed
 found_listing tree folder found listed is order same = record {
   order = order;
   names = λ there name. (λ h. (is.names there name).0 ((same name).0 h), λ h. (same name).1 ((is.names there name).1 h));

@@ -7,7 +7,7 @@ use Rattle.conf_include.specs.declared.stop.Stop.{Stop}
 use Rattle.conf_include.specs.Listings.{Names}
 use Rattle.ngx_outside.specs.Seen.{FilesSeen}
 use Rattle.conf_include.specs.Told.{Later, IsTold}
-use Rattle.conf_include.specs.Expansion.{spot, Tally, tally, Outcome, ◌>>=◌, text_in, directives_in, most_deep, put_lines, open_main, put_main, located, expansion}
+use Rattle.conf_include.specs.Expansion.{spot, Tally, tally, Expansion, ◌>>=◌, text_in, directives_in, most_deep, put_lines, open_main, put_main, located, expansion}
 use Rattle.conf_include.specs.Steps.{StopsAs, onto}
 use Rattle.conf_include.proofs.PutLaws.{deeper_none}
 use Rattle.conf_include.proofs.AnswerLaws.{stop_bind, stop_same, stop_onto}
@@ -59,7 +59,7 @@ main_opened tree names main lines inner ps size now bytes paths none is h k =
     ∙ ap (λ n. put_lines tree names main 8 inner (tally ps n)) (sym is))
 
 -- directives after none, in no block
-onto_none : (o : Outcome) → onto [] 0 o ≡ o
+onto_none : (o : Expansion) → onto [] 0 o ≡ o
 onto_none (Ok x) = ap (λ l. Ok (l, x.1)) (deeper_none x.0)
 onto_none (Err e) = refl
 

@@ -13,7 +13,7 @@ use Rattle.conf_text.specs.Reading.{with_first, directives, reading}
 use Rattle.conf_text.specs.Statements.{statements}
 use Rattle.conf_text.specs.Tokens.{tokens}
 use Rattle.conf_include.specs.Listings.{Names}
-use Rattle.conf_include.specs.Expansion.{Spot, spot, Tally, tally, Outcome, ◌>>=◌, deepened, deeper, include_word, with_paths, text_in, directives_in, next_number, most_deep, most_files, fault_about, named_by, put_all, put_word, put_line, put_lines, open_file, put_file, open_main, put_main, located, expansion}
+use Rattle.conf_include.specs.Expansion.{Spot, spot, Tally, tally, Expansion, ◌>>=◌, deepened, deeper, include_word, with_paths, text_in, directives_in, next_number, most_deep, most_files, fault_about, named_by, put_all, put_word, put_line, put_lines, open_file, put_file, open_main, put_main, located, expansion}
 use Rattle.conf_include.proofs.PutLaws.{deeper-deeper, deeper_none, all_cons, all_nil}
 use Rattle.conf_include.specs.Laws.{is_of, is_plain, StandsWhole, HasFilesWhole, FilesStandWhole}
 
@@ -159,21 +159,21 @@ grown_deeper tree t u a k h = record {
   whole = λ n i j. stands_deeper tree u.paths a k n (h.whole n i j);
 }
 
-abbrev pub GrownIf : Tree → Tally → Outcome → Type 0
+abbrev pub GrownIf : Tree → Tally → Expansion → Type 0
 GrownIf tree t (Ok x) = Grown tree t x.1 x.0
 GrownIf tree t (Err e) = Unit {0}
 
 -- files, one after another
 
-grown_rest : (tree : Tree) (t u : Tally) (a : List Directive) (o : Outcome) → Grown tree t u a → GrownIf tree u o → GrownIf tree t (o >>= λ rest. Ok (a ++ rest.0, rest.1))
+grown_rest : (tree : Tree) (t u : Tally) (a : List Directive) (o : Expansion) → Grown tree t u a → GrownIf tree u o → GrownIf tree t (o >>= λ rest. Ok (a ++ rest.0, rest.1))
 grown_rest tree t u a (Ok x) h k = grown_append tree t u x.1 a x.0 h k
 grown_rest tree t u a (Err e) h k = tt
 
-grown_first : (tree : Tree) (t : Tally) (o : Outcome) (put : Tally → Outcome) → GrownIf tree t o → ((u : Tally) → GrownIf tree u (put u)) → GrownIf tree t (o >>= λ first. put first.1 >>= λ rest. Ok (first.0 ++ rest.0, rest.1))
+grown_first : (tree : Tree) (t : Tally) (o : Expansion) (put : Tally → Expansion) → GrownIf tree t o → ((u : Tally) → GrownIf tree u (put u)) → GrownIf tree t (o >>= λ first. put first.1 >>= λ rest. Ok (first.0 ++ rest.0, rest.1))
 grown_first tree t (Ok x) put h k = grown_rest tree t x.1 x.0 (put x.1) h (k x.1)
 grown_first tree t (Err e) put h k = tt
 
-files_grown : (tree : Tree) (file : List ℕ → Tally → Outcome) → ((path : List ℕ) (t : Tally) → GrownIf tree t (file path t)) → (paths : List (List ℕ)) (t : Tally) → GrownIf tree t (put_all file paths t)
+files_grown : (tree : Tree) (file : List ℕ → Tally → Expansion) → ((path : List ℕ) (t : Tally) → GrownIf tree t (file path t)) → (paths : List (List ℕ)) (t : Tally) → GrownIf tree t (put_all file paths t)
 files_grown tree file each [] t = subst (GrownIf tree t) (sym (all_nil file t)) (grown_none tree t)
 files_grown tree file each (p ∷ ps) t =
     subst (GrownIf tree t) (sym (all_cons file p ps t)) (grown_first tree t (file p t) (put_all file ps) (each p t) (λ u. files_grown tree file each ps u))
@@ -220,7 +220,7 @@ lines_append tree m xs ys t u v a b early h k =
           (cases_Bool (ltb n (length u.paths)));
     }
 
-abbrev pub LinesIf : Tree → ℕ → List Directive → Tally → Outcome → Type 0
+abbrev pub LinesIf : Tree → ℕ → List Directive → Tally → Expansion → Type 0
 LinesIf tree m own t (Ok x) = LinesGrown tree m own t x.1 x.0
 LinesIf tree m own t (Err e) = Unit {0}
 
@@ -251,33 +251,33 @@ include_grown tree m d t u a k early include h =
       whole = g.whole;
     }
 
-included : (tree : Tree) (m : ℕ) (d : Directive) (t : Tally) (k : ℕ) (o : Outcome) → m < length t.paths → is_plain d ≡ false → GrownIf tree t o → LinesIf tree m (d ∷ []) t (o >>= λ files. Ok (deeper k files.0, files.1))
+included : (tree : Tree) (m : ℕ) (d : Directive) (t : Tally) (k : ℕ) (o : Expansion) → m < length t.paths → is_plain d ≡ false → GrownIf tree t o → LinesIf tree m (d ∷ []) t (o >>= λ files. Ok (deeper k files.0, files.1))
 included tree m d t k (Ok x) early include h = include_grown tree m d t x.1 x.0 k early include h
 included tree m d t k (Err e) early include h = tt
 
-word_grown : (tree : Tree) (m : ℕ) (file : Spot → List ℕ → Tally → Outcome) (named : List ℕ → List (List ℕ)) → ((at : Spot) (path : List ℕ) (t : Tally) → GrownIf tree t (file at path t))
+word_grown : (tree : Tree) (m : ℕ) (file : Spot → List ℕ → Tally → Expansion) (named : List ℕ → List (List ℕ)) → ((at : Spot) (path : List ℕ) (t : Tally) → GrownIf tree t (file at path t))
     → (d : Directive) (w : Option (List ℕ)) (t : Tally) → m < length t.paths → d.file ≡ m → is_plain d ≡ is_none w → LinesIf tree m (d ∷ []) t (put_word file named d w t)
 word_grown tree m file named each d None t early is plain = plain_grown tree m d t early is plain
 word_grown tree m file named each d (Some word) t early is plain =
     included tree m d t d.depth (put_all (file (spot d.file d.line)) (named word) t) early plain (files_grown tree (file (spot d.file d.line)) (each (spot d.file d.line)) (named word) t)
 
-line_grown : (tree : Tree) (m : ℕ) (file : Spot → List ℕ → Tally → Outcome) (named : List ℕ → List (List ℕ)) → ((at : Spot) (path : List ℕ) (t : Tally) → GrownIf tree t (file at path t))
+line_grown : (tree : Tree) (m : ℕ) (file : Spot → List ℕ → Tally → Expansion) (named : List ℕ → List (List ℕ)) → ((at : Spot) (path : List ℕ) (t : Tally) → GrownIf tree t (file at path t))
     → (d : Directive) (t : Tally) → m < length t.paths → d.file ≡ m → LinesIf tree m (d ∷ []) t (put_line file named d t)
 unfolding put_line
 line_grown tree m file named each d t early is = word_grown tree m file named each d (include_word d) t early is refl
 
-lines_rest : (tree : Tree) (m : ℕ) (xs ys : List Directive) (t u : Tally) (a : List Directive) (o : Outcome) → m < length t.paths → LinesGrown tree m xs t u a → LinesIf tree m ys u o → LinesIf tree m (xs ++ ys) t (o >>= λ rest. Ok (a ++ rest.0, rest.1))
+lines_rest : (tree : Tree) (m : ℕ) (xs ys : List Directive) (t u : Tally) (a : List Directive) (o : Expansion) → m < length t.paths → LinesGrown tree m xs t u a → LinesIf tree m ys u o → LinesIf tree m (xs ++ ys) t (o >>= λ rest. Ok (a ++ rest.0, rest.1))
 lines_rest tree m xs ys t u a (Ok x) early h k = lines_append tree m xs ys t u x.1 a x.0 early h k
 lines_rest tree m xs ys t u a (Err e) early h k = tt
 
-lines_first : (tree : Tree) (m : ℕ) (xs ys : List Directive) (t : Tally) (o : Outcome) (put : Tally → Outcome) → m < length t.paths → LinesIf tree m xs t o → ((u : Tally) → m < length u.paths → LinesIf tree m ys u (put u))
+lines_first : (tree : Tree) (m : ℕ) (xs ys : List Directive) (t : Tally) (o : Expansion) (put : Tally → Expansion) → m < length t.paths → LinesIf tree m xs t o → ((u : Tally) → m < length u.paths → LinesIf tree m ys u (put u))
     → LinesIf tree m (xs ++ ys) t (o >>= λ first. put first.1 >>= λ rest. Ok (first.0 ++ rest.0, rest.1))
 lines_first tree m xs ys t (Ok x) put early h k =
     let up = lines_longer tree m xs t x.1 x.0 h in
     lines_rest tree m xs ys t x.1 x.0 (put x.1) early h (k x.1 (omega (arith, early, up)))
 lines_first tree m xs ys t (Err e) put early h k = tt
 
-pub lines_grown : (tree : Tree) (m : ℕ) (file : Spot → List ℕ → Tally → Outcome) (named : List ℕ → List (List ℕ)) → ((at : Spot) (path : List ℕ) (t : Tally) → GrownIf tree t (file at path t))
+pub lines_grown : (tree : Tree) (m : ℕ) (file : Spot → List ℕ → Tally → Expansion) (named : List ℕ → List (List ℕ)) → ((at : Spot) (path : List ℕ) (t : Tally) → GrownIf tree t (file at path t))
     → (own : List Directive) (t : Tally) → m < length t.paths → AllByRecursion (λ d. d.file ≡ m) own → LinesIf tree m own t (put_all (put_line file named) own t)
 lines_grown tree m file named each [] t early all = subst (LinesIf tree m [] t) (sym (all_nil (put_line file named) t)) (lines_none tree m t)
 lines_grown tree m file named each (d ∷ own) t early all =
@@ -294,7 +294,7 @@ pub record Opened (tree : Tree) (path : List ℕ) (before : List (List ℕ)) (u 
   pub there : tree path ≡ AFile bytes date
   pub read : reading (length before) bytes ≡ Ok own
 
-abbrev pub OpenedIf : Tree → List ℕ → List (List ℕ) → Outcome → Type 0
+abbrev pub OpenedIf : Tree → List ℕ → List (List ℕ) → Expansion → Type 0
 OpenedIf tree path before (Ok x) = Opened tree path before x.1 x.0
 OpenedIf tree path before (Err e) = Unit {0}
 
@@ -315,7 +315,7 @@ text_if tree path before at t size AFolder there = tt
 text_if tree path before at t size ALocked there = tt
 text_if tree path before at t size Nothing there = tt
 
-number_if : (tree : Tree) (path : List ℕ) (before : List (List ℕ)) (f : ℕ → Outcome) (e : ConfFault × List (List ℕ)) (many : Bool) → OpenedIf tree path before (f (length before)) → OpenedIf tree path before (cond many (Err e) (Ok (length before)) >>= f)
+number_if : (tree : Tree) (path : List ℕ) (before : List (List ℕ)) (f : ℕ → Expansion) (e : ConfFault × List (List ℕ)) (many : Bool) → OpenedIf tree path before (f (length before)) → OpenedIf tree path before (cond many (Err e) (Ok (length before)) >>= f)
 number_if tree path before f e true h = tt
 number_if tree path before f e false h = h
 
@@ -366,12 +366,12 @@ file_of tree path t v u own out o h =
       whole = whole_from tree path t.paths v u own out o h;
     }
 
-file_if : (tree : Tree) (path : List ℕ) (t v : Tally) (own : List Directive) (o : Outcome) → Opened tree path t.paths v own → LinesIf tree (length t.paths) own v o → GrownIf tree t o
+file_if : (tree : Tree) (path : List ℕ) (t v : Tally) (own : List Directive) (o : Expansion) → Opened tree path t.paths v own → LinesIf tree (length t.paths) own v o → GrownIf tree t o
 file_if tree path t v own (Ok x) opened h = file_of tree path t v x.1 own x.0 opened h
 file_if tree path t v own (Err e) opened h = tt
 
-opened_grown : (tree : Tree) (path : List ℕ) (t : Tally) (file : Spot → List ℕ → Tally → Outcome) (named : List ℕ → List (List ℕ)) → ((at : Spot) (path : List ℕ) (t : Tally) → GrownIf tree t (file at path t))
-    → (o : Outcome) → OpenedIf tree path t.paths o → GrownIf tree t (o >>= λ opened. put_all (put_line file named) opened.0 opened.1)
+opened_grown : (tree : Tree) (path : List ℕ) (t : Tally) (file : Spot → List ℕ → Tally → Expansion) (named : List ℕ → List (List ℕ)) → ((at : Spot) (path : List ℕ) (t : Tally) → GrownIf tree t (file at path t))
+    → (o : Expansion) → OpenedIf tree path t.paths o → GrownIf tree t (o >>= λ opened. put_all (put_line file named) opened.0 opened.1)
 opened_grown tree path t file named each (Ok x) opened =
     let size = length_opened tree path t.paths x.1 x.0 opened in
     file_if tree path t x.1 x.0 (put_all (put_line file named) x.0 x.1) opened
@@ -386,7 +386,7 @@ file_grown tree names main (suc left) at path t =
 
 -- a whole configuration
 
-abbrev HasIf : Tree → List ℕ → Outcome → Type 0
+abbrev HasIf : Tree → List ℕ → Expansion → Type 0
 HasIf tree main (Ok x) = HasFilesWhole tree main x.0 x.1.paths
 HasIf tree main (Err e) = Unit {0}
 
@@ -398,11 +398,11 @@ main_of tree main v u own out o h = record {
   nothing = h.beyond;
 }
 
-main_if : (tree : Tree) (main : List ℕ) (v : Tally) (own : List Directive) (o : Outcome) → Opened tree main [] v own → LinesIf tree 0 own v o → HasIf tree main o
+main_if : (tree : Tree) (main : List ℕ) (v : Tally) (own : List Directive) (o : Expansion) → Opened tree main [] v own → LinesIf tree 0 own v o → HasIf tree main o
 main_if tree main v own (Ok x) opened h = main_of tree main v x.1 own x.0 opened h
 main_if tree main v own (Err e) opened h = tt
 
-main_opened : (tree : Tree) (names : Names) (main : List ℕ) (o : Outcome) → OpenedIf tree main [] o → HasIf tree main (o >>= λ opened. put_lines tree names main most_deep opened.0 opened.1)
+main_opened : (tree : Tree) (names : Names) (main : List ℕ) (o : Expansion) → OpenedIf tree main [] o → HasIf tree main (o >>= λ opened. put_lines tree names main most_deep opened.0 opened.1)
 main_opened tree names main (Ok x) opened =
     let size = length_opened tree main [] x.1 x.0 opened in
     main_if tree main x.1 x.0 (put_lines tree names main most_deep x.0 x.1) opened
@@ -419,7 +419,7 @@ pair_same r a b h k = cc
 no_both : (r : Result (List Directive × List (List ℕ)) (ConfFault × List ℕ)) (e : ConfFault × List ℕ) (b : List Directive × List (List ℕ)) → r ≡ Err e → r ≡ Ok b → ⊥
 no_both r e b h k = cc
 
-located_has : (tree : Tree) (main : List ℕ) (o : Outcome) (lines : List Directive) (paths : List (List ℕ)) → HasIf tree main o → located o ≡ Ok (lines, paths) → HasFilesWhole tree main lines paths
+located_has : (tree : Tree) (main : List ℕ) (o : Expansion) (lines : List Directive) (paths : List (List ℕ)) → HasIf tree main o → located o ≡ Ok (lines, paths) → HasFilesWhole tree main lines paths
 located_has tree main (Ok x) lines paths h is =
     let same : (x.0, x.1.paths) ≡ (lines, paths) = pair_same (located (Ok x)) (x.0, x.1.paths) (lines, paths) refl is in
     subst (λ (p : List Directive × List (List ℕ)). HasFilesWhole tree main p.0 p.1) same h

@@ -24,8 +24,8 @@ abbrev pub Faulty : Type 0 → Type 0
 Faulty A = Result A (ConfFault × List (List ℕ))
 
 -- directives, and what was read
-abbrev pub Outcome : Type 0
-Outcome = Faulty (List Directive × Tally)
+abbrev pub Expansion : Type 0
+Expansion = Faulty (List Directive × Tally)
 
 -- the first fault, or the value of what follows
 infixl 10 ◌>>=◌
@@ -95,7 +95,7 @@ abbrev pub deeper : ℕ → List Directive → List Directive
 deeper depth lines = map (deepened depth) lines
 
 -- what each of several items puts, one after another
-unfoldable pub put_all : {A : Type 0} → (A → Tally → Outcome) → List A → Tally → Outcome
+unfoldable pub put_all : {A : Type 0} → (A → Tally → Expansion) → List A → Tally → Expansion
 put_all put [] t = Ok ([], t)
 put_all put (x ∷ xs) t = do
   first ← put x t
@@ -103,13 +103,13 @@ put_all put (x ∷ xs) t = do
   Ok (first.0 ++ rest.0, rest.1)
 
 -- a directive, or the files of an include in its place
-abbrev pub put_word : (Spot → List ℕ → Tally → Outcome) → (List ℕ → List (List ℕ)) → Directive → Option (List ℕ) → Tally → Outcome
+abbrev pub put_word : (Spot → List ℕ → Tally → Expansion) → (List ℕ → List (List ℕ)) → Directive → Option (List ℕ) → Tally → Expansion
 put_word file named d None t = Ok (d ∷ [], t)
 put_word file named d (Some word) t = do
   files ← put_all (file (spot d.file d.line)) (named word) t
   Ok (deeper d.depth files.0, files.1)
 
-unfoldable pub put_line : (Spot → List ℕ → Tally → Outcome) → (List ℕ → List (List ℕ)) → Directive → Tally → Outcome
+unfoldable pub put_line : (Spot → List ℕ → Tally → Expansion) → (List ℕ → List (List ℕ)) → Directive → Tally → Expansion
 put_line file named d t = put_word file named d (include_word d) t
 
 -- the paths that a word of an include names
@@ -122,7 +122,7 @@ next_number at path paths =
     if nat_le most_files (length paths) then Err (fault_about TooMany at path, paths) else Ok (length paths)
 
 -- a file, by its directives
-unfoldable pub open_file : Tree → Spot → List ℕ → Tally → Outcome
+unfoldable pub open_file : Tree → Spot → List ℕ → Tally → Expansion
 open_file tree at path t = do
   number ← next_number at path t.paths
   bytes ← text_in (tree path) at path t
@@ -131,30 +131,30 @@ open_file tree at path t = do
 
 -- A file at the place of an include, where this many includes may still enclose each other: its directives, with each
 -- include replaced by its files. It is read whole before its includes are.
-unfoldable pub put_file : Tree → Names → (main : List ℕ) → ℕ → Spot → List ℕ → Tally → Outcome
+unfoldable pub put_file : Tree → Names → (main : List ℕ) → ℕ → Spot → List ℕ → Tally → Expansion
 put_file tree names main zero at path t = Err (fault_about TooDeep at path, t.paths)
 put_file tree names main (suc left) at path t = do
   opened ← open_file tree at path t
   put_all (put_line (put_file tree names main left) (named_by names main)) opened.0 opened.1
 
 -- directives with each include replaced by its files, where `left` includes may still enclose each other
-abbrev pub put_lines : Tree → Names → (main : List ℕ) → ℕ → List Directive → Tally → Outcome
+abbrev pub put_lines : Tree → Names → (main : List ℕ) → ℕ → List Directive → Tally → Expansion
 put_lines tree names main left = put_all (put_line (put_file tree names main left) (named_by names main))
 
 -- the main file, by its directives: its number is 0, and a fault of the file itself is at its own first line
-unfoldable pub open_main : Tree → (main : List ℕ) → Outcome
+unfoldable pub open_main : Tree → (main : List ℕ) → Expansion
 open_main tree main = do
   bytes ← text_in (tree main) (spot 0 1) main (tally (main ∷ []) 0)
   lines ← directives_in 0 bytes (main ∷ [])
   Ok (lines, tally (main ∷ []) (length bytes))
 
-unfoldable pub put_main : Tree → Names → (main : List ℕ) → Outcome
+unfoldable pub put_main : Tree → Names → (main : List ℕ) → Expansion
 put_main tree names main = do
   opened ← open_main tree main
   put_lines tree names main most_deep opened.0 opened.1
 
 -- a fault with the path of its file
-abbrev pub located : Outcome → Result (List Directive × List (List ℕ)) (ConfFault × List ℕ)
+abbrev pub located : Expansion → Result (List Directive × List (List ℕ)) (ConfFault × List ℕ)
 located (Ok x) = Ok (x.0, x.1.paths)
 located (Err e) = Err (e.0, slice_index_or e.1 e.0.file [])
 

@@ -16,7 +16,7 @@ use Rattle.conf_include.specs.Masks.{matches}
 use Rattle.conf_include.specs.Listings.{Names, IsNaming}
 use Rattle.ngx_outside.specs.Seen.{FilesSeen}
 use Rattle.conf_include.specs.Told.{IsTold}
-use Rattle.conf_include.specs.Expansion.{Tally, tally, Faulty, Outcome, Spot, spot, fault_about, text_in, deeper, include_word, named_by}
+use Rattle.conf_include.specs.Expansion.{Tally, tally, Faulty, Expansion, Spot, spot, fault_about, text_in, deeper, include_word, named_by}
 use Rattle.conf_include.specs.Asked.{IsIn, IsPart, IsAskedAt}
 
 -- a row tells of each end of a name, the longest first, whether a mask matches it
@@ -25,7 +25,7 @@ pub record IsRow (mask name : List ℕ) (row : List Bool) : Type 0 where
   pub told : (i : ℕ) → i ≤ length name → slice_index_or row i false ≡ matches mask (drop i name)
 
 -- the names of a folder were found, in any order
-pub record Found (tree : Tree) (folder : List ℕ) (found : List (List ℕ)) : Type 0 where
+pub record FindsNames (tree : Tree) (folder : List ℕ) (found : List (List ℕ)) : Type 0 where
   pub names : tree folder ≡ AFolder → (name : List ℕ) → Contains found name ↔ IsChild tree folder name
   pub none : tree folder ≢ AFolder → (name : List ℕ) → ¬ Contains found name
 
@@ -43,7 +43,7 @@ Answers view (Err e) outcome paths = StopsAs e outcome paths
 
 -- The same of a call, unless the files failed or memory ran out.
 abbrev pub NamesFound : Tree → List ℕ → Result (List (List ℕ)) Stop → Type 0
-NamesFound tree folder (Ok names) = Found tree folder names
+NamesFound tree folder (Ok names) = FindsNames tree folder names
 NamesFound tree folder (Err (stop.Fault fault)) = ⊥
 NamesFound tree folder (Err (stop.Failed fault)) = Unit {0}
 NamesFound tree folder (Err stop.OutOfMemory) = Unit {0}
@@ -124,12 +124,12 @@ abbrev pub tally_of : Reading → Tally
 tally_of r = tally r.paths r.size
 
 -- directives within `depth` blocks after others
-abbrev pub onto : List Directive → ℕ → Outcome → Outcome
+abbrev pub onto : List Directive → ℕ → Expansion → Expansion
 onto lines depth (Ok x) = Ok (lines ++ deeper depth x.0, x.1)
 onto lines depth (Err e) = Err e
 
 -- What was put after the directives is what a tree and its names make of it, where the files tell that tree.
-abbrev pub Puts : (Tree → Names → Outcome) → ℕ → FilesSeen → ℕ → Reading → Reading → Result (Unit {0}) Stop → Type 0
+abbrev pub Puts : (Tree → Names → Expansion) → ℕ → FilesSeen → ℕ → Reading → Reading → Result (Unit {0}) Stop → Type 0
 Puts what of t depth old new result =
     (tree : Tree) (names : Names) → IsTold of tree t → IsNaming tree names
     → Answers (λ _. (new.lines, tally_of new)) result (onto old.lines depth (what tree names)) new.paths

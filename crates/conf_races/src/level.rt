@@ -15,17 +15,17 @@ use byte_text::OutOfMemory;
 use conf_block::first_branch;
 use conf_text::Directive;
 use conf_values::TextSet;
-use race_places::{HeldLines, LineList};
+use race_places::{LineList, StatedLines};
 use rewrite_compile::{RawStep, Reading, reading_by};
 use source_lines::Line;
 use std::alloc::Global;
 
 /// The lines of a level in which the values of these lines hold, and of its program.
-pub fn level_lines(outer: OuterLines, level: &[Directive], program: Vec<Line>) -> HeldLines
+pub fn level_lines(outer: OuterLines, level: &[Directive], program: Vec<Line>) -> StatedLines
     ensures { (lists : List (List Place)) → origins_by lists result
         ≡ origins_in (outer_by lists outer) (forest_of level.now) program.items }
 {
-    HeldLines {
+    StatedLines {
         place: outer.place,
         index: outer.index,
         tries: first_line(level, b"try_files"),
@@ -133,7 +133,7 @@ pub fn push_program(
 
 /// Adds the lines of the block of an `if`, which is a level in which the values of these lines hold.
 fn push_block(
-    blocks: &mut Vec<HeldLines>,
+    blocks: &mut Vec<StatedLines>,
     lists: &mut Vec<LineList>,
     alloc: Global,
     outer: OuterLines,
@@ -156,7 +156,7 @@ fn push_block(
 
 /// Adds the lines of the blocks of `if`s in a level, each of which is a level in which the values of these lines hold.
 pub fn push_blocks(
-    blocks: &mut Vec<HeldLines>,
+    blocks: &mut Vec<StatedLines>,
     lists: &mut Vec<LineList>,
     alloc: Global,
     known: &TextSet,

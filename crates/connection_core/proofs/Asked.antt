@@ -7,7 +7,7 @@ use Rattle.file_tree.specs.Tree.{tree_of}
 use Rattle.file_tree.specs.declared.job.Ask.{Ask}
 use Rattle.ngx_outside.specs.Views.{ask_in}
 use Rattle.node_turn.specs.declared.node.Node.{Node}
-use Rattle.subrequests.specs.Runs.{is_waiting}
+use Rattle.family_nodes.specs.Runs.{is_waiting}
 use Rattle.subrequests.specs.Wants.{jobs_from}
 use Rattle.request_flow.specs.Flows.{waits}
 use Rattle.response_flow.specs.declared.flight.Flight.{Flight}

@@ -9,7 +9,7 @@ use Rattle.request_meaning.specs.Replies.{Came, run, reply, script, or_stub, stu
 use Rattle.family_meaning.specs.Line.{Line, Left, rest, joined, opened, with_stub, with_bytes, some_reply, done_of, ended, has_node, front, before, reply_of, status_of}
 use Rattle.family_meaning.specs.Line.Line.{Nil, Bytes, Gives, Waits, Stubs}
 use Rattle.family_meaning.specs.Exact.{Same, FirstIsExact}
-use Rattle.family_meaning.specs.Moves.{KeepsBody, IsGoodLeft}
+use Rattle.family_meaning.specs.Moves.{KeepsBody, SomeBody, IsGoodLeft}
 use Rattle.family_meaning.specs.Flight.{Terms, flight_rest, begun, whole_rest}
 use Rattle.ngx_variables.specs.declared.request.Main.{Main}
 use Rattle.ngx_variables.specs.declared.request.Request.{Request}
@@ -205,7 +205,7 @@ waits_joined w tree a b left k ih (Some answer) body vars =
     let r = rest w tree a (Some q.result) q.vars in
     ap (before q.body) (ih (Some q.result) q.vars) ∙ sym (before_before q.body r.body (rest w tree b r.answer r.vars))
 
-joined_rest : (w : World) (tree : Tree) (a b : Line) (last : Option Answer) (vars : Vars) → rest w tree (joined a b) last vars ≡ (let r = rest w tree a last vars in before r.body (rest w tree b r.answer r.vars))
+pub joined_rest : (w : World) (tree : Tree) (a b : Line) (last : Option Answer) (vars : Vars) → rest w tree (joined a b) last vars ≡ (let r = rest w tree a last vars in before r.body (rest w tree b r.answer r.vars))
 unfolding rest joined
 joined_rest w tree Nil b last vars = refl
 joined_rest w tree (Bytes bytes a) b last vars =
@@ -235,24 +235,30 @@ front_first w tree (Gives node left m line) last vars = ((rest w tree (Gives nod
 front_first w tree (Waits node own left k line) last vars = ((rest w tree (Waits node own left k line) last vars).body, refl)
 front_first w tree (Stubs own stub line) last vars = ((rest w tree (Stubs own stub line) last vars).body, refl)
 
--- a body that isn't empty, of a status below 400, stays
-body_stays : (stub : List ℕ) (status : ℕ) (front more body : List ℕ) → nat_le 400 status ≡ false → front ≢ [] → body ≡ front ++ more → or_stub (Some stub) status body ≡ body
-body_stays stub status [] more body g h e = absurd (h refl)
-body_stays stub status (b ∷ front) more body g h e =
-    ap (or_stub (Some stub) status) e ∙ ap (λ c. cond c stub (b ∷ (front ++ more))) g ∙ sym e
+-- so a line at whose front bytes wait comes to some
+pub front_some : (w : World) (tree : Tree) (line : Line) → front line ≢ [] → SomeBody w tree line
+front_some w tree line h vars e = let p = front_first w tree line None vars in by (front line) p.0 h (sym p.1 ∙ e)
+  where
+    by : (bytes more : List ℕ) → bytes ≢ [] → bytes ++ more ≡ [] → ⊥
+    by [] more k z = k refl
+    by (b ∷ bytes) more k z = cc
 
-keeps_by : (w : World) (tree : Tree) (stub : List ℕ) (line : Line) (r : Left) (bytes more : List ℕ) → IsGoodLeft r → bytes ≢ [] → r.body ≡ bytes ++ more → before (or_stub (Some stub) (status_of r.answer) r.body) (rest w tree line r.answer r.vars) ≡ before r.body (rest w tree line r.answer r.vars)
-keeps_by w tree stub line r bytes more g h e =
+-- a body that isn't empty, of a status below 400, stays
+pub body_stays : (stub : List ℕ) (status : ℕ) (body : List ℕ) → nat_le 400 status ≡ false → body ≢ [] → or_stub (Some stub) status body ≡ body
+body_stays stub status [] g h = absurd (h refl)
+body_stays stub status (b ∷ body) g h = ap (λ c. cond c stub (b ∷ body)) g
+
+keeps_by : (w : World) (tree : Tree) (stub : List ℕ) (line : Line) (r : Left) → IsGoodLeft r → r.body ≢ [] → before (or_stub (Some stub) (status_of r.answer) r.body) (rest w tree line r.answer r.vars) ≡ before r.body (rest w tree line r.answer r.vars)
+keeps_by w tree stub line r g h =
     ap (λ body. before body (rest w tree line r.answer r.vars))
-    (ap (λ a. or_stub (Some stub) (status_of a) r.body) g.there ∙ body_stays stub g.answer.status bytes more r.body g.good h e)
+    (ap (λ a. or_stub (Some stub) (status_of a) r.body) g.there ∙ body_stays stub g.answer.status r.body g.good h)
 
 pub keeps : (w : World) (tree : Tree) (own : Line) (stub : List ℕ) (line : Line) (vars : Vars) →
-    KeepsBody w tree own → front own ≢ [] → Same w tree (Stubs own stub line) vars (joined own line) vars
+    KeepsBody w tree own → SomeBody w tree own → Same w tree (Stubs own stub line) vars (joined own line) vars
 unfolding rest
 keeps w tree own stub line vars s h last =
     let r = rest w tree own None vars in
-    let p = front_first w tree own None vars in
-    keeps_by w tree stub line r (front own) p.0 (s.good vars) h p.1
+    keeps_by w tree stub line r (s.good vars) (h vars)
     ∙ ap (λ (r : Left). before r.body (rest w tree line r.answer r.vars)) (last_lost w tree own None last vars s.node)
     ∙ sym (joined_rest w tree own line last vars)
 

@@ -1,12 +1,12 @@
 -- The steps of the node that comes first: they need no condition, since none runs before it.
-use Rattle.std.specs.Prelude.{◌≡◌, ◌≢◌, ℕ, suc, List, [], ◌++◌, Option, None, Some, true}
+use Rattle.std.specs.Prelude.{◌≡◌, ℕ, suc, List, [], ◌++◌, Option, None, Some, true}
 use Rattle.file_tree.specs.Tree.{Tree, Item}
 use Rattle.acts.specs.Vars.{Vars, look}
 use Rattle.acts.specs.Act.{Done, Get, Stat, Call, Write, Inner, settled}
 use Rattle.request_meaning.specs.Serving.{World, Serving, Child, Reply, Answer}
 use Rattle.request_meaning.specs.Replies.{or_stub}
-use Rattle.family_meaning.specs.Line.{Line, rest, opened, ended, front, joined, has_node}
-use Rattle.family_meaning.specs.Moves.{KeepsBody, Quiet, Quiets}
+use Rattle.family_meaning.specs.Line.{Line, rest, opened, ended, joined, has_node}
+use Rattle.family_meaning.specs.Moves.{KeepsBody, SomeBody, Quiet, Quiets}
 use Rattle.family_meaning.specs.Line.Line.{Nil, Bytes, Gives, Waits, Stubs}
 
 -- two lines come to the same, whichever answer is before them
@@ -33,7 +33,7 @@ pub record FirstIsExact : Type 0 where
   pub leaves : (w : World) (tree : Tree) (node left : ℕ) (answer : Answer) (line : Line) (vars : Vars) →
       has_node line ≡ true → Same w tree (Gives node left (Done answer) line) vars line vars
   pub keeps : (w : World) (tree : Tree) (own : Line) (stub : List ℕ) (line : Line) (vars : Vars) →
-      KeepsBody w tree own → front own ≢ [] → Same w tree (Stubs own stub line) vars (joined own line) vars
+      KeepsBody w tree own → SomeBody w tree own → Same w tree (Stubs own stub line) vars (joined own line) vars
   pub decides : (w : World) (tree : Tree) (own : Line) (stub : List ℕ) (line : Line) (vars : Vars) (reply : Reply) →
       ended own None ≡ Some reply → has_node line ≡ true → Same w tree (Stubs own stub line) vars (Bytes (or_stub (Some stub) reply.answer.status reply.body) line) vars
   pub chooses : (w : World) (tree : Tree) (own : Line) (stub : List ℕ) (node left : ℕ) (line : Line) (vars : Vars) (reply : Reply) → ended own None ≡ Some reply →

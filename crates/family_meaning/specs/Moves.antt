@@ -5,7 +5,7 @@ use Rattle.acts.specs.Vars.{Vars, look}
 use Rattle.acts.specs.Act.{Done, Get, Put, Stat, Call, Write, Inner, settled}
 use Rattle.request_meaning.specs.Serving.{World, Serving, Child, Reply, Answer}
 use Rattle.request_meaning.specs.Replies.{or_stub}
-use Rattle.family_meaning.specs.Line.{Line, Left, rest, opened, has_node, ended, front, joined}
+use Rattle.family_meaning.specs.Line.{Line, Left, rest, opened, has_node, ended, joined}
 use Rattle.family_meaning.specs.Line.Line.{Nil, Bytes, Gives, Waits, Stubs}
 
 -- each way in which an act may end gives an answer of which this is so
@@ -32,6 +32,10 @@ pub record KeepsBody (w : World) (tree : Tree) (own : Line) : Type 0 where
   pub node : has_node own ≡ true
   pub good : (vars : Vars) → IsGoodLeft (rest w tree own None vars)
 
+-- it comes to some bytes, whatever the table
+abbrev pub SomeBody : World → Tree → (own : Line) → Type 0
+SomeBody w tree own = (vars : Vars) → (rest w tree own None vars).body ≢ []
+
 -- A step of one node, at any place of the line, that neither reads nor writes a variable.
 pub data Quiet (w : World) (tree : Tree) : Line → Line → Type 0 where
   -- its question is answered
@@ -54,9 +58,9 @@ pub data Quiet (w : World) (tree : Tree) : Line → Line → Type 0 where
       Quiet w tree (Waits node own left k line) (Gives node left (k reply) line)
   -- a node that is over leaves, where its parent comes after it
   Leaves : {node left : ℕ} {answer : Answer} {line : Line} → has_node line ≡ true → Quiet w tree (Gives node left (Done answer) line) line
-  -- A body takes the place of its stub as soon as some of its bytes are placed and its status is below 400; a stub is decided
-  -- where every node of the subrequest is over.
-  Keeps : {own line : Line} {stub : List ℕ} → KeepsBody w tree own → front own ≢ [] → Quiet w tree (Stubs own stub line) (joined own line)
+  -- A body takes the place of its stub as soon as it is certain that it isn't empty and that its status is below 400; a stub is
+  -- decided where every node of the subrequest is over.
+  Keeps : {own line : Line} {stub : List ℕ} → KeepsBody w tree own → SomeBody w tree own → Quiet w tree (Stubs own stub line) (joined own line)
   Decides : {own line : Line} {stub : List ℕ} (reply : Reply) → ended own None ≡ Some reply → has_node line ≡ true →
       Quiet w tree (Stubs own stub line) (Bytes (or_stub (Some stub) reply.answer.status reply.body) line)
   -- so it is where the answer of its last node stays, which a node may wait for

@@ -60,20 +60,20 @@ bytes_first (b ∷ bytes) zs (x ∷ xs) ys i k e =
     (p.0, ap (λ y. y ∷ xs) (sym (head_is e)) ∙ ap (λ ys. Byte b ∷ ys) p.1, p.2)
 
 -- A line that has more between two parts: the lines before it and after it.
-pub record Place (line : Line) (xs : List Item) (between : Line → Line) (ys : List Item) : Type 0 where
+pub record Parted (line : Line) (xs : List Item) (between : Line → Line) (ys : List Item) : Type 0 where
   pub before : Line
   pub behind : Line
   pub line_is : line ≡ joined before (between behind)
   pub before_is : items before ≡ xs
   pub behind_is : items behind ≡ ys
 
-abbrev ItemPlace : Line → List Item → Item → List Item → Type 0
-ItemPlace line xs i ys = Place line xs (item_line i) ys
+abbrev ItemParted : Line → List Item → Item → List Item → Type 0
+ItemParted line xs i ys = Parted line xs (item_line i) ys
 
 -- past what a line begins with
 past : (line : Line) (wrap : Line → Line) (own xs later : List Item) (i : Item) (ys : List Item) →
     ((before other : Line) → wrap (joined before other) ≡ joined (wrap before) other) → ((before : Line) → items (wrap before) ≡ own ++ items before) →
-    xs ≡ own ++ later → ItemPlace line later i ys → ItemPlace (wrap line) xs i ys
+    xs ≡ own ++ later → ItemParted line later i ys → ItemParted (wrap line) xs i ys
 past line wrap own xs later i ys j k e q = record {
   before = wrap q.before;
   behind = q.behind;
@@ -82,7 +82,7 @@ past line wrap own xs later i ys j k e q = record {
   behind_is = q.behind_is;
 }
 
-here : (line : Line) (i j : Item) (ys : List Item) → j ≡ i → items line ≡ ys → ItemPlace (item_line j line) [] i ys
+here : (line : Line) (i j : Item) (ys : List Item) → j ≡ i → items line ≡ ys → ItemParted (item_line j line) [] i ys
 unfolding items joined
 here line i j ys e h = record {
   before = Nil;
@@ -92,7 +92,7 @@ here line i j ys e h = record {
   behind_is = h;
 }
 
-pub place_item : (line : Line) (xs : List Item) (i : Item) (ys : List Item) → IsNode i → items line ≡ xs ++ (i ∷ ys) → ItemPlace line xs i ys
+pub place_item : (line : Line) (xs : List Item) (i : Item) (ys : List Item) → IsNode i → items line ≡ xs ++ (i ∷ ys) → ItemParted line xs i ys
 unfolding items joined
 place_item Nil [] i ys k e = cc
 place_item Nil (x ∷ xs) i ys k e = cc
@@ -110,7 +110,7 @@ place_item (Stubs own stub line) (x ∷ xs) i ys k e =
     past line (Stubs own stub) (Stub own stub ∷ []) (x ∷ xs) xs i ys (λ before other. refl) (λ before. refl) (ap (λ y. y ∷ xs) (sym (head_is e))) (place_item line xs i ys k (tail_is e))
 
 -- the place of a node that is shown
-pub place : (line : Line) (xs : List Item) (n : ℕ) (s : Stance) (ys : List Item) → is_shown s ≡ true → items line ≡ xs ++ (stance_items n s ++ ys) → Place line xs (stance_line n s) ys
+pub place : (line : Line) (xs : List Item) (n : ℕ) (s : Stance) (ys : List Item) → is_shown s ≡ true → items line ≡ xs ++ (stance_items n s ++ ys) → Parted line xs (stance_line n s) ys
 place line xs n (Going left m) ys h e = place_item line xs (Node n (Going left m)) ys tt e
 place line xs n (Waiting own left k) ys h e = place_item line xs (Node n (Waiting own left k)) ys tt e
 place line xs n (Apart own stub) ys h e = place_item line xs (Stub own stub) ys tt e

@@ -10,9 +10,9 @@ use Rattle.request_meaning.specs.Replies.{or_stub}
 use Rattle.postpone_filter.specs.Row.{Piece, Row, is_place, is_open, at_place, longer, closed, fresh, appended, with_child, ended}
 use Rattle.postpone_filter.proofs.Places.{place-node}
 use Rattle.family_meaning.specs.Line
-use Rattle.family_meaning.specs.Line.{Line, joined, opened, with_stub, begun, has_node, front}
+use Rattle.family_meaning.specs.Line.{Line, joined, opened, with_stub, begun, has_node}
 use Rattle.family_meaning.specs.Line.Line.{Nil, Bytes, Gives, Waits, Stubs}
-use Rattle.family_meaning.specs.Moves.{Moves, KeepsBody}
+use Rattle.family_meaning.specs.Moves.{Moves, KeepsBody, SomeBody}
 use Rattle.family_meaning.specs.Moves.Quiet.{Learns, Places, Placed, Merges, Opens, Asks, Hears, Leaves, Keeps, Decides}
 use Rattle.family_meaning.specs.Moves.Thinks.{Here, Reads}
 use Rattle.family_meaning.specs.Moves.Moves.{Quietly, ByTable}
@@ -23,12 +23,12 @@ use Rattle.family_order.specs.Acts.{Does}
 use Rattle.family_order.specs.Laws.{Moved}
 use Rattle.family_order.proofs.Rows.{Split, split, split_items, change_items, ahead_items, at_node, at_place-same, row_items-clean, row_items-same}
 use Rattle.family_order.proofs.Wells.{fresh_none, not_fresh, not_parent, root_behind, well-doing, well-append, well-child, well-end}
-use Rattle.family_order.proofs.Places.{Place, place, place_item, stance_line, items_stance, items-joined, moves_past, moves_within, moves_stub}
+use Rattle.family_order.proofs.Places.{Parted, place, place_item, stance_line, items_stance, items-joined, moves_past, moves_within, moves_stub}
 
 -- The place of a node that goes on, in the row and in the line.
 pub record Seat (f : Family) (line : Line) (n : ℕ) (s : Stance) : Type 0 where
   pub parts : Split n f.row.pieces
-  pub at : Place line (map Byte f.output ++ ahead_items f.stance parts.ahead parts.at) (stance_line n s) (row_items f.stance parts.behind)
+  pub at : Parted line (map Byte f.output ++ ahead_items f.stance parts.ahead parts.at) (stance_line n s) (row_items f.stance parts.behind)
 
 seat : (f : Family) (line : Line) (n : ℕ) (s : Stance) → IsWellRow f.root f.row → Does f n s → is_shown s ≡ true → Shows f line → Seat f line n s
 seat f line n s h d k e =
@@ -326,7 +326,7 @@ module _ (w : World) (tree : Tree) (f : Family) (line : Line) (vars : Vars) (h :
       (well-end n (placing n bytes f) (well-append n bytes f h) k)
 
   pub keeps : (g : Family) (own : Line) (stub : List ℕ) (ahead behind : List Item) → items_of f ≡ ahead ++ (Stub own stub ∷ behind) → items_of g ≡ ahead ++ (items own ++ behind) →
-      f.output ≡ g.output → IsWell g → KeepsBody w tree own → front own ≢ [] → Moved w tree line vars g vars
+      f.output ≡ g.output → IsWell g → KeepsBody w tree own → SomeBody w tree own → Moved w tree line vars g vars
   keeps g own stub ahead behind a b o well body some =
       let q = place_item line (map Byte f.output ++ ahead) (Stub own stub) behind tt
       (e ∙ ap (λ z. map Byte f.output ++ z) a ∙ sym (append_assoc (map Byte f.output) ahead (Stub own stub ∷ behind))) in

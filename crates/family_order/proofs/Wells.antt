@@ -1,7 +1,7 @@
 -- The operations of a row keep its root after all other nodes.
 use Rattle.std.proofs.Common.{◌≡◌, ◌≢◌, ℕ, ◌<◌, true, false, ◌&&◌, ◌==◌, List, [], ◌∷◌, ◌++◌, refl, sym, ap, ◌∙◌, arith, if◌then◌else◌}
 use Rattle.std.proofs.lemmas.Bool.{eqb-true, eq-eqb}
-use Rattle.postpone_filter.specs.Row.{Piece, Row, is_place, is_open, at_place, longer, closed, fresh, is_over, clean, shorter}
+use Rattle.postpone_filter.specs.Row.{Piece, Row, is_place, is_open, at_place, longer, closed, fresh, is_over, clean, reopened, shorter}
 use Rattle.postpone_filter.specs.Runs.{Call, step}
 use Rattle.postpone_filter.specs.Runs.Call.{Append, AddChild, End, Use}
 use Rattle.postpone_filter.specs.Buffers.{names, IsLawful}
@@ -121,6 +121,16 @@ root_stays root (Use count) row h k = clean-open root (shorter count row.pieces)
 
 pub step-well : (root : ℕ) (c : Call) (row : Row) → IsWellRow root row → KeepsRoot root c → IsWellRow root (step c row)
 step-well root c row h k = record { lawful = step-lawful c row h.lawful; root_is_last = last_stays root c row h; root_goes_on = root_stays root c row h k }
+
+-- a node that has ended goes on again, right before the place of another
+pub well-reopened : (root parent id : ℕ) (row : Row) → IsWellRow root row → (id == root) ≡ false → IsLawful (reopened parent id row).nodes (reopened parent id row).pieces → IsWellRow root (reopened parent id row)
+well-reopened root parent id row h other lawful = record {
+  lawful = lawful;
+  root_is_last = behind-clean root _ (behind-change row.nodes parent root (λ p. closed p ∷ fresh id ∷ fresh parent ∷ []) row.pieces (λ p rest l t e. behind-child root id parent p rest other t e) h.lawful h.root_is_last);
+  root_goes_on = clean-open root (at_place parent (λ p. closed p ∷ fresh id ∷ fresh parent ∷ []) row.pieces)
+      ∙ child-open-other parent id root row.pieces (λ z. clash (sym other ∙ eq-eqb id root z))
+      ∙ h.root_goes_on;
+}
 
 pub begun-well : (root nodes : ℕ) → root < nodes → IsWellRow root (record { pieces = fresh root ∷ []; nodes = nodes })
 unfolding goes_on_behind any_goes_on is_open IsLawful names

@@ -7,9 +7,9 @@ use Rattle.acts.specs.Act.{Done, Get, Stat, Call, Write, Inner, settled}
 use Rattle.postpone_filter.specs.Row.{is_open}
 use Rattle.request_meaning.specs.Serving.{World, Serving, Child, Reply, Answer}
 use Rattle.request_meaning.specs.Replies.{or_stub}
-use Rattle.family_meaning.specs.Line.{Line, opened, ended, front}
+use Rattle.family_meaning.specs.Line.{Line, opened, ended}
 use Rattle.family_meaning.specs.Line.Line.{Nil}
-use Rattle.family_meaning.specs.Moves.{Moves, KeepsBody}
+use Rattle.family_meaning.specs.Moves.{Moves, KeepsBody, SomeBody}
 use Rattle.family_order.specs.Items.{Stance, stance_by, Item, items, Family, items_of, IsWell, IsAlike, doing, placing, opening, ending, leaving}
 use Rattle.family_order.specs.Items.Stance.{Going, Waiting, Apart}
 use Rattle.family_order.specs.Items.Item.{Stub}
@@ -64,7 +64,7 @@ pub data Acts (w : World) (tree : Tree) : Family → Vars → Family → Vars �
       Moves w tree own vars own' vars' → Acts w tree f vars (doing n (Apart own' stub) f) vars'
   Keeps : {f g : Family} {vars : Vars} (own : Line) (stub : List ℕ) (ahead behind : List Item) →
       items_of f ≡ ahead ++ (Stub own stub ∷ behind) → items_of g ≡ ahead ++ (items own ++ behind) → f.output ≡ g.output → IsWell g →
-      KeepsBody w tree own → front own ≢ [] → Acts w tree f vars g vars
+      KeepsBody w tree own → SomeBody w tree own → Acts w tree f vars g vars
   Decides : {f : Family} {vars : Vars} {own : Line} {stub : List ℕ} (n : ℕ) (reply : Reply) → Does f n (Apart own stub) →
       ended own None ≡ Some reply → n ≢ f.root → Acts w tree f vars (ending n (placing n (or_stub (Some stub) reply.answer.status reply.body) f)) vars
 

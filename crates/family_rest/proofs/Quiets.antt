@@ -8,9 +8,9 @@ use Rattle.request_meaning.specs.Replies
 use Rattle.request_meaning.specs.Replies.{run, or_stub}
 use Rattle.postpone_filter.specs.Row.{Piece, Row, is_place, is_open, at_place, longer, closed, fresh, appended, with_child, ended}
 use Rattle.family_meaning.specs.Line
-use Rattle.family_meaning.specs.Line.{Line, Left, rest, before, reply_of, status_of, joined, opened, has_node, front}
+use Rattle.family_meaning.specs.Line.{Line, Left, rest, before, reply_of, status_of, joined, opened, has_node}
 use Rattle.family_meaning.specs.Line.Line.{Nil, Bytes, Gives, Waits, Stubs}
-use Rattle.family_meaning.specs.Moves.{Quiet, Moves, KeepsBody}
+use Rattle.family_meaning.specs.Moves.{Quiet, Moves, KeepsBody, SomeBody}
 use Rattle.family_meaning.specs.Moves.Quiet.{Learns as LineLearns, Places as LinePlaces, Placed as LinePlaced, Merges as LineMerges, Opens as LineOpens, Asks as LineAsks, Hears as LineHears, Leaves as LineLeaves, Keeps as LineKeeps, Decides as LineDecides, Within as LineWithin, WithinStub as LineWithinStub}
 use Rattle.family_meaning.specs.Moves.Moves.{Quietly, ByTable}
 use Rattle.family_meaning.proofs.Orders.{quiet_same}
@@ -164,7 +164,7 @@ module _ (w : World) (tree : Tree) where
         (λ behind. decided_line bytes behind)
 
     keeps : (g : Family) (own : Line) (stub : List ℕ) (ahead behind : List Item) → items_of f ≡ ahead ++ (Stub own stub ∷ behind) → items_of g ≡ ahead ++ (items own ++ behind) →
-        KeepsBody w tree own → front own ≢ [] → SameStill 0 (items_of f) (items_of g)
+        KeepsBody w tree own → SomeBody w tree own → SameStill 0 (items_of f) (items_of g)
     keeps g own stub ahead behind a b body some =
         let q = place_item (line_of (items_of f)) ahead (Stub own stub) behind tt (row_line f.stance f.row.pieces ∙ a) in
         still_as 0 (items_of f) (ahead ++ (Stub own stub ∷ behind)) (items_of g) (ahead ++ (items own ++ behind)) a b

@@ -6,7 +6,7 @@ use Rattle.conf_inherit.specs.Pools.{site_built}
 use Rattle.race_meaning.specs.Conflicts.{Source, Conflict}
 use Rattle.report_text.specs.Lines.{lines_text}
 use Rattle.report_text.specs.Counts.{counts_text}
-use Rattle.report_text.specs.Races.{Place, Race, race_line}
+use Rattle.report_text.specs.Races.{FileLine, Race, race_line}
 use Rattle.ngx_cli.specs.Sites.{conflicts_of}
 use Rattle.ngx_cli.specs.declared.site.ReadSite.{ReadSite}
 
@@ -26,7 +26,7 @@ abbrev pub counts_of : SiteView → List ℕ
 counts_of site = counts_text (length site.servers) (min (locations_of site.servers) (2 ^ 64 - 1))
 
 -- a named variable, as it is told
-abbrev pub place_at : Source → Place
+abbrev pub place_at : Source → FileLine
 place_at s = record { path = s.file; line = s.line }
 
 abbrev pub race_of : Conflict → Race

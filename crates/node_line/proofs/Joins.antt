@@ -7,6 +7,7 @@ use Rattle.postpone_filter.specs.Row.{longer}
 use Rattle.family_meaning.specs.Line.{front}
 use Rattle.family_meaning.specs.Line.Line.{Nil, Bytes, Gives}
 use Rattle.family_meaning.specs.Moves.{KeepsBody}
+use Rattle.family_meaning.proofs.Exacts.{front_some}
 use Rattle.family_order.specs.Items.{stance_items, Family, IsWell, items, row_items, with_stance, doing, placing}
 use Rattle.family_order.specs.Items.Stance.{Going, Apart}
 use Rattle.family_order.specs.Items.Item.{Byte}
@@ -39,7 +40,7 @@ module _ (w : World) (tree : Tree) (f : Family) (vars : Vars) (n left : ℕ) (by
       (change_items n f.stance stance f.row.pieces p (λ q. longer bytes q ∷ []) (map Byte bytes ++ stance_items n now)
       (λ j u. stance_other n j now f.stance u) (placed_row n stance now bytes p.at (stance_now n now f.stance) p.place)
       ∙ ap (λ z. ahead_items f.stance p.ahead p.at ++ (z ++ row_items f.stance p.behind)) (sym own_items))
-      refl (well-doing n now (placing n bytes f) (well-append n bytes f h) refl) body (some_front some) in
+      refl (well-doing n now (placing n bytes f) (well-append n bytes f h) refl) body (front_some w tree (Bytes bytes (Gives n left m Nil)) (some_front some)) in
       (act, refl)
 
 -- so too where its bytes wait one by one
@@ -66,5 +67,5 @@ module _ (w : World) (tree : Tree) (f : Family) (vars : Vars) (n left : ℕ) (st
       (change_items n f.stance stance f.row.pieces p (λ q. longer bytes q ∷ []) (map Byte bytes ++ stance_items n now)
       (λ j u. stance_other n j now f.stance u) (placed_row n stance now bytes p.at (stance_now n now f.stance) p.place)
       ∙ ap (λ z. ahead_items f.stance p.ahead p.at ++ (z ++ row_items f.stance p.behind)) (sym (under_items bytes)))
-      refl (well-doing n now (placing n bytes f) (well-append n bytes f h) refl) body (under_front bytes some) in
+      refl (well-doing n now (placing n bytes f) (well-append n bytes f h) refl) body (front_some w tree (under bytes (Gives n left m Nil)) (under_front bytes some)) in
       (act, refl)

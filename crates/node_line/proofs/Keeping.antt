@@ -10,7 +10,7 @@ use Rattle.family_meaning.specs.Line.Line.{Nil, Bytes, Gives}
 use Rattle.family_meaning.specs.Moves.{AllEnd, IsGood, KeepsBody}
 use Rattle.node_line.specs.Stances.{under}
 
-run_ends : (P : Answer → Type 0) (tree : Tree) (inner : Child → Vars → Came Answer) (m : Serving Answer) (vars : Vars) → AllEnd P m → P (run tree inner m vars).result
+pub run_ends : (P : Answer → Type 0) (tree : Tree) (inner : Child → Vars → Came Answer) (m : Serving Answer) (vars : Vars) → AllEnd P m → P (run tree inner m vars).result
 unfolding run
 run_ends P tree inner (Done a) vars h = h
 run_ends P tree inner (Get name k) vars h = run_ends P tree inner (k (look vars name)) vars (h (look vars name))

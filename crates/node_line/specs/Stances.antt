@@ -10,7 +10,7 @@ use Rattle.family_order.specs.Items.{Stance, Family}
 use Rattle.family_order.specs.Items.Stance.{Going, Waiting, Apart, Hidden}
 use Rattle.family_rest.specs.Opened.{opened_going}
 use Rattle.node_turn.specs.declared.node.Place.{Place}
-use Rattle.node_turn.specs.declared.node.Place.TheVariants.{Row, Stub, Captured}
+use Rattle.node_turn.specs.declared.node.Place.TheVariants.{Row, Stub, Gathers, Captured}
 
 -- a line before which these bytes wait
 unfoldable pub under : (bytes : List ℕ) → Line → Line
@@ -58,6 +58,7 @@ stance_so (Inside own spot rest) node left m = owned own (filling spot (Gives no
 abbrev pub stance_at : (node : ℕ) → Place → (left : ℕ) → Serving Answer → Stance
 stance_at node Row left m = Going left m
 stance_at node (Stub stub text) left m = Apart (under text (Gives node left m Nil)) stub
+stance_at node (Gathers stub text) left m = Apart (under text (Gives node left m Nil)) stub
 stance_at node (Captured stub text) left m = Hidden
 
 -- where the bytes of a subrequest go that has this stub, or none

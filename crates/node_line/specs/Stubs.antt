@@ -8,11 +8,11 @@ use Rattle.request_meaning.specs.Serving.{World, Answer}
 use Rattle.request_meaning.specs.Replies.{or_stub}
 use Rattle.acts.specs.Act.{Done}
 use Rattle.family_meaning.specs.Moves.{AllEnd, IsGood}
-use Rattle.node_turn.specs.Stages.{hand_at, withheld_more, is_capturing, node_act}
+use Rattle.node_turn.specs.Stages.{hand_at, withheld_more, node_act}
 use Rattle.node_turn.specs.Turns.{PlacesAs}
 use Rattle.node_turn.specs.declared.node.Node.{Node}
 use Rattle.node_turn.specs.declared.node.Place.{Place}
-use Rattle.node_turn.specs.declared.node.Place.TheVariants.{Row, Stub, Captured}
+use Rattle.node_turn.specs.declared.node.Place.TheVariants.{Row, Stub, Gathers, Captured}
 use Rattle.node_turn.specs.declared.node.Stage.{Stage}
 use Rattle.node_turn.specs.declared.node.Stage.TheVariants.{Begins, Asks, Told, Places, Serves, Reads, Captures, Ends}
 
@@ -27,18 +27,34 @@ shows (Reads b) = false
 shows (Captures c) = false
 shows (Ends answered) = false
 
+-- it has come to its answer, of a status below 400
+abbrev pub good : Stage → Bool
+good (Begins ssi) = false
+good (Asks wait ssi) = false
+good (Told wait file ssi) = false
+good (Places b) = nat_lt b.value.answered.status 400
+good (Serves b) = nat_lt b.value.answered.status 400
+good (Reads b) = nat_lt b.value.answered.status 400
+good (Captures c) = nat_lt c.body.value.answered.status 400
+good (Ends b) = nat_lt b.value.answered.status 400
+
+-- bytes of it are placed next
+abbrev pub gives_bytes : Stage → Bool
+gives_bytes (Begins ssi) = false
+gives_bytes (Asks wait ssi) = false
+gives_bytes (Told wait file ssi) = false
+gives_bytes (Places b) = nat_lt b.value.from (length b.value.bytes)
+gives_bytes (Serves b) = false
+gives_bytes (Reads b) = false
+gives_bytes (Captures c) = false
+gives_bytes (Ends b) = false
+
 -- no byte of it is withheld
 abbrev pub joins_at : Place → Bool
 joins_at Row = false
 joins_at (Stub stub text) = length text == 0
+joins_at (Gathers stub text) = false
 joins_at (Captured stub text) = false
-
--- Its body is shown as soon as some bytes of it come: none is withheld, it is at its page, and its status is below 400.
-pub record IsKept (n : Node) : Type 0 where
-  pub stub : List ℕ
-  pub place : n.place ≡ Stub stub []
-  pub free : is_capturing n.stage ≡ false
-  pub good : (w : World) (patterns : List SetPattern) (site : Site) (main : Main) (text : List ℕ) → AllEnd IsGood (node_act w patterns site main n text)
 
 -- Bytes of it came: they are withheld, and it isn't known yet whether they are shown; or its body is shown, some of them are placed, and
 -- it goes on in the row.

@@ -5,4 +5,4 @@
 
 mod stub;
 
-pub use stub::{comes, decides, is_kept};
+pub use stub::{comes, decides, has_bytes, is_good};

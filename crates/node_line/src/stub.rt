@@ -2,7 +2,7 @@
 ghost use Rattle.std.specs.Prelude.{◌≡◌, ◌==◌, ℕ, OnOk, IfSome, true, false, if◌then◌else◌};
 ghost use Rattle.node_turn.specs.Stages.{IsSameNode, is_ending, is_in_row, is_placing};
 ghost use Rattle.postpone_filter.specs.Row.{is_open};
-ghost use Rattle.node_line.specs.Stubs.{CameAs, DecidedAs, IsKept, IsStubOf, joins_at, shows};
+ghost use Rattle.node_line.specs.Stubs.{CameAs, DecidedAs, IsStubOf, gives_bytes, good, joins_at, shows};
 
 use byte_text::OutOfMemory;
 use node_turn::{Node, Place, Stage, places, put, withholds};
@@ -37,18 +37,48 @@ fn withholds_none(place: &Place) -> bool
     match place {
         Place::Row => false,
         Place::Stub { stub: _, text } => text.is_empty(),
+        Place::Gathers { stub: _, text: _ } => false,
         Place::Captured { stub: _, text: _ } => false,
     }
 }
 
-/// Whether the body of a node with a stub is shown as soon as some bytes of a subrequest come to it:
-/// no byte of it is withheld, it is at its page, and its status is below 400.
-pub fn is_kept(node: &Node) -> bool
-    ensures { result ≡ true → IsKept node.now }
+/// Whether a node has come to its answer, of a status below 400, whatever is left of its body.
+pub fn is_good(stage: &Stage) -> bool
+    ensures { result ≡ good stage.now }
 {
-    match &node.stage {
-        Stage::Serves(body) => withholds_none(&node.place) && body.answered.status < 400,
-        _ => false,
+    match stage {
+        Stage::Begins(_) => false,
+        Stage::Asks { wait: _, ssi: _ } => false,
+        Stage::Told {
+            wait: _,
+            file: _,
+            ssi: _,
+        } => false,
+        Stage::Places(body) => body.answered.status < 400,
+        Stage::Serves(body) => body.answered.status < 400,
+        Stage::Reads(body) => body.answered.status < 400,
+        Stage::Captures(capture) => capture.body.answered.status < 400,
+        Stage::Ends(body) => body.answered.status < 400,
+    }
+}
+
+/// Whether a node has bytes that are placed next.
+pub fn has_bytes(stage: &Stage) -> bool
+    ensures { result ≡ gives_bytes stage.now }
+{
+    match stage {
+        Stage::Begins(_) => false,
+        Stage::Asks { wait: _, ssi: _ } => false,
+        Stage::Told {
+            wait: _,
+            file: _,
+            ssi: _,
+        } => false,
+        Stage::Places(body) => body.from < body.bytes.len(),
+        Stage::Serves(_) => false,
+        Stage::Reads(_) => false,
+        Stage::Captures(_) => false,
+        Stage::Ends(_) => false,
     }
 }
 

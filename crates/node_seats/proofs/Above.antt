@@ -4,7 +4,7 @@ use Rattle.std.proofs.lemmas.Bool.{eqb-true}
 use Rattle.std.proofs.lemmas.Bool.Decides.{nat_tests}
 use Rattle.node_turn.specs.declared.node.Node.{Node}
 use Rattle.node_seats.proofs.Paths.{on_path}
-use Rattle.node_seats.specs.Seats.{heard_by, hears, is_asked, is_captured, is_heard, most_nodes}
+use Rattle.node_seats.specs.Seats.{heard_by, hears, is_asked, is_captured, is_heard, most_nodes, takes_up}
 
 -- ---- truth
 
@@ -45,7 +45,7 @@ both false b e f = cc
 -- A node waits for the bytes of the one with the number `at`; or takes them up beside its own.
 pub data Takes (above at : ℕ) (p : Node) : Type 0 where
   Asks : p.asks ≡ Some at → Takes above at p
-  Includes : is_captured p.place ≡ true → nat_lt above at ≡ true → nat_lt at most_nodes ≡ true → is_asked at p.asks ≡ false → Takes above at p
+  Includes : takes_up p.place ≡ true → nat_lt above at ≡ true → nat_lt at most_nodes ≡ true → is_asked at p.asks ≡ false → Takes above at p
 
 pub record Above (levels : ℕ) (nodes : List Node) (at : ℕ) (n : Node) : Type 0 where
   pub waiting : Node
@@ -58,11 +58,11 @@ asked_for : (at : ℕ) (asks : Option ℕ) → is_asked at asks ≡ true → ask
 asked_for at None f = cc
 asked_for at (Some c) f = ap Some (eqb-true c at f)
 
-takes_by : (above at : ℕ) (p : Node) (b : Bool) → is_asked at p.asks ≡ b → (b || (is_captured p.place && (nat_lt above at && nat_lt at most_nodes))) ≡ true → Takes above at p
+takes_by : (above at : ℕ) (p : Node) (b : Bool) → is_asked at p.asks ≡ b → (b || (takes_up p.place && (nat_lt above at && nat_lt at most_nodes))) ≡ true → Takes above at p
 takes_by above at p true e h = Asks (asked_for at p.asks e)
 takes_by above at p false e h =
-    let rest = right_true (is_captured p.place) (nat_lt above at && nat_lt at most_nodes) h in
-    Includes (left_true (is_captured p.place) (nat_lt above at && nat_lt at most_nodes) h) (left_true (nat_lt above at) (nat_lt at most_nodes) rest) (right_true (nat_lt above at) (nat_lt at most_nodes) rest) e
+    let rest = right_true (takes_up p.place) (nat_lt above at && nat_lt at most_nodes) h in
+    Includes (left_true (takes_up p.place) (nat_lt above at && nat_lt at most_nodes) h) (left_true (nat_lt above at) (nat_lt at most_nodes) rest) (right_true (nat_lt above at) (nat_lt at most_nodes) rest) e
 
 pub above_is : (levels : ℕ) (nodes : List Node) (at : ℕ) (n : Node) → is_heard (suc levels) nodes at n ≡ true → is_captured n.place ≡ true → Above levels nodes at n
 unfolding is_heard
@@ -76,7 +76,7 @@ above_is levels nodes at n e captured =
     by : (o : Option Node) → slice_get nodes n.parent ≡ o → heard_by (is_heard levels nodes n.parent) n.parent at o ≡ true → Above levels nodes at n
     by None f h = cc
     by (Some p) f h =
-        let takes_it : Bool = is_asked at p.asks || (is_captured p.place && (nat_lt n.parent at && nat_lt at most_nodes)) in
+        let takes_it : Bool = is_asked at p.asks || (takes_up p.place && (nat_lt n.parent at && nat_lt at most_nodes)) in
         let hears_it = left_true (hears n.parent at p) (is_heard levels nodes n.parent p) h in
         record {
           waiting = p;

@@ -1,4 +1,4 @@
--- A node whose bytes come to its parent opens a subrequest whose bytes come where it has come to, and goes on.
+-- A node opens a subrequest whose bytes come where it has come to, and goes on.
 use Rattle.std.proofs.Common.{◌≡◌, ◌<◌, ◌≤◌, ℕ, suc, ◌+◌, ◌-◌, ◌==◌, nat_lt, Bool, true, false, List, [], Option, None, Some, slice_get, refl, sym, ap, ◌∙◌, subst, arith}
 use Rattle.std.proofs.lemmas.Bool.{eqb-true}
 use Rattle.acts.specs.Vars.{Vars}
@@ -19,13 +19,13 @@ use Rattle.node_turn.specs.Stages.{node_act}
 use Rattle.node_turn.specs.Turns.{Works}
 use Rattle.node_turn.specs.declared.node.Node.{Node}
 use Rattle.node_turn.specs.declared.node.Place.{Place}
-use Rattle.node_turn.specs.declared.node.Place.TheVariants.{Row, Stub, Captured}
+use Rattle.node_turn.specs.declared.node.Place.TheVariants.{Row, Stub, Gathers, Captured}
 use Rattle.node_line.specs.Stances.{Opening, Own, Spot, filling, owned, under}
 use Rattle.node_line.specs.Stances.Own.{Beside, Below}
 use Rattle.node_line.specs.Stances.Seat.{Inside}
 use Rattle.node_line.specs.Stances.Spot.{After, Behind}
 use Rattle.node_line.proofs.Steps as steps
-use Rattle.node_seats.specs.Seats.{Doing, ahead_line, doing_by, inner_line, inner_lines, is_asked, most_nodes, withheld_text, is_captured, is_heard, line_from, most_levels, place_stance, put_by, seen, stance_in, stance_of, stub_in}
+use Rattle.node_seats.specs.Seats.{Doing, ahead_line, doing_by, inner_line, inner_lines, is_asked, most_nodes, takes_up, withheld_text, is_captured, is_heard, line_from, most_levels, place_stance, put_by, seen, stance_in, stance_of, stub_in}
 use Rattle.node_seats.proofs.Framing as framing
 use Rattle.node_seats.proofs.Included.{part, part_begins}
 use Rattle.node_seats.proofs.Inners.{as_sum, inners_first, later_lines, later_none, split_at}
@@ -35,15 +35,15 @@ use Rattle.node_seats.proofs.Others.{Changed, SameOrMore}
 use Rattle.node_seats.proofs.Others.SameOrMore.{Same, Its}
 use Rattle.node_seats.proofs.Seated.{IsBare, ahead_of, here_is, line_bare, line_free, own_lines}
 
--- Another node in the place of one whose bytes come to its parent, and one more, whose bytes come to it after those that it had; what the
--- others do is the same.
+-- Another node in the place of one that takes up the bytes of its subrequests, and one more, whose bytes come to it after those that it
+-- had; what the others do is the same.
 pub record Begins_too (d : Doing) (nodes : List Node) (d' : Doing) (nodes' : List Node) (at number : ℕ) (old new member : Node) : Type 0 where
   pub there : slice_get nodes at ≡ Some old
   pub then : slice_get nodes' at ≡ Some new
   pub free : old.asks ≡ None
   pub free_then : new.asks ≡ None
-  pub captured : is_captured old.place ≡ true
-  pub captured_then : is_captured new.place ≡ true
+  pub takes : takes_up old.place ≡ true
+  pub takes_then : takes_up new.place ≡ true
   pub empty : withheld_text new.place ≡ []
   pub last : slice_get nodes' number ≡ Some member
   pub none : member.asks ≡ None
@@ -66,9 +66,10 @@ module _ (d : Doing) (nodes : List Node) (d' : Doing) (nodes' : List Node) (at n
   pub changes : Changed d nodes d' nodes' at old new
   changes = record { there = r.there; then = r.then; captured = like.captured; parent = like.parent; others = r.others; acts = r.acts; heard = r.heard }
 
-  ahead_captured : (p : Place) (f : Line → Line) (line : Line) → is_captured p ≡ true → ahead_line p f line ≡ f line
+  ahead_captured : (p : Place) (f : Line → Line) (line : Line) → takes_up p ≡ true → ahead_line p f line ≡ f line
   ahead_captured Row f line e = cc
   ahead_captured (Stub stub text) f line e = cc
+  ahead_captured (Gathers stub text) f line e = refl
   ahead_captured (Captured stub text) f line e = refl
 
   module _ (up : ℕ) (heard : is_heard up nodes at old ≡ true) (levels : ℕ) where
@@ -118,7 +119,7 @@ module _ (d : Doing) (nodes : List Node) (d' : Doing) (nodes' : List Node) (at n
         ∙ ap (λ t. under t (part (stub_in member.place) [] number member.left (d'.act number member) rest)) r.before)
         ∙ lines_before (under (withheld_text old.place) (part (stub_in member.place) [] number member.left (d'.act number member) rest))
         ∙ inners_first d nodes levels at old most_nodes (under (withheld_text old.place) (part (stub_in member.place) [] number member.left (d'.act number member) rest))
-        ∙ ap (λ a. joined a (under (withheld_text old.place) (part (stub_in member.place) [] number member.left (d'.act number member) rest))) (sym (ahead_captured old.place (inner_lines (line_from d nodes levels) nodes at old most_nodes) Nil r.captured))
+        ∙ ap (λ a. joined a (under (withheld_text old.place) (part (stub_in member.place) [] number member.left (d'.act number member) rest))) (sym (ahead_captured old.place (inner_lines (line_from d nodes levels) nodes at old most_nodes) Nil r.takes))
 
 -- ---- the step
 
@@ -150,6 +151,7 @@ module _ (laws : ShowsTheSame) (w : World) (patterns : List SetPattern) (site : 
       by : (p : Place) → is_captured p ≡ true → place_stance (doing_by w patterns site main texts) nodes' most_levels number member p ≡ Hidden
       by Row f = cc
       by (Stub stub text) f = cc
+      by (Gathers stub text) f = cc
       by (Captured stub text) f = refl
 
   more : (a : ℕ) → 1 + a ≡ suc (0 + a)
@@ -167,7 +169,7 @@ module _ (laws : ShowsTheSame) (w : World) (patterns : List SetPattern) (site : 
       ∙ line_free (doing_by w patterns site main texts) nodes' (0 + q.spare) at new q.rest r.free_then
       ∙ ap (λ t. ahead_line new.place (inner_lines (line_from (doing_by w patterns site main texts) nodes' (0 + q.spare)) nodes' at new most_nodes) (under t rest)) r.empty
       ∙ ahead_captured (doing_by w patterns site main texts) nodes (doing_by w patterns site main texts) nodes' at number old new member r like new.place
-      (inner_lines (line_from (doing_by w patterns site main texts) nodes' (0 + q.spare)) nodes' at new most_nodes) rest r.captured_then
+      (inner_lines (line_from (doing_by w patterns site main texts) nodes' (0 + q.spare)) nodes' at new most_nodes) rest r.takes_then
       ∙ lines_then (doing_by w patterns site main texts) nodes (doing_by w patterns site main texts) nodes' at number old new member r like most_levels heard_so (0 + q.spare) rest)
       ∙ ap (λ s. line s member.left (node_act w patterns site main member (texts number)) new.left) its_stub
       ∙ ap (λ a. line child.stub a (node_act w patterns site main member (texts number)) new.left) member_left

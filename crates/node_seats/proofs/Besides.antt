@@ -6,7 +6,7 @@ use Rattle.family_order.specs.Items.Stance.{Going, Waiting, Apart}
 use Rattle.node_turn.specs.Stages.{is_capturing}
 use Rattle.node_turn.specs.declared.node.Node.{Node}
 use Rattle.node_turn.specs.declared.node.Place.{Place}
-use Rattle.node_turn.specs.declared.node.Place.TheVariants.{Row, Stub, Captured}
+use Rattle.node_turn.specs.declared.node.Place.TheVariants.{Row, Stub, Gathers, Captured}
 use Rattle.node_line.specs.Stances.{under}
 use Rattle.node_seats.proofs.Inners.{ahead_same, inners_same, no_inner}
 use Rattle.node_seats.specs.Seats.{Doing, ahead_line, asking_line, inner_line, inner_lines, is_asked, is_inner, most_nodes, withheld_text, is_captured, line_from, place_stance, put_by, row_stance, stance_in, stance_of, stub_in, waited_line}
@@ -154,6 +154,7 @@ module _ (d : Doing) (nodes : List Node) (d' : Doing) (nodes' : List Node) (besi
       at_place : (p : Place) → place_stance d nodes levels j n p ≡ place_stance d' nodes' levels j n' p
       at_place Row = ap (row_stance d nodes levels j n) e.asks ∙ in_row n'.asks
       at_place (Stub stub text) = ap (λ line. Apart line stub) (same_line (suc levels) j n n' Nil e)
+      at_place (Gathers stub text) = ap (λ line. Apart line stub) (same_line (suc levels) j n n' Nil e)
       at_place (Captured stub text) = refl
 
   -- and of the number of none

@@ -20,11 +20,11 @@ use Rattle.family_order.specs.Laws.{ShowsTheSame}
 use Rattle.node_turn.specs.Stages.{is_capturing, node_act}
 use Rattle.node_turn.specs.declared.node.Node.{Node}
 use Rattle.node_turn.specs.declared.node.Place.{Place}
-use Rattle.node_turn.specs.declared.node.Place.TheVariants.{Row, Stub, Captured}
+use Rattle.node_turn.specs.declared.node.Place.TheVariants.{Row, Stub, Gathers, Captured}
 use Rattle.node_line.specs.Stances.{Opening, Own, filling, owned, under}
 use Rattle.node_line.specs.Stances.Spot.{After, Behind}
 use Rattle.node_line.proofs.Steps as steps
-use Rattle.node_seats.specs.Seats.{Doing, ahead_line, asking_line, doing_by, inner_line, inner_lines, is_asked, is_inner, most_levels, most_nodes, withheld_text, is_captured, is_heard, line_from, place_stance, put_by, seen, stance_in, stance_of, stub_in, waited_line}
+use Rattle.node_seats.specs.Seats.{Doing, ahead_line, asking_line, doing_by, inner_line, inner_lines, is_asked, is_inner, most_levels, most_nodes, takes_up, withheld_text, is_captured, is_heard, line_from, place_stance, put_by, seen, stance_in, stance_of, stub_in, waited_line}
 use Rattle.node_seats.proofs.Framing as framing
 use Rattle.node_seats.proofs.Included as waits_too
 use Rattle.node_seats.proofs.Inners.{as_sum, inners_first, inners_same, inner_so, later_joined, later_lines, later_none, later_same, later_split, less, line_joined, no_inner, split_at, waited_joined}
@@ -69,8 +69,8 @@ pub data Comes (nodes nodes' : List Node) (par at : ℕ) (p p' : Node) (moved : 
 pub record Ends_inner (d : Doing) (nodes : List Node) (d' : Doing) (nodes' : List Node) (par at : ℕ) (p p' x gone : Node) (moved : List ℕ) : Type 0 where
   pub there : slice_get nodes par ≡ Some p
   pub then : slice_get nodes' par ≡ Some p'
-  pub captured : is_captured p.place ≡ true
-  pub captured_then : is_captured p'.place ≡ true
+  pub takes : takes_up p.place ≡ true
+  pub takes_then : takes_up p'.place ≡ true
   pub asks : p'.asks ≡ p.asks
   pub left : p'.left ≡ p.left
   pub capturing : is_capturing p'.stage ≡ is_capturing p.stage
@@ -105,6 +105,7 @@ line_kept d nodes (suc levels) j n bytes rest act heard =
     ahead : (f g : Line → Line) (p : Place) → ((r : Line) → f r ≡ g r) → (line : Line) → ahead_line p f line ≡ ahead_line p g line
     ahead f g Row same line = refl
     ahead f g (Stub stub text) same line = refl
+    ahead f g (Gathers stub text) same line = same line
     ahead f g (Captured stub text) same line = same line
 
     each : (c : ℕ) (o : Option Node) (r : Line) → inner_line (line_from d nodes levels) j (record n { before = bytes }) c o r ≡ inner_line (line_from d nodes levels) j n c o r
@@ -176,9 +177,10 @@ module _ (d : Doing) (nodes : List Node) (d' : Doing) (nodes' : List Node) (par 
   pub changes : Changed d nodes d' nodes' par p p'
   changes = record { there = r.there; then = r.then; captured = like.captured; parent = like.parent; others = r.others; acts = r.acts; heard = r.heard }
 
-  ahead_captured : (q : Place) (f : Line → Line) (line : Line) → is_captured q ≡ true → ahead_line q f line ≡ f line
+  ahead_captured : (q : Place) (f : Line → Line) (line : Line) → takes_up q ≡ true → ahead_line q f line ≡ f line
   ahead_captured Row f line e = cc
   ahead_captured (Stub stub text) f line e = cc
+  ahead_captured (Gathers stub text) f line e = refl
   ahead_captured (Captured stub text) f line e = refl
 
   is_it : Inner par p at x
@@ -361,7 +363,7 @@ module _ (d : Doing) (nodes : List Node) (d' : Doing) (nodes' : List Node) (par 
       line_was =
           let below = line_from d nodes levels in
           let own_text : Line = under (withheld_text p.place) (asking_line d nodes below par p p.asks rest) in
-          ahead_captured p.place (inner_lines below nodes par p most_nodes) own_text r.captured
+          ahead_captured p.place (inner_lines below nodes par p most_nodes) own_text r.takes
           ∙ ap (λ k. inner_lines below nodes par p k own_text) (as_sum at most_nodes r.few)
           ∙ split_at below nodes par p at (most_nodes - suc at) own_text
           ∙ ap (inner_lines below nodes par p at) (ap (λ o. inner_line below par p at o later_was) r.it ∙ inner_so below par p at x later_was r.inner)
@@ -373,7 +375,7 @@ module _ (d : Doing) (nodes : List Node) (d' : Doing) (nodes' : List Node) (par 
       line_is =
           let below' = line_from d' nodes' levels in
           let own_text : Line = under (withheld_text p'.place) (asking_line d' nodes' below' par p' p'.asks rest) in
-          ahead_captured p'.place (inner_lines below' nodes' par p' most_nodes) own_text r.captured_then
+          ahead_captured p'.place (inner_lines below' nodes' par p' most_nodes) own_text r.takes_then
           ∙ ap (λ k. inner_lines below' nodes' par p' k own_text) (as_sum at most_nodes r.few)
           ∙ split_at below' nodes' par p' at (most_nodes - suc at) own_text
           ∙ ap (inner_lines below' nodes' par p' at) (ap (λ o. inner_line below' par p' at o later_is) r.it_then ∙ no_inner below' par p' at gone later_is (over_not par p' at gone r.over) ∙ longer)
@@ -422,6 +424,7 @@ module _ (laws : ShowsTheSame) (w : World) (patterns : List SetPattern) (site : 
       by : (place : Place) → is_captured place ≡ true → place_stance (doing_by w patterns site main texts) nodes most_levels at x place ≡ Hidden
       by Row f = cc
       by (Stub stub text) f = cc
+      by (Gathers stub text) f = cc
       by (Captured stub text) f = refl
 
   was : stance_in (doing_by w patterns site main texts) nodes most_levels q.h

@@ -19,13 +19,13 @@ use Rattle.node_turn.specs.Stages.{is_capturing, node_act, node_heard}
 use Rattle.node_turn.specs.Turns.{Works}
 use Rattle.node_turn.specs.declared.node.Node.{Node}
 use Rattle.node_turn.specs.declared.node.Place.{Place}
-use Rattle.node_turn.specs.declared.node.Place.TheVariants.{Row, Stub, Captured}
+use Rattle.node_turn.specs.declared.node.Place.TheVariants.{Row, Stub, Gathers, Captured}
 use Rattle.node_line.specs.Stances.{Opening, Own, Spot, filling, owned, stance_so, under}
 use Rattle.node_line.specs.Stances.Own.{Beside, Below}
 use Rattle.node_line.specs.Stances.Seat.{InRow as InItsRow, Inside}
 use Rattle.node_line.specs.Stances.Spot.{After, Behind}
 use Rattle.node_line.proofs.Steps as steps
-use Rattle.node_seats.specs.Seats.{Doing, ahead_line, asking_line, doing_by, inner_line, inner_lines, is_asked, is_inner, most_nodes, withheld_text, is_captured, is_heard, line_from, most_levels, place_stance, put_by, row_stance, seen, stance_in, stance_of, stub_in, waited_line}
+use Rattle.node_seats.specs.Seats.{Doing, ahead_line, asking_line, doing_by, inner_line, inner_lines, is_asked, is_inner, most_nodes, withheld_text, is_captured, is_heard, line_from, most_levels, place_stance, put_by, row_stance, seen, stance_in, stance_of, stub_in, waited_line, takes_up}
 use Rattle.node_seats.proofs.Above.{eq_self, false_true}
 use Rattle.node_seats.proofs.Inners.{ahead_first, inners_same, no_inner}
 use Rattle.node_seats.proofs.Located.{Located, StandsAs, above_line, asked_not, waited_is}
@@ -104,7 +104,7 @@ module _ (d : Doing) (nodes : List Node) (d' : Doing) (nodes' : List Node) (at n
   changes captured parent = record { there = r.there; then = r.then; captured = captured; parent = parent; others = r.others; acts = r.acts; heard = r.heard }
 
   -- the lines of its other subrequests are the same
-  module _ (up : ℕ) (heard : is_heard up nodes at old ≡ true) (captured : is_captured new.place ≡ is_captured old.place) (parent : new.parent ≡ old.parent) where
+  module _ (up : ℕ) (heard : is_heard up nodes at old ≡ true) (captured : is_captured new.place ≡ is_captured old.place) (takes : takes_up new.place ≡ takes_up old.place) (parent : new.parent ≡ old.parent) where
     pub lines_same : (levels : ℕ) (rest : Line) → inner_lines (line_from d nodes levels) nodes at old most_nodes rest ≡ inner_lines (line_from d' nodes' levels) nodes' at new most_nodes rest
     lines_same levels = inners_same (line_from d nodes levels) nodes at old (line_from d' nodes' levels) nodes' new most_nodes (λ c h rest. by c rest (c == at) (c == number) refl refl)
       where
@@ -135,17 +135,24 @@ module _ (d : Doing) (nodes : List Node) (d' : Doing) (nodes' : List Node) (at n
             (ap (is_asked c) r.free ∙ sym (ap (is_asked c) r.asks ∙ apart c f))
 
     pub ahead_is : (levels : ℕ) → ahead_of d' nodes' levels at new ≡ ahead_of d nodes levels at old
-    ahead_is levels = by new.place old.place captured
+    ahead_is levels = by new.place old.place takes
       where
-        by : (p q : Place) → is_captured p ≡ is_captured q → ahead_line p (inner_lines (line_from d' nodes' levels) nodes' at new most_nodes) Nil ≡ ahead_line q (inner_lines (line_from d nodes levels) nodes at old most_nodes) Nil
+        by : (p q : Place) → takes_up p ≡ takes_up q → ahead_line p (inner_lines (line_from d' nodes' levels) nodes' at new most_nodes) Nil ≡ ahead_line q (inner_lines (line_from d nodes levels) nodes at old most_nodes) Nil
         by Row Row e = refl
         by Row (Stub stub text) e = refl
+        by Row (Gathers stub text) e = absurd (false_true e)
         by Row (Captured stub text) e = absurd (false_true e)
         by (Stub stub text) Row e = refl
         by (Stub stub text) (Stub stub' text') e = refl
+        by (Stub stub text) (Gathers stub' text') e = absurd (false_true e)
         by (Stub stub text) (Captured stub' text') e = absurd (false_true e)
+        by (Gathers stub text) Row e = absurd (false_true (sym e))
+        by (Gathers stub text) (Stub stub' text') e = absurd (false_true (sym e))
+        by (Gathers stub text) (Gathers stub' text') e = sym (lines_same levels Nil)
+        by (Gathers stub text) (Captured stub' text') e = sym (lines_same levels Nil)
         by (Captured stub text) Row e = absurd (false_true (sym e))
         by (Captured stub text) (Stub stub' text') e = absurd (false_true (sym e))
+        by (Captured stub text) (Gathers stub' text') e = sym (lines_same levels Nil)
         by (Captured stub text) (Captured stub' text') e = sym (lines_same levels Nil)
 
     pub ahead_so : (levels : ℕ) (rest : Line) → ahead_line new.place (inner_lines (line_from d' nodes' levels) nodes' at new most_nodes) rest ≡ joined (ahead_of d nodes levels at old) rest
@@ -158,14 +165,14 @@ module _ (d : Doing) (nodes : List Node) (d' : Doing) (nodes' : List Node) (at n
     included_is e =
         q.is d' nodes' new (changes like.captured like.parent) new r.then like
         ∙ ap (λ line. owned q.own (filling q.spot line)) (included_line depth q.spare q.rest e
-        ∙ ahead_so up heard like.captured like.parent (depth + q.spare) (under (withheld_text new.place) (part (stub_in member.place) (withheld_text member.place) number member.left (d'.act number member) (Gives at new.left (d'.act at new) q.rest))))
+        ∙ ahead_so up heard like.captured like.takes like.parent (depth + q.spare) (under (withheld_text new.place) (part (stub_in member.place) (withheld_text member.place) number member.left (d'.act number member) (Gives at new.left (d'.act at new) q.rest))))
 
     pub asked_is : is_capturing new.stage ≡ true →
         stance_in d' nodes' levels q.h ≡ owned q.own (filling (Behind (withheld_text new.place) (After (ahead_of d nodes (depth + q.spare) at old) q.spot)) (Waits at (part (stub_in member.place) (withheld_text member.place) number member.left (d'.act number member) Nil) new.left (d'.heard at new) q.rest))
     asked_is e =
         q.is d' nodes' new (changes like.captured like.parent) new r.then like
         ∙ ap (λ line. owned q.own (filling q.spot line)) (asked_line depth q.spare q.rest e
-        ∙ ahead_so up heard like.captured like.parent (depth + q.spare) (under (withheld_text new.place) (Waits at (part (stub_in member.place) (withheld_text member.place) number member.left (d'.act number member) Nil) new.left (d'.heard at new) q.rest)))
+        ∙ ahead_so up heard like.captured like.takes like.parent (depth + q.spare) (under (withheld_text new.place) (Waits at (part (stub_in member.place) (withheld_text member.place) number member.left (d'.act number member) Nil) new.left (d'.heard at new) q.rest)))
 
     -- it doesn't wait in the other nodes
     pub alone_is : stance_in d nodes levels q.h ≡ owned q.own (filling (Behind (withheld_text old.place) (After (ahead_of d nodes (depth + q.spare) at old) q.spot)) (Gives at old.left (d.act at old) q.rest))
@@ -184,6 +191,7 @@ module _ (d : Doing) (nodes : List Node) (d' : Doing) (nodes' : List Node) (at n
       by : (p : Place) → is_captured p ≡ true → place_stance d' nodes' levels number member p ≡ Hidden
       by Row f = cc
       by (Stub stub text) f = cc
+      by (Gathers stub text) f = cc
       by (Captured stub text) f = refl
 
   -- of the others the same is said

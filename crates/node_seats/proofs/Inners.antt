@@ -6,7 +6,7 @@ use Rattle.family_meaning.specs.Line.Line.{Nil, Bytes, Gives, Waits}
 use Rattle.node_turn.specs.Stages.{is_capturing}
 use Rattle.node_turn.specs.declared.node.Node.{Node}
 use Rattle.node_turn.specs.declared.node.Place.{Place}
-use Rattle.node_turn.specs.declared.node.Place.TheVariants.{Row, Stub, Captured}
+use Rattle.node_turn.specs.declared.node.Place.TheVariants.{Row, Stub, Gathers, Captured}
 use Rattle.node_line.specs.Stances.{under}
 use Rattle.node_seats.specs.Seats.{Doing, ahead_line, asking_line, inner_line, inner_lines, is_captured, is_inner, line_from, most_nodes, put_by, stub_in, waited_line, withheld_text}
 
@@ -62,6 +62,7 @@ module _ (d : Doing) (nodes : List Node) where
   ahead_ends : (p : Place) (inner : Line → Line) → ((rest other : Line) → inner (joined rest other) ≡ joined (inner rest) other) → (rest other : Line) → ahead_line p inner (joined rest other) ≡ joined (ahead_line p inner rest) other
   ahead_ends Row inner ends rest other = refl
   ahead_ends (Stub stub text) inner ends rest other = refl
+  ahead_ends (Gathers stub text) inner ends rest other = ends rest other
   ahead_ends (Captured stub text) inner ends rest other = ends rest other
 
   pub line_joined : (levels : ℕ) → Ends (line_from d nodes levels)
@@ -90,6 +91,7 @@ module _ (d : Doing) (nodes : List Node) where
 pub ahead_same : (p : Place) (inner inner' : Line → Line) → ((rest : Line) → inner rest ≡ inner' rest) → (rest : Line) → ahead_line p inner rest ≡ ahead_line p inner' rest
 ahead_same Row inner inner' same rest = refl
 ahead_same (Stub stub text) inner inner' same rest = refl
+ahead_same (Gathers stub text) inner inner' same rest = same rest
 ahead_same (Captured stub text) inner inner' same rest = same rest
 
 -- those from a number on, as many as `more`

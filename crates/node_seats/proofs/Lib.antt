@@ -12,3 +12,12 @@ pub mod Beginning
 pub mod Returned
 pub mod Ending
 pub mod Walks
+pub mod Certain
+pub mod Listed
+pub mod Joined
+pub mod Rowed
+pub mod Shown
+pub mod Gathering
+pub mod Numbered
+pub mod Asked
+pub mod Upward

@@ -7,7 +7,7 @@ use Rattle.family_order.specs.Items.Stance.{Waiting, Apart}
 use Rattle.node_turn.specs.Stages.{is_capturing, is_in_row}
 use Rattle.node_turn.specs.declared.node.Node.{Node}
 use Rattle.node_turn.specs.declared.node.Place.{Place}
-use Rattle.node_turn.specs.declared.node.Place.TheVariants.{Row, Stub, Captured}
+use Rattle.node_turn.specs.declared.node.Place.TheVariants.{Row, Stub, Gathers, Captured}
 use Rattle.node_line.specs.Stances.{Own, Spot, filling, owned, under}
 use Rattle.node_line.specs.Stances.Own.{Beside, Below}
 use Rattle.node_line.specs.Stances.Spot.{Whole, Behind, After, For, Stubbed}
@@ -17,7 +17,7 @@ use Rattle.node_seats.proofs.Inners.{ahead_first, ahead_same, as_sum, inner_so, 
 use Rattle.node_seats.proofs.Others as others_are
 use Rattle.node_seats.proofs.Others.{Changed}
 use Rattle.node_seats.proofs.Paths.{on_path, path_top, path_next}
-use Rattle.node_seats.specs.Seats.{Doing, ahead_line, asking_line, inner_line, inner_lines, is_asked, most_nodes, withheld_text, is_captured, is_heard, line_from, place_stance, put_by, row_stance, stance_in, stance_of, stub_in, waited_line}
+use Rattle.node_seats.specs.Seats.{Doing, ahead_line, asking_line, inner_line, inner_lines, is_asked, most_nodes, withheld_text, is_captured, is_heard, line_from, place_stance, put_by, row_stance, stance_in, stance_of, stub_in, takes_up, waited_line}
 
 -- ---- what stays
 
@@ -27,11 +27,12 @@ pub record StandsAs (old new : Node) : Type 0 where
   pub captured : is_captured new.place ≡ is_captured old.place
   pub stub : stub_in new.place ≡ stub_in old.place
   pub row : is_in_row new.place ≡ is_in_row old.place
+  pub takes : takes_up new.place ≡ takes_up old.place
   pub before : new.before ≡ old.before
   pub over : new.over ≡ old.over
 
 pub as_itself : (n : Node) → StandsAs n n
-as_itself n = record { parent = refl; captured = refl; stub = refl; row = refl; before = refl; over = refl }
+as_itself n = record { parent = refl; captured = refl; stub = refl; row = refl; takes = refl; before = refl; over = refl }
 
 -- ---- lines
 
@@ -123,12 +124,11 @@ module _ (levels : ℕ) (d : Doing) (nodes : List Node) (top low : ℕ) (lower :
           place_stance d' nodes' levels at new p ≡ Apart (line_from d' nodes' (suc levels) at new Nil) stub
       so d' nodes' stub new Row c r s = cc
       so d' nodes' stub new (Stub stub' text) c r s = ap (Apart (line_from d' nodes' (suc levels) at new Nil)) (same_stub stub' stub s)
+      so d' nodes' stub new (Gathers stub' text) c r s = ap (Apart (line_from d' nodes' (suc levels) at new Nil)) (same_stub stub' stub s)
       so d' nodes' stub new (Captured stub' text) c r s = cc
 
-      by : (p : Place) → old.place ≡ p → Located levels d nodes low lower up depth at old
-      by Row e = absurd (false_true (sym apart ∙ ap is_in_row e))
-      by (Captured stub text) e = absurd (false_true (sym free ∙ ap is_captured e))
-      by (Stub stub text) e = record {
+      of : (stub : List ℕ) → stub_in old.place ≡ Some stub → Located levels d nodes low lower up depth at old
+      of stub its_stub = record {
         h = at;
         host = old;
         there = here;
@@ -139,9 +139,15 @@ module _ (levels : ℕ) (d : Doing) (nodes : List Node) (top low : ℕ) (lower :
         rest = Nil;
         spare = up;
         is = λ d' nodes' now ch new there like.
-            ap (stance_of d' nodes' levels at) there ∙ so d' nodes' stub new new.place (like.captured ∙ free) (like.row ∙ apart) (like.stub ∙ ap stub_in e)
+            ap (stance_of d' nodes' levels at) there ∙ so d' nodes' stub new new.place (like.captured ∙ free) (like.row ∙ apart) (like.stub ∙ its_stub)
             ∙ ap (λ l. Apart (line_from d' nodes' l at new Nil) stub) (sym size);
       }
+
+      by : (p : Place) → old.place ≡ p → Located levels d nodes low lower up depth at old
+      by Row e = absurd (false_true (sym apart ∙ ap is_in_row e))
+      by (Captured stub text) e = absurd (false_true (sym free ∙ ap is_captured e))
+      by (Stub stub text) e = of stub (ap stub_in e)
+      by (Gathers stub text) e = of stub (ap stub_in e)
 
   -- a node in the row waits for its reply
   located_first : (up depth at : ℕ) (old p : Node) → on_path top nodes low (Some lower) at ≡ true → slice_get nodes at ≡ Some old → p.over ≡ false → suc depth + up ≡ suc levels → slice_get nodes old.parent ≡ Some p → p.asks ≡ Some at → p.place ≡ Row →
@@ -242,7 +248,7 @@ module _ (levels : ℕ) (d : Doing) (nodes : List Node) (top low : ℕ) (lower :
           not_asked c e = sym (ap (is_asked at) e) ∙ asks
 
       -- those before it, and those after it
-      split : is_captured p.place ≡ true → nat_lt at most_nodes ≡ true → is_asked at p.asks ≡ false → stance_in d' nodes' levels q.h
+      split : takes_up p.place ≡ true → nat_lt at most_nodes ≡ true → is_asked at p.asks ≡ false → stance_in d' nodes' levels q.h
           ≡ owned q.own (filling q.spot (inner_lines below nodes old.parent p at (inner_line below' old.parent p at (slice_get nodes' at)
           (later_lines below nodes old.parent p (suc at) (most_nodes - suc at) (under (withheld_text p.place) (asking_line d nodes below old.parent p p.asks q.rest))))))
       split is_there few asks =
@@ -250,7 +256,7 @@ module _ (levels : ℕ) (d : Doing) (nodes : List Node) (top low : ℕ) (lower :
           let more = most_nodes - suc at in
           begins
           ∙ ap (λ line. owned q.own (filling q.spot line))
-          (captured_ahead p.place (inner d' nodes') rest' is_there
+          (taken_ahead p.place (inner d' nodes') rest' is_there
           ∙ ap (λ k. inner_lines below' nodes' old.parent p k rest') (as_sum at most_nodes few)
           ∙ split_at below' nodes' old.parent p at more rest'
           ∙ sym (inners_same below nodes old.parent p below' nodes' p at (λ c h r. beside c r (less_other c at h)) (inner_line below' old.parent p at (slice_get nodes' at) (later_lines below' nodes' old.parent p (suc at) more rest')))
@@ -258,10 +264,11 @@ module _ (levels : ℕ) (d : Doing) (nodes : List Node) (top low : ℕ) (lower :
           (sym (later_same below nodes old.parent p below' nodes' p (suc at) more (λ c h r. beside c r (more_other c at h)) rest')
           ∙ ap (λ l. later_lines below nodes old.parent p (suc at) more (under (withheld_text p.place) l)) (sym (asking asks))))
         where
-          captured_ahead : (place : Place) (f : Line → Line) (line : Line) → is_captured place ≡ true → ahead_line place f line ≡ f line
-          captured_ahead Row f line e = cc
-          captured_ahead (Stub stub text) f line e = cc
-          captured_ahead (Captured stub text) f line e = refl
+          taken_ahead : (place : Place) (f : Line → Line) (line : Line) → takes_up place ≡ true → ahead_line place f line ≡ f line
+          taken_ahead Row f line e = cc
+          taken_ahead (Stub stub text) f line e = cc
+          taken_ahead (Gathers stub text) f line e = refl
+          taken_ahead (Captured stub text) f line e = refl
 
           apart_by : (c x : ℕ) → (c ≡ x → ⊥) → (b : Bool) → (c == x) ≡ b → (c == x) ≡ false
           apart_by c x differs true e = absurd (differs (eqb-true c x e))
@@ -319,7 +326,7 @@ module _ (levels : ℕ) (d : Doing) (nodes : List Node) (top low : ℕ) (lower :
             ∙ ap (λ s. put_by s (line' at new) (Gives old.parent p.left (d.act old.parent p) q.rest)) like.stub))
 
     -- or takes up its bytes beside its own
-    located_inner : old.over ≡ false → is_captured p.place ≡ true → nat_lt old.parent at ≡ true → nat_lt at most_nodes ≡ true → is_asked at p.asks ≡ false → Located levels d nodes low lower (suc up) depth at old
+    located_inner : old.over ≡ false → takes_up p.place ≡ true → nat_lt old.parent at ≡ true → nat_lt at most_nodes ≡ true → is_asked at p.asks ≡ false → Located levels d nodes low lower (suc up) depth at old
     located_inner over is_there less few asks =
         let rest = later_lines (line_from d nodes (depth + q.spare)) nodes old.parent p (suc at) (most_nodes - suc at) (under (withheld_text p.place) (asking_line d nodes (line_from d nodes (depth + q.spare)) old.parent p p.asks q.rest)) in
         put_at (Behind old.before (After (inner_lines (line_from d nodes (depth + q.spare)) nodes old.parent p at Nil) q.spot)) rest (λ d' nodes' now ch new there like.
@@ -355,12 +362,13 @@ module _ (levels : ℕ) (d : Doing) (nodes : List Node) (top low : ℕ) (lower :
       row_is : (p : Place) → is_in_row p ≡ true → p ≡ Row
       row_is Row f = refl
       row_is (Stub stub text) f = cc
+      row_is (Gathers stub text) f = cc
       row_is (Captured stub text) f = cc
 
       -- one in the row takes up the bytes of none but the one for which it waits
       row_asks : (p : Node) → Takes old.parent at p → p.place ≡ Row → p.asks ≡ Some at
       row_asks p (Asks asks) row = asks
-      row_asks p (Includes is_there less few asks) row = absurd (false_true (ap is_captured (sym row) ∙ is_there))
+      row_asks p (Includes is_there less few asks) row = absurd (false_true (ap takes_up (sym row) ∙ is_there))
 
       next : ((a : Above up nodes at old) → is_captured old.place ≡ true → is_in_row a.waiting.place ≡ false → Located levels d nodes low lower up (suc depth) old.parent a.waiting) →
           (a : Above up nodes at old) → is_captured old.place ≡ true → (b : Bool) → is_in_row a.waiting.place ≡ b → Located levels d nodes low lower (suc up) depth at old

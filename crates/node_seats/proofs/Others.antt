@@ -7,7 +7,7 @@ use Rattle.family_order.specs.Items.Stance.{Going, Waiting, Apart, Hidden}
 use Rattle.node_turn.specs.Stages.{is_capturing}
 use Rattle.node_turn.specs.declared.node.Node.{Node}
 use Rattle.node_turn.specs.declared.node.Place.{Place}
-use Rattle.node_turn.specs.declared.node.Place.TheVariants.{Row, Stub, Captured}
+use Rattle.node_turn.specs.declared.node.Place.TheVariants.{Row, Stub, Gathers, Captured}
 use Rattle.node_line.specs.Stances.{under}
 use Rattle.node_seats.specs.Seats.{Doing, ahead_line, asking_line, inner_line, inner_lines, is_asked, most_nodes, withheld_text, is_captured, is_heard, line_from, place_stance, put_by, row_stance, stance_in, stance_of, stub_in, waited_line}
 use Rattle.node_seats.proofs.Paths.{on_path}
@@ -267,6 +267,7 @@ module _ (d : Doing) (nodes : List Node) (d' : Doing) (nodes' : List Node) (up a
       at_place : (n : Node) → slice_get nodes j ≡ Some n → (p : Place) → place_stance d nodes levels j n p ≡ place_stance d' nodes' levels j n p
       at_place n here Row = in_row n n.asks
       at_place n here (Stub stub text) = ap (λ line. Apart line stub) (off_line (suc levels) j n Nil here e)
+      at_place n here (Gathers stub text) = ap (λ line. Apart line stub) (off_line (suc levels) j n Nil here e)
       at_place n here (Captured stub text) = refl
 
       of : (o : Option Node) → slice_get nodes j ≡ o → stance_of d nodes levels j o ≡ stance_of d' nodes' levels j o
@@ -276,6 +277,7 @@ module _ (d : Doing) (nodes : List Node) (d' : Doing) (nodes' : List Node) (up a
       none : (e : Doing) (ns : List Node) (m : Node) (p : Place) → is_captured p ≡ true → place_stance e ns levels j m p ≡ Hidden
       none e ns m Row f = cc
       none e ns m (Stub stub text) f = cc
+      none e ns m (Gathers stub text) f = cc
       none e ns m (Captured stub text) f = refl
 
       its : (e : Doing) (ns : List Node) (o : Option Node) → is_its at o ≡ true → stance_of e ns levels j o ≡ Hidden
@@ -293,6 +295,7 @@ module _ (d : Doing) (nodes : List Node) (d' : Doing) (nodes' : List Node) (up a
       none : (e : Doing) (ns : List Node) (m : Node) (p : Place) → is_captured p ≡ true → place_stance e ns levels j m p ≡ Hidden
       none e ns m Row f = cc
       none e ns m (Stub stub text) f = cc
+      none e ns m (Gathers stub text) f = cc
       none e ns m (Captured stub text) f = refl
 
       beside : SameOrMore at (slice_get nodes j) (slice_get nodes' j) → Hidden ≡ stance_in d' nodes' levels j
@@ -320,6 +323,7 @@ module _ (d : Doing) (nodes : List Node) (d' : Doing) (nodes' : List Node) (up a
           by : (p : Place) → is_captured p ≡ true → place_stance d' nodes' levels j m p ≡ Hidden
           by Row g = cc
           by (Stub stub text) g = cc
+          by (Gathers stub text) g = cc
           by (Captured stub text) g = refl
 
       by : SameOrMore at (slice_get nodes j) (slice_get nodes' j) → stance_in d nodes levels j ≡ stance_in d' nodes' levels j

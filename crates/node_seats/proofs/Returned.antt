@@ -24,7 +24,7 @@ use Rattle.node_line.specs.Stances.{Opening, Own, Spot, filling, owned, under}
 use Rattle.node_line.specs.Stances.Own.{Beside, Below}
 use Rattle.node_line.specs.Stances.Spot.{After, Behind, For, Whole}
 use Rattle.node_line.proofs.Steps as steps
-use Rattle.node_seats.specs.Seats.{ahead_line, doing_by, heard_by, hears, inner_lines, most_nodes, withheld_text, is_asked, is_captured, is_heard, line_from, most_levels, place_stance, seen, stance_in, stance_of, stub_in}
+use Rattle.node_seats.specs.Seats.{ahead_line, doing_by, heard_by, hears, inner_lines, most_nodes, withheld_text, is_asked, is_captured, is_heard, line_from, most_levels, place_stance, seen, stance_in, stance_of, stub_in, takes_up}
 use Rattle.node_seats.proofs.Framing as framing
 use Rattle.node_seats.proofs.Included as waits_too
 use Rattle.node_seats.proofs.Included.{Waits_too}
@@ -49,12 +49,12 @@ heard_like (suc levels) nodes at n n' e f =
 -- it goes on, and takes up the bytes of a node
 hears_so : (above at : ℕ) (p : Node) → p.over ≡ false → Takes above at p → hears above at p ≡ true
 hears_so above at p over (Asks asks) =
-    ap (λ b. not b && (is_asked at p.asks || (is_captured p.place && (nat_lt above at && nat_lt at most_nodes)))) over
-    ∙ ap (λ o. is_asked at o || (is_captured p.place && (nat_lt above at && nat_lt at most_nodes))) asks
-    ∙ ap (λ b. b || (is_captured p.place && (nat_lt above at && nat_lt at most_nodes))) (eq_self at)
+    ap (λ b. not b && (is_asked at p.asks || (takes_up p.place && (nat_lt above at && nat_lt at most_nodes)))) over
+    ∙ ap (λ o. is_asked at o || (takes_up p.place && (nat_lt above at && nat_lt at most_nodes))) asks
+    ∙ ap (λ b. b || (takes_up p.place && (nat_lt above at && nat_lt at most_nodes))) (eq_self at)
 hears_so above at p over (Includes captured less few asks) =
-    ap (λ b. not b && (is_asked at p.asks || (is_captured p.place && (nat_lt above at && nat_lt at most_nodes)))) over
-    ∙ ap (λ b. b || (is_captured p.place && (nat_lt above at && nat_lt at most_nodes))) asks
+    ap (λ b. not b && (is_asked at p.asks || (takes_up p.place && (nat_lt above at && nat_lt at most_nodes)))) over
+    ∙ ap (λ b. b || (takes_up p.place && (nat_lt above at && nat_lt at most_nodes))) asks
     ∙ ap (λ b. b && (nat_lt above at && nat_lt at most_nodes)) captured
     ∙ ap (λ b. b && nat_lt at most_nodes) less
     ∙ few

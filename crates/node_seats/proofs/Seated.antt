@@ -9,11 +9,11 @@ use Rattle.family_order.specs.Items.Stance.{Going}
 use Rattle.node_turn.specs.Stages.{is_in_row}
 use Rattle.node_turn.specs.declared.node.Node.{Node}
 use Rattle.node_turn.specs.declared.node.Place.{Place}
-use Rattle.node_turn.specs.declared.node.Place.TheVariants.{Row, Stub, Captured}
+use Rattle.node_turn.specs.declared.node.Place.TheVariants.{Row, Stub, Gathers, Captured}
 use Rattle.node_line.specs.Stances.{Own, Seat, Spot, filling, owned, stance_so, under}
 use Rattle.node_line.specs.Stances.Seat.{InRow, Inside}
 use Rattle.node_line.specs.Stances.Spot.{After, Behind}
-use Rattle.node_seats.specs.Seats.{Doing, ahead_line, asking_line, inner_line, inner_lines, is_asked, is_inner, most_nodes, withheld_text, is_captured, is_heard, line_from, place_stance, row_stance, stance_in, stance_of}
+use Rattle.node_seats.specs.Seats.{Doing, ahead_line, asking_line, inner_line, inner_lines, is_asked, is_inner, most_nodes, withheld_text, is_captured, is_heard, line_from, place_stance, row_stance, stance_in, stance_of, takes_up}
 use Rattle.node_seats.proofs.Above.{false_true, none_some}
 use Rattle.node_seats.proofs.Inners.{ahead_first, inners_first, inners_none, inners_same, no_inner}
 use Rattle.node_seats.proofs.Paths.{on_path, path_top}
@@ -57,17 +57,18 @@ unchanged d nodes at old there = record {
 
 -- ---- the line of a node that waits for no bytes
 
--- one whose bytes don't come to its parent
-pub line_alone : (d : Doing) (nodes : List Node) (levels at : ℕ) (n : Node) (rest : Line) → n.asks ≡ None → is_captured n.place ≡ false → line_from d nodes levels at n rest ≡ under (withheld_text n.place) (Gives at n.left (d.act at n) rest)
+-- one that doesn't take up bytes of subrequests
+pub line_alone : (d : Doing) (nodes : List Node) (levels at : ℕ) (n : Node) (rest : Line) → n.asks ≡ None → takes_up n.place ≡ false → line_from d nodes levels at n rest ≡ under (withheld_text n.place) (Gives at n.left (d.act at n) rest)
 unfolding line_from
 line_alone d nodes zero at n rest e free = refl
 line_alone d nodes (suc levels) at n rest e free =
     ap (λ asks. ahead_line n.place (inner_lines (line_from d nodes levels) nodes at n most_nodes) (under (withheld_text n.place) (asking_line d nodes (line_from d nodes levels) at n asks rest))) e
     ∙ none n.place (inner_lines (line_from d nodes levels) nodes at n most_nodes) (under (withheld_text n.place) (Gives at n.left (d.act at n) rest)) free
   where
-    none : (p : Place) (f : Line → Line) (line : Line) → is_captured p ≡ false → ahead_line p f line ≡ line
+    none : (p : Place) (f : Line → Line) (line : Line) → takes_up p ≡ false → ahead_line p f line ≡ line
     none Row f line h = refl
     none (Stub stub text) f line h = refl
+    none (Gathers stub text) f line h = cc
     none (Captured stub text) f line h = cc
 
 -- one that has no subrequest whose bytes come to it
@@ -88,6 +89,7 @@ line_bare d nodes (suc levels) at n rest e bare =
     none : (p : Place) (line : Line) → ahead_line p (inner_lines (line_from d nodes levels) nodes at n most_nodes) line ≡ line
     none Row line = refl
     none (Stub stub text) line = refl
+    none (Gathers stub text) line = inners_none (line_from d nodes levels) nodes at n most_nodes (λ c h r. each (line_from d nodes levels) c (slice_get nodes c) r refl) line
     none (Captured stub text) line = inners_none (line_from d nodes levels) nodes at n most_nodes (λ c h r. each (line_from d nodes levels) c (slice_get nodes c) r refl) line
 
 -- any of them
@@ -150,6 +152,7 @@ in_row_is d nodes levels at n there row free =
 abbrev pub seat_in : Own → Spot → (ahead : Line) → Line → Place → Seat
 seat_in own spot ahead rest Row = InRow
 seat_in own spot ahead rest (Stub stub text) = Inside own (Behind text spot) rest
+seat_in own spot ahead rest (Gathers stub text) = Inside own (Behind text (After ahead spot)) rest
 seat_in own spot ahead rest (Captured stub text) = Inside own (Behind text (After ahead spot)) rest
 
 -- seats in a line, by where the bytes of the node go
@@ -178,6 +181,7 @@ module _ (levels : ℕ) (d : Doing) (nodes : List Node) (at : ℕ) (old : Node) 
   row_is : (p : Place) → is_in_row p ≡ true → p ≡ Row
   row_is Row f = refl
   row_is (Stub stub text) f = cc
+  row_is (Gathers stub text) f = cc
   row_is (Captured stub text) f = cc
 
   -- those that it isn't told at, where these are on its path
@@ -221,6 +225,7 @@ module _ (levels : ℕ) (d : Doing) (nodes : List Node) (at : ℕ) (old : Node) 
       owned own (filling spot (ahead_line p inner (under (withheld_text p) (Gives at left m rest)))) ≡ stance_so (seat_in own spot (inner Nil) rest p) at left m
   so own spot rest Row inner first left m e = cc
   so own spot rest (Stub stub text) inner first left m e = refl
+  so own spot rest (Gathers stub text) inner first left m e = ap (λ line. owned own (filling spot line)) (first (under text (Gives at left m rest)))
   so own spot rest (Captured stub text) inner first left m e = ap (λ line. owned own (filling spot line)) (first (under text (Gives at left m rest)))
 
   seated_line : is_heard levels nodes at old ≡ true → is_in_row old.place ≡ false → Seated levels d nodes at old

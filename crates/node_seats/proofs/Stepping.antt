@@ -15,7 +15,7 @@ use Rattle.node_turn.specs.Stages.{hand_at, withheld_more, is_in_row, node_act}
 use Rattle.node_turn.specs.Turns.{PlacesAs, Works}
 use Rattle.node_turn.specs.declared.node.Node.{Node}
 use Rattle.node_turn.specs.declared.node.Place.{Place}
-use Rattle.node_turn.specs.declared.node.Place.TheVariants.{Row, Stub, Captured}
+use Rattle.node_turn.specs.declared.node.Place.TheVariants.{Row, Stub, Gathers, Captured}
 use Rattle.node_line.specs.Stances.{Opening, Spot, stance_so}
 use Rattle.node_line.specs.Stances.Seat.{Inside}
 use Rattle.node_line.specs.Stances.Spot.{After, Behind}
@@ -108,5 +108,7 @@ module _ (laws : ShowsTheSame) (w : World) (patterns : List SetPattern) (site : 
       by : (p : Place) → old.place ≡ p → Opening w tree 0 before vars after vars
       by Row e = absurd (no (sym apart ∙ ap is_in_row e))
       by (Stub stub text) e = go text l.spot (ap s.seat e ∙ l.is (Stub stub text)) (ap s.seat (place ∙ ap (withheld_more some) e) ∙ l.is (Stub stub (text ++ some)))
+      by (Gathers stub text) e =
+          go text (After l.ahead l.spot) (ap s.seat e ∙ l.is (Gathers stub text)) (ap s.seat (place ∙ ap (withheld_more some) e) ∙ l.is (Gathers stub (text ++ some)))
       by (Captured stub text) e =
           go text (After l.ahead l.spot) (ap s.seat e ∙ l.is (Captured stub text)) (ap s.seat (place ∙ ap (withheld_more some) e) ∙ l.is (Captured stub (text ++ some)))

@@ -12,7 +12,7 @@ use Rattle.family_order.specs.Items.Stance.{Going, Waiting, Apart, Hidden}
 use Rattle.node_turn.specs.Stages.{is_capturing, node_act, node_heard}
 use Rattle.node_turn.specs.declared.node.Node.{Node}
 use Rattle.node_turn.specs.declared.node.Place.{Place}
-use Rattle.node_turn.specs.declared.node.Place.TheVariants.{Row, Stub, Captured}
+use Rattle.node_turn.specs.declared.node.Place.TheVariants.{Row, Stub, Gathers, Captured}
 use Rattle.node_line.specs.Stances.{under}
 
 -- ---- by a node alone
@@ -21,18 +21,28 @@ use Rattle.node_line.specs.Stances.{under}
 abbrev pub withheld_text : Place → List ℕ
 withheld_text Row = []
 withheld_text (Stub stub text) = text
+withheld_text (Gathers stub text) = text
 withheld_text (Captured stub text) = text
 
 -- they come to its parent
 abbrev pub is_captured : Place → Bool
 is_captured Row = false
 is_captured (Stub stub text) = false
+is_captured (Gathers stub text) = false
 is_captured (Captured stub text) = true
+
+-- the bytes of its subrequests for which it doesn't wait come to it
+abbrev pub takes_up : Place → Bool
+takes_up Row = false
+takes_up (Stub stub text) = false
+takes_up (Gathers stub text) = true
+takes_up (Captured stub text) = true
 
 -- the stub that may yet come in the place of its body
 abbrev pub stub_in : Place → Option (List ℕ)
 stub_in Row = None
 stub_in (Stub stub text) = Some stub
+stub_in (Gathers stub text) = Some stub
 stub_in (Captured stub text) = stub
 
 -- What nodes still do by their numbers: by themselves, or once they hear the reply of the subrequest for which they wait.
@@ -93,10 +103,11 @@ unfoldable pub inner_lines : (below : ℕ → Node → Line → Line) → List N
 inner_lines below nodes node n zero rest = rest
 inner_lines below nodes node n (suc count) rest = inner_lines below nodes node n count (inner_line below node n count (slice_get nodes count) rest)
 
--- those that come before the bytes that a node withholds: only one whose bytes come to its parent goes on beside its subrequests
+-- those that come before the bytes that a node withholds, where it takes them up
 abbrev pub ahead_line : Place → (inner : Line → Line) → (rest : Line) → Line
 ahead_line Row inner rest = rest
 ahead_line (Stub stub text) inner rest = rest
+ahead_line (Gathers stub text) inner rest = inner rest
 ahead_line (Captured stub text) inner rest = inner rest
 
 -- The line of a node with all that comes to it, from at most `levels` levels below, before more of another.
@@ -117,6 +128,7 @@ row_stance d nodes levels node n (Some child) =
 abbrev pub place_stance : Doing → List Node → (levels node : ℕ) → Node → Place → Stance
 place_stance d nodes levels node n Row = row_stance d nodes levels node n n.asks
 place_stance d nodes levels node n (Stub stub text) = Apart (line_from d nodes (suc levels) node n Nil) stub
+place_stance d nodes levels node n (Gathers stub text) = Apart (line_from d nodes (suc levels) node n Nil) stub
 place_stance d nodes levels node n (Captured stub text) = Hidden
 
 abbrev pub stance_of : Doing → List Node → (levels node : ℕ) → Option Node → Stance
@@ -126,9 +138,9 @@ stance_of d nodes levels node (Some n) = place_stance d nodes levels node n n.pl
 abbrev pub stance_in : Doing → List Node → (levels : ℕ) → ℕ → Stance
 stance_in d nodes levels j = stance_of d nodes levels j (slice_get nodes j)
 
--- no subrequest is more levels below
+-- No subrequest is more levels below: the numbers of nodes rise from level to level.
 unfoldable pub most_levels : ℕ
-most_levels = 50
+most_levels = 1001
 
 -- The family, where the files that are read still have these texts, by node.
 abbrev pub seen : World → List SetPattern → Site → Main → Order → List Node → (texts : ℕ → List ℕ) → Family
@@ -138,7 +150,7 @@ seen w patterns site main row nodes texts = record { row = row; output = []; sta
 
 -- a node goes on, and waits for the bytes of the subrequest with this number, or takes them up beside its own
 abbrev pub hears : (node : ℕ) → (child : ℕ) → Node → Bool
-hears node child n = not n.over && (is_asked child n.asks || (is_captured n.place && (nat_lt node child && nat_lt child most_nodes)))
+hears node child n = not n.over && (is_asked child n.asks || (takes_up n.place && (nat_lt node child && nat_lt child most_nodes)))
 
 abbrev pub heard_by : (above : Node → Bool) → (node child : ℕ) → Option Node → Bool
 heard_by above node child None = false
@@ -153,7 +165,7 @@ is_heard (suc levels) nodes at n = not (is_captured n.place) || heard_by (is_hea
 -- a node goes on by itself
 abbrev pub is_seated : List Node → (at : ℕ) → Option Node → Bool
 is_seated nodes at None = false
-is_seated nodes at (Some n) = is_none n.asks && is_heard 50 nodes at n
+is_seated nodes at (Some n) = is_none n.asks && is_heard most_levels nodes at n
 
 -- ---- subrequests whose bytes come to a node
 

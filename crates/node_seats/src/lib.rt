@@ -2,6 +2,8 @@
 //! waits for their bytes (<https://nginx.org/en/docs/http/ngx_http_ssi_module.html>, `set` and `stub`).
 #![tactic(auto)]
 
+mod joining;
 mod seats;
 
+pub use joining::{inner_nodes, shown_by};
 pub use seats::{comes_beside, is_seated, is_withheld, next_inner};

@@ -1,6 +1,6 @@
 // Whether a node is where its steps are seen.
 ghost use Rattle.std.specs.Prelude.{◌≡◌, slice_get};
-ghost use Rattle.node_seats.specs.Seats.{IsNextInner, hears as hearing, inner_in, inner_of_its, is_asked as asked_for, is_captured, is_heard as heard, is_inner as inner_of, is_seated as has_seat};
+ghost use Rattle.node_seats.specs.Seats.{IsNextInner, hears as hearing, inner_in, inner_of_its, is_asked as asked_for, is_captured, is_heard as heard, is_inner as inner_of, is_seated as has_seat, takes_up as takes_in};
 
 use node_turn::{Node, Place};
 
@@ -11,6 +11,19 @@ pub fn is_withheld(place: &Place) -> bool
     match place {
         Place::Row => false,
         Place::Stub { stub: _, text: _ } => false,
+        Place::Gathers { stub: _, text: _ } => false,
+        Place::Captured { stub: _, text: _ } => true,
+    }
+}
+
+/// Whether a node takes up the bytes of subrequests for which it doesn't wait.
+fn takes_up(place: &Place) -> bool
+    ensures { result ≡ takes_in place.now }
+{
+    match place {
+        Place::Row => false,
+        Place::Stub { stub: _, text: _ } => false,
+        Place::Gathers { stub: _, text: _ } => true,
         Place::Captured { stub: _, text: _ } => true,
     }
 }
@@ -26,7 +39,7 @@ fn is_asked(child: u32, asks: Option<u32>) -> bool
 }
 
 /// No node has this number or a higher one.
-const MOST_NODES: u32 = 1001;
+pub(crate) const MOST_NODES: u32 = 1001;
 
 /// Whether the bytes of the second of these nodes, with their numbers, come to the first, which has opened it and doesn't wait
 /// for them; it isn't over.
@@ -41,7 +54,7 @@ fn is_inner(at: u32, node: &Node, child: u32, inner: &Node) -> bool
 }
 
 /// Whether the bytes of the second of the nodes with these numbers come so to the first.
-fn is_inner_in(nodes: &[Node], at: u32, child: u32) -> bool
+pub(crate) fn is_inner_in(nodes: &[Node], at: u32, child: u32) -> bool
     ensures { result ≡ inner_in at (slice_get nodes.now at) child (slice_get nodes.now child) }
 {
     let Some(node) = nodes.get(at as usize) else {
@@ -86,7 +99,7 @@ fn hears(at: u32, node: &Node, child: u32) -> bool
 {
     !node.over
         && (is_asked(child, node.asks)
-            || (is_withheld(&node.place) && at < child && child < MOST_NODES))
+            || (takes_up(&node.place) && at < child && child < MOST_NODES))
 }
 
 /// Whether the bytes of a node with this number, which is at most `levels` levels below the main request, are seen: the
@@ -107,16 +120,17 @@ fn is_heard(nodes: &[Node], at: u32, node: &Node, levels: u32) -> bool
     true
 }
 
-/// How many levels of subrequests a main request may open.
-const MOST_LEFT: u32 = 50;
+/// No subrequest is more levels below the main request: the numbers of nodes rise from level to level.
+pub(crate) const MOST_LEVELS: u32 = 1001;
 
 /// Whether a node goes on by itself: it waits for no body of a subrequest; and where its own bytes come to its parent, that waits
 /// for them, and so on.
+#[tactic(auto, unfolding(crate::specs::Seats::most_levels))]
 pub fn is_seated(nodes: &[Node], at: u32) -> bool
     ensures { result ≡ has_seat nodes.now at (slice_get nodes.now at) }
 {
     match nodes.get(at as usize) {
-        Some(node) => node.asks.is_none() && is_heard(nodes, at, node, MOST_LEFT),
+        Some(node) => node.asks.is_none() && is_heard(nodes, at, node, MOST_LEVELS),
         None => false,
     }
 }

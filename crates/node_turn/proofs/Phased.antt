@@ -16,8 +16,8 @@ use Rattle.request_meaning.specs.Answering.{sent, answer_with, page, page_to, pa
 use Rattle.request_meaning.specs.Bodies.{written}
 use Rattle.rewrite_code.specs.Places.{standing_seen}
 use Rattle.request_phases.specs.Rounds.{asked_in, prepared_as}
-use Rattle.request_phases.specs.declared.state.Outcome.{Outcome}
-use Rattle.request_phases.specs.declared.state.Outcome.TheVariants as outcomes
+use Rattle.request_phases.specs.declared.state.Conclusion.{Conclusion}
+use Rattle.request_phases.specs.declared.state.Conclusion.TheVariants as outcomes
 use Rattle.request_phases.specs.declared.state.Phases.{Phases}
 use Rattle.request_meaning.specs.Laws.{shipped}
 use Rattle.request_phases.specs.Rounds.{IsOfMain}
@@ -50,7 +50,7 @@ told_node files.Locked text = refl
 told_node files.Missing text = refl
 
 -- how long a file was said to be before makes no difference
-pub same_outcome : (w : World) (a : Asked) (s : Standing) (len : ℕ) (text : List ℕ) (o : Outcome) →
+pub same_outcome : (w : World) (a : Asked) (s : Standing) (len : ℕ) (text : List ℕ) (o : Conclusion) →
     prepared_as w a s (padded len text) o ≡ prepared_as w a s (bytes_for (told_length len o) text) (told_length len o)
 same_outcome w a s len text (outcomes.Text code t) = refl
 same_outcome w a s len text (outcomes.File told date) = refl
@@ -58,7 +58,7 @@ same_outcome w a s len text (outcomes.Page code) = refl
 same_outcome w a s len text (outcomes.Redirect code to) = refl
 same_outcome w a s len text outcomes.Close = refl
 
-pub fits : (o : Outcome) (text : List ℕ) → FitsFile o (bytes_for o text)
+pub fits : (o : Conclusion) (text : List ℕ) → FitsFile o (bytes_for o text)
 fits (outcomes.Text code t) text = tt
 fits (outcomes.File len date) text = padded_length len text
 fits (outcomes.Page code) text = tt
@@ -67,7 +67,7 @@ fits outcomes.Close text = tt
 
 -- ---- the answer is to the request of its phases
 
-pub is_for : (w : World) (site : Site) (p : Phases) (bytes : List ℕ) (o : Outcome) → IsFor site p (prepared_as w (asked_in p) (standing_seen site p.at) bytes o).answer
+pub is_for : (w : World) (site : Site) (p : Phases) (bytes : List ℕ) (o : Conclusion) → IsFor site p (prepared_as w (asked_in p) (standing_seen site p.at) bytes o).answer
 unfolding sent answer_with page page_to page_answer moved closed_answer
 is_for w site p bytes (outcomes.Text code t) = record { main = refl; request = refl; values = refl }
 is_for w site p bytes (outcomes.File len date) = record { main = refl; request = refl; values = refl }
@@ -126,7 +126,7 @@ answers_so w left ssi made answer bytes facts body b vars a e h =
     ap (λ m. settled m vars) (body_is w left ssi made answer (body_seen bytes facts body) a e) ∙ ap (λ x. settled (body_then w left ssi answer (body_seen bytes facts x)) vars) h
 
 -- a reply says what was prepared, by the outcome that it is made of
-pub reply_so : (w : World) (site : Site) (p : Phases) (text : List ℕ) (reply : Reply) (o made : Outcome) → made ≡ o → w.members ≡ shipped →
+pub reply_so : (w : World) (site : Site) (p : Phases) (text : List ℕ) (reply : Reply) (o made : Conclusion) → made ≡ o → w.members ≡ shipped →
     ((w : World) (bytes : List ℕ) → w.members ≡ shipped → FitsFile made bytes → IsReply reply bytes (prepared_as w (asked_in p) (standing_seen site p.at) bytes made)) →
     IsReply reply (bytes_for o text) (prepared_as w (asked_in p) (standing_seen site p.at) (bytes_for o text) o)
 reply_so w site p text reply o made e s h =

@@ -21,8 +21,8 @@ use Rattle.request_meaning.specs.Phases.{rounds}
 use Rattle.family_meaning.specs.Suspended.{document_rest}
 use Rattle.rewrite_code.specs.Places.{standing_seen}
 use Rattle.request_phases.specs.Rounds.{asked_from, phases_told}
-use Rattle.request_phases.specs.declared.state.Outcome.{Outcome}
-use Rattle.request_phases.specs.declared.state.Outcome.TheVariants as outcomes
+use Rattle.request_phases.specs.declared.state.Conclusion.{Conclusion}
+use Rattle.request_phases.specs.declared.state.Conclusion.TheVariants as outcomes
 use Rattle.request_phases.specs.declared.state.Phases.{Phases}
 use Rattle.ssi_exec.specs.declared.document.Document.{Document}
 use Rattle.ssi_exec.specs.Scenes.{branch_seen, block_seen}
@@ -103,7 +103,7 @@ asked_path (asks.Stat path of) = path
 asked_path (asks.Read path start count of) = path
 
 -- the bytes of a file that was told last, where it has this text
-abbrev pub bytes_for : Outcome → List ℕ → List ℕ
+abbrev pub bytes_for : Conclusion → List ℕ → List ℕ
 bytes_for (outcomes.Text code text) file = []
 bytes_for (outcomes.File len date) file = padded len file
 bytes_for (outcomes.Page code) file = []
@@ -111,7 +111,7 @@ bytes_for (outcomes.Redirect code to) file = []
 bytes_for outcomes.Close file = []
 
 -- an answer with the file that was told, of this length
-abbrev pub told_length : ℕ → Outcome → Outcome
+abbrev pub told_length : ℕ → Conclusion → Conclusion
 told_length len (outcomes.Text code text) = outcomes.Text code text
 told_length len (outcomes.File told date) = outcomes.File len date
 told_length len (outcomes.Page code) = outcomes.Page code

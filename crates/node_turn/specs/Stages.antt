@@ -11,7 +11,7 @@ use Rattle.request_meaning.specs.Serving.{World, Serving, Answer}
 use Rattle.node_turn.specs.Nodes.{asked_path, hand, lent, stage_act, stage_heard}
 use Rattle.node_turn.specs.declared.node.Node.{Node}
 use Rattle.node_turn.specs.declared.node.Place.{Place}
-use Rattle.node_turn.specs.declared.node.Place.TheVariants.{Row, Stub, Captured}
+use Rattle.node_turn.specs.declared.node.Place.TheVariants.{Row, Stub, Gathers, Captured}
 use Rattle.node_turn.specs.declared.node.Stage.{Stage}
 use Rattle.node_turn.specs.declared.node.Stage.TheVariants.{Begins, Asks, Told, Places, Serves, Reads, Captures, Ends}
 
@@ -111,12 +111,14 @@ is_ending (Ends b) = true
 abbrev pub is_in_row : Place → Bool
 is_in_row Row = true
 is_in_row (Stub stub text) = false
+is_in_row (Gathers stub text) = false
 is_in_row (Captured stub text) = false
 
 -- with more bytes of a body of which it isn't known whether it is shown
 abbrev pub withheld_more : List ℕ → Place → Place
 withheld_more bytes Row = Row
 withheld_more bytes (Stub stub text) = Stub stub (text ++ bytes)
+withheld_more bytes (Gathers stub text) = Gathers stub (text ++ bytes)
 withheld_more bytes (Captured stub text) = Captured stub (text ++ bytes)
 
 -- ---- what it still does

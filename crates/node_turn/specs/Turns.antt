@@ -9,7 +9,7 @@ use Rattle.request_meaning.specs.Laws.{shipped}
 use Rattle.request_meaning.specs.Serving.{Serving, Answer}
 use Rattle.request_phases.specs.Rounds.{asked_in, prepared_as, world_in}
 use Rattle.request_phases.specs.declared.ground.Ground.{Ground}
-use Rattle.request_phases.specs.declared.state.Outcome.{Outcome}
+use Rattle.request_phases.specs.declared.state.Conclusion.{Conclusion}
 use Rattle.request_phases.specs.declared.state.Phases.{Phases}
 use Rattle.ssi_exec.specs.declared.document.Scene.{Scene}
 use Rattle.node_turn.specs.Nodes.{after_phases, bytes_for, stage_act}
@@ -25,7 +25,7 @@ pub record IsSceneOf (g : Ground) (p : Phases) (left : ℕ) (scene : Scene) : Ty
   pub levels : scene.left ≡ left
 
 -- The body that follows what phases decided settles as the act of this stage, whatever the file is and whatever is set.
-abbrev pub AnswersAs : Ground → Phases → (left : ℕ) → Vars → Outcome → Stage → Type 0
+abbrev pub AnswersAs : Ground → Phases → (left : ℕ) → Vars → Conclusion → Stage → Type 0
 AnswersAs g p left ssi outcome stage = (patterns : List SetPattern) (path text : List ℕ) (vars : Vars) →
     let w = world_in patterns g shipped in
     settled (after_phases w left ssi (prepared_as w (asked_in p) (standing_seen g.site.now p.at) (bytes_for outcome text) outcome)) vars

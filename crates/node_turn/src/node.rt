@@ -77,6 +77,12 @@ pub enum Place {
         stub: ByteText,
         text: ByteText,
     },
+    /// It isn't known yet either, and bytes of its subrequests come to it: these bytes of its body came
+    /// after theirs.
+    Gathers {
+        stub: ByteText,
+        text: ByteText,
+    },
     /// To its parent: these bytes of its body came so far. It may have a stub that takes the place
     /// of an empty body, or of one with a status of 400 or above.
     Captured {

@@ -26,18 +26,18 @@ use filter_api::Facts;
 use ngx_pattern::PatternSet;
 use ngx_variables::{Main, VarTable};
 use page_body::Page;
-use request_phases::{Ground, Outcome, Phases, Step, Wait, begin, resume};
+use request_phases::{Conclusion, Ground, Phases, Step, Wait, begin, resume};
 use request_reply::{Body as ReplyBody, reply_of};
 use ssi_exec::Scene;
 use ssi_values::Table;
 use std::alloc::Global;
 
 /// An answer with a file has the length that was told of it.
-fn with_length(len: u64, outcome: Outcome) -> Outcome
+fn with_length(len: u64, outcome: Conclusion) -> Conclusion
     ensures { result ≡ told_length len outcome }
 {
     match outcome {
-        Outcome::File { len: _, date } => Outcome::File { len, date },
+        Conclusion::File { len: _, date } => Conclusion::File { len, date },
         other => other,
     }
 }
@@ -56,15 +56,15 @@ fn len_of(file: FileNode) -> u64
 
 /// How many bytes of a file are to come for what phases decided.
 #[tactic(auto, unfolding(crate::specs::Nodes::padded))]
-fn file_len(outcome: &Outcome) -> u64
+fn file_len(outcome: &Conclusion) -> u64
     ensures { (text : List ℕ) → padded result text ≡ bytes_for outcome.now text }
 {
     match outcome {
-        Outcome::File { len, date: _ } => *len,
-        Outcome::Text { code: _, text: _ } => 0,
-        Outcome::Page(_) => 0,
-        Outcome::Redirect { code: _, to: _ } => 0,
-        Outcome::Close => 0,
+        Conclusion::File { len, date: _ } => *len,
+        Conclusion::Text { code: _, text: _ } => 0,
+        Conclusion::Page(_) => 0,
+        Conclusion::Redirect { code: _, to: _ } => 0,
+        Conclusion::Close => 0,
     }
 }
 
@@ -206,7 +206,7 @@ pub fn answering(
     phases: &Phases,
     left: u32,
     ssi: Table,
-    outcome: Outcome,
+    outcome: Conclusion,
 ) -> Result<Stage, OutOfMemory>
     ensures asks { IfOk result (λ stage. is_asking stage ≡ false) }
     ensures acts { IfOk result (λ stage.

@@ -236,6 +236,13 @@ pub fn withhold(place: &mut Place, bytes: &[u8]) -> Result<(), OutOfMemory>
             text.extend(bytes)?;
             Ok(())
         }
+        Place::Gathers { stub: _, text } => {
+            if text.len().saturating_add(bytes.len()) > MOST_WITHHELD {
+                return Err(OutOfMemory);
+            }
+            text.extend(bytes)?;
+            Ok(())
+        }
         Place::Captured { stub: _, text } => {
             if text.len().saturating_add(bytes.len()) > MOST_WITHHELD {
                 return Err(OutOfMemory);

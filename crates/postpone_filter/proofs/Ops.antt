@@ -1,11 +1,11 @@
 -- What the calls leave of the nodes.
-use Rattle.std.proofs.Common.{◌≡◌, ℕ, ◌+◌, ◌<◌, ◌≤◌, true, false, ◌&&◌, ◌==◌, List, [], ◌∷◌, ◌++◌, length, drop, refl, sym, ap, ◌∙◌, arith, append_assoc, append-nil, not, if◌then◌else◌}
+use Rattle.std.proofs.Common.{◌≡◌, ℕ, ◌+◌, ◌<◌, ◌≤◌, true, false, ◌&&◌, ◌==◌, List, [], ◌∷◌, ◌++◌, length, drop, refl, sym, ap, subst, ◌∙◌, arith, append_assoc, append-nil, not, if◌then◌else◌}
 use Rattle.std.proofs.lemmas.Bool.{eqb-true, eq-eqb, ne_eqb}
 use Rattle.std.proofs.lemmas.List.{nil_from_length, drop-append-le}
 use Rattle.postpone_filter.specs.Row.{Piece, is_place, is_open, bytes_of, at_place, longer, closed, fresh, is_over, clean, shorter}
 use Rattle.postpone_filter.specs.Buffers.{names, IsLawful, starts_over}
-use Rattle.postpone_filter.proofs.Places.{lawful-later, place-node, unnamed-behind, unnamed-bytes, unnamed-open}
-use Rattle.postpone_filter.proofs.Changes.{bytes-same, open-same, lawful-change}
+use Rattle.postpone_filter.proofs.Places.{lawful-later, named_behind, place-node, unnamed-behind, unnamed-bytes, unnamed-open}
+use Rattle.postpone_filter.proofs.Changes.{bytes-same, names-same, open-same, lawful-change}
 
 pub eqb-other : (a b : ℕ) → (a ≡ b → ⊥) → (a == b) ≡ false
 eqb-other a b h = ne_eqb a b h
@@ -130,6 +130,42 @@ child-lawful n id ps l = lawful-change n (n + 1) id (λ p. closed p ∷ fresh n 
       | false ↦ λ t. ap (λ u. if u then true else (if id == j then true else names j rest)) other ∙ ap (λ u. if u then true else names j rest) (ap (λ k. k == j) (sym at.1) ∙ t)
     ] refl)
     (λ p rest k. k.0) l
+
+-- a node goes on again
+
+again-names : (id child j : ℕ) (ps : List Piece) → (child ≡ j → ⊥) → names j (at_place id (λ p. closed p ∷ fresh child ∷ fresh id ∷ []) ps) ≡ names j ps
+unfolding names
+again-names id child j ps h = names-same id j (λ p. closed p ∷ fresh child ∷ fresh id ∷ []) ps (λ p rest e.
+    let at = place-node id p e in
+    let other : (child == j) ≡ false = ne_eqb child j h in
+    elim (p.node == j) as (λ t. (p.node == j) ≡ t → (if t then true else (if child == j then true else (if id == j then true else names j rest))) ≡ (if t then true else names j rest)) [
+      | true ↦ λ t. refl
+      | false ↦ λ t. ap (λ u. if u then true else (if id == j then true else names j rest)) other ∙ ap (λ u. if u then true else names j rest) (ap (λ k. k == j) (sym at.1) ∙ t)
+    ] refl)
+
+not-open : (child : ℕ) (p : Piece) (ps : List Piece) → is_open child (p ∷ ps) ≡ false → child ≡ p.node → p.grows ≡ true → ⊥
+unfolding is_open
+not-open child p ps o v w =
+    let here : is_place child p ≡ true = ap (λ g. g && (p.node == child)) w ∙ eq-eqb p.node child (sym v) in
+    let bad : true ≡ false = sym (ap (λ t. if t then true else is_open child ps) here) ∙ o in
+    cc
+
+open-later : (child : ℕ) (p : Piece) (ps : List Piece) → is_open child (p ∷ ps) ≡ false → is_open child ps ≡ false
+unfolding is_open
+open-later child p ps o = elim (is_place child p) as (λ t. (if t then true else is_open child ps) ≡ false → is_open child ps ≡ false) [ true ↦ λ e. cc | false ↦ λ e. e ] o
+
+pub again-lawful : (n id child : ℕ) (ps : List Piece) → child < n → is_open child ps ≡ false → named_behind child id ps ≡ false → (child ≡ id → ⊥) → IsLawful n ps → IsLawful n (at_place id (λ p. closed p ∷ fresh child ∷ fresh id ∷ []) ps)
+unfolding IsLawful names at_place named_behind
+again-lawful n id child [] h o b apart l = tt
+again-lawful n id child (p ∷ ps) h o b apart l =
+    elim (is_place id p) as (λ t. is_place id p ≡ t → (if t then names child ps else named_behind child id ps) ≡ false → IsLawful n (if t then closed p ∷ fresh child ∷ fresh id ∷ ps else p ∷ at_place id (λ q. closed q ∷ fresh child ∷ fresh id ∷ []) ps)) [
+      | true ↦ λ t u.
+          let at = place-node id p t in
+          let other : (id == child) ≡ false = ne_eqb id child (λ w. apart (sym w)) in
+          (l.0, ((λ w. cc), (h, ((λ w. ap (λ z. if z then true else names child ps) other ∙ u), (subst (λ k. k < n) at.1 l.0, ((λ w. unnamed-behind n id p ps l t), l.1.1))))))
+      | false ↦ λ t u.
+          (l.0, ((λ w. again-names id child p.node ps (λ v. not-open child p ps o v w) ∙ l.1.0 w), again-lawful n id child ps h (open-later child p ps o) u apart l.1.1))
+    ] refl b
 
 -- the first pieces that give nothing more are taken away
 

@@ -1,5 +1,5 @@
 -- The one place of a node.
-use Rattle.std.proofs.Common.{◌≡◌, ℕ, zero, suc, ◌<◌, true, false, ◌&&◌, ◌==◌, List, [], ◌∷◌, ◌++◌, length, get_or, take, drop, set, refl, sym, ap, ◌∙◌, arith, if◌then◌else◌}
+use Rattle.std.proofs.Common.{◌≡◌, ℕ, zero, suc, ◌<◌, Bool, true, false, ◌&&◌, ◌==◌, List, [], ◌∷◌, ◌++◌, length, get_or, take, drop, set, refl, sym, ap, ◌∙◌, arith, if◌then◌else◌}
 use Rattle.std.proofs.lemmas.List.{set_split}
 use Rattle.std.proofs.lemmas.Bool.{and_parts, eqb-true}
 use Rattle.std.specs.List.{insert}
@@ -82,3 +82,22 @@ two (x ∷ xs) (suc i) q a b h = ap (λ z. x ∷ z) (two xs i q a b (omega arith
 
 pub insert-two : {A : Type 0} → (xs : List A) (i j k : ℕ) (q a b : A) → j ≡ suc i → k ≡ suc (suc i) → i < length xs → insert (insert (set xs i q) j a) k b ≡ take i xs ++ (q ∷ a ∷ b ∷ drop (suc i) xs)
 insert-two xs i j k q a b e w h = ap (λ n. insert (insert (set xs i q) n a) k b) e ∙ ap (λ n. insert (insert (set xs i q) (suc i) a) n b) w ∙ two xs i q a b h
+
+-- whether a piece after the place of a node is of another
+unfoldable pub named_behind : (child id : ℕ) → List Piece → Bool
+named_behind child id [] = false
+named_behind child id (p ∷ ps) = if is_place id p then names child ps else named_behind child id ps
+
+names_later : (child : ℕ) (p : Piece) (ps : List Piece) → names child (p ∷ ps) ≡ false → names child ps ≡ false
+unfolding names
+names_later child p ps e = elim (p.node == child) as (λ t. (if t then true else names child ps) ≡ false → names child ps ≡ false) [ true ↦ λ h. cc | false ↦ λ h. h ] e
+
+pub none_behind : (n child id : ℕ) (ps : List Piece) (i : ℕ) (d : Piece) → i < length ps → IsLawful n ps → is_place id (get_or ps i d) ≡ true → names child (drop i ps) ≡ false → named_behind child id ps ≡ false
+unfolding named_behind
+none_behind n child id [] i d h l e u = refl
+none_behind n child id (p ∷ ps) zero d h l e u = ap (λ t. if t then names child ps else named_behind child id ps) e ∙ names_later child p ps u
+none_behind n child id (p ∷ ps) (suc i) d h l e u =
+    elim (is_place id p) as (λ t. is_place id p ≡ t → (if t then names child ps else named_behind child id ps) ≡ false) [
+      | true ↦ λ t. absurd (one_place n id p ps i d l (omega arith) e t)
+      | false ↦ λ t. none_behind n child id ps i d (omega arith) (lawful-later n p ps l) e u
+    ] refl

@@ -5,9 +5,9 @@ use Rattle.std.proofs.lemmas.Bool.{and_parts, eqb-true, eq-eqb}
 use Rattle.std.specs.List.{insert}
 use Rattle.postpone_filter.specs.declared.part.Part.{Part}
 use Rattle.postpone_filter.specs.Row.{Piece, is_place, is_open, bytes_of, at_place, longer, closed, fresh, shorter, front_of, room, most, is_first}
-use Rattle.postpone_filter.specs.Buffers.{Buffer, no_buffer, waiting_at, part_of, is_part_place, IsLawful, Shows, first_part_is}
-use Rattle.postpone_filter.proofs.Places.{place-node, place-open, at_place-set, at_place-split, insert-two}
-use Rattle.postpone_filter.proofs.Ops.{append-bytes-other, append-bytes-own, append-open, append-lawful, end-bytes, end-open-other, end-open-own, end-lawful, child-bytes, child-open-other, child-open-own, child-lawful, shorter-bytes-own, shorter-bytes-other, shorter-open, shorter-lawful}
+use Rattle.postpone_filter.specs.Buffers.{Buffer, no_buffer, waiting_at, part_of, is_named, is_part_place, names, IsLawful, Shows, first_part_is}
+use Rattle.postpone_filter.proofs.Places.{none_behind, place-node, place-open, at_place-set, at_place-split, insert-two}
+use Rattle.postpone_filter.proofs.Ops.{append-bytes-other, append-bytes-own, append-open, append-lawful, end-bytes, end-open-other, end-open-own, end-lawful, child-bytes, child-open-other, child-open-own, child-lawful, again-lawful, shorter-bytes-own, shorter-bytes-other, shorter-open, shorter-lawful}
 use Rattle.postpone_filter.proofs.Ties.{part-length, part-at, part-place, part-node, part-len, shows-change, shows-more}
 
 abbrev none : Piece
@@ -42,6 +42,9 @@ changed-parts id f ps parts buffers i r w h e is =
 
 open-place : (id : ℕ) (ps : List Piece) (parts : List Part) (buffers : List Buffer) (i : ℕ) → Shows ps parts buffers → i < length parts → IsPlaceAt id parts i → is_open id ps ≡ true
 open-place id ps parts buffers i w h e = place-open id ps i none (omega (arith, part-length ps parts buffers w, h)) (part-place id ps parts buffers i none w h e)
+
+pub part-open : (id : ℕ) (ps : List Piece) (parts : List Part) (buffers : List Buffer) (i : ℕ) → Shows ps parts buffers → i < length parts → ((s : Part) → is_part_place id (get_or parts i s) ≡ true) → is_open id ps ≡ true
+part-open id ps parts buffers i w h e = open-place id ps parts buffers i w h e
 
 pub shows-append : (id : ℕ) (ps : List Piece) (parts : List Part) (buffers : List Buffer) (i : ℕ) (r : Part) (b new : Buffer) (more : List ℕ) (n : ℕ)
     → Shows ps parts buffers → i < length parts → IsPlaceAt id parts i → r ≡ get_or parts i r → b ≡ get_or buffers id b
@@ -78,30 +81,63 @@ drop-map zero ps = refl
 drop-map (suc i) [] = refl
 drop-map (suc i) (p ∷ ps) = drop-map i ps
 
-pub shows-child : (id child : ℕ) (ps : List Piece) (parts : List Part) (buffers : List Buffer) (i : ℕ) (r : Part) (new : Buffer)
+-- a place and two more in the place of one
+put-two : (id child : ℕ) (ps : List Piece) (parts : List Part) (buffers : List Buffer) (i : ℕ) (r : Part)
     → Shows ps parts buffers → i < length parts → IsPlaceAt id parts i → r ≡ get_or parts i r
-    → new.waiting ≡ [] → new.goes_on ≡ true → child ≡ length buffers
-    → Shows (at_place id (λ p. closed p ∷ fresh child ∷ fresh id ∷ []) ps) (insert (insert (set parts i (record { node = r.node; len = r.len; grows = false })) (i + 1) (part_of (fresh child))) (i + 2) (part_of (fresh id))) (buffers ++ new ∷ [])
-shows-child id child ps parts buffers i r new w h e at waiting opened number =
+    → insert (insert (set parts i (record { node = r.node; len = r.len; grows = false })) (i + 1) (part_of (fresh child))) (i + 2) (part_of (fresh id)) ≡ map part_of (at_place id (λ p. closed p ∷ fresh child ∷ fresh id ∷ []) ps)
+put-two id child ps parts buffers i r w h e at =
     let inside : i < length ps = omega (arith, part-length ps parts buffers w, h) in
     let q : Piece = get_or ps i none in
     let place : is_place id q ≡ true = part-place id ps parts buffers i none w h e in
     let is : r ≡ part_of q = part-at ps parts buffers i r none w h at in
     let f : Piece → List Piece = λ p. closed p ∷ fresh child ∷ fresh id ∷ [] in
     let part : (let s : Part = record { node = r.node; len = r.len; grows = false } in s) ≡ part_of (closed q) = ap (λ (z : Part). let s : Part = record { node = z.node; len = z.len; grows = false } in s) is in
-    let rows : insert (insert (set parts i (record { node = r.node; len = r.len; grows = false })) (i + 1) (part_of (fresh child))) (i + 2) (part_of (fresh id)) ≡ map part_of (at_place id f ps) =
     insert-two parts i (i + 1) (i + 2) _ (part_of (fresh child)) (part_of (fresh id)) (omega arith) (omega arith) h
     ∙ ap (λ (z : Part). take i parts ++ (z ∷ part_of (fresh child) ∷ part_of (fresh id) ∷ drop (suc i) parts)) part
     ∙ ap (λ z. take i z ++ (part_of (closed q) ∷ part_of (fresh child) ∷ part_of (fresh id) ∷ drop (suc i) z)) w.parts_are
     ∙ ap (λ z. z ++ (part_of (closed q) ∷ part_of (fresh child) ∷ part_of (fresh id) ∷ drop (suc i) (map part_of ps))) (take-map part_of i ps)
     ∙ ap (λ z. map part_of (take i ps) ++ (part_of (closed q) ∷ part_of (fresh child) ∷ part_of (fresh id) ∷ z)) (sym (drop-map (suc i) ps))
     ∙ sym (map-append part_of (take i ps) (closed q ∷ fresh child ∷ fresh id ∷ drop (suc i) ps))
-    ∙ ap (map part_of) (sym (at_place-split (length buffers) id f ps i none inside w.lawful place)) in
+    ∙ ap (map part_of) (sym (at_place-split (length buffers) id f ps i none inside w.lawful place))
+
+pub shows-child : (id child : ℕ) (ps : List Piece) (parts : List Part) (buffers : List Buffer) (i : ℕ) (r : Part) (new : Buffer)
+    → Shows ps parts buffers → i < length parts → IsPlaceAt id parts i → r ≡ get_or parts i r
+    → new.waiting ≡ [] → new.goes_on ≡ true → child ≡ length buffers
+    → Shows (at_place id (λ p. closed p ∷ fresh child ∷ fresh id ∷ []) ps) (insert (insert (set parts i (record { node = r.node; len = r.len; grows = false })) (i + 1) (part_of (fresh child))) (i + 2) (part_of (fresh id))) (buffers ++ new ∷ [])
+shows-child id child ps parts buffers i r new w h e at waiting opened number =
+    let f : Piece → List Piece = λ p. closed p ∷ fresh child ∷ fresh id ∷ [] in
     let is_new : is_open (length buffers) (at_place id f ps) ≡ true = ap (λ k. is_open k (at_place id f ps)) (sym number) ∙ child-open-own id child ps (open-place id ps parts buffers i w h e) in
     let lawful : IsLawful (length buffers + 1) (at_place id f ps) =
     subst (λ k. IsLawful (length buffers + 1) (at_place id (λ p. closed p ∷ fresh k ∷ fresh id ∷ []) ps)) (sym number) (child-lawful (length buffers) id ps w.lawful) in
-    shows-more ps (at_place id f ps) parts _ buffers new w rows waiting opened is_new
+    shows-more ps (at_place id f ps) parts _ buffers new w (put-two id child ps parts buffers i r w h e at) waiting opened is_new
     (λ j. child-bytes id child j ps) (λ j apart. child-open-other id child j ps (λ v. apart (sym number ∙ v))) lawful
+
+-- a node goes on again
+names-map : (id : ℕ) (ps : List Piece) → is_named id (map part_of ps) ≡ names id ps
+unfolding is_named names
+names-map id [] = refl
+names-map id (p ∷ ps) = ap (λ z. if p.node == id then true else z) (names-map id ps)
+
+pub shows-again : (id child : ℕ) (ps : List Piece) (parts : List Part) (buffers : List Buffer) (i : ℕ) (r : Part) (b new : Buffer)
+    → Shows ps parts buffers → i < length parts → IsPlaceAt id parts i → r ≡ get_or parts i r → child < length buffers → b ≡ get_or buffers child b
+    → new.waiting ≡ b.waiting → new.goes_on ≡ true → is_open child ps ≡ false → is_named child (drop i parts) ≡ false
+    → Shows (at_place id (λ p. closed p ∷ fresh child ∷ fresh id ∷ []) ps) (insert (insert (set parts i (record { node = r.node; len = r.len; grows = false })) (i + 1) (part_of (fresh child))) (i + 2) (part_of (fresh id))) (set buffers child new)
+shows-again id child ps parts buffers i r b new w h e at low own waiting opened over unnamed =
+    let inside : i < length ps = omega (arith, part-length ps parts buffers w, h) in
+    let place : is_place id (get_or ps i none) ≡ true = part-place id ps parts buffers i none w h e in
+    let f : Piece → List Piece = λ p. closed p ∷ fresh child ∷ fresh id ∷ [] in
+    let is : is_open id ps ≡ true = open-place id ps parts buffers i w h e in
+    let apart : child ≡ id → ⊥ = λ v. clash (sym over ∙ ap (λ k. is_open k ps) v ∙ is) in
+    let none_left : names child (drop i ps) ≡ false = sym (names-map child (drop i ps)) ∙ ap (is_named child) (drop-map i ps ∙ ap (drop i) (sym w.parts_are)) ∙ unnamed in
+    shows-change ps (at_place id f ps) parts _ buffers child new w low
+    (put-two id child ps parts buffers i r w h e at)
+    (waiting ∙ waiting-is ps parts buffers child b w low own ∙ sym (child-bytes id child child ps))
+    (opened ∙ sym (child-open-own id child ps is))
+    (λ j other. child-bytes id child j ps) (λ j other. child-open-other id child j ps other)
+    (again-lawful (length buffers) id child ps low over (none_behind (length buffers) child id ps i none inside w.lawful place none_left) apart w.lawful)
+  where
+    clash : {A : Type 0} → false ≡ true → A
+    clash u = cc
 
 first-is : (p : Piece) (ps : List Piece) (parts : List Part) (buffers : List Buffer) (r : Part) → Shows (p ∷ ps) parts buffers → r ≡ get_or parts 0 r → r ≡ part_of p
 first-is p ps parts buffers r w at = at ∙ ap (λ z. get_or z 0 r) w.parts_are
@@ -219,3 +255,16 @@ child-put id child ps parts buffers i r new one two first second more w h e at w
     subst (λ z. Shows (at_place id (λ p. closed p ∷ fresh child ∷ fresh id ∷ []) ps) z more) (sym rows)
     (subst (λ z. Shows (at_place id (λ p. closed p ∷ fresh child ∷ fresh id ∷ []) ps) (insert (insert (set parts i cut_part) (i + 1) (part_of (fresh child))) (i + 2) (part_of (fresh id))) z) (sym m)
     (shows-child id child ps parts buffers i r new w h e at waiting opened number))
+
+pub again-put : (id child : ℕ) (ps : List Piece) (parts : List Part) (buffers : List Buffer) (i : ℕ) (r : Part) (b new : Buffer) (one two : Part) (first second : List Part) (more : List Buffer)
+    → Shows ps parts buffers → i < length parts → IsPlaceAt id parts i → r ≡ get_or parts i r → child < length buffers → b ≡ get_or buffers child b
+    → new.waiting ≡ b.waiting → new.goes_on ≡ true → is_open child ps ≡ false → is_named child (drop i parts) ≡ false → one ≡ part_of (fresh child) → two ≡ part_of (fresh id)
+    → first ≡ insert (set parts i (record { node = r.node; len = r.len; grows = false })) (i + 1) one → second ≡ insert first (i + 2) two → more ≡ set buffers child new
+    → Shows (at_place id (λ p. closed p ∷ fresh child ∷ fresh id ∷ []) ps) second more
+again-put id child ps parts buffers i r b new one two first second more w h e at low own waiting opened over unnamed a c f g m =
+    let cut_part : Part = record { node = r.node; len = r.len; grows = false } in
+    let rows : second ≡ insert (insert (set parts i cut_part) (i + 1) (part_of (fresh child))) (i + 2) (part_of (fresh id)) =
+    g ∙ ap (λ z. insert z (i + 2) two) (f ∙ ap (insert (set parts i cut_part) (i + 1)) a) ∙ ap (insert (insert (set parts i cut_part) (i + 1) (part_of (fresh child))) (i + 2)) c in
+    subst (λ z. Shows (at_place id (λ p. closed p ∷ fresh child ∷ fresh id ∷ []) ps) z more) (sym rows)
+    (subst (λ z. Shows (at_place id (λ p. closed p ∷ fresh child ∷ fresh id ∷ []) ps) (insert (insert (set parts i cut_part) (i + 1) (part_of (fresh child))) (i + 2) (part_of (fresh id))) z) (sym m)
+    (shows-again id child ps parts buffers i r b new w h e at low own waiting opened over unnamed))

@@ -1,14 +1,15 @@
 -- What the calls do to the row that contracts see.
-use Rattle.std.proofs.Common.{◌≡◌, ℕ, zero, suc, ◌+◌, true, false, ◌&&◌, ◌==◌, List, [], ◌∷◌, ◌++◌, length, get_or, take, set, refl, sym, ap, subst, ◌∙◌, arith, not, if◌then◌else◌}
+use Rattle.std.proofs.Common.{◌≡◌, ℕ, zero, suc, ◌+◌, ◌<◌, true, false, ◌&&◌, ◌==◌, List, [], ◌∷◌, ◌++◌, length, get_or, take, set, refl, sym, ap, subst, ◌∙◌, arith, not, if◌then◌else◌}
 use Rattle.std.proofs.lemmas.List.{set-get_or}
 use Rattle.std.proofs.lemmas.Bool.{eqb-true, eq-eqb, ne_eqb}
 use Rattle.postpone_filter.specs.declared.part.Part.{Part}
-use Rattle.postpone_filter.specs.Row.{Piece, Row, is_open, bytes_of, at_place, longer, closed, fresh, clean, front_of, FirstGives, begun, appended, with_child, ended, used}
-use Rattle.postpone_filter.specs.Buffers.{Buffer, waiting_at, open_at, part_of, pieces_of, IsLawful, Shows, AreTied, clean_parts, starts_over}
+use Rattle.postpone_filter.specs.Row.{Piece, Row, is_open, bytes_of, at_place, longer, closed, fresh, clean, front_of, FirstGives, begun, appended, with_child, reopened, ended, used}
+use Rattle.postpone_filter.specs.Buffers.{Buffer, waiting_at, open_at, part_of, is_part_place, pieces_of, IsLawful, Shows, AreTied, clean_parts, starts_over}
 use Rattle.postpone_filter.specs.Runs.{filled, giving}
 use Rattle.postpone_filter.proofs.Places.{at_place-none}
 use Rattle.postpone_filter.proofs.Ops.{clean-starts, append-starts, clean-open, append-open, end-open-own, end-open-other, child-open-own, child-open-other, shorter-open}
 use Rattle.postpone_filter.proofs.Ties.{shows-tied, shows-pieces, shows-clean}
+use Rattle.postpone_filter.proofs.Steps.{part-open}
 use Rattle.postpone_filter.proofs.Orders.{filled-append, filled-child, filled-end, filled-used, filled-clean, begun-lawful}
 
 abbrev row_of : List Part → List Buffer → Row
@@ -142,6 +143,18 @@ child-view parent child old parts got mid new buffers seen left v same_parts sam
     (count ∙ ap (λ n. n + 1) (ap length same ∙ ap (λ (z : Row). z.nodes) v))
     ∙ ap (λ n. row (clean (at_place parent (λ p. closed p ∷ fresh n ∷ fresh parent ∷ []) old.pieces)) (old.nodes + 1)) (number ∙ ap (λ (z : Row). z.nodes) v)
 
+pub again-view : (parent id : ℕ) (old : Row) (parts got mid new : List Part) (buffers seen left : List Buffer)
+    → row_of parts buffers ≡ old → got ≡ parts → seen ≡ buffers → AreTied mid left
+    → pieces_of mid left ≡ at_place parent (λ p. closed p ∷ fresh id ∷ fresh parent ∷ []) (pieces_of got seen) → length left ≡ length seen → new ≡ clean_parts mid
+    → row_of new left ≡ reopened parent id old
+again-view parent id old parts got mid new buffers seen left v same_parts same w e count is =
+    view-changed (at_place parent (λ p. closed p ∷ fresh id ∷ fresh parent ∷ [])) old parts mid new buffers seen left old.nodes v same w
+    (e ∙ ap (λ z. at_place parent (λ p. closed p ∷ fresh id ∷ fresh parent ∷ []) (pieces_of z seen)) same_parts) is
+    (view-count old parts buffers seen left v same count)
+
+pub order-again : (parent id : ℕ) (old new : Row) → IsLawful old.nodes old.pieces → new ≡ reopened parent id old → (gives : ℕ → List ℕ) → filled (giving parent (λ text. gives id ++ text) gives) old.pieces ≡ filled gives new.pieces
+order-again parent id old new l e gives = filled-child old.nodes parent id gives old.pieces l ∙ sym (filled-clean gives _) ∙ ap (λ (z : Row). filled gives z.pieces) (sym e)
+
 -- which nodes have not ended
 
 at_new : (j : ℕ) (old new : Row) (ps : List Piece) → new.pieces ≡ clean ps → is_open j new.pieces ≡ is_open j ps
@@ -156,6 +169,21 @@ open-child parent old new o e j =
     ∙ elim (j == old.nodes) as (λ t. (j == old.nodes) ≡ t → is_open j (at_place parent (λ p. closed p ∷ fresh old.nodes ∷ fresh parent ∷ []) old.pieces) ≡ (if t then true else is_open j old.pieces)) [
       | true ↦ λ t. ap (λ k. is_open k (at_place parent (λ p. closed p ∷ fresh old.nodes ∷ fresh parent ∷ []) old.pieces)) (eqb-true j old.nodes t) ∙ child-open-own parent old.nodes old.pieces o
       | false ↦ λ t. child-open-other parent old.nodes j old.pieces (λ v. let bad : (j == old.nodes) ≡ true = eq-eqb j old.nodes (sym v) in cc)
+    ] refl
+
+-- a node of which a part is the place has not ended
+pub seen-open : (id : ℕ) (old : Row) (parts got : List Part) (buffers seen : List Buffer) (i : ℕ)
+    → row_of parts buffers ≡ old → IsSound parts buffers → got ≡ parts → seen ≡ buffers → i < length got → ((s : Part) → is_part_place id (get_or got i s) ≡ true) → is_open id old.pieces ≡ true
+seen-open id old parts got buffers seen i v s same_parts same h e =
+    sym (ap (λ (z : Row). is_open id z.pieces) v)
+    ∙ part-open id (pieces_of parts buffers) parts buffers i s.0 (subst (λ z. i < length z) same_parts h) (λ d. sym (ap (λ z. is_part_place id (get_or z i d)) same_parts) ∙ e d)
+
+pub open-again : (parent id : ℕ) (old new : Row) → is_open parent old.pieces ≡ true → new ≡ reopened parent id old → (j : ℕ) → is_open j new.pieces ≡ (if j == id then true else is_open j old.pieces)
+open-again parent id old new o e j =
+    at_new j old new _ (ap (λ (z : Row). z.pieces) e)
+    ∙ elim (j == id) as (λ t. (j == id) ≡ t → is_open j (at_place parent (λ p. closed p ∷ fresh id ∷ fresh parent ∷ []) old.pieces) ≡ (if t then true else is_open j old.pieces)) [
+      | true ↦ λ t. ap (λ k. is_open k (at_place parent (λ p. closed p ∷ fresh id ∷ fresh parent ∷ []) old.pieces)) (eqb-true j id t) ∙ child-open-own parent id old.pieces o
+      | false ↦ λ t. child-open-other parent id j old.pieces (λ v. let bad : (j == id) ≡ true = eq-eqb j id (sym v) in cc)
     ] refl
 
 pub open-end : (id : ℕ) (old new : Row) → IsLawful old.nodes old.pieces → new ≡ ended id old → (j : ℕ) → is_open j new.pieces ≡ (if j == id then false else is_open j old.pieces)

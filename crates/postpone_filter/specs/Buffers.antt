@@ -83,6 +83,11 @@ unfoldable pub has_place : ℕ → List Part → Bool
 has_place id [] = false
 has_place id (s ∷ ss) = if is_part_place id s then true else has_place id ss
 
+-- whether a part is of the node
+unfoldable pub is_named : ℕ → List Part → Bool
+is_named id [] = false
+is_named id (s ∷ ss) = if s.node == id then true else is_named id ss
+
 abbrev pub parts_start_over : List Part → Bool
 parts_start_over [] = false
 parts_start_over (s ∷ ss) = is_part_over s

@@ -186,6 +186,22 @@ impl Node {
         }
     }
 
+    /// Whether the node has ended and no byte of it waits.
+    pub fn is_ended(&self) -> bool
+        ensures { result ≡ true → self.now.goes_on ≡ false }
+    {
+        !self.opened && self.start == self.bytes.len()
+    }
+
+    /// The node, which has ended, goes on again, where its place was found there.
+    pub fn open_again(&mut self, hint: usize)
+        ensures waiting { self.new.waiting ≡ self.old.waiting }
+        ensures goes_on { self.new.goes_on ≡ true }
+    {
+        self.opened = true;
+        self.hint = hint;
+    }
+
     /// The node has ended.
     pub fn end(&mut self)
         ensures waiting { self.new.waiting ≡ self.old.waiting }

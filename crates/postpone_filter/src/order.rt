@@ -1,12 +1,13 @@
 // The order of a response.
 ghost use Rattle.std.specs.Prelude.{◌≡◌, ℕ, ◌+◌, ◌-◌, ◌<◌, ◌≤◌, true, false, List, [], ◌∷◌, ◌++◌, ◌==◌, length, min, take, if◌then◌else◌, IfOk, OnOk, OnErr};
-ghost use Rattle.postpone_filter.specs.Row.{Row, begun, room, is_open, appended, with_child, ended, used, front_of, is_first, FirstGives, bytes_of, most};
+ghost use Rattle.postpone_filter.specs.Row.{Row, begun, room, is_open, appended, with_child, reopened, ended, used, front_of, is_first, FirstGives, bytes_of, most};
 ghost use Rattle.postpone_filter.specs.Runs.{filled, giving};
-ghost use Rattle.postpone_filter.specs.Buffers.{is_kept};
+ghost use Rattle.postpone_filter.specs.Buffers.{IsLawful, is_kept};
 
 use crate::node::Node;
 use crate::part::{
-    Part, clean_front, close, first_is, front_bytes, place_of, put_bytes, put_child, use_front,
+    Part, clean_front, close, first_is, front_bytes, is_named_from, place_of, put_again, put_bytes,
+    put_child, use_front,
 };
 use byte_text::OutOfMemory;
 use std::alloc::Global;
@@ -107,6 +108,49 @@ impl Order {
         put_child(&mut self.parts, &mut self.nodes, at, parent, child, node);
         clean_front(&mut self.parts, &mut self.passed);
         Ok(child)
+    }
+
+    /// A node that has ended, of which no byte waits, goes on again, right before the place where another goes on. It is
+    /// the way in which a node changes its place: it ends, and goes on elsewhere.
+    ///
+    /// # Errors
+    /// `OutOfMemory`, after which all is as before: for want of memory; and where the other has ended, where the node
+    /// hasn't or a byte of it waits, and where a piece of it is after that place.
+    pub fn reopen(&mut self, parent: u32, id: u32) -> Result<(), OutOfMemory>
+        ensures row { OnOk result (self.new ≡ reopened parent id self.old) }
+        ensures lawful { OnOk result (IsLawful self.new.nodes self.new.pieces) }
+        ensures order { OnOk result ((gives : ℕ → List ℕ)
+            → filled (giving parent (λ text. gives id ++ text) gives) self.old.pieces
+            ≡ filled gives self.new.pieces) }
+        ensures opened { OnOk result ((j : ℕ)
+            → is_open j self.new.pieces ≡ (if j == id then true else is_open j self.old.pieces)) }
+        ensures ended { OnOk result (is_open id self.old.pieces ≡ false) }
+        ensures err { OnErr result (self.new ≡ self.old) }
+    {
+        if !self.is_ended(id) {
+            return Err(OutOfMemory);
+        }
+        self.parts.reserve(2)?;
+        let Some(at) = place_of(&self.parts, self.passed, &mut self.nodes, parent) else {
+            return Err(OutOfMemory);
+        };
+        if is_named_from(&self.parts, at, id) {
+            return Err(OutOfMemory);
+        }
+        let hint = self.passed.saturating_add(at).saturating_add(1);
+        put_again(&mut self.parts, &mut self.nodes, at, parent, id, hint);
+        clean_front(&mut self.parts, &mut self.passed);
+        Ok(())
+    }
+
+    /// Whether the node is there, has ended, and has no byte that waits.
+    fn is_ended(&self, id: u32) -> bool
+        ensures { result ≡ true → (id < self.now.nodes) × (is_open id self.now.pieces ≡ false) }
+    {
+        match self.nodes.get(id as usize) {
+            Some(node) => node.is_ended(),
+            None => false,
+        }
     }
 
     /// The node goes on no more. Nothing changes where it has ended before.

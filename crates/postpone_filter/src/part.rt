@@ -3,7 +3,7 @@ ghost use Rattle.std.specs.Prelude.{◌≡◌, ℕ, ◌+◌, ◌-◌, ◌<◌, �
 ghost use Rattle.std.specs.List.{insert};
 ghost use Rattle.std.specs.VecDeque.{deque_len, deque_capacity};
 ghost use Rattle.postpone_filter.specs.Row.{Piece, most, is_open, bytes_of, room, at_place, longer, closed, fresh, clean, shorter, front_of, is_first};
-ghost use Rattle.postpone_filter.specs.Buffers.{Buffer, AreTied, pieces_of, is_part_place, waiting_at, part_of, has_place, first_part_is, clean_parts, parts_start_over, is_part_over, starts_over};
+ghost use Rattle.postpone_filter.specs.Buffers.{Buffer, AreTied, pieces_of, is_part_place, waiting_at, part_of, has_place, is_named, first_part_is, clean_parts, parts_start_over, is_part_over, starts_over};
 
 use crate::node::Node;
 use byte_text::OutOfMemory;
@@ -136,6 +136,50 @@ pub fn put_child(
     insert_reserved(parts, at + 1, Part::fresh(child));
     insert_reserved(parts, at + 2, Part::fresh(parent));
     nodes.push_reserved(node);
+}
+
+/// Whether a part at this index or later is of the node.
+pub fn is_named_from(parts: &VecDeque<Part>, from: usize, id: u32) -> bool
+    ensures { result ≡ false → is_named id (drop from parts.now.items) ≡ false }
+{
+    for at in from..parts.len() {
+        if parts[at].node == id {
+            return true;
+        }
+    }
+    false
+}
+
+/// Puts a node that has ended right before the place of another, where there is room for both parts and no part of the
+/// node from there on.
+pub fn put_again(
+    parts: &mut VecDeque<Part>,
+    nodes: &mut Vec<Node>,
+    at: usize,
+    next: u32,
+    id: u32,
+    hint: usize,
+)
+    requires tied { AreTied parts.old.items nodes.old.items }
+    requires within { at < deque_len parts.old }
+    requires place { (d : Part) → is_part_place next (slice_index_or parts.old.items at d)
+        ≡ true }
+    requires parts_room { deque_len parts.old + 2 ≤ deque_capacity parts.old }
+    requires there { id < vec_len nodes.old }
+    requires ended { is_open id (pieces_of parts.old.items nodes.old.items) ≡ false }
+    requires unnamed { is_named id (drop at parts.old.items) ≡ false }
+    ensures tied { AreTied parts.new.items nodes.new.items }
+    ensures nodes { length nodes.new.items ≡ length nodes.old.items }
+    ensures pieces { pieces_of parts.new.items nodes.new.items
+        ≡ at_place next (λ p. closed p ∷ fresh id ∷ fresh next ∷ [])
+        (pieces_of parts.old.items nodes.old.items) }
+{
+    let part = &mut parts[at];
+    part.grows = false;
+    insert_reserved(parts, at + 1, Part::fresh(id));
+    insert_reserved(parts, at + 2, Part::fresh(next));
+    let node = &mut nodes[id as usize];
+    node.open_again(hint);
 }
 
 /// Takes the place of a node away.

@@ -11,7 +11,7 @@ use Rattle.race_meaning.specs.Reads.{in_text, in_tries, in_target, in_directive}
 use Rattle.race_meaning.specs.Conflicts.{Source, LevelSources, sets_it}
 use Rattle.race_meaning.specs.Conflicts as meaning
 use Rattle.race_check.specs.declared.conflict.Named.{Named}
-use Rattle.race_places.specs.declared.lined.HeldLines.{HeldLines}
+use Rattle.race_places.specs.declared.lined.StatedLines.{StatedLines}
 use Rattle.race_places.specs.declared.lined.LinedLevel.{LinedLevel}
 use Rattle.race_places.specs.declared.lined.ServerLines.{ServerLines}
 use Rattle.race_places.specs.declared.told.Conflict.{Conflict}
@@ -43,7 +43,7 @@ abbrev pub list_at : List (List Line) → Option ℕ → List Line
 list_at lists None = []
 list_at lists (Some number) = unwrap_or (slice_get lists number) []
 
-abbrev pub origins_by : List (List Line) → HeldLines → Origins
+abbrev pub origins_by : List (List Line) → StatedLines → Origins
 origins_by lists l = record {
   place = l.place;
   index = list_at lists l.index;

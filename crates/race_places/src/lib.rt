@@ -8,5 +8,5 @@ mod places;
 mod reads;
 mod told;
 
-pub use lined::{HeldLines, LineList, LinedLevel, ServerLines};
+pub use lined::{LineList, LinedLevel, ServerLines, StatedLines};
 pub use told::{Conflict, placed};

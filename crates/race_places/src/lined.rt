@@ -49,7 +49,7 @@ impl LineList {
 /// where the directives of its program are, one by one. Of its index names, its rules of `error_page` and its
 /// `auth_request_set`s it has the number of their lines among some lists. There is none of what isn't stated.
 #[derive(Drop)]
-pub struct HeldLines {
+pub struct StatedLines {
     pub place: Option<Line>,
     pub index: Option<usize>,
     pub tries: Option<Line>,
@@ -62,8 +62,8 @@ pub struct HeldLines {
 /// of the text.
 #[derive(Drop)]
 pub struct LinedLevel {
-    pub own: HeldLines,
-    pub blocks: Vec<HeldLines>,
+    pub own: StatedLines,
+    pub blocks: Vec<StatedLines>,
 }
 
 /// The lines of a server's levels: its own, those of its locations, and those of its locations `@name`, each in the order of

@@ -12,7 +12,7 @@ ghost use Rattle.race_places.specs.Marks.{list_reads, AreThere};
 ghost use Rattle.race_places.specs.Places.{lines_of, keep_if, line_list, over_both, list_at, origins_by, level_by, levels_by, value_reads, level_reads, all_reads};
 
 use crate::index::LineIndex;
-use crate::lined::{HeldLines, LineList, LinedLevel, ServerLines, list_of};
+use crate::lined::{LineList, LinedLevel, ServerLines, StatedLines, list_of};
 use crate::marks::{Mark, is_gone, mark_gone, no_marks};
 use crate::places::{add_auth_sets, add_names, add_pages, add_reading_steps};
 use byte_text::OutOfMemory;
@@ -181,7 +181,7 @@ impl Reads {
         site: &Site,
         lists: &[LineList],
         level: &Level,
-        lines: &HeldLines,
+        lines: &StatedLines,
     ) -> Result<(), OutOfMemory>
         requires { AreThere site.now lists.now self.old.marks.items self.old.index }
         ensures there { OnOk result
@@ -228,7 +228,7 @@ impl Reads {
         site: &Site,
         lists: &[LineList],
         numbers: &[u32],
-        lines: &[HeldLines],
+        lines: &[StatedLines],
     ) -> Result<(), OutOfMemory>
         requires { AreThere site.now lists.now self.old.marks.items self.old.index }
         ensures there { OnOk result

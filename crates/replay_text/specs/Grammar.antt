@@ -20,11 +20,11 @@ is_passed [] = true
 is_passed (b ∷ bs) = b == 35
 
 -- where reading goes on: the number of the next line, and the lines from there
-pub record Place : Type 0 where
+pub record ReadTo : Type 0 where
   pub number : ℕ
   pub lines : List (List ℕ)
 
-abbrev pub place : ℕ → List (List ℕ) → Place
+abbrev pub place : ℕ → List (List ℕ) → ReadTo
 place n lines = record { number = n; lines = lines }
 
 -- a text is the path of a configuration
@@ -64,7 +64,7 @@ raw_text (line ∷ lines) = if is_dot line then [] else line ++ 10 ∷ raw_text 
 -- The `conf` sections and the line `tree` after them: the configurations, with those before, and the place where the
 -- lines of the tree begin.
 unfoldable mutual
-  pub confs_of : List Conf → ℕ → List (List ℕ) → Result (List Conf × Place) ScriptFault
+  pub confs_of : List Conf → ℕ → List (List ℕ) → Result (List Conf × ReadTo) ScriptFault
   confs_of before n [] = ends_at n
   confs_of before n (line ∷ lines) =
       if is_passed line then confs_of before (n + 1) lines
@@ -74,7 +74,7 @@ unfoldable mutual
       ])
 
   -- the same after the next line `.`
-  pub behind_dot : List Conf → ℕ → List (List ℕ) → Result (List Conf × Place) ScriptFault
+  pub behind_dot : List Conf → ℕ → List (List ℕ) → Result (List Conf × ReadTo) ScriptFault
   behind_dot before n [] = ends_at n
   behind_dot before n (line ∷ lines) = if is_dot line then confs_of before (n + 1) lines else behind_dot before (n + 1) lines
 
@@ -109,7 +109,7 @@ line_in_events used line =
       event_line used (keyword_of name.0) name.1)
 
 -- the lines of the tree, how many bytes their sums have, and the place after the line `.` that ends them
-unfoldable pub tree_of : ℕ → ℕ → List (List ℕ) → Result (List TreeLine × ℕ × Place) ScriptFault
+unfoldable pub tree_of : ℕ → ℕ → List (List ℕ) → Result (List TreeLine × ℕ × ReadTo) ScriptFault
 tree_of used n [] = ends_at n
 tree_of used n (line ∷ lines) =
     if is_passed line then tree_of used (n + 1) lines
@@ -125,7 +125,7 @@ events_head line =
     if is_events (front_of (pieces_of line)) then (if is_events line then Ok tt else Err Word) else Err Section
 
 -- the place after the line `events`
-unfoldable pub behind_events : ℕ → List (List ℕ) → Result Place ScriptFault
+unfoldable pub behind_events : ℕ → List (List ℕ) → Result ReadTo ScriptFault
 behind_events n [] = ends_at n
 behind_events n (line ∷ lines) =
     if is_passed line then behind_events (n + 1) lines

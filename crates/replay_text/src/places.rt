@@ -1,7 +1,7 @@
 // Where reading goes on in a text of lines.
 ghost use Rattle.std.specs.Prelude.{◌≡◌, ◌+◌, ◌<◌, ◌^◌, [], ◌∷◌, length, MatchOption};
 ghost use Rattle.replay_words.specs.Lines.{lines_of};
-ghost use Rattle.replay_text.specs.Grammar.{Place, place};
+ghost use Rattle.replay_text.specs.Grammar.{ReadTo, place};
 
 use replay_words::next_line;
 use std::marker::Model;
@@ -14,7 +14,7 @@ pub struct Spot<'a> {
 }
 
 impl<'a> Model for Spot<'a> {
-    ghost Value = { Place };
+    ghost Value = { ReadTo };
 
     ghost view = { λ s. place s.number (lines_of s.rest.now) };
 

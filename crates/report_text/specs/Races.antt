@@ -7,7 +7,7 @@ use Rattle.report_text.specs.Report.{spaced}
 use Rattle.report_text.specs.Faults.{place_text}
 
 -- a line of a file with this path
-pub record Place : Type 0 where
+pub record FileLine : Type 0 where
   pub path : List ℕ
   pub line : ℕ
 
@@ -16,12 +16,12 @@ pub record Place : Type 0 where
 pub record Race : Type 0 where
   pub server : ℕ
   pub name : List ℕ
-  pub sets : List Place
-  pub reads : List Place
+  pub sets : List FileLine
+  pub reads : List FileLine
   pub documents : Bool
 
 -- a line, by the files of the runs of directives and these files' paths
-abbrev pub place_of : (files : List ℕ) → (paths : List (List ℕ)) → Line → Place
+abbrev pub place_of : (files : List ℕ) → (paths : List (List ℕ)) → Line → FileLine
 place_of files paths l =
     record { path = slice_index_or paths (slice_index_or files l.file 0) []; line = l.line }
 
@@ -34,8 +34,8 @@ race_of files paths r = record {
   documents = r.documents;
 }
 
-abbrev pub places_text : List Place → List ℕ
-places_text places = flat_map (λ (p : Place). place_text p.path p.line) places
+abbrev pub places_text : List FileLine → List ℕ
+places_text places = flat_map (λ (p : FileLine). place_text p.path p.line) places
 
 -- `race 1 $x set /c:5 /c:6 read documents`
 unfoldable pub race_line : Race → List ℕ

@@ -16,8 +16,8 @@ use Rattle.request_meaning.specs.Responses.{Framing as framings}
 use Rattle.request_meaning.specs.Serving.{World, Serving, Child, Answer, Prepared}
 use Rattle.family_meaning.specs.Flight.{stays_after}
 use Rattle.family_meaning.specs.Left.{act_subs}
-use Rattle.request_phases.specs.declared.state.Outcome.{Outcome}
-use Rattle.request_phases.specs.declared.state.Outcome.TheVariants as outcomes
+use Rattle.request_phases.specs.declared.state.Conclusion.{Conclusion}
+use Rattle.request_phases.specs.declared.state.Conclusion.TheVariants as outcomes
 use Rattle.request_reply.specs.Replies.{IsReply}
 use Rattle.request_reply.specs.declared.reply.Reply.{Reply}
 use Rattle.request_flow.specs.declared.flow.Terms.{Terms}
@@ -58,7 +58,7 @@ ends_as w tree p vars = ends_so tree (reply w tree most_depth) (written w most_d
 
 -- ---- how long a file was told to be
 
-pub told_once : (len : ℕ) (o : Outcome) → with_length len (with_length len o) ≡ with_length len o
+pub told_once : (len : ℕ) (o : Conclusion) → with_length len (with_length len o) ≡ with_length len o
 told_once len (outcomes.Text code text) = refl
 told_once len (outcomes.File told date) = refl
 told_once len (outcomes.Page code) = refl
@@ -147,7 +147,7 @@ composed site w tree t p q vars page out closing closing' number e f =
 
 -- ---- what led to it
 
-pub page_reached : (w : World) (patterns : List SetPattern) (site : Site) (request : InPhases) (outcome : Outcome) (known : Known) (page : PageHead) →
+pub page_reached : (w : World) (patterns : List SetPattern) (site : Site) (request : InPhases) (outcome : Conclusion) (known : Known) (page : PageHead) →
     page.known ≡ known → page.outcome ≡ with_length (known_len known) outcome → StepReached w patterns site request (steps.Answers outcome) (known_len known) →
     (text : List ℕ) → Settles w (page_act w patterns site request page (padded (known_len page.known) text)) request.vars
 page_reached w patterns site request outcome known page ek eo h text =

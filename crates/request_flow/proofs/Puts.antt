@@ -28,8 +28,8 @@ use Rattle.rewrite_code.specs.Places.{standing_seen}
 use Rattle.request_phases.specs.Rounds.{prepared_as, asked_in, world_in}
 use Rattle.request_phases.specs.declared.ground.Ground.{Ground}
 use Rattle.request_phases.specs.declared.state.Phases.{Phases}
-use Rattle.request_phases.specs.declared.state.Outcome.{Outcome}
-use Rattle.request_phases.specs.declared.state.Outcome.TheVariants as outcomes
+use Rattle.request_phases.specs.declared.state.Conclusion.{Conclusion}
+use Rattle.request_phases.specs.declared.state.Conclusion.TheVariants as outcomes
 use Rattle.request_reply.specs.Replies.{IsReply, body_seen, FitsFile}
 use Rattle.request_reply.specs.declared.reply.Body.{Body}
 use Rattle.request_reply.specs.declared.reply.Body.TheVariants as bodies
@@ -48,7 +48,7 @@ use Rattle.request_flow.specs.Sents.{head_seen, sent_now, content_now, put_now, 
 -- ---- what an outcome prepares
 
 -- how long the file was said to be before makes no difference
-pub same_outcome : (w : World) (a : Asked) (s : Standing) (bytes : List ℕ) (len : ℕ) (o : Outcome) →
+pub same_outcome : (w : World) (a : Asked) (s : Standing) (bytes : List ℕ) (len : ℕ) (o : Conclusion) →
     prepared_as w a s bytes (with_length len o) ≡ prepared_as w a s bytes o
 same_outcome w a s bytes len (outcomes.Text code text) = refl
 same_outcome w a s bytes len (outcomes.File told date) = refl
@@ -56,7 +56,7 @@ same_outcome w a s bytes len (outcomes.Page code) = refl
 same_outcome w a s bytes len (outcomes.Redirect code to) = refl
 same_outcome w a s bytes len outcomes.Close = refl
 
-pub fits_told : (bytes : List ℕ) (len : ℕ) (o : Outcome) → length bytes ≡ len → FitsFile (with_length len o) bytes
+pub fits_told : (bytes : List ℕ) (len : ℕ) (o : Conclusion) → length bytes ≡ len → FitsFile (with_length len o) bytes
 fits_told bytes len (outcomes.Text code text) e = tt
 fits_told bytes len (outcomes.File told date) e = e
 fits_told bytes len (outcomes.Page code) e = tt
@@ -64,7 +64,7 @@ fits_told bytes len (outcomes.Redirect code to) e = tt
 fits_told bytes len outcomes.Close e = tt
 
 -- the values are those of the level where the request is
-pub values_are : (w : World) (a : Asked) (s : Standing) (bytes : List ℕ) (o : Outcome) → (prepared_as w a s bytes o).answer.values ≡ s.values
+pub values_are : (w : World) (a : Asked) (s : Standing) (bytes : List ℕ) (o : Conclusion) → (prepared_as w a s bytes o).answer.values ≡ s.values
 unfolding sent answer_with page page_to page_answer moved closed_answer
 values_are w a s bytes (outcomes.Text code text) = refl
 values_are w a s bytes (outcomes.File told date) = refl
@@ -73,7 +73,7 @@ values_are w a s bytes (outcomes.Redirect code to) = refl
 values_are w a s bytes outcomes.Close = refl
 
 -- a connection that is closed at once is sent no body
-pub gone_bare : (w : World) (a : Asked) (s : Standing) (bytes : List ℕ) (o : Outcome) → (prepared_as w a s bytes o).answer.gone ≡ true →
+pub gone_bare : (w : World) (a : Asked) (s : Standing) (bytes : List ℕ) (o : Conclusion) → (prepared_as w a s bytes o).answer.gone ≡ true →
     (prepared_as w a s bytes o).body ≡ NoBody
 unfolding sent answer_with page page_to page_answer moved closed_answer
 gone_bare w a s bytes (outcomes.Text code text) e = cc
@@ -279,7 +279,7 @@ pub known_length : (known : Known) (trees : Trees) → length (known_bytes known
 known_length (Nothing of) trees = refl
 known_length (Told f) trees = padded_length f.len _
 
-pub reply_is : (patterns : List SetPattern) (g : Ground) (p : Phases) (known : Known) (trees : Trees) (len : ℕ) (o told : Outcome) (reply : Reply) →
+pub reply_is : (patterns : List SetPattern) (g : Ground) (p : Phases) (known : Known) (trees : Trees) (len : ℕ) (o told : Conclusion) (reply : Reply) →
     len ≡ known_len known → told ≡ with_length len o →
     ((w : World) (bytes : List ℕ) → w.members ≡ shipped → FitsFile told bytes → IsReply reply bytes (prepared_as w (asked_in p) (standing_seen g.site.now p.at) bytes told)) →
     IsReply reply (known_bytes known trees) (prepared_as (world_in patterns g shipped) (asked_in p) (standing_seen g.site.now p.at) (known_bytes known trees) o)
@@ -290,7 +290,7 @@ reply_is patterns g p known trees len o told reply en et h =
     subst (IsReply reply b) (ap (prepared_as w (asked_in p) (standing_seen g.site.now p.at) b) et ∙ same_outcome w (asked_in p) (standing_seen g.site.now p.at) b len o)
     (h w b refl fits)
 
-pub replied : (patterns : List SetPattern) (g : Ground) (p : Phases) (known : Known) (trees : Trees) (len : ℕ) (o told : Outcome) (t : Terms) (reply : Reply) →
+pub replied : (patterns : List SetPattern) (g : Ground) (p : Phases) (known : Known) (trees : Trees) (len : ℕ) (o told : Conclusion) (t : Terms) (reply : Reply) →
     is_plain t reply ≡ true → len ≡ known_len known → told ≡ with_length len o →
     ((w : World) (bytes : List ℕ) → w.members ≡ shipped → FitsFile told bytes → IsReply reply bytes (prepared_as w (asked_in p) (standing_seen g.site.now p.at) bytes told)) →
     IsPlain t reply (known_bytes known trees) (prepared_as (world_in patterns g shipped) (asked_in p) (standing_seen g.site.now p.at) (known_bytes known trees) o)

@@ -14,8 +14,8 @@ use Rattle.request_meaning.specs.Replies.{Came}
 use Rattle.request_meaning.specs.Responses.{framing, may_stay}
 use Rattle.family_meaning.specs.Flight.{Terms}
 use Rattle.request_phases.specs.Rounds.{phases_left}
-use Rattle.request_phases.specs.declared.state.Outcome.{Outcome}
-use Rattle.request_phases.specs.declared.state.Outcome.TheVariants as outcomes
+use Rattle.request_phases.specs.declared.state.Conclusion.{Conclusion}
+use Rattle.request_phases.specs.declared.state.Conclusion.TheVariants as outcomes
 use Rattle.request_phases.specs.declared.state.Step.{Step}
 use Rattle.request_reply.specs.declared.reply.Body.{Body}
 use Rattle.request_reply.specs.declared.reply.Body.TheVariants as bodies
@@ -106,7 +106,7 @@ file_known sends (Nothing of) = None
 file_known sends (Told f) = if sends then Some f else None
 
 -- an answer with the file that was told, of this length
-abbrev pub with_length : ℕ → Outcome → Outcome
+abbrev pub with_length : ℕ → Conclusion → Conclusion
 with_length len (outcomes.Text code text) = outcomes.Text code text
 with_length len (outcomes.File told date) = outcomes.File len date
 with_length len (outcomes.Page code) = outcomes.Page code

@@ -16,7 +16,7 @@ use crate::reply::{Workspace, head_alone, stays};
 use crate::steps::{Known, closes, length_in, with_length};
 use byte_text::{ByteText, OutOfMemory};
 use http_types::Version;
-use request_phases::{Ground, Outcome};
+use request_phases::{Conclusion, Ground};
 use request_reply::{Reply, reply_of};
 use site_model::Level;
 use std::alloc::Global;
@@ -26,7 +26,7 @@ use std::alloc::Global;
 /// ends with the connection; and the status.
 #[derive(Drop)]
 pub struct PageHead {
-    pub outcome: Outcome,
+    pub outcome: Conclusion,
     pub known: Known,
     pub head: ByteText,
     pub chunked: bool,
@@ -57,28 +57,28 @@ fn names_filters(level: &Level) -> bool {
     level.ssi || level.before.is_some() || level.after.is_some()
 }
 
-fn copied(alloc: Global, outcome: &Outcome) -> Result<Outcome, OutOfMemory>
+fn copied(alloc: Global, outcome: &Conclusion) -> Result<Conclusion, OutOfMemory>
     ensures { IfOk result (λ copy. copy ≡ outcome.now) }
 {
     match outcome {
-        Outcome::Text { code, text } => Ok(Outcome::Text {
+        Conclusion::Text { code, text } => Ok(Conclusion::Text {
             code: *code,
             text: ByteText::from_slice(alloc, text.as_slice())?,
         }),
-        Outcome::File { len, date } => Ok(Outcome::File {
+        Conclusion::File { len, date } => Ok(Conclusion::File {
             len: *len,
             date: *date,
         }),
-        Outcome::Page(code) => Ok(Outcome::Page(*code)),
-        Outcome::Redirect { code, to: None } => Ok(Outcome::Redirect {
+        Conclusion::Page(code) => Ok(Conclusion::Page(*code)),
+        Conclusion::Redirect { code, to: None } => Ok(Conclusion::Redirect {
             code: *code,
             to: None,
         }),
-        Outcome::Redirect { code, to: Some(to) } => Ok(Outcome::Redirect {
+        Conclusion::Redirect { code, to: Some(to) } => Ok(Conclusion::Redirect {
             code: *code,
             to: Some(ByteText::from_slice(alloc, to.as_slice())?),
         }),
-        Outcome::Close => Ok(Outcome::Close),
+        Conclusion::Close => Ok(Conclusion::Close),
     }
 }
 
@@ -88,7 +88,7 @@ fn is_filtered(
     alloc: Global,
     ground: &Ground<'_>,
     request: &InPhases,
-    outcome: &Outcome,
+    outcome: &Conclusion,
 ) -> Result<bool, OutOfMemory> {
     let reply = reply_of(alloc, ground.site, &request.phases, copied(alloc, outcome)?)?;
     Ok(reply.facts.is_some())
@@ -100,7 +100,7 @@ pub(crate) fn composes(
     alloc: Global,
     ground: &Ground<'_>,
     request: &InPhases,
-    outcome: &Outcome,
+    outcome: &Conclusion,
 ) -> Result<bool, OutOfMemory> {
     if !names_filters(ground.site.level(request.phases.at.level)) {
         return Ok(false);
@@ -143,7 +143,7 @@ pub(crate) fn compose(
     space: &mut Workspace,
     ground: &Ground<'_>,
     request: &InPhases,
-    outcome: Outcome,
+    outcome: Conclusion,
     known: Known,
     closing: bool,
 ) -> Result<Composed, OutOfMemory>

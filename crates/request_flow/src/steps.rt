@@ -29,7 +29,7 @@ use file_tree::Ask;
 use http_types::Method;
 use ngx_variables::VarTable;
 use request_opening::{Opening, put_phases};
-use request_phases::{Ground, Outcome, Step, Wait, begin};
+use request_phases::{Conclusion, Ground, Step, Wait, begin};
 use request_reply::{Body, Reply, reply_of};
 use std::alloc::Global;
 
@@ -75,11 +75,11 @@ pub(crate) fn length_in(known: &Known) -> u64
 }
 
 /// An answer with a file has the length that was told of it.
-pub(crate) fn with_length(len: u64, outcome: Outcome) -> Outcome
+pub(crate) fn with_length(len: u64, outcome: Conclusion) -> Conclusion
     ensures { result ≡ told_length len outcome }
 {
     match outcome {
-        Outcome::File { len: _, date } => Outcome::File { len, date },
+        Conclusion::File { len: _, date } => Conclusion::File { len, date },
         other => other,
     }
 }
@@ -192,7 +192,7 @@ fn answer(
     space: &mut Workspace,
     ground: &Ground<'_>,
     request: &InPhases,
-    outcome: Outcome,
+    outcome: Conclusion,
     known: Known,
     out: &mut ByteQueue,
     closing: bool,
@@ -292,7 +292,7 @@ fn answers(
     space: &mut Workspace,
     ground: &Ground<'_>,
     request: Box<InPhases>,
-    outcome: Outcome,
+    outcome: Conclusion,
     known: Known,
     out: &mut ByteQueue,
     closing: bool,

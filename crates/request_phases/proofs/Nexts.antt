@@ -22,7 +22,7 @@ use Rattle.request_phases.specs.declared.state.Handled.{Handled}
 use Rattle.request_phases.specs.declared.state.Phases.{Phases}
 use Rattle.request_phases.specs.declared.state.Decision.{Decision}
 use Rattle.request_phases.specs.declared.state.Decision.TheVariants as decisions
-use Rattle.request_phases.specs.declared.state.Outcome.TheVariants as outcomes
+use Rattle.request_phases.specs.declared.state.Conclusion.TheVariants as outcomes
 use Rattle.request_phases.specs.declared.state.From.TheVariants as begins
 use Rattle.request_phases.specs.declared.decide.Next.{Next as CodeNext}
 use Rattle.request_phases.specs.declared.decide.Next.TheVariants.{Answers, Changed}

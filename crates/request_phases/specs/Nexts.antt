@@ -16,8 +16,8 @@ use Rattle.request_phases.specs.declared.ground.Ground.{Ground}
 use Rattle.request_phases.specs.declared.state.Phases.{Phases}
 use Rattle.request_phases.specs.declared.state.Decision.{Decision}
 use Rattle.request_phases.specs.declared.state.Decision.TheVariants as decisions
-use Rattle.request_phases.specs.declared.state.Outcome.{Outcome as CodeOutcome}
-use Rattle.request_phases.specs.declared.state.Outcome.TheVariants as outcomes
+use Rattle.request_phases.specs.declared.state.Conclusion.{Conclusion}
+use Rattle.request_phases.specs.declared.state.Conclusion.TheVariants as outcomes
 use Rattle.request_phases.specs.declared.decide.Next.{Next as CodeNext}
 use Rattle.request_phases.specs.declared.decide.Next.TheVariants.{Answers, Changed}
 
@@ -26,7 +26,7 @@ abbrev pub last_in : World → Asked → Standing → Outcome → Serving Prepar
 last_in w a s outcome = outcome_next w 0 a s outcome >>= until (λ s b. Done (page b s 500))
 
 -- the answer of a decision where no change is left: for a change the built-in page of 500
-abbrev pub last_outcome : Decision → CodeOutcome
+abbrev pub last_outcome : Decision → Conclusion
 last_outcome (decisions.Text code text) = outcomes.Text code text
 last_outcome (decisions.File len date) = outcomes.File len date
 last_outcome (decisions.Error code) = outcomes.Page code

@@ -38,8 +38,8 @@ use Rattle.request_phases.specs.declared.state.Decision.{Decision}
 use Rattle.request_phases.specs.declared.state.Decision.TheVariants as decisions
 use Rattle.request_phases.specs.declared.state.Reached.{Reached}
 use Rattle.request_phases.specs.declared.state.Reached.TheVariants as reached
-use Rattle.request_phases.specs.declared.state.Outcome.{Outcome as CodeOutcome}
-use Rattle.request_phases.specs.declared.state.Outcome.TheVariants as outcomes
+use Rattle.request_phases.specs.declared.state.Conclusion.{Conclusion}
+use Rattle.request_phases.specs.declared.state.Conclusion.TheVariants as outcomes
 use Rattle.request_phases.specs.declared.state.Step.{Step}
 use Rattle.request_phases.specs.declared.state.Step.TheVariants as steps
 
@@ -129,7 +129,7 @@ reached_in w patterns site a bytes at (reached.Decides decision) = Done (decided
 -- ---- what the rounds came to
 
 -- what is answered, where these are the bytes of the file
-abbrev pub prepared_as : World → Asked → Standing → List ℕ → CodeOutcome → Prepared
+abbrev pub prepared_as : World → Asked → Standing → List ℕ → Conclusion → Prepared
 prepared_as w a s bytes (outcomes.Text code text) = sent w a s code text None
 prepared_as w a s bytes (outcomes.File len date) = sent w a s 200 bytes (Some date)
 prepared_as w a s bytes (outcomes.Page code) = page a s code

@@ -8,11 +8,11 @@ ghost use Rattle.request_meaning.specs.Errors.{page_method as method_of_page, ou
 ghost use Rattle.rewrite_code.specs.Places.{standing_seen};
 ghost use Rattle.request_phases.specs.Rounds.{IsGround, IsOfMain, asked_in, decision_seen};
 ghost use Rattle.request_phases.specs.Nexts.{last_outcome, last_phases, with_own_role, NextIs, closed_by, paged};
-ghost use Rattle.request_phases.specs.declared.state.Outcome.TheVariants.{Page as AnswerPage};
+ghost use Rattle.request_phases.specs.declared.state.Conclusion.TheVariants.{Page as AnswerPage};
 
 use crate::ground::Ground;
 use crate::lists::pages_at;
-use crate::state::{Decision, From, Handled, Outcome, Phases};
+use crate::state::{Conclusion, Decision, From, Handled, Phases};
 use byte_text::{ByteText, OutOfMemory};
 use error_pages::{Handling, PageStep, page_for};
 use http_types::Method;
@@ -23,33 +23,33 @@ use std::alloc::Global;
 /// What becomes of a decision: an answer, or a change with which the phases begin again.
 #[derive(Drop)]
 pub(crate) enum Next {
-    Answers(Outcome),
+    Answers(Conclusion),
     Changed(From),
 }
 
 /// A change for which none is left: the built-in page of 500.
-fn too_many(phases: &mut Phases) -> Outcome
+fn too_many(phases: &mut Phases) -> Conclusion
     ensures page { result ≡ AnswerPage 500 }
     ensures role { phases.new ≡ with_own_role phases.old }
 {
     phases.role = phases.at.request.role;
-    Outcome::Page(500)
+    Conclusion::Page(500)
 }
 
 /// What is answered where no change is left.
 #[inline(always)]
-pub(crate) fn last_of(phases: &mut Phases, decision: Decision) -> Outcome
+pub(crate) fn last_of(phases: &mut Phases, decision: Decision) -> Conclusion
     ensures answer { result ≡ last_outcome decision }
     ensures phases { phases.new ≡ last_phases phases.old decision }
     ensures main { IsOfMain phases.old.main phases.new.main }
 {
     match decision {
-        Decision::Text { code, text } => Outcome::Text { code, text },
-        Decision::File { len, date } => Outcome::File { len, date },
-        Decision::Error(code) => Outcome::Page(code),
-        Decision::Page(code) => Outcome::Page(code),
-        Decision::Redirect { code, to } => Outcome::Redirect { code, to },
-        Decision::Close => Outcome::Close,
+        Decision::Text { code, text } => Conclusion::Text { code, text },
+        Decision::File { len, date } => Conclusion::File { len, date },
+        Decision::Error(code) => Conclusion::Page(code),
+        Decision::Page(code) => Conclusion::Page(code),
+        Decision::Redirect { code, to } => Conclusion::Redirect { code, to },
+        Decision::Close => Conclusion::Close,
         Decision::Seek => too_many(phases),
         Decision::Inside { path: _, args: _ } => too_many(phases),
         Decision::Named(_) => too_many(phases),
@@ -144,7 +144,7 @@ fn fail(
         vars,
     );
     match page {
-        Ok(None) => Ok(Next::Answers(Outcome::Page(code))),
+        Ok(None) => Ok(Next::Answers(Conclusion::Page(code))),
         Ok(Some(PageStep::Inside { path, args, shown })) => {
             phases.go_to_page(code, shown, path, args);
             Ok(Next::Changed(From::Start))
@@ -157,14 +157,14 @@ fn fail(
         }
         Ok(Some(PageStep::Url { code: moved, to })) => {
             phases.close_by(code);
-            Ok(Next::Answers(Outcome::Redirect {
+            Ok(Next::Answers(Conclusion::Redirect {
                 code: moved,
                 to: Some(to),
             }))
         }
         Err(EvalFault::TooLong) => {
             phases.close_by(code);
-            Ok(Next::Answers(Outcome::Page(500)))
+            Ok(Next::Answers(Conclusion::Page(500)))
         }
         Err(EvalFault::OutOfMemory) => Err(OutOfMemory),
     }
@@ -188,12 +188,12 @@ pub(crate) fn next_of(
     ensures main { IfOk result (λ next. IsOfMain phases.old.main phases.new.main) }
 {
     match decision {
-        Decision::Text { code, text } => Ok(Next::Answers(Outcome::Text { code, text })),
-        Decision::File { len, date } => Ok(Next::Answers(Outcome::File { len, date })),
+        Decision::Text { code, text } => Ok(Next::Answers(Conclusion::Text { code, text })),
+        Decision::File { len, date } => Ok(Next::Answers(Conclusion::File { len, date })),
         Decision::Error(code) => Ok(fail(alloc, ground, phases, code, vars)?),
-        Decision::Page(code) => Ok(Next::Answers(Outcome::Page(code))),
-        Decision::Redirect { code, to } => Ok(Next::Answers(Outcome::Redirect { code, to })),
-        Decision::Close => Ok(Next::Answers(Outcome::Close)),
+        Decision::Page(code) => Ok(Next::Answers(Conclusion::Page(code))),
+        Decision::Redirect { code, to } => Ok(Next::Answers(Conclusion::Redirect { code, to })),
+        Decision::Close => Ok(Next::Answers(Conclusion::Close)),
         Decision::Seek => Ok(Next::Changed(From::Find)),
         Decision::Inside { path, args } => {
             phases.at.request.path = path;

@@ -14,4 +14,4 @@ mod state;
 
 pub use ground::Ground;
 pub use rounds::{begin, resume};
-pub use state::{Handled, Outcome, Phases, Step, Wait};
+pub use state::{Conclusion, Handled, Phases, Step, Wait};

@@ -104,7 +104,7 @@ pub(crate) enum Reached {
 
 /// What a request is answered.
 #[derive(Drop)]
-pub enum Outcome {
+pub enum Conclusion {
     /// A text with a status.
     Text { code: u16, text: ByteText },
     /// The file at the path that was asked for last, of this length in bytes and this date in seconds since 1970.
@@ -125,5 +125,5 @@ pub enum Step {
     /// A subrequest to this path is asked whether the request is let in.
     Calls(ByteText),
     /// The phases are over.
-    Answers(Outcome),
+    Answers(Conclusion),
 }

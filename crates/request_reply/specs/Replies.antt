@@ -9,8 +9,8 @@ use Rattle.site_model.specs.declared.site.Level.{Level}
 use Rattle.ssi_filter.specs.Machine.{is_split}
 use Rattle.request_meaning.specs.Answering.{is_unmodified}
 use Rattle.request_phases.specs.declared.state.Phases.{Phases}
-use Rattle.request_phases.specs.declared.state.Outcome.{Outcome}
-use Rattle.request_phases.specs.declared.state.Outcome.TheVariants as outcomes
+use Rattle.request_phases.specs.declared.state.Conclusion.{Conclusion}
+use Rattle.request_phases.specs.declared.state.Conclusion.TheVariants as outcomes
 use Rattle.request_reply.specs.declared.reply.Body.{Body}
 use Rattle.request_reply.specs.declared.reply.Body.TheVariants.{Nothing, Page, Text, File}
 use Rattle.request_reply.specs.declared.reply.Reply.{Reply}
@@ -43,7 +43,7 @@ abbrev pub acts_on : Facts → Bool
 acts_on facts = is_split facts || is_added facts
 
 -- the file has the length that was told
-abbrev pub FitsFile : Outcome → List ℕ → Type 0
+abbrev pub FitsFile : Conclusion → List ℕ → Type 0
 FitsFile (outcomes.File len date) bytes = length bytes ≡ len
 FitsFile (outcomes.Text code text) bytes = Unit {0}
 FitsFile (outcomes.Page code) bytes = Unit {0}

@@ -21,7 +21,7 @@ use crate::status::{
 use byte_text::{ByteText, OutOfMemory};
 use error_page::page_len;
 use filter_api::Facts;
-use request_phases::{Outcome, Phases};
+use request_phases::{Conclusion, Phases};
 use site_model::Site;
 use std::alloc::Global;
 
@@ -221,7 +221,7 @@ pub fn reply_of<'a>(
     alloc: Global,
     site: &'a Site,
     phases: &Phases,
-    outcome: Outcome,
+    outcome: Conclusion,
 ) -> Result<Reply<'a>, OutOfMemory>
     ensures { IfOk result (λ reply. (w : World) (bytes : List ℕ)
         → w.members ≡ shipped → FitsFile outcome bytes
@@ -229,17 +229,19 @@ pub fn reply_of<'a>(
         (standing_seen site.now phases.now.at) bytes outcome)) }
 {
     match outcome {
-        Outcome::Text { code, text } => {
+        Conclusion::Text { code, text } => {
             let len = text.len() as u64;
             Ok(sent(site, phases, code, len, None, Body::Text(text)))
         }
-        Outcome::File { len, date } => { Ok(sent(site, phases, 200, len, Some(date), Body::File)) }
-        Outcome::Page(code) => Ok(page(phases, code, None)),
-        Outcome::Redirect { code, to } => {
+        Conclusion::File { len, date } => {
+            Ok(sent(site, phases, 200, len, Some(date), Body::File))
+        }
+        Conclusion::Page(code) => Ok(page(phases, code, None)),
+        Conclusion::Redirect { code, to } => {
             let level = site.level(phases.at.level);
             let to = redirect_target(alloc, level, &phases.main, to)?;
             Ok(page(phases, code, to))
         }
-        Outcome::Close => Ok(closed()),
+        Conclusion::Close => Ok(closed()),
     }
 }

@@ -21,8 +21,8 @@ use Rattle.family_rest.specs.Laws.{ReachedStaysWell, StepsKeepStill}
 use Rattle.family_rest.specs.Still.{line_of, still, subs_still}
 use Rattle.request_phases.specs.Rounds.{asked_in, prepared_as, world_in}
 use Rattle.request_phases.specs.declared.ground.Ground.{Ground}
-use Rattle.request_phases.specs.declared.state.Outcome.{Outcome}
-use Rattle.request_phases.specs.declared.state.Outcome.TheVariants as outcomes
+use Rattle.request_phases.specs.declared.state.Conclusion.{Conclusion}
+use Rattle.request_phases.specs.declared.state.Conclusion.TheVariants as outcomes
 use Rattle.rewrite_code.specs.Places.{standing_seen}
 use Rattle.node_turn.specs.Nodes as nodes
 use Rattle.node_turn.specs.Nodes.{after_phases, bytes_for}
@@ -50,14 +50,14 @@ same_padded zero text = refl
 same_padded (suc n) [] = ap (λ r. 0 ∷ r) (same_padded n [])
 same_padded (suc n) (b ∷ text) = ap (λ r. b ∷ r) (same_padded n text)
 
-file_len : Outcome → ℕ
+file_len : Conclusion → ℕ
 file_len (outcomes.Text code text) = 0
 file_len (outcomes.File len date) = len
 file_len (outcomes.Page code) = 0
 file_len (outcomes.Redirect code to) = 0
 file_len outcomes.Close = 0
 
-told_bytes : (w : World) (a : Asked) (s : Standing) (len : ℕ) (text : List ℕ) (o : Outcome) → with_length len o ≡ o →
+told_bytes : (w : World) (a : Asked) (s : Standing) (len : ℕ) (text : List ℕ) (o : Conclusion) → with_length len o ≡ o →
     prepared_as w a s (flow.padded len text) o ≡ prepared_as w a s (bytes_for o text) o
 told_bytes w a s len text (outcomes.Text code t) e = refl
 told_bytes w a s len text (outcomes.File told date) e =

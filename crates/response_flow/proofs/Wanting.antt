@@ -8,7 +8,7 @@ use Rattle.ngx_outside.specs.Views.{ask_in}
 use Rattle.node_turn.specs.declared.node.Node.{Node}
 use Rattle.node_turn.specs.Stages.{is_asking, is_reading}
 use Rattle.subrequests.specs.Moved.{IsFromAt, fits_at}
-use Rattle.subrequests.specs.Runs.{is_waiting, job_of}
+use Rattle.family_nodes.specs.Runs.{is_waiting, job_of}
 use Rattle.subrequests.specs.Wants.{is_among, jobs_from, ready_of}
 use Rattle.subrequests.proofs.Numbers.{job_is}
 use Rattle.page_response.specs.declared.pages.Pages.{Pages}

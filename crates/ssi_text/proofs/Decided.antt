@@ -11,7 +11,7 @@ use Rattle.ssi_text.specs.declared.part.Front.TheVariants.{Open, Plain, Whole}
 use Rattle.ssi_text.specs.Marks.{Mark, Byte, Other}
 use Rattle.ssi_text.specs.Split as split
 use Rattle.ssi_text.specs.Split.{begins, limit, begun, front, opening, parts}
-use Rattle.ssi_text.specs.Commands.{Place, Outside, Within, Escaped, behind, ends, closes, one_more, size, made}
+use Rattle.ssi_text.specs.Commands.{Quoting, Outside, Within, Escaped, behind, ends, closes, one_more, size, made}
 
 pub begins-yes : (word bs more : List ℕ) → begins word bs ≡ Yes → begins word (bs ++ more) ≡ Yes
 unfolding begins
@@ -55,17 +55,17 @@ closes-long (a ∷ []) e = cc
 closes-long (a ∷ (b ∷ [])) e = cc
 closes-long (a ∷ (b ∷ (c ∷ bs))) e = omega arith
 
-ends-more : (place : Place) (bs more : List ℕ) → 3 ≤ length bs → ends place (bs ++ more) ≡ ends place bs
+ends-more : (place : Quoting) (bs more : List ℕ) → 3 ≤ length bs → ends place (bs ++ more) ≡ ends place bs
 ends-more Outside bs more h = closes-more bs more h
 ends-more (Within q) bs more h = refl
 ends-more (Escaped q) bs more h = refl
 
-pub ends-long : (place : Place) (bs : List ℕ) → ends place bs ≡ true → 3 ≤ length bs
+pub ends-long : (place : Quoting) (bs : List ℕ) → ends place bs ≡ true → 3 ≤ length bs
 ends-long Outside bs e = closes-long bs e
 ends-long (Within q) bs e = cc
 ends-long (Escaped q) bs e = cc
 
-pub size-within : (place : Place) (bs : List ℕ) (k : ℕ) → size place bs ≡ Some k → (3 ≤ k) × (k ≤ length bs)
+pub size-within : (place : Quoting) (bs : List ℕ) (k : ℕ) → size place bs ≡ Some k → (3 ≤ k) × (k ≤ length bs)
 unfolding size
 size-within place [] k e = cc
 size-within place (b ∷ bs) k e =
@@ -74,7 +74,7 @@ size-within place (b ∷ bs) k e =
       | false ↦ λ t h. one_more-within (size (behind place b) bs) k (length bs) (λ j g. size-within (behind place b) bs j g) h
     ] refl e
 
-pub size-more : (place : Place) (bs more : List ℕ) (k : ℕ) → size place bs ≡ Some k → size place (bs ++ more) ≡ Some k
+pub size-more : (place : Quoting) (bs more : List ℕ) (k : ℕ) → size place bs ≡ Some k → size place (bs ++ more) ≡ Some k
 unfolding size
 size-more place [] more k e = cc
 size-more place (b ∷ bs) more k e =

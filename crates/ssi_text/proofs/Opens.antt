@@ -8,7 +8,7 @@ use Rattle.ssi_text.specs.declared.place.Begun.TheVariants.{Yes, No, Maybe}
 use Rattle.ssi_text.specs.declared.part.Front.{Front}
 use Rattle.ssi_text.specs.declared.part.Front.TheVariants.{Open, Plain, Whole}
 use Rattle.ssi_text.specs.Marks.{Mark, Byte, Other}
-use Rattle.ssi_text.specs.Commands.{Place, Outside, Within, Escaped, closes, ends, behind, one_more, size}
+use Rattle.ssi_text.specs.Commands.{Quoting, Outside, Within, Escaped, closes, ends, behind, one_more, size}
 use Rattle.ssi_text.specs.Split.{split, parts, begins, opening, front, begun, limit}
 use Rattle.ssi_text.specs.Laws.{UndecidedIsOpen}
 use Rattle.ssi_text.proofs.Decided.{begins-yes, limit-is, take_beyond}
@@ -38,17 +38,17 @@ closes_more (a ∷ (b ∷ [])) zero e = refl
 closes_more (a ∷ (b ∷ [])) (suc n) e = ap (λ t. (a == 45) && t) (no_end (b == 45)) ∙ no_end (a == 45)
 closes_more (a ∷ (b ∷ (c ∷ bs))) n e = e
 
-ends_more : (place : Place) (bs : List ℕ) (n : ℕ) → ends place bs ≡ false → ends place (bs ++ run n) ≡ false
+ends_more : (place : Quoting) (bs : List ℕ) (n : ℕ) → ends place bs ≡ false → ends place (bs ++ run n) ≡ false
 ends_more Outside bs n e = closes_more bs n e
 ends_more (Within q) bs n e = refl
 ends_more (Escaped q) bs n e = refl
 
-ends_none : (place : Place) → ends place [] ≡ false
+ends_none : (place : Quoting) → ends place [] ≡ false
 ends_none Outside = refl
 ends_none (Within q) = refl
 ends_none (Escaped q) = refl
 
-size_run : (n : ℕ) (place : Place) → size place (run n) ≡ None
+size_run : (n : ℕ) (place : Quoting) → size place (run n) ≡ None
 unfolding size
 size_run zero place = refl
 size_run (suc n) place =
@@ -59,7 +59,7 @@ one_more_none : (o : Option ℕ) → one_more o ≡ None → o ≡ None
 one_more_none None e = refl
 one_more_none (Some n) e = cc
 
-size_more : (place : Place) (bs : List ℕ) (n : ℕ) → size place bs ≡ None → size place (bs ++ run n) ≡ None
+size_more : (place : Quoting) (bs : List ℕ) (n : ℕ) → size place bs ≡ None → size place (bs ++ run n) ≡ None
 unfolding size
 size_more place [] n e = size_run n place
 size_more place (b ∷ bs) n e =

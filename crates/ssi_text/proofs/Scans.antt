@@ -5,7 +5,7 @@ use Rattle.std.proofs.lemmas.Bool.{eq-eqb, ne_eqb}
 use Rattle.ssi_text.specs.declared.place.Begun.TheVariants.{Yes, No, Maybe}
 use Rattle.ssi_text.specs.Split.{begins}
 use Rattle.std.specs.List.{prefix_len}
-use Rattle.ssi_text.specs.Commands.{Place, Outside, Within, Escaped, behind, closes, ends, is_plain, is_quote, size, one_more, quoted, taken}
+use Rattle.ssi_text.specs.Commands.{Quoting, Outside, Within, Escaped, behind, closes, ends, is_plain, is_quote, size, one_more, quoted, taken}
 use Rattle.ssi_text.proofs.Decided.{ends-long}
 
 begins-cons : (a b : ℕ) (word bs : List ℕ) → begins (a ∷ word) (b ∷ bs) ≡ (if a == b then begins word bs else No)
@@ -41,31 +41,31 @@ abbrev pub add : ℕ → Option ℕ → Option ℕ
 add i None = None
 add i (Some n) = Some (i + n)
 
-size-cons : (place : Place) (b : ℕ) (bs : List ℕ) → size place (b ∷ bs) ≡ (if ends place (b ∷ bs) then Some 3 else one_more (size (behind place b) bs))
+size-cons : (place : Quoting) (b : ℕ) (bs : List ℕ) → size place (b ∷ bs) ≡ (if ends place (b ∷ bs) then Some 3 else one_more (size (behind place b) bs))
 unfolding size
 size-cons place b bs = refl
 
-size-none : (place : Place) → size place [] ≡ None
+size-none : (place : Quoting) → size place [] ≡ None
 unfolding size
 size-none place = refl
 
-size-at : (place : Place) (bs : List ℕ) (i : ℕ) → i < length bs → size place (drop i bs) ≡ (if ends place (drop i bs) then Some 3 else one_more (size (behind place (get_or bs i 0)) (drop (i + 1) bs)))
+size-at : (place : Quoting) (bs : List ℕ) (i : ℕ) → i < length bs → size place (drop i bs) ≡ (if ends place (drop i bs) then Some 3 else one_more (size (behind place (get_or bs i 0)) (drop (i + 1) bs)))
 size-at place bs i h = ap (size place) (drop_more bs i 0 h) ∙ size-cons place (get_or bs i 0) (drop (i + 1) bs) ∙ ap (λ z. if ends place z then Some 3 else one_more (size (behind place (get_or bs i 0)) (drop (i + 1) bs))) (sym (drop_more bs i 0 h))
 
 add-one_more : (i : ℕ) (o : Option ℕ) → add i (one_more o) ≡ add (i + 1) o
 add-one_more i None = refl
 add-one_more i (Some n) = ap Some (omega arith)
 
-pub size-ends : (place : Place) (bs : List ℕ) (i : ℕ) → i < length bs → ends place (drop i bs) ≡ true → Some (i + 3) ≡ add i (size place (drop i bs))
+pub size-ends : (place : Quoting) (bs : List ℕ) (i : ℕ) → i < length bs → ends place (drop i bs) ≡ true → Some (i + 3) ≡ add i (size place (drop i bs))
 size-ends place bs i h e = sym (ap (add i) (size-at place bs i h ∙ ap (λ t. if t then Some 3 else one_more (size (behind place (get_or bs i 0)) (drop (i + 1) bs))) e))
 
-pub size-on : (place : Place) (bs : List ℕ) (i : ℕ) → i < length bs → ends place (drop i bs) ≡ false → add (i + 1) (size (behind place (get_or bs i 0)) (drop (i + 1) bs)) ≡ add i (size place (drop i bs))
+pub size-on : (place : Quoting) (bs : List ℕ) (i : ℕ) → i < length bs → ends place (drop i bs) ≡ false → add (i + 1) (size (behind place (get_or bs i 0)) (drop (i + 1) bs)) ≡ add i (size place (drop i bs))
 size-on place bs i h e = sym (ap (add i) (size-at place bs i h ∙ ap (λ t. if t then Some 3 else one_more (size (behind place (get_or bs i 0)) (drop (i + 1) bs))) e) ∙ add-one_more i _)
 
-pub size-past : (place : Place) (bs : List ℕ) (i : ℕ) → length bs ≤ i → None ≡ add i (size place (drop i bs))
+pub size-past : (place : Quoting) (bs : List ℕ) (i : ℕ) → length bs ≤ i → None ≡ add i (size place (drop i bs))
 size-past place bs i h = sym (ap (add i) (ap (size place) (drop_all i bs h) ∙ size-none place))
 
-pub end-within : (place : Place) (bs : List ℕ) (i : ℕ) → ends place (drop i bs) ≡ true → i + 3 ≤ length bs
+pub end-within : (place : Quoting) (bs : List ℕ) (i : ℕ) → ends place (drop i bs) ≡ true → i + 3 ≤ length bs
 end-within place bs i e = omega (arith, ends-long place (drop i bs) e, length-drop i bs)
 
 -- a run of plain bytes

@@ -1,5 +1,5 @@
 -- A node takes up the next part of its page, and waits for the bytes of a subrequest then.
-use Rattle.std.proofs.Common.{◌≡◌, ◌<◌, ◌≤◌, ℕ, suc, ◌+◌, true, false, List, [], ◌∷◌, ◌++◌, length, set, slice_get, Option, Some, refl, sym, ap, ◌∙◌, subst, arith}
+use Rattle.std.proofs.Common.{◌≡◌, ◌<◌, ◌≤◌, ℕ, suc, ◌+◌, true, List, [], ◌∷◌, ◌++◌, length, set, slice_get, Option, Some, refl, sym, ap, ◌∙◌, subst, arith}
 use Rattle.acts.specs.Act.{Call, Inner}
 use Rattle.file_tree.specs.Tree.{Tree, Trees}
 use Rattle.ngx_pattern.specs.Pattern.{Pattern as SetPattern}
@@ -12,7 +12,7 @@ use Rattle.family_order.specs.Laws.{ShowsTheSame}
 use Rattle.ssi_exec.specs.Scenes.{child_seen}
 use Rattle.ssi_exec.specs.declared.document.Child.{Child}
 use Rattle.node_line.specs.Stances.{Opening}
-use Rattle.node_turn.specs.Stages.{IsSameNode, is_capturing, is_in_row, main_of, node_act, node_heard, text_in}
+use Rattle.node_turn.specs.Stages.{IsSameNode, is_capturing, main_of, node_act, node_heard, text_in}
 use Rattle.node_turn.specs.Turns.{Works}
 use Rattle.node_turn.specs.declared.node.Node.{Node}
 use Rattle.node_seats.specs.Seats.{is_seated, seen}
@@ -20,7 +20,7 @@ use Rattle.subrequests.specs.Families.{IsSound, texts_of}
 use Rattle.subrequests.specs.Moved.{IsAsking, IsInner, SameTexts}
 use Rattle.subrequests.specs.declared.family.Family.{Family}
 use Rattle.subrequests.proofs.Members as members
-use Rattle.subrequests.proofs.Sets.{get_set_same, length_set, length_snoc}
+use Rattle.family_nodes.proofs.Sets.{get_set_same, length_set, length_snoc}
 use Rattle.subrequests.proofs.Taking as taking
 
 module _ (f between end : Family) (at : ℕ) (old mid : Node) (child : Child) (there : slice_get f.nodes at ≡ Some old) (same : IsSameNode old mid) (place : mid.place ≡ old.place) (nodes : between.nodes ≡ set f.nodes at mid)
@@ -84,13 +84,6 @@ module _ (f between end : Family) (at : ℕ) (old mid : Node) (child : Child) (t
     begun =
         a.pushed.acts w patterns site f.main (texts f.order.nodes)
         ∙ ap (λ (m : Main). script w a.pushed.member.left (child_seen m child)) (ap (λ (n : Node). main_of f.main n) a.asks ∙ method)
-
-    pub included : is_in_row old.place ≡ false → is_capturing mid.stage ≡ false →
-        Works f.vars (node_act w patterns site f.main old (texts at)) (Inner (child_seen (main_of f.main old) child) (node_act w patterns site f.main mid (texts at))) →
-        Opening w tree 1 (seen w patterns site f.main f.order f.nodes texts) f.vars (seen w patterns site end.main end.order end.nodes texts) end.vars
-    included apart e acts =
-        ends_so (taking.included laws w patterns site f.main f.order f.nodes texts at old there sound goes_on seat tree f.vars mid same place f.order.nodes a.asking.children a.pushed.member refl
-        (child_seen (main_of f.main old) child) a.pushed.member.left deep refl a.pushed.goes a.pushed.parent a.pushed.asks begun apart e acts)
 
     pub asked : is_capturing mid.stage ≡ true →
         Works f.vars (node_act w patterns site f.main old (texts at)) (Call (child_seen (main_of f.main old) child) (λ reply. node_heard w patterns site f.main mid (texts at) reply.body)) →

@@ -1,5 +1,5 @@
 -- A family of one node.
-use Rattle.std.proofs.Common.{◌≡◌, ℕ, zero, suc, ◌<◌, ◌≤◌, ◌==◌, ◌&&◌, Bool, true, false, cond, not, List, [], ◌∷◌, length, slice_get, None, Some, refl, sym, ap, ◌∙◌, subst, arith}
+use Rattle.std.proofs.Common.{◌≡◌, ℕ, zero, suc, ◌<◌, ◌≤◌, ◌==◌, ◌&&◌, ◌||◌, nat_lt, Bool, true, false, cond, not, List, [], ◌∷◌, length, slice_get, None, Some, refl, sym, ap, ◌∙◌, subst, arith}
 use Rattle.std.proofs.lemmas.Bool.Decides.{nat_tests}
 use Rattle.acts.specs.Vars.{Vars}
 use Rattle.acts.specs.Act.{settled}
@@ -14,7 +14,7 @@ use Rattle.family_order.specs.Items.{Family, alone, doing, with_stance}
 use Rattle.family_order.specs.Items.Stance.{Going}
 use Rattle.family_order.specs.Laws.{ShowsTheSame}
 use Rattle.node_turn.specs.Stages.{node_act}
-use Rattle.subrequests.specs.Families.{IsSound, captured_at, goes_on_at}
+use Rattle.subrequests.specs.Families.{IsSound, goes_on_at, rises_at}
 use Rattle.node_seats.specs.Seats.{doing_by, is_captured, most_levels, seen, stance_in}
 use Rattle.node_seats.proofs.Seated.{in_row_is}
 use Rattle.node_line.specs.Stances.{Opening}
@@ -60,12 +60,16 @@ module _ (row : Row) (nodes : List Node) (n : Node) (first : row ≡ begun) (one
     few = subst (λ ns. length ns ≤ 1001) (sym one) (let e : 1 ≤ 1001 = omega arith in e);
     count = ap (λ (r : Row). r.nodes) first ∙ ap length (sym one);
     going = λ j. going j;
-    first = ap captured_at there ∙ free;
+    rises = λ j. rises j;
   }
     where
       going : (j : ℕ) → is_open j row.pieces ≡ goes_on_at (slice_get nodes j)
       going zero = open_first ∙ ap not (sym over) ∙ ap goes_on_at (sym there)
       going (suc j) = ap (λ (r : Row). is_open (suc j) r.pieces) first ∙ closed j ∙ ap (λ ns. goes_on_at (slice_get ns (suc j))) (sym one)
+
+      rises : (j : ℕ) → rises_at j (slice_get nodes j) ≡ true
+      rises zero = ap (rises_at 0) there ∙ ap (λ b. not b || nat_lt n.parent 0) free
+      rises (suc j) = ap (λ ns. rises_at (suc j) (slice_get ns (suc j))) one
 
 module _ (laws : ShowsTheSame) (w : World) (tree : Tree) (ps : List SetPattern) (site : Site) (main : Main) (row : Row) (nodes : List Node) (texts : ℕ → List ℕ) (vars : Vars) (n : Node) (m : Serving Answer)
     (first : row ≡ begun) (one : nodes ≡ n ∷ []) (left : n.left ≡ 50) (place : n.place ≡ InRow) (none : n.asks ≡ None) where

@@ -22,12 +22,12 @@ use Rattle.node_seats.specs.Seats.{doing_by, most_levels, seen, stance_in}
 use Rattle.node_seats.proofs.Located.{StandsAs}
 use Rattle.node_seats.proofs.Seated.{Replaced, Seated}
 use Rattle.subrequests.specs.Moved.{Keeps}
-use Rattle.subrequests.specs.Told.{Hears}
-use Rattle.subrequests.specs.Told.Hears.{Learned, Came}
+use Rattle.family_nodes.specs.Told.{Hears}
+use Rattle.family_nodes.specs.Told.Hears.{Learned, Came}
 use Rattle.node_turn.specs.declared.node.Node.{Node}
 use Rattle.subrequests.proofs.Members as members
 use Rattle.subrequests.proofs.Members.{eq_self, same_number, other_number}
-use Rattle.subrequests.proofs.Sets.{get_set_same, get_set_other}
+use Rattle.family_nodes.proofs.Sets.{get_set_same, get_set_other}
 use Rattle.node_line.specs.Stances.{stance_so}
 use Rattle.node_line.proofs.Steps as steps
 

@@ -1,5 +1,5 @@
 -- A node is over whose bytes come to its parent, which doesn't wait for them.
-use Rattle.std.proofs.Common.{◌≡◌, ◌≢◌, ◌≤◌, ◌<◌, ℕ, suc, ◌+◌, ◌==◌, ◌&&◌, nat_lt, Bool, not, true, false, cond, List, [], ◌++◌, get_or, length, set, slice_get, Option, None, Some, is_some, refl, sym, ap, ◌∙◌, subst, arith}
+use Rattle.std.proofs.Common.{◌≡◌, ◌≢◌, ◌<◌, ℕ, suc, ◌+◌, ◌==◌, ◌&&◌, nat_lt, Bool, not, true, false, cond, List, [], ◌++◌, set, slice_get, Option, None, Some, is_some, refl, sym, ap, ◌∙◌, subst, arith}
 use Rattle.std.proofs.lemmas.Bool.Decides.{nat_tests}
 use Rattle.acts.specs.Vars.{Vars}
 use Rattle.acts.specs.Act.{Done}
@@ -10,20 +10,18 @@ use Rattle.site_model.specs.declared.site.Site.{Site}
 use Rattle.postpone_filter.specs.Row.{Row, ended, is_open}
 use Rattle.request_meaning.specs.Serving.{World, Serving, Answer, Reply}
 use Rattle.request_meaning.specs.Replies.{or_stub}
-use Rattle.family_order.specs.Items.{IsWellRow}
 use Rattle.family_order.specs.Laws.{ShowsTheSame}
 use Rattle.node_turn.specs.Stages.{is_capturing, is_ending, is_in_row, node_act, node_heard}
 use Rattle.node_turn.specs.declared.node.Node.{Node}
 use Rattle.node_turn.specs.declared.node.Place.{Place}
-use Rattle.node_turn.specs.declared.node.Place.TheVariants.{Row as InRow, Stub, Captured}
 use Rattle.node_line.specs.Stances.{Opening}
-use Rattle.node_seats.specs.Seats.{IsNextInner, NoInner, doing_by, inner_in, inner_of_its, is_asked, is_captured, is_heard, is_inner, is_seated, most_levels, most_nodes, seen, stub_in, withheld_text}
+use Rattle.node_seats.specs.Seats.{IsNextInner, NoInner, doing_by, inner_in, inner_of_its, is_asked, is_captured, is_heard, is_inner, is_seated, most_levels, most_nodes, seen, stub_in, withheld_text, takes_up}
 use Rattle.node_seats.proofs.Above.{Takes, above_is}
 use Rattle.node_seats.proofs.Above.Takes.{Asks, Includes}
 use Rattle.node_seats.proofs.Ending as endings
 use Rattle.node_seats.proofs.Ending.{Comes, Ends_inner, Inner, inner_parts}
 use Rattle.node_seats.proofs.Ending.Comes.{First, Next}
-use Rattle.node_seats.proofs.Located.{Located, StandsAs, locate}
+use Rattle.node_seats.proofs.Located.{StandsAs, locate}
 use Rattle.node_seats.proofs.Others.{SameOrMore, is_its}
 use Rattle.node_seats.proofs.Others.SameOrMore.{Same, Its}
 use Rattle.node_seats.proofs.Seated.{IsBare}
@@ -31,7 +29,7 @@ use Rattle.subrequests.specs.Families.{HasFirst, IsSound, IsTaken, goes_on_at, t
 use Rattle.subrequests.specs.Moved.{SameTexts, is_at}
 use Rattle.subrequests.proofs.Members as members
 use Rattle.subrequests.proofs.Returns as returning
-use Rattle.subrequests.proofs.Sets.{get_set_other, get_set_same, length_set}
+use Rattle.family_nodes.proofs.Sets.{get_set_other, get_set_same}
 use Rattle.subrequests.proofs.Wholes as wholes
 
 same_some : {A : Type 0} (x y : A) → Some x ≡ Some y → x ≡ y
@@ -43,11 +41,11 @@ false_true e = cc
 less_of : (a b : ℕ) → nat_lt a b ≡ true → a < b
 less_of a b e = grind (arith, nat_tests, e)
 
-size : 2 + 49 ≡ suc most_levels
+size : 2 + 1000 ≡ suc most_levels
 unfolding most_levels
 size = refl
 
-levels_are : most_levels ≡ suc 49
+levels_are : most_levels ≡ suc 1000
 unfolding most_levels
 levels_are = refl
 
@@ -68,19 +66,19 @@ pub record Beside (row : Row) (nodes : List Node) (at : ℕ) (old : Node) (place
   pub taken : IsTaken old.stage text old.place place
   pub parent : slice_get nodes old.parent ≡ Some p
   pub p_over : p.over ≡ false
-  pub p_captured : is_captured p.place ≡ true
+  pub p_takes : takes_up p.place ≡ true
   pub after : nat_lt old.parent at ≡ true
   pub few : nat_lt at most_nodes ≡ true
   pub inner : is_inner old.parent p at old ≡ true
   pub bare : IsBare nodes at old
-  pub heard : is_heard 49 nodes old.parent p ≡ true
+  pub heard : is_heard 1000 nodes old.parent p ≡ true
   pub is_open_too : is_open at row.pieces ≡ true
 
 pub beside_is : (row : Row) (nodes : List Node) (at : ℕ) (old : Node) (place : Place) (text : List ℕ) → slice_get nodes at ≡ Some old → IsSound row nodes → is_at is_ending (slice_get nodes at) ≡ true → is_seated nodes at (slice_get nodes at) ≡ true →
     NoInner nodes at 0 most_nodes → inner_of_its nodes at (slice_get nodes at) ≡ true → IsTaken old.stage text old.place place → (p : Node) × Beside row nodes at old place p text
 beside_is row nodes at old place text there sound ends seat no_inner beside taken =
     let captured = ap is_captured taken.place in
-    let above = above_is 49 nodes at old (subst (λ l. is_heard l nodes at old ≡ true) levels_are (members.heard_above nodes at old there seat)) captured in
+    let above = above_is 1000 nodes at old (subst (λ l. is_heard l nodes at old ≡ true) levels_are (members.heard_above nodes at old there seat)) captured in
     let p = above.waiting in
     let inner : is_inner old.parent p at old ≡ true = sym (ap (inner_of_its nodes at) there ∙ ap (λ o. inner_in old.parent o at (Some old)) above.there) ∙ beside in
     let parts = inner_parts old.parent p at old inner in
@@ -93,7 +91,7 @@ beside_is row nodes at old place text there sound ends seat no_inner beside take
         taken = taken;
         parent = above.there;
         p_over = above.goes_on;
-        p_captured = more.0;
+        p_takes = more.0;
         after = parts.after;
         few = more.1;
         inner = inner;
@@ -103,9 +101,9 @@ beside_is row nodes at old place text there sound ends seat no_inner beside take
       },
     )
   where
-    takes_so : (p : Node) → Takes old.parent at p → is_asked at p.asks ≡ false → (is_captured p.place ≡ true) × (nat_lt at most_nodes ≡ true)
+    takes_so : (p : Node) → Takes old.parent at p → is_asked at p.asks ≡ false → (takes_up p.place ≡ true) × (nat_lt at most_nodes ≡ true)
     takes_so p (Asks asks) not_asked = absurd (false_true (sym not_asked ∙ ap (is_asked at) asks ∙ members.eq_self at))
-    takes_so p (Includes captured less few asks) not_asked = (captured, few)
+    takes_so p (Includes takes less few asks) not_asked = (takes, few)
 
 module _ (row : Row) (nodes : List Node) (at : ℕ) (old : Node) (place : Place) (p : Node) (text : List ℕ) (r : Beside row nodes at old place p text)
     (gone : Node) (gone_is : gone ≡ gone_so old place) where
@@ -136,7 +134,7 @@ module _ (row : Row) (nodes : List Node) (at : ℕ) (old : Node) (place : Place)
 
   pub sound_over : (row' : Row) → IsSound row nodes → at ≢ 0 → row' ≡ ended at row → ((j : ℕ) → is_open j row'.pieces ≡ cond (j == at) false (is_open j row.pieces)) → IsSound row' (set nodes at gone)
   sound_over row' sound child rows closed =
-      members.over_sound row row' nodes at old gone r.there sound (members.ended_well row row' at sound.well child rows) (ap (λ (x : Row). x.nodes) rows) closed gone_over place_captured
+      members.over_sound row row' nodes at old gone r.there sound (members.ended_well row row' at sound.well child rows) (ap (λ (x : Row). x.nodes) rows) closed gone_over place_captured (ap (λ (n : Node). n.parent) gone_is)
 
   pub texts_over : (trees : Trees) (j : ℕ) → texts_of trees nodes j ≡ texts_of trees (set nodes at gone) j
   texts_over trees j = members.set_texts trees nodes at old gone r.there (members.same_text trees old gone (ap (λ (n : Node). n.ask) gone_is, ap (λ (n : Node). n.start) gone_is)) j
@@ -170,16 +168,11 @@ module _ (row : Row) (nodes : List Node) (at : ℕ) (old : Node) (place : Place)
         let done = wholes.ended_act w patterns site main old (texts at) r.ending in
         let same = chosen_is w patterns site main (texts at) done.0 done.1 in
         let closed' : (j : ℕ) → is_open j (ended at row).pieces ≡ cond (j == at) false (is_open j row.pieces) = λ j. ap (λ (x : Row). is_open j x.pieces) (sym rows) ∙ closed j in
-        let q = locate most_levels (doing_by w patterns site main texts) nodes 49 2 old.parent p r.parent r.p_over size r.heard (apart p.place r.p_captured) in
+        let q = locate most_levels (doing_by w patterns site main texts) nodes 1000 2 old.parent p r.parent r.p_over size r.heard (members.takes_apart p.place r.p_takes) in
         subst (λ (x : Row). Opening w tree 0 (seen w patterns site main row nodes texts) vars (seen w patterns site main x nodes' texts) vars) (sym rows)
         (endings.comes laws w patterns site main row nodes nodes' texts old.parent at p p' old gone' done.0
         (subst (λ t. Ends_inner (doing_by w patterns site main texts) nodes (doing_by w patterns site main texts) nodes' old.parent at p p' old gone' (old.before ++ t)) same ends)
-        like 49 r.heard tree vars r.is_open_too (members.seen_well w patterns site main row nodes texts sound) closed' done.1 q (members.open_there row nodes q.h q.host q.there q.goes_on sound))
-      where
-        apart : (place : Place) → is_captured place ≡ true → is_in_row place ≡ false
-        apart InRow e = cc
-        apart (Stub stub t) e = refl
-        apart (Captured stub t) e = refl
+        like 1000 r.heard tree vars r.is_open_too (members.seen_well w patterns site main row nodes texts sound) closed' done.1 q (members.open_there row nodes q.h q.host q.there q.goes_on sound))
 
   -- ---- its bytes come before those of its parent
 
@@ -188,14 +181,15 @@ module _ (row : Row) (nodes : List Node) (at : ℕ) (old : Node) (place : Place)
     nodes_first = set (set nodes at gone) old.parent p'
 
     pub p_same : is_captured p'.place ≡ is_captured p.place
-    p_same = ap (λ (n : Node). is_captured n.place) first.is ∙ sym (ap is_captured first.was)
+    p_same = ap (λ (n : Node). is_captured n.place) first.is ∙ members.text_kept ((old.before ++ text) ++ withheld_text p.place) p.place
 
     pub like_first : StandsAs p p'
     like_first = record {
       parent = ap (λ (n : Node). n.parent) first.is;
       captured = p_same;
-      stub = ap (λ (n : Node). stub_in n.place) first.is ∙ sym (ap stub_in first.was);
-      row = ap (λ (n : Node). is_in_row n.place) first.is ∙ sym (ap is_in_row first.was);
+      stub = ap (λ (n : Node). stub_in n.place) first.is ∙ members.text_stub ((old.before ++ text) ++ withheld_text p.place) p.place;
+      row = ap (λ (n : Node). is_in_row n.place) first.is ∙ members.text_row ((old.before ++ text) ++ withheld_text p.place) p.place;
+      takes = ap (λ (n : Node). takes_up n.place) first.is ∙ members.text_takes ((old.before ++ text) ++ withheld_text p.place) p.place;
       before = ap (λ (n : Node). n.before) first.is;
       over = ap (λ (n : Node). n.over) first.is;
     }
@@ -205,8 +199,8 @@ module _ (row : Row) (nodes : List Node) (at : ℕ) (old : Node) (place : Place)
     ends_first w patterns site main texts = record {
       there = r.parent;
       then = get_set_same (set nodes at gone) old.parent p' p par_there;
-      captured = r.p_captured;
-      captured_then = p_same ∙ r.p_captured;
+      takes = r.p_takes;
+      takes_then = like_first.takes ∙ r.p_takes;
       asks = ap (λ (n : Node). n.asks) first.is;
       left = ap (λ (n : Node). n.left) first.is;
       capturing = ap (λ (n : Node). is_capturing n.stage) first.is;
@@ -219,7 +213,7 @@ module _ (row : Row) (nodes : List Node) (at : ℕ) (old : Node) (place : Place)
       few = r.few;
       none = r.none;
       bare = r.bare;
-      comes = First (λ c m h k here. none_of most_nodes c m none h k here) (ap (λ (n : Node). withheld_text n.place) first.is ∙ ap (λ t. (old.before ++ text) ++ t) (sym (ap withheld_text first.was))) kept;
+      comes = First (λ c m h k here. none_of most_nodes c m none h k here) (ap (λ (n : Node). withheld_text n.place) first.is ∙ members.text_then ((old.before ++ text) ++ withheld_text p.place) p.place first.takes) kept;
       others = λ j e. others j e (j == at) refl;
       acts = λ j n e. refl;
       heard = λ j n e. refl;
@@ -239,7 +233,7 @@ module _ (row : Row) (nodes : List Node) (at : ℕ) (old : Node) (place : Place)
 
     pub sound_first : (row' : Row) → IsSound row' (set nodes at gone) → IsSound row' (set (set nodes at gone) old.parent p')
     sound_first row' sound =
-        members.set_sound row' row' (set nodes at gone) old.parent p p' par_there sound sound.well refl (λ j. refl) (ap (λ (n : Node). n.over) first.is) p_same
+        members.set_sound row' row' (set nodes at gone) old.parent p p' par_there sound sound.well refl (λ j. refl) (ap (λ (n : Node). n.over) first.is) p_same (ap (λ (n : Node). n.parent) first.is)
 
     pub texts_first : (trees : Trees) → SameTexts (set (set nodes at gone) old.parent p') (texts_of trees nodes) (texts_of trees (set (set nodes at gone) old.parent p'))
     texts_first trees j n e reads =
@@ -277,8 +271,8 @@ module _ (row : Row) (nodes : List Node) (at : ℕ) (old : Node) (place : Place)
     ends_next w patterns site main texts = record {
       there = r.parent;
       then = get_set_other (set nodes at gone) y old.parent n' (λ e. y_par (sym e)) ∙ par_there;
-      captured = r.p_captured;
-      captured_then = r.p_captured;
+      takes = r.p_takes;
+      takes_then = r.p_takes;
       asks = refl;
       left = refl;
       capturing = refl;
@@ -318,7 +312,7 @@ module _ (row : Row) (nodes : List Node) (at : ℕ) (old : Node) (place : Place)
 
     pub sound_next : (row' : Row) → IsSound row' (set nodes at gone) → IsSound row' (set (set nodes at gone) y n')
     sound_next row' sound =
-        members.set_sound row' row' (set nodes at gone) y n n' here sound sound.well refl (λ j. refl) (ap (λ (x : Node). x.over) is) (ap (λ (x : Node). is_captured x.place) is)
+        members.set_sound row' row' (set nodes at gone) y n n' here sound sound.well refl (λ j. refl) (ap (λ (x : Node). x.over) is) (ap (λ (x : Node). is_captured x.place) is) (ap (λ (x : Node). x.parent) is)
 
     pub texts_next : (trees : Trees) → SameTexts (set (set nodes at gone) y n') (texts_of trees nodes) (texts_of trees (set (set nodes at gone) y n'))
     texts_next trees j m e reads =

@@ -1,5 +1,5 @@
 -- A node of a family of nodes, and another in its place.
-use Rattle.std.proofs.Common.{◌≡◌, ◌≢◌, ◌≤◌, ◌<◌, ℕ, zero, suc, ◌==◌, ◌&&◌, is_none, nat_lt, Bool, true, false, cond, not, List, [], ◌∷◌, ◌++◌, length, drop, set, slice_get, Option, None, Some, refl, sym, ap, ◌∙◌, subst, unwrap_or, arith}
+use Rattle.std.proofs.Common.{◌≡◌, ◌≢◌, ◌≤◌, ◌<◌, ℕ, zero, suc, ◌==◌, ◌&&◌, ◌||◌, is_none, nat_lt, Bool, true, false, cond, not, List, [], ◌∷◌, ◌++◌, length, drop, set, slice_get, Option, None, Some, refl, sym, ap, ◌∙◌, subst, unwrap_or, arith}
 use Rattle.std.proofs.lemmas.Bool.{eqb-true}
 use Rattle.std.proofs.lemmas.Bool.Decides.{nat_tests}
 use Rattle.acts.specs.Vars.{Vars}
@@ -19,8 +19,8 @@ use Rattle.family_order.specs.Laws.{ShowsTheSame}
 use Rattle.family_order.proofs.Wells.{step-well}
 use Rattle.postpone_filter.specs.Runs.Call.{Append, AddChild, End}
 use Rattle.node_turn.specs.Stages.{IsSameNode, hand_at, withheld_more, node_act, node_heard, text_in, item_asked, is_asking}
-use Rattle.subrequests.specs.Families.{IsSound, captured_at, goes_on_at, reads_text, text_at, texts_of}
-use Rattle.node_seats.specs.Seats.{Doing, NoInner, doing_by, inner_in, is_asked, is_inner, most_nodes, withheld_text, is_captured, is_heard, is_seated, most_levels, place_stance, row_stance, seen, stance_in, stance_of, stub_in}
+use Rattle.subrequests.specs.Families.{IsSound, captured_at, goes_on_at, reads_text, rises_at, with_text, text_at, texts_of}
+use Rattle.node_seats.specs.Seats.{Doing, NoInner, doing_by, inner_in, is_asked, is_inner, most_nodes, withheld_text, is_captured, is_heard, is_seated, most_levels, place_stance, row_stance, seen, stance_in, stance_of, stub_in, takes_up}
 use Rattle.node_seats.proofs.Besides.{Beside, IsAsMuch, as_much, is_free, same_stance, still_stance}
 use Rattle.node_seats.proofs.Besides.Beside.{Neither, Both, Free}
 use Rattle.node_seats.proofs.Framing as framing
@@ -34,13 +34,13 @@ use Rattle.node_turn.specs.Turns.{Works, PlacesAs}
 use Rattle.node_turn.specs.declared.node.Node.{Node}
 use Rattle.node_turn.specs.declared.node.Stage.{Stage}
 use Rattle.node_turn.specs.declared.node.Stage.TheVariants as at_stage
-use Rattle.subrequests.proofs.Sets.{get_before, get_kept, get_last, get_none, get_set_same, get_set_other, length_set, length_snoc}
+use Rattle.family_nodes.proofs.Sets.{get_before, get_kept, get_last, get_none, get_set_same, get_set_other, length_set, length_snoc}
 use Rattle.node_line.proofs.Steps as steps
 use Rattle.node_line.specs.Stubs.{CameAs, DecidedAs}
 use Rattle.node_line.specs.Stubs.CameAs.{Withheld, Joined}
 use Rattle.node_turn.specs.Stages.{is_in_row}
 use Rattle.node_turn.specs.declared.node.Place.{Place}
-use Rattle.node_turn.specs.declared.node.Place.TheVariants.{Row as InRow, Stub, Captured}
+use Rattle.node_turn.specs.declared.node.Place.TheVariants.{Row as InRow, Stub, Gathers, Captured}
 
 -- ---- numbers
 
@@ -119,19 +119,58 @@ replaced w patterns site main texts texts' nodes at old new there none free agre
   heard = λ j n e. ap (λ t reply. node_heard w patterns site main n t reply.body) (agree j e);
 }
 
+-- other bytes that are withheld leave a node where it is
+pub text_kept : (text : List ℕ) (p : Place) → is_captured (with_text text p) ≡ is_captured p
+text_kept text InRow = refl
+text_kept text (Stub stub t) = refl
+text_kept text (Gathers stub t) = refl
+text_kept text (Captured stub t) = refl
+
+pub text_stub : (text : List ℕ) (p : Place) → stub_in (with_text text p) ≡ stub_in p
+text_stub text InRow = refl
+text_stub text (Stub stub t) = refl
+text_stub text (Gathers stub t) = refl
+text_stub text (Captured stub t) = refl
+
+pub text_row : (text : List ℕ) (p : Place) → is_in_row (with_text text p) ≡ is_in_row p
+text_row text InRow = refl
+text_row text (Stub stub t) = refl
+text_row text (Gathers stub t) = refl
+text_row text (Captured stub t) = refl
+
+pub text_takes : (text : List ℕ) (p : Place) → takes_up (with_text text p) ≡ takes_up p
+text_takes text InRow = refl
+text_takes text (Stub stub t) = refl
+text_takes text (Gathers stub t) = refl
+text_takes text (Captured stub t) = refl
+
+-- what takes up bytes isn't in the row
+pub takes_apart : (p : Place) → takes_up p ≡ true → is_in_row p ≡ false
+takes_apart InRow e = cc
+takes_apart (Stub stub t) e = refl
+takes_apart (Gathers stub t) e = refl
+takes_apart (Captured stub t) e = refl
+
+pub text_then : (text : List ℕ) (p : Place) → takes_up p ≡ true → withheld_text (with_text text p) ≡ text
+text_then text InRow e = cc
+text_then text (Stub stub t) e = cc
+text_then text (Gathers stub t) e = refl
+text_then text (Captured stub t) e = refl
+
 pub stands_as : (old new : Node) → new.parent ≡ old.parent → new.place ≡ old.place → new.before ≡ old.before → new.over ≡ old.over → StandsAs old new
-stands_as old new parent place before over = record { parent = parent; captured = ap is_captured place; stub = ap stub_in place; row = ap is_in_row place; before = before; over = over }
+stands_as old new parent place before over = record { parent = parent; captured = ap is_captured place; stub = ap stub_in place; row = ap is_in_row place; takes = ap takes_up place; before = before; over = over }
 
 -- where more bytes of it are withheld
 pub holds_as : (old new : Node) (bytes : List ℕ) → new.parent ≡ old.parent → new.place ≡ withheld_more bytes old.place → new.before ≡ old.before → new.over ≡ old.over → StandsAs old new
 holds_as old new bytes parent place before over =
     let is = by old.place in
-    record { parent = parent; captured = ap is_captured place ∙ is.0; stub = ap stub_in place ∙ is.1; row = ap is_in_row place ∙ is.2; before = before; over = over }
+    record { parent = parent; captured = ap is_captured place ∙ is.0; stub = ap stub_in place ∙ is.1; row = ap is_in_row place ∙ is.2; takes = ap takes_up place ∙ is.3; before = before; over = over }
   where
-    by : (p : Place) → (is_captured (withheld_more bytes p) ≡ is_captured p) × (stub_in (withheld_more bytes p) ≡ stub_in p) × (is_in_row (withheld_more bytes p) ≡ is_in_row p)
-    by InRow = (refl, refl, refl)
-    by (Stub stub text) = (refl, refl, refl)
-    by (Captured stub text) = (refl, refl, refl)
+    by : (p : Place) → (is_captured (withheld_more bytes p) ≡ is_captured p) × (stub_in (withheld_more bytes p) ≡ stub_in p) × (is_in_row (withheld_more bytes p) ≡ is_in_row p) × (takes_up (withheld_more bytes p) ≡ takes_up p)
+    by InRow = (refl, refl, refl, refl)
+    by (Stub stub text) = (refl, refl, refl, refl)
+    by (Gathers stub text) = (refl, refl, refl, refl)
+    by (Captured stub text) = (refl, refl, refl, refl)
 
 pub others_kept : (nodes : List Node) (at : ℕ) (new : Node) (j : ℕ) → (j == at) ≡ false → slice_get nodes j ≡ slice_get (set nodes at new) j
 others_kept nodes at new j e = sym (get_set_other nodes at j new (other_number j at e))
@@ -141,13 +180,13 @@ free_then nodes at old new there free = ap is_free (get_set_same nodes at new ol
 
 -- ---- a node that may go on
 
-levels_are : (nodes : List Node) (at : ℕ) (n : Node) → is_heard 50 nodes at n ≡ true → is_heard most_levels nodes at n ≡ true
+levels_are : (nodes : List Node) (at : ℕ) (n : Node) → is_heard most_levels nodes at n ≡ true → is_heard most_levels nodes at n ≡ true
 unfolding most_levels
 levels_are nodes at n e = e
 
 -- a node that may go on waits for no reply
 pub asks_none : (nodes : List Node) (at : ℕ) (old : Node) → slice_get nodes at ≡ Some old → is_seated nodes at (slice_get nodes at) ≡ true → old.asks ≡ None
-asks_none nodes at old there e = none_of old.asks (left_true (is_none old.asks) (is_heard 50 nodes at old) (sym (ap (is_seated nodes at) there) ∙ e))
+asks_none nodes at old there e = none_of old.asks (left_true (is_none old.asks) (is_heard most_levels nodes at old) (sym (ap (is_seated nodes at) there) ∙ e))
   where
     none_of : (o : Option ℕ) → is_none o ≡ true → o ≡ None
     none_of None f = refl
@@ -155,7 +194,7 @@ asks_none nodes at old there e = none_of old.asks (left_true (is_none old.asks) 
 
 -- and where its bytes come to another, that waits for them
 pub heard_above : (nodes : List Node) (at : ℕ) (old : Node) → slice_get nodes at ≡ Some old → is_seated nodes at (slice_get nodes at) ≡ true → is_heard most_levels nodes at old ≡ true
-heard_above nodes at old there e = levels_are nodes at old (right_true (is_none old.asks) (is_heard 50 nodes at old) (sym (ap (is_seated nodes at) there) ∙ e))
+heard_above nodes at old there e = levels_are nodes at old (right_true (is_none old.asks) (is_heard most_levels nodes at old) (sym (ap (is_seated nodes at) there) ∙ e))
 
 pub not_over : (row : Row) (nodes : List Node) (at : ℕ) (old : Node) → slice_get nodes at ≡ Some old → IsSound row nodes → is_open at row.pieces ≡ true → old.over ≡ false
 not_over row nodes at old there sound goes_on = by old.over (ap goes_on_at (sym there) ∙ sym (sound.going at) ∙ goes_on)
@@ -200,7 +239,7 @@ seat_and_open w patterns site main row nodes texts at old there sound goes_on e 
 none_some_node : (x : Node) → None ≡ Some x → ⊥
 none_some_node x e = cc
 
-less_of : (a b : ℕ) → nat_lt a b ≡ true → a < b
+pub less_of : (a b : ℕ) → nat_lt a b ≡ true → a < b
 less_of a b e = grind (arith, nat_tests, e)
 
 pub past_end : (nodes : List Node) (c : ℕ) → length nodes ≤ c → slice_get nodes c ≡ None
@@ -308,7 +347,7 @@ module _ (laws : ShowsTheSame) (w : World) (patterns : List SetPattern) (site : 
       begun =
           ap (stance_of (doing_by w patterns site main texts) nodes most_levels at) there
           ∙ ap (place_stance (doing_by w patterns site main texts) nodes most_levels at old) was
-          ∙ ap (λ line. Apart line stub) (line_alone (doing_by w patterns site main texts) nodes (suc most_levels) at old Nil (asks_none nodes at old there seat) (ap is_captured was)
+          ∙ ap (λ line. Apart line stub) (line_alone (doing_by w patterns site main texts) nodes (suc most_levels) at old Nil (asks_none nodes at old there seat) (ap takes_up was)
           ∙ ap (λ p. under (withheld_text p) (Gives at old.left (node_act w patterns site main old (texts at)) Nil)) was)
 
       by : (j : ℕ) (b : Bool) → (j == at) ≡ b → cond b (Going old.left (node_act w patterns site main new (texts at))) (stance_in (doing_by w patterns site main texts) nodes most_levels j)
@@ -381,7 +420,7 @@ module _ (laws : ShowsTheSame) (w : World) (patterns : List SetPattern) (site : 
       begun =
           ap (stance_of (doing_by w patterns site main texts) nodes most_levels at) there
           ∙ ap (place_stance (doing_by w patterns site main texts) nodes most_levels at old) d.is.place
-          ∙ ap (λ line. Apart line d.stub) (line_alone (doing_by w patterns site main texts) nodes (suc most_levels) at old Nil (asks_none nodes at old there seat) (ap is_captured d.is.place)
+          ∙ ap (λ line. Apart line d.stub) (line_alone (doing_by w patterns site main texts) nodes (suc most_levels) at old Nil (asks_none nodes at old there seat) (ap takes_up d.is.place)
           ∙ ap (λ p. under (withheld_text p) (Gives at old.left (node_act w patterns site main old (texts at)) Nil)) d.is.place
           ∙ ap (λ m. under d.is.text (Gives at old.left m Nil)) done)
 
@@ -440,10 +479,10 @@ module _ (laws : ShowsTheSame) (w : World) (patterns : List SetPattern) (site : 
       by : (s : Option (List ℕ)) → place_stance (doing_by w patterns site main texts) nodes' most_levels number member (place_by s) ≡ stance_at number (place_by s) member.left (node_act w patterns site main member (texts number))
       by None = ap (row_stance (doing_by w patterns site main texts) nodes' most_levels number member) alone
       by (Some text) =
-          ap (λ line. Apart line text) (line_alone (doing_by w patterns site main texts) nodes' (suc most_levels) number member Nil alone (ap is_captured place ∙ free_place stub)
+          ap (λ line. Apart line text) (line_alone (doing_by w patterns site main texts) nodes' (suc most_levels) number member Nil alone (ap takes_up place ∙ free_place stub)
           ∙ ap (λ t. under t (Gives number member.left (node_act w patterns site main member (texts number)) Nil)) (withheld place))
         where
-          free_place : (o : Option (List ℕ)) → is_captured (place_by o) ≡ false
+          free_place : (o : Option (List ℕ)) → takes_up (place_by o) ≡ false
           free_place None = refl
           free_place (Some t) = refl
 
@@ -513,15 +552,28 @@ came_kept row row' at old new (Withheld rows place acts) = ap is_captured place 
     by : (p : Place) → is_captured (withheld_more (hand_at old.stage) p) ≡ is_captured p
     by InRow = refl
     by (Stub stub text) = refl
+    by (Gathers stub text) = refl
     by (Captured stub text) = refl
 came_kept row row' at old new (Joined stub some any was is rows acts good) = ap is_captured is ∙ sym (ap is_captured was)
 
 pub decided_well : (row row' : Row) (at : ℕ) (old new : Node) → IsWellRow 0 row → at ≢ 0 → DecidedAs at row row' old new → IsWellRow 0 row'
 decided_well row row' at old new well child d = ended_well (appended at d.stub row) row' at (appended_well row (appended at d.stub row) at d.stub well refl) child d.row
 
+-- the bytes of the first node come to no other
+pub first_free : (nodes : List Node) → rises_at 0 (slice_get nodes 0) ≡ true → captured_at (slice_get nodes 0) ≡ false
+first_free [] e = refl
+first_free (n ∷ nodes) e = by (is_captured n.place) refl
+  where
+    less_none : (a : ℕ) → nat_lt a 0 ≡ false
+    less_none a = grind (arith, nat_tests)
+
+    by : (b : Bool) → is_captured n.place ≡ b → b ≡ false
+    by false f = refl
+    by true f = absurd (false_true (sym (ap (λ b. not b || nat_lt n.parent 0) f ∙ less_none n.parent) ∙ e))
+
 -- a family whose main request goes on is well
 pub seen_well : (w : World) (patterns : List SetPattern) (site : Site) (main : Main) (row : Row) (nodes : List Node) (texts : ℕ → List ℕ) → IsSound row nodes → IsWell (seen w patterns site main row nodes texts)
-seen_well w patterns site main row nodes texts s = record { row_is = s.well; root_is_shown = by nodes s.first (sym (s.going 0) ∙ s.well.root_goes_on) }
+seen_well w patterns site main row nodes texts s = record { row_is = s.well; root_is_shown = by nodes (first_free nodes (s.rises 0)) (sym (s.going 0) ∙ s.well.root_goes_on) }
   where
     in_row : (ns : List Node) (n : Node) (asks : Option ℕ) → is_shown (row_stance (doing_by w patterns site main texts) ns most_levels 0 n asks) ≡ true
     in_row ns n None = refl
@@ -530,6 +582,7 @@ seen_well w patterns site main row nodes texts s = record { row_is = s.well; roo
     shown : (ns : List Node) (n : Node) (place : Place) → is_captured place ≡ false → is_shown (place_stance (doing_by w patterns site main texts) ns most_levels 0 n place) ≡ true
     shown ns n InRow e = in_row ns n n.asks
     shown ns n (Stub stub text) e = refl
+    shown ns n (Gathers stub text) e = refl
     shown ns n (Captured stub text) e = cc
 
     by : (ns : List Node) → captured_at (slice_get ns 0) ≡ false → goes_on_at (slice_get ns 0) ≡ true → is_shown (stance_in (doing_by w patterns site main texts) ns most_levels 0) ≡ true
@@ -637,25 +690,48 @@ more_files trees nodes member fresh j n e reads = by (j == length nodes) refl
 
 -- ---- sound rows
 
--- whether another waits for the first node is as before
-set_first : (nodes : List Node) (at : ℕ) (old new : Node) → slice_get nodes at ≡ Some old → is_captured new.place ≡ is_captured old.place → captured_at (slice_get (set nodes at new) 0) ≡ captured_at (slice_get nodes 0)
-set_first [] at old new there kept = cc
-set_first (n ∷ nodes) zero old new there kept = kept ∙ ap captured_at (sym there)
-set_first (n ∷ nodes) (suc at) old new there kept = refl
+-- another node in the place of one, of the same parent
+set_rises : (nodes : List Node) (at : ℕ) (old new : Node) → slice_get nodes at ≡ Some old → is_captured new.place ≡ is_captured old.place → new.parent ≡ old.parent → ((j : ℕ) → rises_at j (slice_get nodes j) ≡ true) →
+    (j : ℕ) → rises_at j (slice_get (set nodes at new) j) ≡ true
+set_rises nodes at old new there kept parent rises j = by (j == at) refl
+  where
+    by : (b : Bool) → (j == at) ≡ b → rises_at j (slice_get (set nodes at new) j) ≡ true
+    by true e =
+        ap (λ i. rises_at j (slice_get (set nodes at new) i)) (same_number j at e) ∙ ap (rises_at j) (get_set_same nodes at new old there)
+        ∙ ap (λ b. not b || nat_lt new.parent j) kept ∙ ap (λ i. not (is_captured old.place) || nat_lt i j) parent
+        ∙ sym (ap (rises_at j) there) ∙ ap (λ i. rises_at j (slice_get nodes i)) (sym (same_number j at e)) ∙ rises j
+    by false e = ap (rises_at j) (get_set_other nodes at j new (other_number j at e)) ∙ rises j
 
--- so is it where one is more
-more_first : (nodes : List Node) (member : Node) → goes_on_at (slice_get nodes 0) ≡ true → captured_at (slice_get (nodes ++ member ∷ []) 0) ≡ captured_at (slice_get nodes 0)
-more_first [] member e = cc
-more_first (n ∷ nodes) member e = refl
+-- one more
+more_rises : (nodes : List Node) (member : Node) → (is_captured member.place ≡ true → member.parent < length nodes) → ((j : ℕ) → rises_at j (slice_get nodes j) ≡ true) → (j : ℕ) → rises_at j (slice_get (nodes ++ member ∷ []) j) ≡ true
+more_rises nodes member lower rises j = by (j == length nodes) refl
+  where
+    less_so : (a b : ℕ) → a < b → nat_lt a b ≡ true
+    less_so a b h = grind (arith, nat_tests, h)
+
+    last : (b : Bool) → is_captured member.place ≡ b → (not b || nat_lt member.parent (length nodes)) ≡ true
+    last false f = refl
+    last true f = less_so member.parent (length nodes) (lower f)
+
+    by : (b : Bool) → (j == length nodes) ≡ b → rises_at j (slice_get (nodes ++ member ∷ []) j) ≡ true
+    by true e =
+        ap (λ i. rises_at i (slice_get (nodes ++ member ∷ []) i)) (same_number j (length nodes) e) ∙ ap (rises_at (length nodes)) (get_last nodes member)
+        ∙ last (is_captured member.place) refl
+    by false e = ap (rises_at j) (get_before nodes member j (other_number j (length nodes) e)) ∙ rises j
+
+pub there_less : (nodes : List Node) (at : ℕ) (n : Node) → slice_get nodes at ≡ Some n → at < length nodes
+there_less [] at n e = cc
+there_less (x ∷ nodes) zero n e = omega arith
+there_less (x ∷ nodes) (suc at) n e = let h = there_less nodes at n e in omega (arith, h)
 
 pub set_sound : (row row' : Row) (nodes : List Node) (at : ℕ) (old new : Node) → slice_get nodes at ≡ Some old → IsSound row nodes → IsWellRow 0 row' → row'.nodes ≡ row.nodes →
-    ((j : ℕ) → is_open j row'.pieces ≡ is_open j row.pieces) → new.over ≡ old.over → is_captured new.place ≡ is_captured old.place → IsSound row' (set nodes at new)
-set_sound row row' nodes at old new there s well numbers same over kept = record {
+    ((j : ℕ) → is_open j row'.pieces ≡ is_open j row.pieces) → new.over ≡ old.over → is_captured new.place ≡ is_captured old.place → new.parent ≡ old.parent → IsSound row' (set nodes at new)
+set_sound row row' nodes at old new there s well numbers same over kept parent = record {
   well = well;
   few = subst (λ n. n ≤ 1001) (sym (length_set nodes at new)) s.few;
   count = numbers ∙ s.count ∙ sym (length_set nodes at new);
   going = λ j. same j ∙ s.going j ∙ by j (j == at) refl;
-  first = set_first nodes at old new there kept ∙ s.first;
+  rises = set_rises nodes at old new there kept parent s.rises;
 }
   where
     by : (j : ℕ) (b : Bool) → (j == at) ≡ b → goes_on_at (slice_get nodes j) ≡ goes_on_at (slice_get (set nodes at new) j)
@@ -665,13 +741,13 @@ set_sound row row' nodes at old new there s well numbers same over kept = record
     by j false e = ap goes_on_at (sym (get_set_other nodes at j new (other_number j at e)))
 
 pub open_sound : (row row' : Row) (nodes : List Node) (member : Node) → IsSound row nodes → IsWellRow 0 row' → row'.nodes ≡ suc row.nodes →
-    ((j : ℕ) → is_open j row'.pieces ≡ cond (j == row.nodes) true (is_open j row.pieces)) → member.over ≡ false → length nodes < 1001 → IsSound row' (nodes ++ member ∷ [])
-open_sound row row' nodes member s well numbers opened over few = record {
+    ((j : ℕ) → is_open j row'.pieces ≡ cond (j == row.nodes) true (is_open j row.pieces)) → member.over ≡ false → length nodes < 1001 → (is_captured member.place ≡ true → member.parent < length nodes) → IsSound row' (nodes ++ member ∷ [])
+open_sound row row' nodes member s well numbers opened over few lower = record {
   well = well;
   few = subst (λ n. n ≤ 1001) (sym (length_snoc nodes member)) few;
   count = numbers ∙ ap suc s.count ∙ sym (length_snoc nodes member);
   going = λ j. opened j ∙ by j (j == row.nodes) refl;
-  first = more_first nodes member (sym (s.going 0) ∙ s.well.root_goes_on) ∙ s.first;
+  rises = more_rises nodes member lower s.rises;
 }
   where
     by : (j : ℕ) (b : Bool) → (j == row.nodes) ≡ b → cond b true (is_open j row.pieces) ≡ goes_on_at (slice_get (nodes ++ member ∷ []) j)
@@ -680,13 +756,13 @@ open_sound row row' nodes member s well numbers opened over few = record {
     by j false e = s.going j ∙ ap goes_on_at (sym (get_before nodes member j (λ g. other_number j row.nodes e (g ∙ sym s.count))))
 
 pub over_sound : (row row' : Row) (nodes : List Node) (at : ℕ) (old new : Node) → slice_get nodes at ≡ Some old → IsSound row nodes → IsWellRow 0 row' → row'.nodes ≡ row.nodes →
-    ((j : ℕ) → is_open j row'.pieces ≡ cond (j == at) false (is_open j row.pieces)) → new.over ≡ true → is_captured new.place ≡ is_captured old.place → IsSound row' (set nodes at new)
-over_sound row row' nodes at old new there s well numbers closed over kept = record {
+    ((j : ℕ) → is_open j row'.pieces ≡ cond (j == at) false (is_open j row.pieces)) → new.over ≡ true → is_captured new.place ≡ is_captured old.place → new.parent ≡ old.parent → IsSound row' (set nodes at new)
+over_sound row row' nodes at old new there s well numbers closed over kept parent = record {
   well = well;
   few = subst (λ n. n ≤ 1001) (sym (length_set nodes at new)) s.few;
   count = numbers ∙ s.count ∙ sym (length_set nodes at new);
   going = λ j. closed j ∙ by j (j == at) refl;
-  first = set_first nodes at old new there kept ∙ s.first;
+  rises = set_rises nodes at old new there kept parent s.rises;
 }
   where
     by : (j : ℕ) (b : Bool) → (j == at) ≡ b → cond b false (is_open j row.pieces) ≡ goes_on_at (slice_get (set nodes at new) j)

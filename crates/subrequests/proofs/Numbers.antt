@@ -3,7 +3,7 @@ use Rattle.std.proofs.Common.{◌≡◌, ◌≢◌, ℕ, zero, suc, ◌+◌, ◌
 use Rattle.std.proofs.lemmas.Bool.{eqb-true}
 use Rattle.ngx_outside.specs.Views.{ask_in}
 use Rattle.postpone_filter.specs.Row.{Row}
-use Rattle.subrequests.specs.Runs.{can_go, is_waiting, job_of, runs_at}
+use Rattle.family_nodes.specs.Runs.{can_go, is_waiting, job_of, runs_at}
 use Rattle.subrequests.specs.Wants.{jobs_from, first_job, first_of, is_among, ready_from}
 use Rattle.node_turn.specs.declared.node.Node.{Node}
 use Rattle.node_line.proofs.Steps as steps

@@ -1,5 +1,5 @@
 -- A node is over for whose body its parent waits.
-use Rattle.std.proofs.Common.{◌≡◌, ◌≢◌, ℕ, suc, ◌+◌, ◌==◌, ◌&&◌, ◌||◌, nat_lt, Bool, not, true, false, cond, List, [], ◌++◌, get_or, length, set, slice_get, None, Some, refl, sym, ap, ◌∙◌, subst, zero, take, ◌≤◌, ◌∷◌, arith, nat_le}
+use Rattle.std.proofs.Common.{◌≡◌, ◌≢◌, ℕ, suc, ◌+◌, ◌==◌, ◌&&◌, ◌||◌, nat_lt, Bool, not, true, false, cond, List, [], get_or, length, set, slice_get, None, Some, refl, sym, ap, ◌∙◌, subst, zero, take, ◌≤◌, ◌∷◌, arith, nat_le}
 use Rattle.std.proofs.lemmas.Bool.Decides.{nat_tests}
 use Rattle.acts.specs.Vars.{Vars}
 use Rattle.acts.specs.Act.{Done}
@@ -7,21 +7,19 @@ use Rattle.file_tree.specs.Tree.{Tree, Trees}
 use Rattle.ngx_pattern.specs.Pattern.{Pattern as SetPattern}
 use Rattle.ngx_variables.specs.declared.request.Main.{Main}
 use Rattle.site_model.specs.declared.site.Site.{Site}
-use Rattle.postpone_filter.specs.Row.{Row, appended, ended, is_open}
+use Rattle.postpone_filter.specs.Row.{Row, ended, is_open}
 use Rattle.request_meaning.specs.Serving.{World, Serving, Answer}
 use Rattle.request_meaning.specs.Replies.{or_stub}
 use Rattle.family_order.specs.Items.{IsWell}
 use Rattle.family_order.specs.Items.{IsWellRow}
 use Rattle.family_order.specs.Laws.{ShowsTheSame}
-use Rattle.node_turn.specs.Stages.{withheld_more, is_ending, is_in_row, node_act, node_heard}
+use Rattle.node_turn.specs.Stages.{is_ending, is_in_row, node_act, node_heard}
 use Rattle.node_turn.specs.Nodes.{answer_seen, asked_path, lent, stage_act}
 use Rattle.node_turn.specs.declared.node.Node.{Node}
 use Rattle.node_turn.specs.declared.node.Stage.{Stage}
 use Rattle.node_turn.specs.declared.node.Stage.TheVariants as stages
 use Rattle.node_turn.specs.declared.node.Place.{Place}
-use Rattle.node_turn.specs.declared.node.Place.TheVariants.{Row as InRow, Stub, Captured}
 use Rattle.node_line.specs.Stances.{Opening}
-use Rattle.node_line.specs.Stubs.{IsKept}
 use Rattle.node_seats.specs.Seats.{NoInner, doing_by, inner_in, inner_of_its, is_asked, is_inner, most_nodes, withheld_text, is_captured, is_heard, is_seated, most_levels, seen, stub_in}
 use Rattle.node_seats.proofs.Included.{Waits_too}
 use Rattle.node_seats.proofs.Above.{Takes, above_is}
@@ -32,10 +30,10 @@ use Rattle.node_seats.proofs.Others.{SameOrMore, is_its}
 use Rattle.node_seats.proofs.Others.SameOrMore.{Same, Its}
 use Rattle.node_seats.proofs.Returned as returned
 use Rattle.subrequests.specs.Families.{HasReply, IsSound, IsTaken, end_status, goes_on_at, texts_of}
-use Rattle.subrequests.specs.Families.HasReply.{Hears, Withholds}
+use Rattle.subrequests.specs.Families.HasReply.{Hears}
 use Rattle.subrequests.specs.Moved.{SameTexts, is_at}
 use Rattle.subrequests.proofs.Members as members
-use Rattle.subrequests.proofs.Sets.{get_set_other, get_set_same, length_set}
+use Rattle.family_nodes.proofs.Sets.{get_set_other, get_set_same, length_set}
 use Rattle.subrequests.proofs.Wholes as wholes
 
 -- all bytes are placed
@@ -87,11 +85,11 @@ end_is w patterns site main n text answer e done = by n.stage e done
         ap (λ (a : Answer). a.status) (done_is (stage_act w patterns site (lent main n.phases) n.left (asked_path n.ask) (stages.Ends b) text) (answer_seen site (lent main n.phases) b.value.answered) answer refl g)
 
 -- the levels above it
-levels_are : most_levels ≡ suc 49
+levels_are : most_levels ≡ suc 1000
 unfolding most_levels
 levels_are = refl
 
-size : 2 + 49 ≡ suc most_levels
+size : 2 + 1000 ≡ suc most_levels
 unfolding most_levels
 size = refl
 
@@ -106,24 +104,10 @@ pub record AsReplied (p p' : Node) : Type 0 where
 
 pub as_replied : (text : List ℕ) (p p' : Node) → HasReply text p p' → AsReplied p p'
 as_replied text p p' (Hears capturing same place file acts) = record { left = same.left; over = same.over; asks = same.asks; captured = ap is_captured (sym place); parent = sym same.parent; file = file }
-as_replied text p p' (Withholds free apart is) =
-    let place : p'.place ≡ withheld_more text p.place = ap (λ (n : Node). n.place) is in
-    let like = members.holds_as p p' text (ap (λ (n : Node). n.parent) is) place (ap (λ (n : Node). n.before) is) (ap (λ (n : Node). n.over) is) in
-    record {
-      left = ap (λ (n : Node). n.left) is;
-      over = ap (λ (n : Node). n.over) is;
-      asks = ap (λ (n : Node). n.asks) is;
-      captured = sym like.captured;
-      parent = sym like.parent;
-      file = (ap (λ (n : Node). n.ask) is, ap (λ (n : Node). n.start) is);
-    }
 
 -- and is where it was
 pub stands_so : (text : List ℕ) (p p' : Node) → HasReply text p p' → StandsAs p' p
 stands_so text p p' (Hears capturing same place file acts) = members.stands_as p' p (sym same.parent) (sym place) (sym same.before) (sym same.over)
-stands_so text p p' (Withholds free apart is) =
-    let like = members.holds_as p p' text (ap (λ (n : Node). n.parent) is) (ap (λ (n : Node). n.place) is) (ap (λ (n : Node). n.before) is) (ap (λ (n : Node). n.over) is) in
-    record { parent = sym like.parent; captured = sym like.captured; stub = sym like.stub; row = sym like.row; before = sym like.before; over = sym like.over }
 
 -- a subrequest whose bytes come to a node
 pub inner_all : (x : ℕ) (n : Node) (c : ℕ) (m : Node) → is_captured m.place ≡ true → m.parent ≡ x → nat_lt x c ≡ true → m.over ≡ false → is_asked c n.asks ≡ false → is_inner x n c m ≡ true
@@ -159,7 +143,7 @@ pub record Returned (row : Row) (nodes : List Node) (at : ℕ) (old gone p p' : 
   pub parent : slice_get nodes old.parent ≡ Some p
   pub asks : p.asks ≡ Some at
   pub bare : IsBare nodes at old
-  pub heard : is_heard 49 nodes old.parent p ≡ true
+  pub heard : is_heard 1000 nodes old.parent p ≡ true
   pub goes_on : is_open old.parent row.pieces ≡ true
   pub is_open_too : is_open at row.pieces ≡ true
   pub reply : AsReplied p p'
@@ -175,7 +159,7 @@ pub returns_is : (row : Row) (nodes : List Node) (at : ℕ) (old : Node) (place 
 returns_is row nodes at old place p p' text there sound ends seat no_inner apart_so places is reply =
     let none = members.asks_none nodes at old there seat in
     let captured = ap is_captured places.place in
-    let above = above_is 49 nodes at old (subst (λ l. is_heard l nodes at old ≡ true) levels_are (members.heard_above nodes at old there seat)) captured in
+    let above = above_is 1000 nodes at old (subst (λ l. is_heard l nodes at old ≡ true) levels_are (members.heard_above nodes at old there seat)) captured in
     let asks = asks_it above.waiting above.there above.takes in
     let apart = not_itself above.waiting none above.there asks in
     let then = get_set_other nodes at old.parent (gone_of old place) apart ∙ above.there in
@@ -192,7 +176,7 @@ returns_is row nodes at old place p p' text there sound ends seat no_inner apart
       parent = above.there ∙ ap Some (sym same);
       asks = ap (λ (n : Node). n.asks) same ∙ asks;
       bare = members.bare_found nodes at old there sound.few no_inner;
-      heard = subst (λ (n : Node). is_heard 49 nodes old.parent n ≡ true) (sym same) above.heard;
+      heard = subst (λ (n : Node). is_heard 1000 nodes old.parent n ≡ true) (sym same) above.heard;
       goes_on = members.open_there row nodes old.parent above.waiting above.there above.goes_on sound;
       is_open_too = wholes.open_is is_ending row nodes at sound ends;
       reply = reply;
@@ -238,16 +222,11 @@ module _ (row : Row) (nodes : List Node) (at : ℕ) (old gone p p' : Node) (text
 
   pub whole_so : (row' : Row) → IsSound row nodes → IsWellRow 0 row' → row'.nodes ≡ row.nodes → ((j : ℕ) → is_open j row'.pieces ≡ cond (j == at) false (is_open j row.pieces)) → IsSound row' nodes_then
   whole_so row' sound well numbers closed =
-      let first = members.over_sound row row' nodes at old gone r.there sound well numbers closed r.over (ap is_captured r.taken.then ∙ sym captured) in
-      members.set_sound row' row' (set nodes at gone) old.parent p p' parent_then first first.well refl (λ j. refl) r.reply.over (sym r.reply.captured)
+      let first = members.over_sound row row' nodes at old gone r.there sound well numbers closed r.over (ap is_captured r.taken.then ∙ sym captured) r.same_parent in
+      members.set_sound row' row' (set nodes at gone) old.parent p p' parent_then first first.well refl (λ j. refl) r.reply.over (sym r.reply.captured) (sym r.reply.parent)
 
   pub whole : (row' : Row) → IsSound row nodes → at ≢ 0 → row' ≡ ended at row → ((j : ℕ) → is_open j row'.pieces ≡ cond (j == at) false (is_open j row.pieces)) → IsSound row' nodes_then
   whole row' sound child rows closed = whole_so row' sound (members.ended_well row row' at sound.well child rows) (ap (λ (x : Row). x.nodes) rows) closed
-
-  -- where bytes were placed before
-  pub whole_shown : (mid row' : Row) (some : List ℕ) → IsSound row nodes → at ≢ 0 → mid ≡ appended old.parent some row → row' ≡ ended at mid → ((j : ℕ) → is_open j row'.pieces ≡ cond (j == at) false (is_open j row.pieces)) → IsSound row' nodes_then
-  whole_shown mid row' some sound child placed rows closed =
-      whole_so row' sound (members.ended_well mid row' at (members.appended_well row mid old.parent some sound.well placed) child rows) (ap (λ (x : Row). x.nodes) rows ∙ ap (λ (x : Row). x.nodes) placed) closed
 
   gone_there : slice_get nodes_then at ≡ Some gone
   gone_there = get_set_other (set nodes at gone) old.parent at p' (λ e. r.apart (sym e)) ∙ get_set_same nodes at gone old r.there
@@ -307,9 +286,9 @@ module _ (row : Row) (nodes : List Node) (at : ℕ) (old gone p p' : Node) (text
         like : StandsAs p' p
         like = stands_so text p p' reply
 
-        heard_so : is_heard 49 (set (set nodes at gone) old.parent p') old.parent p' ≡ true
+        heard_so : is_heard 1000 (set (set nodes at gone) old.parent p') old.parent p' ≡ true
         heard_so =
-            returned.parent_heard nodes (set (set nodes at gone) old.parent p') old.parent p p' 49 r.parent (waits texts).others r.reply.captured r.reply.parent r.heard
+            returned.parent_heard nodes (set (set nodes at gone) old.parent p') old.parent p p' 1000 r.parent (waits texts).others r.reply.captured r.reply.parent r.heard
 
         well : IsWell (seen w patterns site main row nodes texts)
         well = members.seen_well w patterns site main row nodes texts sound
@@ -327,63 +306,21 @@ module _ (row : Row) (nodes : List Node) (at : ℕ) (old gone p p' : Node) (text
             let both = still_open (h == at) (is_open h row.pieces) (sym (closed h) ∙ members.open_there row' (set (set nodes at gone) old.parent p') h host there over sound') in
             (both.0, turned h both.1)
 
-        located : is_in_row p'.place ≡ false → Located most_levels (doing_by w patterns site main texts) (set (set nodes at gone) old.parent p') old.parent p' 49 2 old.parent p'
+        located : is_in_row p'.place ≡ false → Located most_levels (doing_by w patterns site main texts) (set (set nodes at gone) old.parent p') old.parent p' 1000 2 old.parent p'
         located apart =
-            locate most_levels (doing_by w patterns site main texts) (set (set nodes at gone) old.parent p') 49 2 old.parent p' (get_set_same (set nodes at gone) old.parent p' p parent_then)
+            locate most_levels (doing_by w patterns site main texts) (set (set nodes at gone) old.parent p') 1000 2 old.parent p' (get_set_same (set nodes at gone) old.parent p' p parent_then)
             (r.reply.over ∙ members.not_over row nodes old.parent p r.parent sound r.goes_on) size heard_so apart
-
-        more_withheld : (place : Place) → is_in_row place ≡ false → withheld_text (withheld_more text place) ≡ withheld_text place ++ text
-        more_withheld InRow e = cc
-        more_withheld (Stub stub t) e = refl
-        more_withheld (Captured stub t) e = refl
 
         by : (answer : Answer) → node_act w patterns site main old (texts at) ≡ Done answer → ((j : ℕ) → is_open j (ended at row).pieces ≡ cond (j == at) false (is_open j row.pieces)) →
             IsSound row' (set (set nodes at gone) old.parent p') → (b : Bool) → is_in_row p.place ≡ b → HasReply text p p' → Goal
         by answer done closed' sound' true e (Hears capturing same place file acts) =
             let row_is = wholes.row_is p.place e in
-            returned.row_told laws w patterns site main row nodes (set (set nodes at gone) old.parent p') texts old.parent at p p' old (waits texts) like 49 heard_so tree vars r.is_open_too well closed' answer done same.left
+            returned.row_told laws w patterns site main row nodes (set (set nodes at gone) old.parent p') texts old.parent at p p' old (waits texts) like 1000 heard_so tree vars r.is_open_too well closed' answer done same.left
             row_is (place ∙ row_is) r.goes_on (members.apart_number at old.parent (λ f. r.apart (sym f)))
             (acts w patterns site main (texts old.parent) ∙ ap (node_heard w patterns site main p (texts old.parent)) (chosen_is texts answer done))
         by answer done closed' sound' false e (Hears capturing same place file acts) =
             let q = located (sym like.row ∙ e) in
             let part = parts sound' q.h q.host q.there q.goes_on in
-            returned.told laws w patterns site main row nodes (set (set nodes at gone) old.parent p') texts old.parent at p p' old (waits texts) like 49 heard_so tree vars r.is_open_too well closed' answer done same.left
+            returned.told laws w patterns site main row nodes (set (set nodes at gone) old.parent p') texts old.parent at p p' old (waits texts) like 1000 heard_so tree vars r.is_open_too well closed' answer done same.left
             q part.0 part.1 capturing (ap withheld_text place)
             (acts w patterns site main (texts old.parent) ∙ ap (node_heard w patterns site main p (texts old.parent)) (chosen_is texts answer done))
-        by answer done closed' sound' b e (Withholds free apart is) =
-            let q = located (sym like.row ∙ apart) in
-            let part = parts sound' q.h q.host q.there q.goes_on in
-            returned.leaves laws w patterns site main row nodes (set (set nodes at gone) old.parent p') texts old.parent at p p' old (waits texts) like 49 heard_so tree vars r.is_open_too well closed' answer done (ap (λ (n : Node). n.left) is)
-            q part.0 part.1 free
-            (ap (λ (n : Node). withheld_text n.place) is ∙ more_withheld p.place apart ∙ ap (λ t. withheld_text p.place ++ t) (chosen_is texts answer done))
-            (ap (λ (n : Node). node_act w patterns site main n (texts old.parent)) is)
-
-    -- the parent has a stub, and is shown from now on
-    pub shown : IsKept p → p' ≡ record p { asks = None; place = InRow } → text ≢ [] → (texts : ℕ → List ℕ) (mid row' : Row) → mid ≡ appended old.parent text row → row' ≡ ended at mid →
-        ((j : ℕ) → is_open j mid.pieces ≡ is_open j row.pieces) → ((j : ℕ) → is_open j row'.pieces ≡ cond (j == at) false (is_open j row.pieces)) →
-        Opening w tree 0 (seen w patterns site main row nodes texts) vars (seen w patterns site main row' nodes_then texts) vars
-    shown kept is some texts mid row' placed rows opened closed =
-        let done = wholes.ended_act w patterns site main old (texts at) r.ending in
-        let same = chosen_is texts done.0 done.1 in
-        let now : mid ≡ appended old.parent (chosen done.0) row = placed ∙ ap (λ t. appended old.parent t row) same in
-        let both : row' ≡ ended at (appended old.parent (chosen done.0) row) = rows ∙ ap (ended at) now in
-        subst (λ (x : Row). Opening w tree 0 (seen w patterns site main row nodes texts) vars (seen w patterns site main x nodes_then texts) vars) (sym both)
-        (returned.shows laws w patterns site main row nodes (set (set nodes at gone) old.parent p') texts old.parent at p p' old (waits texts) r.reply.parent 49
-        (returned.parent_heard nodes (set (set nodes at gone) old.parent p') old.parent p p' 49 r.parent (waits texts).others r.reply.captured r.reply.parent r.heard)
-        tree vars r.is_open_too r.goes_on (members.seen_well w patterns site main row nodes texts sound)
-        done.0
-        (λ j. ap (λ (x : Row). is_open j x.pieces) (sym now) ∙ opened j)
-        (λ j. ap (λ (x : Row). is_open j x.pieces) (sym both) ∙ closed j)
-        done.1 kept.stub kept.place (ap (λ (n : Node). n.place) is) kept.free (kept.good w patterns site main (texts old.parent)) (λ none. some (same ∙ none))
-        (ap (λ (n : Node). n.left) is) (ap (λ (n : Node). node_act w patterns site main n (texts old.parent)) is) (members.apart_number at old.parent (λ f. r.apart (sym f))))
-
--- it goes on in the row
-pub as_shown : (p p' : Node) → IsKept p → p' ≡ record p { asks = None; place = InRow } → AsReplied p p'
-as_shown p p' kept is = record {
-  left = ap (λ (n : Node). n.left) is;
-  over = ap (λ (n : Node). n.over) is;
-  asks = ap (λ (n : Node). n.asks) is;
-  captured = ap is_captured kept.place ∙ sym (ap (λ (n : Node). is_captured n.place) is);
-  parent = sym (ap (λ (n : Node). n.parent) is);
-  file = (ap (λ (n : Node). n.ask) is, ap (λ (n : Node). n.start) is);
-}

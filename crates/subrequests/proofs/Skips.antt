@@ -1,7 +1,7 @@
 -- Nodes that can't run, or have no job, are passed over.
 use Rattle.std.proofs.Common.{◌≡◌, ℕ, zero, suc, ◌+◌, ◌-◌, ◌<◌, ◌≤◌, false, List, [], ◌∷◌, drop, slice_get, Option, None, Some, refl, sym, ap, ◌∙◌, arith}
 use Rattle.postpone_filter.specs.Row.{Row}
-use Rattle.subrequests.specs.Runs.{runs_at, waits_at}
+use Rattle.family_nodes.specs.Runs.{runs_at, waits_at}
 use Rattle.subrequests.specs.Wants.{jobs_from, ready_from}
 use Rattle.node_turn.specs.declared.node.Node.{Node}
 use Rattle.subrequests.proofs.Numbers as numbers

@@ -1,5 +1,5 @@
 -- The next part of a node's page.
-use Rattle.std.proofs.Common.{◌≡◌, ℕ, suc, ◌+◌, ◌<◌, ◌≤◌, ◌==◌, ◌&&◌, is_none, nat_lt, Bool, true, false, cond, List, [], ◌∷◌, ◌++◌, drop, length, set, slice_get, None, Some, refl, sym, ap, ◌∙◌, subst, arith}
+use Rattle.std.proofs.Common.{◌≡◌, ℕ, suc, ◌+◌, ◌<◌, ◌≤◌, ◌==◌, ◌&&◌, nat_lt, Bool, true, false, cond, List, [], ◌∷◌, ◌++◌, drop, length, set, slice_get, None, Some, refl, sym, ap, ◌∙◌, subst, arith}
 use Rattle.std.proofs.lemmas.Bool.Decides.{nat_tests}
 use Rattle.acts.specs.Vars.{Vars}
 use Rattle.acts.specs.Act.{Call, Inner}
@@ -23,7 +23,7 @@ use Rattle.node_turn.specs.Stages.{IsSameNode, is_capturing, is_in_row, item_ask
 use Rattle.node_turn.specs.Turns.{Works}
 use Rattle.node_turn.specs.declared.node.Node.{Node}
 use Rattle.node_turn.specs.declared.node.Place.TheVariants.{Row as InRow, Captured}
-use Rattle.node_seats.specs.Seats.{doing_by, withheld_text, is_captured, is_seated, most_levels, most_nodes, seen, stance_in, stub_in}
+use Rattle.node_seats.specs.Seats.{doing_by, withheld_text, is_captured, is_seated, most_levels, most_nodes, seen, stance_in, stub_in, takes_up}
 use Rattle.node_seats.proofs.Framing as framing
 use Rattle.node_seats.proofs.Beginning as beginning
 use Rattle.node_seats.proofs.Beginning.{Begins_too}
@@ -36,7 +36,7 @@ use Rattle.node_seats.proofs.Seated.{ahead_of, here_is}
 use Rattle.subrequests.specs.Families.{IsInnerOpened, IsSound}
 use Rattle.node_line.proofs.Steps as steps
 use Rattle.subrequests.proofs.Members as members
-use Rattle.subrequests.proofs.Sets.{get_before, get_kept, get_last, get_none, get_set_other, get_set_same, length_set, length_snoc}
+use Rattle.family_nodes.proofs.Sets.{get_before, get_kept, get_last, get_none, get_set_other, get_set_same, length_set, length_snoc}
 use Rattle.subrequests.proofs.Wholes as wholes
 
 -- one subrequest is opened
@@ -206,15 +206,6 @@ module _ (laws : ShowsTheSame) (w : World) (patterns : List SetPattern) (site : 
     well : IsWell (seen w patterns site main row nodes texts)
     well = members.seen_well w patterns site main row nodes texts sound
 
-    -- where its own bytes go on after them
-    pub included : is_in_row old.place ≡ false → is_capturing mid.stage ≡ false → Works vars (node_act w patterns site main old (texts at)) (Inner child (node_act w patterns site main mid (texts at))) →
-        Opening w tree 1 (seen w patterns site main row nodes texts) vars (seen w patterns site main (with_child at row) (set (set nodes at mid) at (record mid { children = children; asks = Some number }) ++ member ∷ []) texts) vars
-    included apart e acts =
-        let q = located apart in
-        waits_too.included laws w patterns site main row nodes (set (set nodes at mid) at (record mid { children = children; asks = Some number }) ++ member ∷ []) texts at number old (record mid { children = children; asks = Some number }) member waits like place
-        (ap withheld_text goes) child.stub (ap stub_in goes) (members.heard_above nodes at old there seat) tree vars goes_on well child l deep refl same.left member_left begun numbered
-        q (members.open_there row nodes q.h q.host q.there q.goes_on sound) (members.next_number row nodes q.h q.host q.there sound) e acts
-
     -- where they go into a variable
     pub asked : is_capturing mid.stage ≡ true → Works vars (node_act w patterns site main old (texts at)) (Call child (λ reply. node_heard w patterns site main mid (texts at) reply.body)) →
         Opening w tree 1 (seen w patterns site main row nodes texts) vars (seen w patterns site main (with_child at row) (set (set nodes at mid) at (record mid { children = children; asks = Some number }) ++ member ∷ []) texts) vars
@@ -245,9 +236,6 @@ module _ (laws : ShowsTheSame) (w : World) (patterns : List SetPattern) (site : 
     sized : length (set (set nodes at mid) at later) ≡ number
     sized = length_set (set nodes at mid) at later ∙ length_set nodes at mid ∙ sym sound.count ∙ numbered
 
-    old_place : old.place ≡ Captured is.stub text
-    old_place = sym place ∙ is.was
-
     at_less : nat_lt at number ≡ true
     at_less = by (nat_lt at number) refl
       where
@@ -267,15 +255,15 @@ module _ (laws : ShowsTheSame) (w : World) (patterns : List SetPattern) (site : 
       then = get_kept (set (set nodes at mid) at later) (member ∷ []) at later (get_set_same (set nodes at mid) at later mid mid_set);
       free = members.asks_none nodes at old there seat;
       free_then = ap (λ (n : Node). n.asks) is.is ∙ same.asks ∙ members.asks_none nodes at old there seat;
-      captured = ap is_captured old_place;
-      captured_then = ap (λ (n : Node). is_captured n.place) is.is;
-      empty = ap (λ (n : Node). withheld_text n.place) is.is;
+      takes = ap takes_up (sym place) ∙ is.takes;
+      takes_then = ap (λ (n : Node). takes_up n.place) is.is ∙ members.text_takes [] mid.place ∙ is.takes;
+      empty = ap (λ (n : Node). withheld_text n.place) is.is ∙ members.text_then [] mid.place is.takes;
       last = ap (slice_get (set (set nodes at mid) at later ++ member ∷ [])) (sym sized) ∙ get_last (set (set nodes at mid) at later) member;
       none = alone;
       member_captured = ap is_captured goes;
       parent = parent;
       over = over;
-      before = bytes ∙ sym (ap withheld_text old_place);
+      before = bytes ∙ is.bytes ∙ ap withheld_text place;
       nothing = ap withheld_text goes;
       bare = members.bare_last (set (set nodes at mid) at later ++ member ∷ []) number member (length_snoc (set (set nodes at mid) at later) member ∙ ap suc sized);
       after = at_less;
@@ -309,9 +297,10 @@ module _ (laws : ShowsTheSame) (w : World) (patterns : List SetPattern) (site : 
     stands_too : StandsAs old later
     stands_too = record {
       parent = ap (λ (n : Node). n.parent) is.is ∙ same.parent;
-      captured = ap (λ (n : Node). is_captured n.place) is.is ∙ sym (ap is_captured old_place);
-      stub = ap (λ (n : Node). stub_in n.place) is.is ∙ sym (ap stub_in old_place);
-      row = ap (λ (n : Node). is_in_row n.place) is.is ∙ sym (ap is_in_row old_place);
+      captured = ap (λ (n : Node). is_captured n.place) is.is ∙ members.text_kept [] mid.place ∙ ap is_captured place;
+      stub = ap (λ (n : Node). stub_in n.place) is.is ∙ members.text_stub [] mid.place ∙ ap stub_in place;
+      row = ap (λ (n : Node). is_in_row n.place) is.is ∙ members.text_row [] mid.place ∙ ap is_in_row place;
+      takes = ap (λ (n : Node). takes_up n.place) is.is ∙ members.text_takes [] mid.place ∙ ap takes_up place;
       before = ap (λ (n : Node). n.before) is.is ∙ same.before;
       over = ap (λ (n : Node). n.over) is.is ∙ same.over;
     }
@@ -319,7 +308,7 @@ module _ (laws : ShowsTheSame) (w : World) (patterns : List SetPattern) (site : 
     pub inner : Works vars (node_act w patterns site main old (texts at)) (Inner child (node_act w patterns site main mid (texts at))) →
         Opening w tree 1 (seen w patterns site main row nodes texts) vars (seen w patterns site main (with_child at row) (set (set nodes at mid) at later ++ member ∷ []) texts) vars
     inner acts =
-        let q = located (ap is_in_row old_place) in
+        let q = located (ap is_in_row (sym place) ∙ members.takes_apart mid.place is.takes) in
         let goes_so : node_act w patterns site main later (texts at) ≡ node_act w patterns site main mid (texts at) = ap (λ (n : Node). node_act w patterns site main n (texts at)) is.is in
         beginning.begins laws w patterns site main row nodes (set (set nodes at mid) at later ++ member ∷ []) texts at number old later member begins_too stands_too (members.heard_above nodes at old there seat) tree vars goes_on
         (members.seen_well w patterns site main row nodes texts sound) q (members.open_there row nodes q.h q.host q.there q.goes_on sound) (members.next_number row nodes q.h q.host q.there sound) child l deep (ap stub_in goes)

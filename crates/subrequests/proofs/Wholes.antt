@@ -1,5 +1,5 @@
 -- Calls on a family, by its nodes.
-use Rattle.std.proofs.Common.{◌≡◌, ℕ, zero, suc, ◌+◌, ◌-◌, ◌<◌, ◌≤◌, ◌&&◌, ◌||◌, ◌==◌, is_none, Bool, true, false, not, List, [], ◌∷◌, drop, length, set, get_or, slice_get, Option, None, Some, is_some, refl, sym, ap, ◌∙◌, subst, unwrap_or, arith}
+use Rattle.std.proofs.Common.{◌≡◌, ℕ, zero, suc, ◌+◌, ◌-◌, ◌≤◌, ◌&&◌, ◌||◌, ◌==◌, is_none, Bool, true, false, not, List, [], ◌∷◌, drop, length, set, get_or, slice_get, Option, None, Some, is_some, refl, sym, ap, ◌∙◌, subst, unwrap_or, arith}
 use Rattle.std.specs.List.{list_all}
 use Rattle.std.proofs.lemmas.Bool.{eqb-true}
 use Rattle.acts.specs.Act.{Done}
@@ -21,11 +21,11 @@ use Rattle.subrequests.specs.Families.{AreDone, IsSound, captured_at, goes_on_at
 use Rattle.node_seats.specs.Seats.{doing_by, is_captured, most_levels, seen}
 use Rattle.node_seats.proofs.Seated.{in_row_is}
 use Rattle.node_turn.specs.declared.node.Place.{Place}
-use Rattle.node_turn.specs.declared.node.Place.TheVariants.{Row as InRow, Stub, Captured}
+use Rattle.node_turn.specs.declared.node.Place.TheVariants.{Row as InRow, Stub, Gathers, Captured}
 use Rattle.node_line.specs.Stances.{Opening}
 use Rattle.subrequests.specs.Moved.{IsFromAt, OverrunsBy, SameFiles, Steps, files, fits_at, is_at, meant}
 use Rattle.node_turn.specs.Nodes.{answer_seen, asked_path, lent, stage_act}
-use Rattle.subrequests.specs.Runs.{runs_at}
+use Rattle.family_nodes.specs.Runs.{runs_at}
 use Rattle.std.specs.Global.{Box}
 use Rattle.node_turn.specs.declared.node.Body.{Body}
 use Rattle.subrequests.specs.declared.family.Family.{Family}
@@ -33,7 +33,7 @@ use Rattle.node_turn.specs.declared.node.Node.{Node}
 use Rattle.node_turn.specs.declared.node.Stage.{Stage}
 use Rattle.node_turn.specs.declared.node.Stage.TheVariants as stages
 use Rattle.subrequests.proofs.Members as members
-use Rattle.subrequests.proofs.Sets.{length_set}
+use Rattle.family_nodes.proofs.Sets.{length_set}
 use Rattle.node_line.proofs.Steps as steps
 
 pub left_of : (a b : Bool) → (a && b) ≡ true → a ≡ true
@@ -81,6 +81,7 @@ not_over (n ∷ nodes) (suc at) x e is = not_over nodes at x e is
 pub row_is : (place : Place) → is_in_row place ≡ true → place ≡ InRow
 row_is InRow e = refl
 row_is (Stub stub text) e = cc
+row_is (Gathers stub text) e = cc
 row_is (Captured stub text) e = cc
 
 -- the bytes of the node that is there go to the row, or don't
@@ -196,11 +197,6 @@ pub from_here : (trees : Trees) (nodes : List Node) (at : ℕ) (x : Node) (answe
 from_here trees nodes at x answer there from = subst (λ o. IsFromAt trees o answer) there from
 
 -- ---- a look at a node
-
-pub there_some : (nodes : List Node) (at : ℕ) (x : Node) → at < length nodes → x ≡ get_or nodes at x → slice_get nodes at ≡ Some x
-there_some [] at x h e = absurd (omega (arith, h))
-there_some (n ∷ nodes) zero x h e = ap Some (sym e)
-there_some (n ∷ nodes) (suc at) x h e = there_some nodes at x (omega (arith, h)) e
 
 pub there_none : (nodes : List Node) (at : ℕ) → length nodes ≤ at → slice_get nodes at ≡ None
 there_none [] at h = refl

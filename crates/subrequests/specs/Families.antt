@@ -1,5 +1,5 @@
 -- A family as its nodes keep it.
-use Rattle.std.specs.Prelude.{◌≡◌, ℕ, ◌-◌, ◌≤◌, Bool, true, false, not, List, [], ◌∷◌, ◌++◌, length, slice_get, Option, None, Some, nat_le, ◌==◌, ◌||◌}
+use Rattle.std.specs.Prelude.{◌≡◌, ℕ, ◌-◌, ◌≤◌, Bool, true, false, not, List, [], ◌∷◌, ◌++◌, length, slice_get, Option, None, Some, nat_le, nat_lt, ◌==◌, ◌||◌}
 use Rattle.std.specs.List.{list_all}
 use Rattle.file_tree.specs.Tree.{Trees}
 use Rattle.ngx_pattern.specs.Pattern.{Pattern as SetPattern}
@@ -11,14 +11,14 @@ use Rattle.request_meaning.specs.Serving.{World}
 use Rattle.family_order.specs.Items.{IsWellRow}
 use Rattle.ssi_exec.specs.Scenes.{child_seen}
 use Rattle.ssi_exec.specs.declared.document.Child.{Child}
-use Rattle.node_turn.specs.Stages.{IsSameNode, withheld_more, is_capturing, is_ending, is_in_row, main_of, node_act, node_heard, text_in}
+use Rattle.node_turn.specs.Stages.{IsSameNode, is_capturing, is_ending, is_in_row, main_of, node_act, node_heard, text_in}
 use Rattle.node_turn.specs.declared.node.Node.{Node}
 use Rattle.node_turn.specs.declared.node.Stage.{Stage}
 use Rattle.node_turn.specs.declared.node.Stage.TheVariants.{Begins, Asks, Told, Places, Serves, Reads, Captures, Ends}
 use Rattle.node_turn.specs.declared.node.Place.{Place}
-use Rattle.node_turn.specs.declared.node.Place.TheVariants.{Captured}
+use Rattle.node_turn.specs.declared.node.Place.TheVariants.{Row as InRow, Stub, Gathers, Captured}
 use Rattle.node_line.specs.Stances.{place_by}
-use Rattle.node_seats.specs.Seats.{is_captured}
+use Rattle.node_seats.specs.Seats.{is_captured, takes_up, withheld_text}
 
 -- where the bytes of a subrequest go whose body is captured, or that has this stub, or none
 abbrev pub place_for : (captured : Bool) → Option (List ℕ) → Place
@@ -61,6 +61,40 @@ abbrev pub captured_at : Option Node → Bool
 captured_at None = false
 captured_at (Some n) = is_captured n.place
 
+-- it has a stub, and it isn't known yet whether that is shown: alone, or with bytes of its subrequests that come to it
+abbrev pub has_stub : Place → Bool
+has_stub InRow = false
+has_stub (Stub stub text) = true
+has_stub (Gathers stub text) = false
+has_stub (Captured stub text) = false
+
+abbrev pub is_gathering : Place → Bool
+is_gathering InRow = false
+is_gathering (Stub stub text) = false
+is_gathering (Gathers stub text) = true
+is_gathering (Captured stub text) = false
+
+-- where its bytes go once bytes of its subrequests come to it, and once none of these is left
+abbrev pub gathering_place : Place → Place
+gathering_place InRow = InRow
+gathering_place (Stub stub text) = Gathers stub text
+gathering_place (Gathers stub text) = Gathers stub text
+gathering_place (Captured stub text) = Captured stub text
+
+abbrev pub freed_place : Place → Place
+freed_place InRow = InRow
+freed_place (Stub stub text) = Stub stub text
+freed_place (Gathers stub text) = Stub stub text
+freed_place (Captured stub text) = Captured stub text
+
+abbrev pub stub_at : Option Node → Bool
+stub_at None = false
+stub_at (Some n) = has_stub n.place
+
+abbrev pub gathers_at : Option Node → Bool
+gathers_at None = false
+gathers_at (Some n) = is_gathering n.place
+
 -- the first of these nodes has come to its answer, and all others are over
 abbrev pub AreDone : List Node → Type 0
 AreDone [] = ⊥
@@ -89,35 +123,42 @@ pub record IsTaken (stage : Stage) (text : List ℕ) (old new : Place) : Type 0 
   pub then : new ≡ Captured None []
   pub chosen : text ≡ or_stub stub (end_status stage) body
 
--- A node has the bytes for which it waited: as those of a reply, with which it goes on; or after its own that are withheld,
--- in whose place they are.
+-- A node has the body for which it waited as that of a reply, with which it goes on.
 pub data HasReply (body : List ℕ) (old new : Node) : Type 0 where
   Hears : is_capturing old.stage ≡ true → IsSameNode (record old { asks = None }) new → new.place ≡ old.place → (new.ask ≡ old.ask) × (new.start ≡ old.start) →
       ((w : World) (patterns : List SetPattern) (site : Site) (main : Main) (text : List ℕ) → node_act w patterns site main new text ≡ node_heard w patterns site main old text body) →
       HasReply body old new
-  Withholds : is_capturing old.stage ≡ false → is_in_row old.place ≡ false → new ≡ record old { asks = None; place = withheld_more body old.place } → HasReply body old new
 
--- More bytes come before those of a node that are withheld, whose bytes come to its parent.
+-- a place with other bytes that are withheld
+abbrev pub with_text : List ℕ → Place → Place
+with_text bytes InRow = InRow
+with_text bytes (Stub stub text) = Stub stub bytes
+with_text bytes (Gathers stub text) = Gathers stub bytes
+with_text bytes (Captured stub text) = Captured stub bytes
+
+-- More bytes come before those of a node that are withheld, to which bytes of its subrequests come.
 pub record HasFirst (text : List ℕ) (old new : Node) : Type 0 where
-  pub stub : Option (List ℕ)
-  pub own : List ℕ
-  pub was : old.place ≡ Captured stub own
-  pub is : new ≡ record old { place = Captured stub (text ++ own) }
+  pub takes : takes_up old.place ≡ true
+  pub is : new ≡ record old { place = with_text (text ++ withheld_text old.place) old.place }
 
--- A node whose bytes come to its parent has one more subrequest, whose bytes come after those that it has so far.
+-- A node to which bytes of its subrequests come has one more, whose bytes come after those that it has so far.
 pub record IsInnerOpened (old new : Node) (before : List ℕ) : Type 0 where
-  pub stub : Option (List ℕ)
-  pub was : old.place ≡ Captured stub before
-  pub is : new ≡ record old { children = new.children; waits = new.waits; place = Captured stub [] }
+  pub takes : takes_up old.place ≡ true
+  pub bytes : before ≡ withheld_text old.place
+  pub is : new ≡ record old { children = new.children; waits = new.waits; place = with_text [] old.place }
 
--- The row has a place for each node that isn't over, and for no other. The main request's place comes after all others,
--- and no other node waits for its bytes. And there are no more nodes than make one response.
+abbrev pub rises_at : (number : ℕ) → Option Node → Bool
+rises_at number None = true
+rises_at number (Some n) = not (is_captured n.place) || nat_lt n.parent number
+
+-- The row has a place for each node that isn't over, and for no other. The main request's place comes after all others. The number of a
+-- node whose bytes come to its parent is above its parent's, so no other node takes up the main request's. And there are no more nodes than make one response.
 pub record IsSound (row : Row) (nodes : List Node) : Type 0 where
   pub well : IsWellRow 0 row
   pub few : length nodes ≤ 1001
   pub count : row.nodes ≡ length nodes
   pub going : (j : ℕ) → is_open j row.pieces ≡ goes_on_at (slice_get nodes j)
-  pub first : captured_at (slice_get nodes 0) ≡ false
+  pub rises : (j : ℕ) → rises_at j (slice_get nodes j) ≡ true
 
 -- The nodes have one more: that of a subrequest, for which the one with a number asks, and whose bytes go there, after these of that one.
 pub record IsPushed (old new : List Node) (at : ℕ) (place : Place) (bytes : List ℕ) (asking : Node) (child : Child) : Type 0 where

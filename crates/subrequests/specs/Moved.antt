@@ -10,7 +10,7 @@ use Rattle.request_meaning.specs.Laws.{shipped}
 use Rattle.request_meaning.specs.Replies.{most_depth}
 use Rattle.request_meaning.specs.Serving.{World, Serving, Answer}
 use Rattle.request_phases.specs.Rounds.{asked_in, prepared_as, world_in}
-use Rattle.request_phases.specs.declared.state.Outcome.{Outcome}
+use Rattle.request_phases.specs.declared.state.Conclusion.{Conclusion}
 use Rattle.request_phases.specs.declared.state.Phases.{Phases}
 use Rattle.rewrite_code.specs.Places.{standing_seen}
 use Rattle.request_phases.specs.declared.ground.Ground.{Ground}
@@ -125,7 +125,7 @@ fits_at tree (Some n) answer = is_fitting n.ask answer && (not n.over && (tree_o
 
 -- It begins with the body of what phases decided: a main request alone, which may open fifty levels, comes to it without a subrequest
 -- where its acts settle as that body does.
-abbrev pub BeginsWith : Ground → Phases → Vars → Outcome → Family → Type 0
+abbrev pub BeginsWith : Ground → Phases → Vars → Conclusion → Family → Type 0
 BeginsWith g p vars outcome f = (patterns : List SetPattern) (tree : Tree) (texts : ℕ → List ℕ) (first : Serving Answer) (table : Vars) →
     let w = world_in patterns g shipped in
     let site = g.site.now in

@@ -3,7 +3,7 @@ use Rattle.std.specs.Prelude.{◌≡◌, ℕ, false, List, slice_get}
 use Rattle.ngx_pattern.specs.Pattern.{Pattern as SetPattern}
 use Rattle.request_phases.specs.declared.ground.Ground.{Ground}
 use Rattle.subrequests.specs.Moved.{IsWhole, OverrunsBy, Steps}
-use Rattle.subrequests.specs.Runs.{runs_at}
+use Rattle.family_nodes.specs.Runs.{runs_at}
 use Rattle.subrequests.specs.Wants.{is_among, ready_of}
 use Rattle.subrequests.specs.declared.family.Family.{Family}
 use Rattle.subrequests.specs.declared.family.Ran.{Ran}

@@ -3,12 +3,12 @@ use Rattle.std.specs.Prelude.{◌≡◌, ◌≢◌, ℕ, suc, ◌==◌, Bool, tr
 use Rattle.ngx_outside.specs.Views.{Job}
 use Rattle.postpone_filter.specs.Row.{Row}
 use Rattle.node_turn.specs.Stages.{is_ending, is_placing, is_serving, is_turning}
-use Rattle.subrequests.specs.Families.{captured_at, in_row_at}
+use Rattle.subrequests.specs.Families.{captured_at, gathers_at, in_row_at, stub_at}
 use Rattle.subrequests.specs.Moved.{is_at}
-use Rattle.subrequests.specs.Runs.{can_go, is_waiting, runs_at}
+use Rattle.family_nodes.specs.Runs.{can_go, is_waiting, runs_at}
 use Rattle.subrequests.specs.declared.family.Family.{Family}
 use Rattle.subrequests.specs.declared.next_step.Next.{Next}
-use Rattle.subrequests.specs.declared.next_step.Next.TheVariants.{Turns, Places, Comes, Takes, Ends, Decides, Returns, Waits}
+use Rattle.subrequests.specs.declared.next_step.Next.TheVariants.{Turns, Places, Comes, Takes, Gathers, Ends, Decides, Returns, Frees, Waits}
 use Rattle.node_turn.specs.declared.node.Node.{Node}
 
 -- the jobs of nodes, of which the first has this number
@@ -45,7 +45,9 @@ StandsAt n at Places = (is_at is_placing n ≡ true) × (in_row_at n ≡ true)
 StandsAt n at Comes = (is_at is_placing n ≡ true) × (in_row_at n ≡ false)
 StandsAt n at Takes = is_at is_serving n ≡ true
 StandsAt n at Ends = (is_at is_ending n ≡ true) × (in_row_at n ≡ true) × (at ≢ 0)
-StandsAt n at Decides = (is_at is_ending n ≡ true) × (in_row_at n ≡ false) × (captured_at n ≡ false) × (at ≢ 0)
+StandsAt n at Gathers = (is_at is_serving n ≡ true) × (stub_at n ≡ true)
+StandsAt n at Decides = (is_at is_ending n ≡ true) × (stub_at n ≡ true) × (at ≢ 0)
+StandsAt n at Frees = (is_at is_ending n ≡ true) × (gathers_at n ≡ true)
 StandsAt n at Returns = (is_at is_ending n ≡ true) × (captured_at n ≡ true) × (at ≢ 0)
 StandsAt n at Waits = (row : Row) → runs_at row at n ≡ false
 

@@ -13,8 +13,9 @@ ghost use Rattle.subrequests.specs.Families.{IsInnerOpened, IsPushed, place_for,
 ghost use Rattle.node_turn.specs.Nodes.{of_method};
 ghost use Rattle.node_turn.specs.declared.node.Node.{Node as NodeView};
 
-use crate::nodes::Nodes;
+use crate::returning::take_text;
 use byte_text::{ByteText, OutOfMemory};
+use family_nodes::Nodes;
 use file_tree::Ask;
 use http_moment::LocalDate;
 use http_types::{Addr, Method, Version};
@@ -203,8 +204,8 @@ pub(crate) fn put_child(node: &mut Node, id: u32, waited: bool)
     }
 }
 
-/// A node whose bytes come to its parent has one more subrequest, for whose end it waits or doesn't:
-/// the bytes that come before those of that.
+/// A node that takes up the bytes of its subrequests has one more, for whose end it waits or doesn't: the
+/// bytes that come before those of that.
 pub(crate) fn put_inner(
     alloc: Global,
     node: &mut Node,
@@ -215,14 +216,9 @@ pub(crate) fn put_inner(
     ensures waits { OnOk result
         (node.new.waits ≡ (if waited then Some id else node.old.waits)) }
 {
-    match &mut node.place {
-        Place::Captured { stub: _, text } => {
-            let before = take(text, ByteText::new(alloc));
-            put_child(node, id, waited);
-            Ok(before)
-        }
-        _ => Err(OutOfMemory),
-    }
+    let before = take_text(alloc, &mut node.place)?;
+    put_child(node, id, waited);
+    Ok(before)
 }
 
 /// A node has one more subrequest, for whose body it waits.

@@ -1,5 +1,5 @@
 // A request and its subrequests.
-ghost use Rattle.std.specs.Prelude.{◌≡◌, ◌≢◌, ◌<◌, ◌+◌, ℕ, List, [], length, IfOk, OnOk, Some, None, true, false, slice_get, if◌then◌else◌};
+ghost use Rattle.std.specs.Prelude.{◌≡◌, ℕ, List, length, IfOk, OnOk, None, true, false, slice_get, if◌then◌else◌};
 ghost use Rattle.file_tree.specs.Tree.{Trees, text_of};
 ghost use Rattle.ngx_pattern.specs.Pattern.{Pattern as SetPattern};
 ghost use Rattle.family_order.specs.Items.{IsWell};
@@ -8,36 +8,31 @@ ghost use Rattle.request_phases.specs.Rounds.{IsGround};
 ghost use Rattle.request_phases.specs.declared.ground.Ground.{Ground as GroundView};
 ghost use Rattle.site_model.specs.declared.site.Site.{Site as SiteRow};
 ghost use Rattle.node_turn.specs.Stages.{is_ending, is_in_row as in_row, is_placing, is_serving, is_turning, item_asked};
-ghost use Rattle.subrequests.specs.Families.{AreDone, captured_at, goes_on_at, in_row_at, over_node};
-ghost use Rattle.node_seats.specs.Seats.{IsNextInner, NoInner, inner_of_its, is_seated as has_seat, most_nodes};
+ghost use Rattle.subrequests.specs.Families.{AreDone, goes_on_at, in_row_at, over_node};
+ghost use Rattle.node_seats.specs.Seats.{is_seated as has_seat};
 ghost use Rattle.std.specs.List.{list_all};
-ghost use Rattle.subrequests.specs.Moved.{AsksAt, BeginsWith, Comes, InnerAt, IsDone, IsFromAt, IsWhole, Keeps, OpensAt, OverrunsBy, SameFiles, Steps, files, fits_at, meant, stands};
-ghost use Rattle.subrequests.specs.Runs.{runs_at};
+ghost use Rattle.subrequests.specs.Moved.{BeginsWith, Comes, IsDone, IsFromAt, IsWhole, Keeps, OverrunsBy, Steps, files, fits_at, meant, stands};
+ghost use Rattle.family_nodes.specs.Runs.{runs_at};
 ghost use Rattle.subrequests.specs.Wants.{Stands};
 ghost use Rattle.subrequests.specs.Ran.{RunsTo, StepsTo};
 ghost use Rattle.subrequests.specs.declared.family.Stepped.TheVariants.{On as GoesOn, Rests as RestsNow};
 
-use crate::child::{blank_main, push_child, put_asks, put_child, put_inner};
-use crate::hear::hears;
+use crate::child::blank_main;
 use crate::next_step::{Next, is_in_row, next_of};
-use crate::nodes::Nodes;
-use crate::returning::{
-    both, comes_some, put_before, put_first, put_reply, put_shown, take_before, taken,
-};
 use crate::wants::can_run;
 use byte_text::{ByteText, OutOfMemory};
+use family_nodes::{Nodes, hears};
 use family_order::shows_the_same;
 use family_rest::{quiet_is_exact, row_tells_still};
 use file_tree::{Ask, JobAnswer};
 use http_types::Method;
 use ngx_pattern::PatternSet;
 use ngx_variables::{Main, VarTable};
-use node_line::{comes, decides, is_kept};
-use node_seats::{comes_beside, is_seated, is_withheld, next_inner};
+use node_line::comes;
+use node_seats::is_seated;
 use node_turn::{Node, Place, Stage, Turn, answering, lend, places, takes, turns};
 use postpone_filter::Order;
-use request_phases::{Ground, Outcome, Phases};
-use ssi_exec::Child;
+use request_phases::{Conclusion, Ground, Phases};
 use ssi_values::Table;
 use std::alloc::Global;
 
@@ -55,7 +50,7 @@ pub struct Family {
 }
 
 /// No more nodes than these make one response, the main request among them.
-const MOST_NODES: usize = 1001;
+pub(crate) const MOST_NODES: usize = 1001;
 
 /// How many levels of subrequests a main request may open.
 const MOST_LEFT: u32 = 50;
@@ -88,25 +83,6 @@ fn on_or_rests(on: bool) -> Stepped
     ensures { result ≡ (if on then GoesOn else RestsNow) }
 {
     if on { Stepped::On } else { Stepped::Rests }
-}
-
-/// Whether a node may have one more subrequest, where there are `count` nodes.
-fn may_ask(node: &Node, count: usize) -> bool
-    ensures free { result ≡ true → node.now.asks ≡ None }
-    ensures deep { result ≡ true → node.now.left ≢ 0 }
-    ensures few { result ≡ true → count < 1001 }
-{
-    node.asks.is_none() && node.left > 0 && count < MOST_NODES
-}
-
-/// Whether a node whose bytes go to the row may open a subrequest beside it, where there are `count` nodes.
-fn may_open(node: &Node, count: usize) -> bool
-    ensures row { result ≡ true → in_row node.now.place ≡ true }
-    ensures free { result ≡ true → node.now.asks ≡ None }
-    ensures deep { result ≡ true → node.now.left ≢ 0 }
-    ensures few { result ≡ true → count < 1001 }
-{
-    is_in_row(&node.place) && may_ask(node, count)
 }
 
 /// Whether a node is over.
@@ -166,7 +142,7 @@ impl Family {
         ground: &Ground<'_>,
         phases: Phases,
         vars: VarTable,
-        outcome: Outcome,
+        outcome: Conclusion,
         ask: Ask,
         tree: u64,
     ) -> Result<Family, OutOfMemory>
@@ -323,15 +299,10 @@ impl Family {
                     self.open_at(alloc, ground, at, child)?;
                     return Ok(true);
                 }
-                let is_inner = is_withheld(&node.place);
                 if self.nodes.len() >= MOST_NODES {
                     return Ok(false);
                 }
-                if is_inner {
-                    self.inner_at(alloc, ground, at, child)?;
-                    return Ok(true);
-                }
-                self.ask_at(alloc, ground, at, child)?;
+                self.inner_at(alloc, ground, at, child)?;
                 Ok(true)
             }
             Turn::Asks(child) => {
@@ -345,304 +316,6 @@ impl Family {
                 Ok(true)
             }
         }
-    }
-
-    /// A subrequest of a node opens, where the node has come to.
-    fn open_at(
-        &mut self,
-        alloc: Global,
-        ground: &Ground<'_>,
-        at: u32,
-        child: Child,
-    ) -> Result<(), OutOfMemory>
-        requires whole { IsWhole self.old }
-        requires there { goes_on_at (slice_get self.old.nodes at) ≡ true }
-        ensures opens { (patterns : List SetPattern) → OnOk result
-            (OpensAt patterns ground.now at child self.old self.new) }
-        ensures files { OnOk result (SameFiles self.old self.new) }
-        ensures grows { OnOk result
-            (length self.new.nodes ≡ length self.old.nodes + 1) }
-        ensures whole { OnOk result (IsWhole self.new) }
-        ensures tree { OnOk result (self.new.tree ≡ self.old.tree) }
-        ensures main { OnOk result (self.new.main ≡ self.old.main) }
-    {
-        shows_the_same();
-        if !may_open(self.nodes.node_at(at as usize), self.nodes.len()) {
-            return Err(OutOfMemory);
-        }
-        let id = self.order.add_child(alloc, at)?;
-        put_child(self.nodes.node_mut(at as usize), id, child.waited);
-        push_child(alloc, ground.server.level, &mut self.nodes, at, child, None)?;
-        Ok(())
-    }
-
-    /// A subrequest opens of a node whose bytes come to its parent: those of the subrequest come where
-    /// the node has come to, and it goes on. The subrequest has a place in the order at which nothing is
-    /// placed.
-    #[inline(never)]
-    fn inner_at(
-        &mut self,
-        alloc: Global,
-        ground: &Ground<'_>,
-        at: u32,
-        child: Child,
-    ) -> Result<(), OutOfMemory>
-        requires whole { IsWhole self.old }
-        requires there { goes_on_at (slice_get self.old.nodes at) ≡ true }
-        ensures opens { OnOk result (InnerAt at child self.old self.new) }
-        ensures whole { OnOk result (IsWhole self.new) }
-        ensures tree { OnOk result (self.new.tree ≡ self.old.tree) }
-        ensures same { OnOk result
-            ((self.new.main ≡ self.old.main) × (self.new.vars ≡ self.old.vars)) }
-    {
-        if !may_ask(self.nodes.node_at(at as usize), self.nodes.len()) {
-            return Err(OutOfMemory);
-        }
-        let id = self.order.add_child(alloc, at)?;
-        let before = put_inner(alloc, self.nodes.node_mut(at as usize), id, child.waited)?;
-        push_child(
-            alloc,
-            ground.server.level,
-            &mut self.nodes,
-            at,
-            child,
-            Some(before),
-        )?;
-        Ok(())
-    }
-
-    /// A subrequest of a node opens for whose body it waits, where the node has come to. It has a
-    /// place in the order at which nothing is placed.
-    #[inline(never)]
-    fn ask_at(
-        &mut self,
-        alloc: Global,
-        ground: &Ground<'_>,
-        at: u32,
-        child: Child,
-    ) -> Result<(), OutOfMemory>
-        requires whole { IsWhole self.old }
-        requires there { goes_on_at (slice_get self.old.nodes at) ≡ true }
-        ensures asks { OnOk result (AsksAt at child self.old self.new) }
-        ensures whole { OnOk result (IsWhole self.new) }
-        ensures tree { OnOk result (self.new.tree ≡ self.old.tree) }
-        ensures same { OnOk result
-            ((self.new.main ≡ self.old.main) × (self.new.vars ≡ self.old.vars)) }
-    {
-        if !may_ask(self.nodes.node_at(at as usize), self.nodes.len()) {
-            return Err(OutOfMemory);
-        }
-        let id = self.order.add_child(alloc, at)?;
-        put_asks(self.nodes.node_mut(at as usize), id);
-        push_child(
-            alloc,
-            ground.server.level,
-            &mut self.nodes,
-            at,
-            child,
-            Some(ByteText::new(alloc)),
-        )?;
-        Ok(())
-    }
-
-    /// A node that has come to its answer is over: the number of its parent.
-    fn close_at(&mut self, at: u32) -> u32
-        requires whole { IsWhole self.old }
-        requires there { stands is_ending self.old at }
-        requires seated { has_seat self.old.nodes at (slice_get self.old.nodes at)
-            ≡ true }
-        requires row { in_row_at (slice_get self.old.nodes at) ≡ true }
-        requires child { at ≢ 0 }
-        ensures steps { (patterns : List SetPattern) (g : GroundView) →
-            Steps patterns g self.old self.new }
-        ensures whole { IsWhole self.new }
-        ensures ended { goes_on_at (slice_get self.new.nodes at) ≡ false }
-        ensures tree { self.new.tree ≡ self.old.tree }
-    {
-        shows_the_same();
-        self.order.end(at);
-        let node = self.nodes.node_mut(at as usize);
-        node.over = true;
-        node.parent
-    }
-
-    /// A node with a stub that has come to its answer is over: the number of its parent.
-    #[inline(never)]
-    fn decide_at(&mut self, at: u32) -> Result<u32, OutOfMemory>
-        requires whole { IsWhole self.old }
-        requires there { stands is_ending self.old at }
-        requires seated { has_seat self.old.nodes at (slice_get self.old.nodes at)
-            ≡ true }
-        requires apart { in_row_at (slice_get self.old.nodes at) ≡ false }
-        requires child { at ≢ 0 }
-        ensures steps { OnOk result ((patterns : List SetPattern) (g : GroundView) →
-            Steps patterns g self.old self.new) }
-        ensures whole { OnOk result (IsWhole self.new) }
-        ensures ended { OnOk result
-            (goes_on_at (slice_get self.new.nodes at) ≡ false) }
-        ensures tree { OnOk result (self.new.tree ≡ self.old.tree) }
-    {
-        shows_the_same();
-        let node = self.nodes.node_mut(at as usize);
-        decides(&mut self.order, at, node)?;
-        Ok(node.parent)
-    }
-
-    /// A node for whose body its parent waits has come to its answer: it is over, and its parent,
-    /// whose number this is, has its bytes, or its stub in their place.
-    #[inline(never)]
-    fn return_at(&mut self, alloc: Global, at: u32) -> Result<u32, OutOfMemory>
-        requires whole { IsWhole self.old }
-        requires there { stands is_ending self.old at }
-        requires withheld { captured_at (slice_get self.old.nodes at) ≡ true }
-        requires seated { has_seat self.old.nodes at (slice_get self.old.nodes at)
-            ≡ true }
-        requires child { at ≢ 0 }
-        ensures steps { OnOk result ((patterns : List SetPattern) (g : GroundView) →
-            Steps patterns g self.old self.new) }
-        ensures whole { OnOk result (IsWhole self.new) }
-        ensures ended { OnOk result
-            (goes_on_at (slice_get self.new.nodes at) ≡ false) }
-        ensures tree { OnOk result (self.new.tree ≡ self.old.tree) }
-    {
-        shows_the_same();
-        if self.next_inner_of(at, 0).is_some() {
-            return Err(OutOfMemory);
-        }
-        if self.is_inner_at(at) {
-            return Ok(self.include_at(alloc, at)?);
-        }
-        if self.shows_parent(at) {
-            return Ok(self.show_at(alloc, at)?);
-        }
-        self.order.end(at);
-        let node = self.nodes.node_mut(at as usize);
-        let text = taken(alloc, &node.stage, &mut node.place)?;
-        node.over = true;
-        let parent = node.parent;
-        if parent as usize >= self.nodes.len() {
-            return Err(OutOfMemory);
-        }
-        put_reply(alloc, self.nodes.node_mut(parent as usize), text)?;
-        Ok(parent)
-    }
-
-    /// The first subrequest of a node, with this number or above, whose bytes come to it and for which
-    /// it doesn't wait.
-    fn next_inner_of(&self, at: u32, from: u32) -> Option<u32>
-        ensures { IsNextInner self.now.nodes at from result }
-    {
-        next_inner(self.nodes.as_slice(), at, from)
-    }
-
-    /// Whether the bytes of a node come to its parent, which doesn't wait for them.
-    fn is_inner_at(&self, at: u32) -> bool
-        ensures { result ≡ inner_of_its self.now.nodes at (slice_get self.now.nodes at) }
-    {
-        comes_beside(self.nodes.as_slice(), at)
-    }
-
-    /// A node whose bytes come to its parent, which doesn't wait for them, has come to its answer: it is
-    /// over, and its bytes, or its stub in their place, come before those of the next subrequest of its
-    /// parent, whose number this is, or the parent's own.
-    #[inline(never)]
-    fn include_at(&mut self, alloc: Global, at: u32) -> Result<u32, OutOfMemory>
-        requires whole { IsWhole self.old }
-        requires there { stands is_ending self.old at }
-        requires inner { inner_of_its self.old.nodes at (slice_get self.old.nodes at) ≡ true }
-        requires bare { NoInner self.old.nodes at 0 most_nodes }
-        requires seated { has_seat self.old.nodes at (slice_get self.old.nodes at)
-            ≡ true }
-        requires child { at ≢ 0 }
-        ensures steps { OnOk result ((patterns : List SetPattern) (g : GroundView) →
-            Steps patterns g self.old self.new) }
-        ensures whole { OnOk result (IsWhole self.new) }
-        ensures ended { OnOk result
-            (goes_on_at (slice_get self.new.nodes at) ≡ false) }
-        ensures tree { OnOk result (self.new.tree ≡ self.old.tree) }
-    {
-        shows_the_same();
-        self.order.end(at);
-        let node = self.nodes.node_mut(at as usize);
-        let text = taken(alloc, &node.stage, &mut node.place)?;
-        let parent = node.parent;
-        let before = take_before(alloc, node);
-        let text = both(before, text.as_slice())?;
-        match self.next_inner_of(parent, at) {
-            Some(next) => {
-                if next as usize >= self.nodes.len() {
-                    return Err(OutOfMemory);
-                }
-                put_before(alloc, self.nodes.node_mut(next as usize), text)?;
-                Ok(parent)
-            }
-            None => {
-                if parent as usize >= self.nodes.len() {
-                    return Err(OutOfMemory);
-                }
-                put_first(alloc, self.nodes.node_mut(parent as usize), text)?;
-                Ok(parent)
-            }
-        }
-    }
-
-    /// Whether the parent of a node, which waits for its body, has a stub, and is shown because of
-    /// that body.
-    fn shows_parent(&self, at: u32) -> bool {
-        let Some(node) = self.nodes.as_slice().get(at as usize) else {
-            return false;
-        };
-        match &node.place {
-            Place::Captured { stub, text } => {
-                comes_some(&node.stage, stub, text)
-                    && match self.nodes.as_slice().get(node.parent as usize) {
-                        Some(parent) => is_kept(parent),
-                        None => false,
-                    }
-            }
-            _ => false,
-        }
-    }
-
-    /// A node for whose body its parent waits, which has a stub, has come to its answer: it is over,
-    /// and its parent, whose number this is, has placed its bytes, or its stub in their place, and
-    /// goes on in the row.
-    #[inline(never)]
-    fn show_at(&mut self, alloc: Global, at: u32) -> Result<u32, OutOfMemory>
-        requires whole { IsWhole self.old }
-        requires there { stands is_ending self.old at }
-        requires withheld { captured_at (slice_get self.old.nodes at) ≡ true }
-        requires beside { inner_of_its self.old.nodes at (slice_get self.old.nodes at) ≡ false }
-        requires bare { NoInner self.old.nodes at 0 most_nodes }
-        requires seated { has_seat self.old.nodes at (slice_get self.old.nodes at)
-            ≡ true }
-        requires child { at ≢ 0 }
-        ensures steps { OnOk result ((patterns : List SetPattern) (g : GroundView) →
-            Steps patterns g self.old self.new) }
-        ensures whole { OnOk result (IsWhole self.new) }
-        ensures ended { OnOk result
-            (goes_on_at (slice_get self.new.nodes at) ≡ false) }
-        ensures tree { OnOk result (self.new.tree ≡ self.old.tree) }
-    {
-        shows_the_same();
-        let node = self.nodes.node_mut(at as usize);
-        let text = taken(alloc, &node.stage, &mut node.place)?;
-        node.over = true;
-        let parent = node.parent;
-        if parent as usize >= self.nodes.len() || text.is_empty() {
-            return Err(OutOfMemory);
-        }
-        let node = self.nodes.node_mut(parent as usize);
-        if !is_kept(node) {
-            return Err(OutOfMemory);
-        }
-        put_shown(node);
-        let count = self.order.append(parent, text.as_slice())?;
-        if count < text.len() {
-            return Err(OutOfMemory);
-        }
-        self.order.end(at);
-        Ok(parent)
     }
 
     /// A node has one subrequest less that goes on.
@@ -732,6 +405,9 @@ impl Family {
                 Ok(Stepped::On)
             }
             Next::Comes => {
+                if self.joins_by(alloc, at)? {
+                    return Ok(Stepped::On);
+                }
                 self.come_at(alloc, at)?;
                 Ok(Stepped::On)
             }
@@ -745,7 +421,18 @@ impl Family {
                 self.tell(parent, at);
                 Ok(Stepped::Rests)
             }
+            Next::Gathers => {
+                self.gather_at(at)?;
+                Ok(Stepped::On)
+            }
+            Next::Frees => {
+                self.free_at(at)?;
+                Ok(Stepped::On)
+            }
             Next::Returns => {
+                if self.joins_by(alloc, at)? {
+                    return Ok(Stepped::On);
+                }
                 let parent = self.return_at(alloc, at)?;
                 self.tell(parent, at);
                 Ok(Stepped::Rests)

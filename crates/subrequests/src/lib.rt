@@ -5,12 +5,12 @@
 #![tactic(auto)]
 
 mod child;
+mod ending;
 mod family;
-mod hear;
+mod joining;
 mod next_step;
-mod nodes;
+mod opening;
 mod returning;
 mod wants;
 
 pub use family::{Family, Ran};
-pub use nodes::Nodes;

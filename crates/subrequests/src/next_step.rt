@@ -2,8 +2,9 @@
 ghost use Rattle.std.specs.Prelude.{◌≡◌, Some, true, false, slice_get, if◌then◌else◌};
 ghost use Rattle.node_turn.specs.Stages.{is_in_row as in_row};
 ghost use Rattle.node_seats.specs.Seats.{is_captured};
+ghost use Rattle.subrequests.specs.Families.{has_stub};
 ghost use Rattle.subrequests.specs.Wants.{StandsAt};
-ghost use Rattle.subrequests.specs.declared.next_step.Next.TheVariants.{Ends as EndsNext, Decides as DecidesNext, Returns as ReturnsNext};
+ghost use Rattle.subrequests.specs.declared.next_step.Next.TheVariants.{Ends as EndsNext, Decides as DecidesNext, Frees as FreesNext, Returns as ReturnsNext};
 
 use node_turn::{Node, Place, Stage};
 
@@ -18,12 +19,16 @@ pub(crate) enum Next {
     Comes,
     /// The next part of its page is taken up.
     Takes,
+    /// It is at its page and has a stub: the bytes of its subrequests come to it from now on.
+    Gathers,
     /// It is over.
     Ends,
     /// It is over, and its stub is at its place.
     Decides,
     /// It is over, and its parent has its body.
     Returns,
+    /// No subrequest is left whose bytes come to it, and it has a stub.
+    Frees,
     /// Nothing: it waits, or is over.
     Waits,
 }
@@ -35,6 +40,19 @@ pub(crate) fn is_in_row(place: &Place) -> bool
     match place {
         Place::Row => true,
         Place::Stub { stub: _, text: _ } => false,
+        Place::Gathers { stub: _, text: _ } => false,
+        Place::Captured { stub: _, text: _ } => false,
+    }
+}
+
+/// Whether a node has a stub, and no bytes of subrequests come to it.
+fn is_stub(place: &Place) -> bool
+    ensures { result ≡ has_stub place.now }
+{
+    match place {
+        Place::Row => false,
+        Place::Stub { stub: _, text: _ } => true,
+        Place::Gathers { stub: _, text: _ } => false,
         Place::Captured { stub: _, text: _ } => false,
     }
 }
@@ -42,11 +60,13 @@ pub(crate) fn is_in_row(place: &Place) -> bool
 /// How a node is over whose bytes go there.
 fn ends_by(place: &Place) -> Next
     ensures { result ≡ (if in_row place.now then EndsNext
-        else (if is_captured place.now then ReturnsNext else DecidesNext)) }
+        else (if is_captured place.now then ReturnsNext
+        else (if has_stub place.now then DecidesNext else FreesNext))) }
 {
     match place {
         Place::Row => Next::Ends,
         Place::Stub { stub: _, text: _ } => Next::Decides,
+        Place::Gathers { stub: _, text: _ } => Next::Frees,
         Place::Captured { stub: _, text: _ } => Next::Returns,
     }
 }
@@ -78,6 +98,9 @@ pub(crate) fn next_of(nodes: &[Node], at: u32) -> Next
         Stage::Serves(_) => {
             if node.waits.is_some() {
                 return Next::Waits;
+            }
+            if is_stub(&node.place) {
+                return Next::Gathers;
             }
             Next::Takes
         }

@@ -1,11 +1,12 @@
 // What a node whose body its parent waits for gives back, and how the parent goes on with it.
 ghost use Rattle.std.specs.Prelude.{◌≡◌, ◌++◌, [], true, IfOk, OnOk, None};
 ghost use Rattle.node_turn.specs.declared.node.Place.TheVariants.{Row as RowView};
-ghost use Rattle.subrequests.specs.Families.{HasFirst, HasReply, IsTaken, end_status, is_stubbed as stubbed};
+ghost use Rattle.subrequests.specs.Families.{HasFirst, HasReply, IsTaken, end_status, freed_place, gathering_place, is_stubbed as stubbed, with_text};
+ghost use Rattle.node_seats.specs.Joining.{joined_place};
+ghost use Rattle.node_seats.specs.Seats.{takes_up, withheld_text};
 
-use crate::next_step::is_in_row;
 use byte_text::{ByteText, OutOfMemory};
-use node_turn::{Capture, MOST_WITHHELD, Node, Place, Stage, put, take, withhold};
+use node_turn::{Capture, MOST_WITHHELD, Node, Place, Stage, put, take};
 use ssi_values::Table;
 use std::alloc::Global;
 
@@ -61,15 +62,7 @@ pub(crate) fn taken(
     }
 }
 
-/// Whether some bytes come to the parent of a node that has come to its answer.
-pub(crate) fn comes_some(stage: &Stage, stub: &Option<ByteText>, body: &ByteText) -> bool {
-    match stub {
-        Some(stub) if is_stubbed(stage, body) => !stub.is_empty(),
-        _ => !body.is_empty(),
-    }
-}
-
-/// A node has the body for which it waited: it goes on with its page; or its own bytes go on after it.
+/// A node has the body for which it waited: it goes on with its page.
 pub(crate) fn put_reply(alloc: Global, node: &mut Node, body: ByteText) -> Result<(), OutOfMemory>
     ensures { OnOk result (HasReply body node.old node.new) }
 {
@@ -89,25 +82,79 @@ pub(crate) fn put_reply(alloc: Global, node: &mut Node, body: ByteText) -> Resul
             node.asks = None;
             Ok(())
         }
-        Stage::Serves(page) => {
-            if is_in_row(&node.place) {
-                return Err(OutOfMemory);
-            }
-            put(&mut node.stage, Stage::Serves(page));
-            withhold(&mut node.place, body.as_slice())?;
-            node.asks = None;
-            Ok(())
-        }
         _ => Err(OutOfMemory),
     }
 }
 
-/// A node with a stub has bytes for which it waited, and goes on in the row.
-pub(crate) fn put_shown(node: &mut Node)
-    ensures { node.new ≡ record node.old { asks = None; place = RowView } }
+/// A node is shown that has a stub and withholds no byte of its own.
+pub(crate) fn put_row(node: &mut Node)
+    ensures { node.new ≡ record node.old { place = RowView } }
 {
-    node.asks = None;
     put(&mut node.place, Place::Row);
+}
+
+/// The first subrequest opens whose bytes come to a node with a stub.
+pub(crate) fn put_gathering(node: &mut Node)
+    ensures { node.new ≡ record node.old { place = gathering_place node.old.place } }
+{
+    let place = take(&mut node.place, Place::Row);
+    put(&mut node.place, gathering(place));
+}
+
+/// Where the bytes of a node with a stub go once bytes of subrequests come to it.
+fn gathering(place: Place) -> Place
+    ensures { result ≡ gathering_place place }
+{
+    match place {
+        Place::Row => Place::Row,
+        Place::Stub { stub, text } => Place::Gathers { stub, text },
+        Place::Gathers { stub, text } => Place::Gathers { stub, text },
+        Place::Captured { stub, text } => Place::Captured { stub, text },
+    }
+}
+
+/// Where they go once no such subrequest is left.
+fn freed(place: Place) -> Place
+    ensures { result ≡ freed_place place }
+{
+    match place {
+        Place::Row => Place::Row,
+        Place::Stub { stub, text } => Place::Stub { stub, text },
+        Place::Gathers { stub, text } => Place::Stub { stub, text },
+        Place::Captured { stub, text } => Place::Captured { stub, text },
+    }
+}
+
+/// Where the bytes of a node go that came to its parent, which is shown: to the row; or it has a stub, and it isn't
+/// known yet whether that is shown.
+fn joined(place: Place) -> Place
+    ensures { result ≡ joined_place place }
+{
+    match place {
+        Place::Row => Place::Row,
+        Place::Stub { stub, text } => Place::Stub { stub, text },
+        Place::Gathers { stub, text } => Place::Gathers { stub, text },
+        Place::Captured { stub, text } => match stub {
+            Some(stub) => Place::Gathers { stub, text },
+            None => Place::Row,
+        },
+    }
+}
+
+/// No subrequest is left whose bytes come to a node with a stub.
+pub(crate) fn put_freed(node: &mut Node)
+    ensures { node.new ≡ record node.old { place = freed_place node.old.place } }
+{
+    let place = take(&mut node.place, Place::Row);
+    put(&mut node.place, freed(place));
+}
+
+/// The parent of a node, to which its bytes came, is shown.
+pub(crate) fn put_joined(node: &mut Node)
+    ensures { node.new ≡ record node.old { place = joined_place node.old.place } }
+{
+    let place = take(&mut node.place, Place::Row);
+    put(&mut node.place, joined(place));
 }
 
 /// A node is over: the bytes of its parent that it keeps before its own.
@@ -145,13 +192,34 @@ pub(crate) fn put_before(alloc: Global, node: &mut Node, text: ByteText) -> Resu
 pub(crate) fn put_first(alloc: Global, node: &mut Node, text: ByteText) -> Result<(), OutOfMemory>
     ensures { OnOk result (HasFirst text node.old node.new) }
 {
-    match &mut node.place {
-        Place::Captured { stub: _, text: own } => {
-            let after = take(own, ByteText::new(alloc));
-            let all = both(text, after.as_slice())?;
-            put(own, all);
-            Ok(())
-        }
-        _ => Err(OutOfMemory),
+    let after = take_text(alloc, &mut node.place)?;
+    let all = both(text, after.as_slice())?;
+    put_text(&mut node.place, all);
+    Ok(())
+}
+
+/// The bytes that a node withholds to which bytes of its subrequests come; it has none then.
+pub(crate) fn take_text(alloc: Global, place: &mut Place) -> Result<ByteText, OutOfMemory>
+    ensures text { IfOk result (λ text. text ≡ withheld_text place.old) }
+    ensures takes { OnOk result (takes_up place.old ≡ true) }
+    ensures place { OnOk result (place.new ≡ with_text [] place.old) }
+{
+    match place {
+        Place::Row => Err(OutOfMemory),
+        Place::Stub { stub: _, text: _ } => Err(OutOfMemory),
+        Place::Gathers { stub: _, text } => Ok(take(text, ByteText::new(alloc))),
+        Place::Captured { stub: _, text } => Ok(take(text, ByteText::new(alloc))),
+    }
+}
+
+/// Other bytes are withheld.
+fn put_text(place: &mut Place, bytes: ByteText)
+    ensures { place.new ≡ with_text bytes place.old }
+{
+    match place {
+        Place::Row => {}
+        Place::Stub { stub: _, text } => put(text, bytes),
+        Place::Gathers { stub: _, text } => put(text, bytes),
+        Place::Captured { stub: _, text } => put(text, bytes),
     }
 }

@@ -3,11 +3,11 @@ ghost use Rattle.std.specs.Prelude.{◌≡◌, ◌==◌, option_copied};
 ghost use Rattle.file_tree.specs.Tree.{tree_of};
 ghost use Rattle.ngx_outside.specs.Views.{ask_in};
 ghost use Rattle.subrequests.specs.Moved.{IsWhole};
-ghost use Rattle.subrequests.specs.Runs.{can_go, is_waiting as waits_for};
+ghost use Rattle.family_nodes.specs.Runs.{can_go, is_waiting as waits_for};
 ghost use Rattle.subrequests.specs.Wants.{first_job as job_first, first_of, is_among, jobs_of, ready_of};
 
 use crate::family::Family;
-use crate::hear::waits;
+use family_nodes::waits;
 use file_tree::Ask;
 use node_turn::{Node, Stage};
 use postpone_filter::Order;

@@ -9,7 +9,7 @@ use Rattle.acts.specs.Act.{Done}
 use Rattle.error_pages.specs.Pages.{page_next}
 use Rattle.ngx_variables.specs.declared.fault.EvalFault.TheVariants.{TooLong}
 use Rattle.request_phases.specs.declared.state.From.TheVariants as begins
-use Rattle.request_phases.specs.declared.state.Outcome.TheVariants as outcomes
+use Rattle.request_phases.specs.declared.state.Conclusion.TheVariants as outcomes
 use Rattle.request_phases.proofs.decide.fail.Goals as goal
 
 pub returns-in-Ok-None-clause-next : goal.returns-in-Ok-None-clause-next

@@ -1,4 +1,4 @@
-use Rattle.subrequests.proofs.Opening as opening
+use Rattle.subrequests.proofs.Opens as opening
 use Rattle.subrequests.proofs.child.child_node.Goals as goal
 
 pub returns-clause-acts : goal.returns-clause-acts

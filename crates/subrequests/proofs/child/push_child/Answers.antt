@@ -4,6 +4,7 @@ use Rattle.ssi_exec.specs.Scenes.{child_seen}
 use Rattle.node_turn.specs.Nodes.{of_method}
 use Rattle.node_turn.specs.Stages.{main_of}
 use Rattle.node_turn.specs.declared.node.Node.{Node}
+use Rattle.family_nodes.proofs.Sets as sets
 use Rattle.subrequests.proofs.Wholes as wholes
 use Rattle.subrequests.proofs.child.push_child.Goals as goal
 
@@ -11,7 +12,7 @@ pub returns : goal.returns
 returns c = λ n is.
     let node = c.in-Some.node.now in
     let found = c.in-Some.ensures.lookup in
-    let there = subst (λ ns. slice_get ns c.args.at ≡ Some node) c.as_slice.ensures.value (wholes.there_some c.as_slice.result.now c.args.at node found.3.0 found.1) in
+    let there = subst (λ ns. slice_get ns c.args.at ≡ Some node) c.as_slice.ensures.value (sets.there_some c.as_slice.result.now c.args.at node found.3.0 found.1) in
     let same : node ≡ n = wholes.some_same node n (sym there ∙ is) in
     let made = c.child_node.ensures in
     let left = c.child_node.result.left in

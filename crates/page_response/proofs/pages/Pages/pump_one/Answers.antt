@@ -41,7 +41,7 @@ returns-clause-whole c = λ sound.
       few = sound.few;
       count = ap (λ (r : Row). r.nodes) c.used.ensures.row ∙ sound.count;
       going = λ j. c.used.ensures.opened j ∙ sound.going j;
-      first = sound.first;
+      rises = sound.rises;
     }
 
 pub returns-clause-reached : goal.returns-clause-reached

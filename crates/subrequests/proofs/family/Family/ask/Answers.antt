@@ -1,7 +1,8 @@
 use Rattle.std.proofs.Common.{◌≡◌, ◌≤◌, length, None, Some, cond, slice_get, sym, ap, ◌∙◌, subst}
 use Rattle.std.specs.Option.{option_copied}
-use Rattle.subrequests.specs.Runs.{job_of}
+use Rattle.family_nodes.specs.Runs.{job_of}
 use Rattle.subrequests.proofs.Numbers as numbers
+use Rattle.family_nodes.proofs.Sets as sets
 use Rattle.subrequests.proofs.Wholes as wholes
 use Rattle.subrequests.proofs.family.Family.ask.Goals as goal
 
@@ -17,7 +18,7 @@ returns-then-is_waiting c =
     let n = c.in_ok-node.node.now in
     let is = c.in_ok-node.ensures.lookup in
     sym (numbers.job_is f.tree f.nodes c.args.at
-    ∙ (ap (job_of f.tree) (subst (λ ns. slice_get ns c.args.at ≡ Some n) c.as_slice.ensures.value (wholes.there_some c.as_slice.result.now c.args.at n is.3.0 is.1))
+    ∙ (ap (job_of f.tree) (subst (λ ns. slice_get ns c.args.at ≡ Some n) c.as_slice.ensures.value (sets.there_some c.as_slice.result.now c.args.at n is.3.0 is.1))
     ∙ ap (λ b. cond b (Some n.ask) None) (sym c.is_waiting.ensures ∙ c.if-is_waiting.true)))
 
 pub returns : goal.returns
@@ -26,5 +27,5 @@ returns c =
     let n = c.in_ok-node.node.now in
     let is = c.in_ok-node.ensures.lookup in
     sym (numbers.job_is f.tree f.nodes c.args.at
-    ∙ (ap (job_of f.tree) (subst (λ ns. slice_get ns c.args.at ≡ Some n) c.as_slice.ensures.value (wholes.there_some c.as_slice.result.now c.args.at n is.3.0 is.1))
+    ∙ (ap (job_of f.tree) (subst (λ ns. slice_get ns c.args.at ≡ Some n) c.as_slice.ensures.value (sets.there_some c.as_slice.result.now c.args.at n is.3.0 is.1))
     ∙ ap (λ b. cond b (Some n.ask) None) (sym c.is_waiting.ensures ∙ c.if-is_waiting.false)))

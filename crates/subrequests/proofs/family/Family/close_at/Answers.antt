@@ -37,4 +37,4 @@ returns-clause-whole c =
     let f = c.args.self.now in
     let old = c.node_mut-node.result.now in
     members.over_sound f.order c.end.new.self f.nodes c.args.at old (record old { over = true }) (wholes.here_is is_ending f.nodes c.args.at old c.requires.there c.node_mut-node.ensures.value)
-    c.requires.whole (members.ended_well f.order c.end.new.self c.args.at c.requires.whole.well c.requires.child c.end.ensures.row) (ap (λ (r : Row). r.nodes) c.end.ensures.row) c.end.ensures.opened refl refl
+    c.requires.whole (members.ended_well f.order c.end.new.self c.args.at c.requires.whole.well c.requires.child c.end.ensures.row) (ap (λ (r : Row). r.nodes) c.end.ensures.row) c.end.ensures.opened refl refl refl

@@ -30,4 +30,4 @@ returns-clause-whole c =
     let is = c.in_ok-comes.ensures in
     let there = wholes.here_is is_placing nodes c.args.at old c.requires.there c.node_mut-node.ensures.value in
     members.set_sound f.order c.comes.new.order nodes c.args.at old c.comes.new.node there c.requires.whole
-    (members.came_well f.order c.comes.new.order c.args.at old c.comes.new.node c.requires.whole.well is.came) (members.came_nodes f.order c.comes.new.order c.args.at old c.comes.new.node is.came) is.opened is.node.over (members.came_kept f.order c.comes.new.order c.args.at old c.comes.new.node is.came)
+    (members.came_well f.order c.comes.new.order c.args.at old c.comes.new.node c.requires.whole.well is.came) (members.came_nodes f.order c.comes.new.order c.args.at old c.comes.new.node is.came) is.opened is.node.over (members.came_kept f.order c.comes.new.order c.args.at old c.comes.new.node is.came) is.node.parent

@@ -7,7 +7,7 @@ use Rattle.node_turn.specs.declared.node.Node.{Node}
 use Rattle.subrequests.specs.Families.{goes_on_at}
 use Rattle.node_seats.specs.Seats.{is_captured}
 use Rattle.subrequests.proofs.Members as members
-use Rattle.subrequests.proofs.Sets.{get_set_same}
+use Rattle.family_nodes.proofs.Sets.{get_set_same}
 use Rattle.subrequests.proofs.Wholes as wholes
 use Rattle.subrequests.proofs.family.Family.decide_at.Goals as goal
 
@@ -40,7 +40,7 @@ returns-clause-whole c =
     let is = c.in_ok-decides.ensures in
     members.over_sound f.order c.decides.new.order f.nodes c.args.at old c.decides.new.node (wholes.here_is is_ending f.nodes c.args.at old c.requires.there c.node_mut-node.ensures.value)
     c.requires.whole (members.decided_well f.order c.decides.new.order c.args.at old c.decides.new.node c.requires.whole.well c.requires.child is.decided)
-    (ap (λ (r : Row). r.nodes) is.decided.row) is.opened (ap (λ (n : Node). n.over) is.decided.node) (ap (λ (n : Node). is_captured n.place) is.decided.node)
+    (ap (λ (r : Row). r.nodes) is.decided.row) is.opened (ap (λ (n : Node). n.over) is.decided.node) (ap (λ (n : Node). is_captured n.place) is.decided.node) (ap (λ (n : Node). n.parent) is.decided.node)
 
 pub returns-clause-ended : goal.returns-clause-ended
 returns-clause-ended c =

@@ -2,6 +2,7 @@ use Rattle.std.proofs.Common.{◌≡◌, ◌+◌, suc, drop, sym, ap, ◌∙◌,
 use Rattle.subrequests.specs.Wants.{first_job, jobs_from}
 use Rattle.subrequests.proofs.Numbers as numbers
 use Rattle.subrequests.proofs.Skips as skips
+use Rattle.family_nodes.proofs.Sets as sets
 use Rattle.subrequests.proofs.Wholes as wholes
 use Rattle.subrequests.proofs.family.Family.first_job.Goals as goal
 
@@ -17,7 +18,7 @@ returns-then-is_waiting c =
     let nodes = f.nodes in
     let at = c.loop-at.at in
     let n = c.node_at.result.now in
-    let there = wholes.there_some nodes at n (omega (arith, c.loop-at-test.true, c.len.ensures)) c.node_at.ensures in
+    let there = sets.there_some nodes at n (omega (arith, c.loop-at-test.true, c.len.ensures)) c.node_at.ensures in
     sym (ap first_job c.loop-at.invariant ∙ (ap (λ ns. first_job (jobs_from f.tree at ns)) (wholes.drop_next nodes at n there)
     ∙ numbers.first_is f.tree at n (drop (suc at) nodes) (sym c.is_waiting.ensures ∙ c.if-is_waiting.true)))
 
@@ -28,7 +29,7 @@ loop-at-preserved c =
     let at = c.loop-at.at in
     let n = c.node_at.result.now in
     let next = c.next_asking-at-in-loop-at in
-    let there = wholes.there_some nodes at n (omega (arith, c.loop-at-test.true, c.len.ensures)) c.node_at.ensures in
+    let there = sets.there_some nodes at n (omega (arith, c.loop-at-test.true, c.len.ensures)) c.node_at.ensures in
     c.loop-at.invariant ∙ (ap (jobs_from f.tree at) (wholes.drop_next nodes at n there)
     ∙ (numbers.later_jobs f.tree at n (drop (suc at) nodes) (sym c.is_waiting.ensures ∙ c.if-is_waiting.false)
     ∙ (ap (λ k. jobs_from f.tree k (drop k nodes)) (let e : suc at ≡ at + 1 = omega arith in e)

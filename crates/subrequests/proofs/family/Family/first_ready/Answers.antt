@@ -2,6 +2,7 @@ use Rattle.std.proofs.Common.{◌≡◌, ◌+◌, suc, drop, sym, ap, ◌∙◌,
 use Rattle.subrequests.specs.Wants.{first_of, ready_from}
 use Rattle.subrequests.proofs.Numbers as numbers
 use Rattle.subrequests.proofs.Skips as skips
+use Rattle.family_nodes.proofs.Sets as sets
 use Rattle.subrequests.proofs.Wholes as wholes
 use Rattle.subrequests.proofs.family.Family.first_ready.Goals as goal
 
@@ -17,7 +18,7 @@ returns-then-can_run c =
     let nodes = f.nodes in
     let at = c.loop-at.at in
     let n = c.node_at.result.now in
-    let there = wholes.there_some nodes at n (omega (arith, c.loop-at-test.true, c.len.ensures)) c.node_at.ensures in
+    let there = sets.there_some nodes at n (omega (arith, c.loop-at-test.true, c.len.ensures)) c.node_at.ensures in
     sym (ap first_of c.loop-at.invariant ∙ (ap (λ ns. first_of (ready_from f.order at ns)) (wholes.drop_next nodes at n there)
     ∙ numbers.first_ready f.order at n (drop (suc at) nodes) (sym c.can_run.ensures ∙ c.if-can_run.true)))
 
@@ -28,7 +29,7 @@ loop-at-preserved c =
     let at = c.loop-at.at in
     let n = c.node_at.result.now in
     let next = c.next_awake-at-in-loop-at in
-    let there = wholes.there_some nodes at n (omega (arith, c.loop-at-test.true, c.len.ensures)) c.node_at.ensures in
+    let there = sets.there_some nodes at n (omega (arith, c.loop-at-test.true, c.len.ensures)) c.node_at.ensures in
     c.loop-at.invariant ∙ (ap (ready_from f.order at) (wholes.drop_next nodes at n there)
     ∙ (numbers.later_ready f.order at n (drop (suc at) nodes) (sym c.can_run.ensures ∙ c.if-can_run.false)
     ∙ (ap (λ k. ready_from f.order k (drop k nodes)) (let e : suc at ≡ at + 1 = omega arith in e)

@@ -4,7 +4,7 @@ use Rattle.node_seats.specs.Seats.{is_captured, is_seated, seen}
 use Rattle.subrequests.specs.Moved.{Keeps}
 use Rattle.subrequests.proofs.Heard as heard
 use Rattle.subrequests.proofs.Members as members
-use Rattle.subrequests.proofs.Sets.{length_set}
+use Rattle.family_nodes.proofs.Sets.{length_set}
 use Rattle.subrequests.proofs.Wholes as wholes
 use Rattle.subrequests.proofs.family.Family.hear.Goals as goal
 
@@ -41,7 +41,7 @@ returns-clause-whole c =
     let f = c.args.self.now in
     let n = c.node_mut-node.result.now in
     members.set_sound f.order f.order f.nodes c.args.at n c.hears.new.node
-    (wholes.fits_here f.tree f.nodes c.args.at n c.args.answer c.requires.fits c.node_mut-node.ensures.value) c.requires.whole c.requires.whole.well refl (λ j. refl) c.in_ok-hears.ensures.node.over (ap is_captured c.in_ok-hears.ensures.place)
+    (wholes.fits_here f.tree f.nodes c.args.at n c.args.answer c.requires.fits c.node_mut-node.ensures.value) c.requires.whole c.requires.whole.well refl (λ j. refl) c.in_ok-hears.ensures.node.over (ap is_captured c.in_ok-hears.ensures.place) c.in_ok-hears.ensures.node.parent
 
 pub returns-clause-size : goal.returns-clause-size
 returns-clause-size c = length_set c.args.self.now.nodes c.args.at c.hears.new.node

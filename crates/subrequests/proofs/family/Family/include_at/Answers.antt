@@ -1,4 +1,4 @@
-use Rattle.std.proofs.Common.{◌≡◌, ◌++◌, refl, sym, ap, ◌∙◌, subst, set, slice_get, length, ◌+◌, Some, None, arith}
+use Rattle.std.proofs.Common.{◌≡◌, ◌++◌, sym, ap, ◌∙◌, subst, set, arith}
 use Rattle.request_meaning.specs.Laws.{shipped}
 use Rattle.request_phases.specs.Rounds.{world_in}
 use Rattle.node_turn.specs.Stages.{is_ending}
@@ -7,7 +7,8 @@ use Rattle.node_seats.specs.Seats.{IsNextInner}
 use Rattle.node_seats.proofs.Located.{as_itself}
 use Rattle.subrequests.specs.Families.{HasFirst}
 use Rattle.subrequests.proofs.Including as including
-use Rattle.subrequests.proofs.Sets.{length_set}
+use Rattle.family_nodes.proofs.Sets.{length_set}
+use Rattle.family_nodes.proofs.Sets as sets
 use Rattle.subrequests.proofs.Wholes as wholes
 use Rattle.subrequests.proofs.family.Family.include_at.Goals as goal
 
@@ -29,7 +30,7 @@ returns-in-Some-clause-steps c = λ ps g.
     let n = c.node_mut.result.now in
     let n' = c.put_before.new.node in
     let next = subst (IsNextInner (set nodes at gone) old.parent at) c.in-Some.is c.next_inner_of.ensures in
-    let here = wholes.there_some (set nodes at gone) y n (omega (arith, c.if-next-len.false, c.len.ensures)) c.node_mut.ensures.value in
+    let here = sets.there_some (set nodes at gone) y n (omega (arith, c.if-next-len.false, c.len.ensures)) c.node_mut.ensures.value in
     let is : n' ≡ record n { before = (old.before ++ text) ++ n.before } = c.in_ok-put_before-in-Some.ensures ∙ ap (λ t. record n { before = t ++ n.before }) moved in
     let w = world_in ps g shipped in
     wholes.both_ways c.shows_the_same.ensures ps g f _ 0 (length_set (set nodes at gone) y n' ∙ wholes.as_many nodes at gone)
@@ -55,7 +56,7 @@ returns-in-Some-clause-whole c =
     let n = c.node_mut.result.now in
     let n' = c.put_before.new.node in
     let next = subst (IsNextInner (set nodes at gone) old.parent at) c.in-Some.is c.next_inner_of.ensures in
-    let here = wholes.there_some (set nodes at gone) y n (omega (arith, c.if-next-len.false, c.len.ensures)) c.node_mut.ensures.value in
+    let here = sets.there_some (set nodes at gone) y n (omega (arith, c.if-next-len.false, c.len.ensures)) c.node_mut.ensures.value in
     let is : n' ≡ record n { before = (old.before ++ text) ++ n.before } = c.in_ok-put_before-in-Some.ensures ∙ ap (λ t. record n { before = t ++ n.before }) moved in
     including.sound_next f.order nodes at old place p text b.1 gone gone_is y n n' next here is c.end.new.self
     (including.sound_over f.order nodes at old place p text b.1 gone gone_is c.end.new.self c.requires.whole c.requires.child c.end.ensures.row c.end.ensures.opened)
@@ -78,7 +79,7 @@ returns-in-Some-clause-ended c =
     let n = c.node_mut.result.now in
     let n' = c.put_before.new.node in
     let next = subst (IsNextInner (set nodes at gone) old.parent at) c.in-Some.is c.next_inner_of.ensures in
-    let here = wholes.there_some (set nodes at gone) y n (omega (arith, c.if-next-len.false, c.len.ensures)) c.node_mut.ensures.value in
+    let here = sets.there_some (set nodes at gone) y n (omega (arith, c.if-next-len.false, c.len.ensures)) c.node_mut.ensures.value in
     let is : n' ≡ record n { before = (old.before ++ text) ++ n.before } = c.in_ok-put_before-in-Some.ensures ∙ ap (λ t. record n { before = t ++ n.before }) moved in
     including.over_next f.order nodes at old place p text b.1 gone gone_is y n n' next here is
 
@@ -99,7 +100,7 @@ returns-clause-steps c = λ ps g.
     let q = c.node_mut-in-None.result.now in
     let p' = c.put_first.new.node in
     let none = subst (IsNextInner (set nodes at gone) old.parent at) c.in-None.is c.next_inner_of.ensures in
-    let same : q ≡ p = wholes.some_same q p (sym (wholes.there_some (set nodes at gone) old.parent q (omega (arith, c.if-parent-len.false, c.len-in-None.ensures)) c.node_mut-in-None.ensures.value) ∙ including.par_there f.order nodes at old place p text b.1 gone gone_is) in
+    let same : q ≡ p = wholes.some_same q p (sym (sets.there_some (set nodes at gone) old.parent q (omega (arith, c.if-parent-len.false, c.len-in-None.ensures)) c.node_mut-in-None.ensures.value) ∙ including.par_there f.order nodes at old place p text b.1 gone gone_is) in
     let first : HasFirst (old.before ++ text) p p' = subst (λ (x : Node). HasFirst (old.before ++ text) x p') same (subst (λ t. HasFirst t q p') moved c.in_ok-put_first-in-None.ensures) in
     let w = world_in ps g shipped in
     wholes.both_ways c.shows_the_same.ensures ps g f _ 0 (length_set (set nodes at gone) old.parent p' ∙ wholes.as_many nodes at gone)
@@ -124,7 +125,7 @@ returns-clause-whole c =
     let q = c.node_mut-in-None.result.now in
     let p' = c.put_first.new.node in
     let none = subst (IsNextInner (set nodes at gone) old.parent at) c.in-None.is c.next_inner_of.ensures in
-    let same : q ≡ p = wholes.some_same q p (sym (wholes.there_some (set nodes at gone) old.parent q (omega (arith, c.if-parent-len.false, c.len-in-None.ensures)) c.node_mut-in-None.ensures.value) ∙ including.par_there f.order nodes at old place p text b.1 gone gone_is) in
+    let same : q ≡ p = wholes.some_same q p (sym (sets.there_some (set nodes at gone) old.parent q (omega (arith, c.if-parent-len.false, c.len-in-None.ensures)) c.node_mut-in-None.ensures.value) ∙ including.par_there f.order nodes at old place p text b.1 gone gone_is) in
     let first : HasFirst (old.before ++ text) p p' = subst (λ (x : Node). HasFirst (old.before ++ text) x p') same (subst (λ t. HasFirst t q p') moved c.in_ok-put_first-in-None.ensures) in
     including.sound_first f.order nodes at old place p text b.1 gone gone_is p' first none c.end.new.self
     (including.sound_over f.order nodes at old place p text b.1 gone gone_is c.end.new.self c.requires.whole c.requires.child c.end.ensures.row c.end.ensures.opened)
@@ -146,6 +147,6 @@ returns-clause-ended c =
     let q = c.node_mut-in-None.result.now in
     let p' = c.put_first.new.node in
     let none = subst (IsNextInner (set nodes at gone) old.parent at) c.in-None.is c.next_inner_of.ensures in
-    let same : q ≡ p = wholes.some_same q p (sym (wholes.there_some (set nodes at gone) old.parent q (omega (arith, c.if-parent-len.false, c.len-in-None.ensures)) c.node_mut-in-None.ensures.value) ∙ including.par_there f.order nodes at old place p text b.1 gone gone_is) in
+    let same : q ≡ p = wholes.some_same q p (sym (sets.there_some (set nodes at gone) old.parent q (omega (arith, c.if-parent-len.false, c.len-in-None.ensures)) c.node_mut-in-None.ensures.value) ∙ including.par_there f.order nodes at old place p text b.1 gone gone_is) in
     let first : HasFirst (old.before ++ text) p p' = subst (λ (x : Node). HasFirst (old.before ++ text) x p') same (subst (λ t. HasFirst t q p') moved c.in_ok-put_first-in-None.ensures) in
     including.over_first f.order nodes at old place p text b.1 gone gone_is p' first none

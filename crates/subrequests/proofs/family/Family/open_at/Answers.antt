@@ -14,7 +14,7 @@ use Rattle.node_line.specs.Stances.{Opening}
 use Rattle.node_turn.specs.declared.node.Node.{Node}
 use Rattle.node_turn.specs.declared.node.Place.TheVariants.{Row as InRow}
 use Rattle.subrequests.proofs.Members as members
-use Rattle.subrequests.proofs.Sets.{get_set_same, length_set, length_snoc}
+use Rattle.family_nodes.proofs.Sets.{get_set_same, length_set, length_snoc}
 use Rattle.subrequests.proofs.Wholes as wholes
 use Rattle.subrequests.proofs.family.Family.open_at.Goals as goal
 
@@ -71,14 +71,14 @@ returns-clause-whole c =
     let new = c.put_child.new.node in
     let there = wholes.not_over nodes at here c.requires.there c.node_mut.ensures.value in
     let pushed = c.in_ok-push_child.ensures new (get_set_same nodes at new here there) in
-    let withheld = members.set_sound f.order f.order nodes at here new there c.requires.whole c.requires.whole.well refl (λ j. refl) (ap (λ (x : Node). x.over) c.put_child.ensures.others) (ap (λ (x : Node). is_captured x.place) c.put_child.ensures.others) in
+    let withheld = members.set_sound f.order f.order nodes at here new there c.requires.whole c.requires.whole.well refl (λ j. refl) (ap (λ (x : Node). x.over) c.put_child.ensures.others) (ap (λ (x : Node). is_captured x.place) c.put_child.ensures.others) (ap (λ (x : Node). x.parent) c.put_child.ensures.others) in
     let size : length (set nodes at new) ≡ length nodes = length_set nodes at new in
     let few = c.may_open.ensures.few c.if-not-may_open.false in
     subst (IsSound c.add_child.new.self) (sym pushed.items)
     (members.open_sound f.order c.add_child.new.self (set nodes at new) pushed.member withheld
     (members.child_well f.order c.add_child.new.self at c.requires.whole.well c.in_ok-id.ensures.row)
     (ap (λ (r : Row). r.nodes) c.in_ok-id.ensures.row ∙ (let e : f.order.nodes + 1 ≡ suc f.order.nodes = omega arith in e)) c.in_ok-id.ensures.opened pushed.over
-    (omega (arith, size, few, c.len.ensures)))
+    (omega (arith, size, few, c.len.ensures)) (λ e. let parent = pushed.parent in let lower = members.there_less nodes at here there in omega (arith, parent, lower, size)))
 
 pub returns-clause-grows : goal.returns-clause-grows
 returns-clause-grows c =

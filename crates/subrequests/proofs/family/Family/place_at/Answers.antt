@@ -4,8 +4,8 @@ use Rattle.request_phases.specs.Rounds.{world_in}
 use Rattle.postpone_filter.specs.Row.{Row, is_open}
 use Rattle.node_turn.specs.Stages.{hand_at, is_placing}
 use Rattle.node_seats.specs.Seats.{is_captured, seen}
-use Rattle.subrequests.specs.Runs.{runs_at}
-use Rattle.subrequests.proofs.Sets.{get_set_same}
+use Rattle.family_nodes.specs.Runs.{runs_at}
+use Rattle.family_nodes.proofs.Sets.{get_set_same}
 use Rattle.node_line.specs.Stances.{Opening}
 use Rattle.subrequests.proofs.Members as members
 use Rattle.subrequests.proofs.Wholes as wholes
@@ -37,7 +37,7 @@ returns-clause-whole c =
     (wholes.here_is is_placing f.nodes c.args.at c.node_mut-node.result.now c.requires.there c.node_mut-node.ensures.value) c.requires.whole
     (members.appended_well f.order c.places.new.order c.args.at (take c.in_ok-places.field-0.count (hand_at c.node_mut-node.result.now.stage)) c.requires.whole.well c.in_ok-places.ensures.row)
     (ap (λ (r : Row). r.nodes) c.in_ok-places.ensures.row)
-    c.in_ok-places.ensures.opened c.in_ok-places.ensures.node.over (ap is_captured c.in_ok-places.ensures.place)
+    c.in_ok-places.ensures.opened c.in_ok-places.ensures.node.over (ap is_captured c.in_ok-places.ensures.place) c.in_ok-places.ensures.node.parent
 
 pub returns-clause-rests : goal.returns-clause-rests
 returns-clause-rests c =

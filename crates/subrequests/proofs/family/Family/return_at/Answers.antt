@@ -50,9 +50,3 @@ include_at-requires-clause-bare c = including.none_found c.args.self.now.nodes c
 
 pub include_at-requires-clause-inner : goal.include_at-requires-clause-inner
 include_at-requires-clause-inner c = sym c.is_inner_at.ensures ∙ c.if-is_inner_at.true
-
-pub show_at-requires-clause-bare : goal.show_at-requires-clause-bare
-show_at-requires-clause-bare c = including.none_found c.args.self.now.nodes c.args.at 0 c.next_inner_of.result c.next_inner_of.ensures (sym c.is_some.ensures ∙ c.if-is_some.false)
-
-pub show_at-requires-clause-beside : goal.show_at-requires-clause-beside
-show_at-requires-clause-beside c = sym c.is_inner_at.ensures ∙ c.if-is_inner_at.false

@@ -17,7 +17,7 @@ use Rattle.node_seats.specs.Seats.{is_captured, seen}
 use Rattle.subrequests.specs.Families.{goes_on_at, texts_of}
 use Rattle.subrequests.proofs.Asking as asking
 use Rattle.subrequests.proofs.Members as members
-use Rattle.subrequests.proofs.Sets.{get_set_same, length_set}
+use Rattle.family_nodes.proofs.Sets.{get_set_same, length_set}
 use Rattle.subrequests.proofs.Taking as taking
 use Rattle.subrequests.proofs.Wholes as wholes
 use Rattle.subrequests.proofs.family.Family.take_at.Goals as goal
@@ -46,7 +46,7 @@ returns-in-On-clause-whole c = λ on.
     let f = c.args.self.now in
     members.set_sound f.order f.order f.nodes c.args.at c.node_mut-node.result.now c.takes.new.node
     (wholes.here_is is_serving f.nodes c.args.at c.node_mut-node.result.now c.requires.there c.node_mut-node.ensures.value) c.requires.whole c.requires.whole.well refl (λ j. refl) c.in_ok-turn.ensures.node.over
-    (ap is_captured c.in_ok-turn.ensures.place)
+    (ap is_captured c.in_ok-turn.ensures.place) c.in_ok-turn.ensures.node.parent
 
 -- ---- a subrequest of a node in the row opens
 
@@ -87,7 +87,7 @@ open_at-requires-clause-whole c =
     let f = c.args.self.now in
     members.set_sound f.order f.order f.nodes c.args.at c.node_mut-node.result.now c.takes.new.node
     (wholes.here_is is_serving f.nodes c.args.at c.node_mut-node.result.now c.requires.there c.node_mut-node.ensures.value) c.requires.whole c.requires.whole.well refl (λ j. refl) c.in_ok-turn.ensures.node.over
-    (ap is_captured c.in_ok-turn.ensures.place)
+    (ap is_captured c.in_ok-turn.ensures.place) c.in_ok-turn.ensures.node.parent
 
 pub open_at-requires-clause-there : goal.open_at-requires-clause-there
 open_at-requires-clause-there c =
@@ -98,35 +98,8 @@ open_at-requires-clause-there c =
 
 -- ---- a node waits for the bytes of a subrequest
 
-pub returns-in_ok-ask_at-in-Opens-clause-steps : goal.returns-in_ok-ask_at-in-Opens-clause-steps
-returns-in_ok-ask_at-in-Opens-clause-steps c = λ ps on.
-    let f = c.args.self.now in
-    let g = c.args.ground.now in
-    let site = g.site.now in
-    let w = world_in ps g shipped in
-    let nodes = f.nodes in
-    let at = c.args.at in
-    let old = c.node_mut-node.result.now in
-    let new = c.takes.new.node in
-    let is = c.in_ok-turn.ensures in
-    let there = wholes.here_is is_serving nodes at old c.requires.there c.node_mut-node.ensures.value in
-    let goes_on = wholes.open_is is_serving f.order nodes at c.requires.whole c.requires.there in
-    let laws = c.shows_the_same.ensures in
-    let end = c.ask_at.new.self in
-    let child = c.in-Opens.child in
-    let between = record f { main = c.takes.new.main; nodes = set nodes at new } in
-    let done = c.in_ok-ask_at-in-Opens.ensures in
-    let a = done.asks new (get_set_same nodes at new old there) in
-    let waits = subst (λ t. WaitsBy t new.stage) c.in-Opens.is is.waits in
-    wholes.both_ways laws ps g f end 1 (asking.grows f between end at old new child there is.node is.place refl refl a)
-    (λ tree texts.
-    let works = subst (TakesTo (main_of f.main old) f.vars (node_act w ps site f.main old (texts at)) (node_act w ps site f.main new (texts at)) (node_heard w ps site f.main new (texts at))) c.in-Opens.is (is.acts ps (texts at)) in
-    asking.included f between end at old new child there is.node is.place refl refl a laws w ps site c.requires.whole goes_on c.requires.seated tree texts (done.same.0 ∙ is.main) done.same.1
-    (ap (λ (m : Main). main_of m new) (sym is.main) ∙ (ap (λ (m : Main). main_of m new) is.main ∙ is.method)) (sym (ap is_in_row is.place) ∙ sym c.is_in_row.ensures ∙ c.if-is_in_row.false) waits works)
-    (λ trees. asking.same_texts f between end at old new child there is.node is.place refl refl a (λ trees. taking.same_file trees old new is.start is.file) trees)
-
-pub returns-then-is_inner-clause-steps : goal.returns-then-is_inner-clause-steps
-returns-then-is_inner-clause-steps c = λ ps on.
+pub returns-in_ok-inner_at-in-Opens-clause-steps : goal.returns-in_ok-inner_at-in-Opens-clause-steps
+returns-in_ok-inner_at-in-Opens-clause-steps c = λ ps on.
     let f = c.args.self.now in
     let g = c.args.ground.now in
     let site = g.site.now in
@@ -156,7 +129,7 @@ inner_at-requires-clause-whole c =
     let f = c.args.self.now in
     members.set_sound f.order f.order f.nodes c.args.at c.node_mut-node.result.now c.takes.new.node
     (wholes.here_is is_serving f.nodes c.args.at c.node_mut-node.result.now c.requires.there c.node_mut-node.ensures.value) c.requires.whole c.requires.whole.well refl (λ j. refl) c.in_ok-turn.ensures.node.over
-    (ap is_captured c.in_ok-turn.ensures.place)
+    (ap is_captured c.in_ok-turn.ensures.place) c.in_ok-turn.ensures.node.parent
 
 pub inner_at-requires-clause-there : goal.inner_at-requires-clause-there
 inner_at-requires-clause-there c =
@@ -179,7 +152,7 @@ returns-in_ok-ask_at-in-Asks-clause-steps c = λ ps on.
     let there = wholes.here_is is_serving nodes at old c.requires.there c.node_mut-node.ensures.value in
     let goes_on = wholes.open_is is_serving f.order nodes at c.requires.whole c.requires.there in
     let laws = c.shows_the_same.ensures in
-    let end = c.ask_at-in-Asks.new.self in
+    let end = c.ask_at.new.self in
     let child = c.in-Asks.child in
     let between = record f { main = c.takes.new.main; nodes = set nodes at new } in
     let done = c.in_ok-ask_at-in-Asks.ensures in
@@ -197,24 +170,10 @@ ask_at-requires-clause-whole c =
     let f = c.args.self.now in
     members.set_sound f.order f.order f.nodes c.args.at c.node_mut-node.result.now c.takes.new.node
     (wholes.here_is is_serving f.nodes c.args.at c.node_mut-node.result.now c.requires.there c.node_mut-node.ensures.value) c.requires.whole c.requires.whole.well refl (λ j. refl) c.in_ok-turn.ensures.node.over
-    (ap is_captured c.in_ok-turn.ensures.place)
+    (ap is_captured c.in_ok-turn.ensures.place) c.in_ok-turn.ensures.node.parent
 
 pub ask_at-requires-clause-there : goal.ask_at-requires-clause-there
 ask_at-requires-clause-there c =
-    let f = c.args.self.now in
-    let there = wholes.here_is is_serving f.nodes c.args.at c.node_mut-node.result.now c.requires.there c.node_mut-node.ensures.value in
-    ap goes_on_at (get_set_same f.nodes c.args.at c.takes.new.node c.node_mut-node.result.now there) ∙ (ap not c.in_ok-turn.ensures.node.over
-    ∙ (ap goes_on_at (sym there) ∙ wholes.going_is is_serving (slice_get f.nodes c.args.at) c.requires.there))
-
-pub ask_at-requires-in-Asks-clause-whole : goal.ask_at-requires-in-Asks-clause-whole
-ask_at-requires-in-Asks-clause-whole c =
-    let f = c.args.self.now in
-    members.set_sound f.order f.order f.nodes c.args.at c.node_mut-node.result.now c.takes.new.node
-    (wholes.here_is is_serving f.nodes c.args.at c.node_mut-node.result.now c.requires.there c.node_mut-node.ensures.value) c.requires.whole c.requires.whole.well refl (λ j. refl) c.in_ok-turn.ensures.node.over
-    (ap is_captured c.in_ok-turn.ensures.place)
-
-pub ask_at-requires-in-Asks-clause-there : goal.ask_at-requires-in-Asks-clause-there
-ask_at-requires-in-Asks-clause-there c =
     let f = c.args.self.now in
     let there = wholes.here_is is_serving f.nodes c.args.at c.node_mut-node.result.now c.requires.there c.node_mut-node.ensures.value in
     ap goes_on_at (get_set_same f.nodes c.args.at c.takes.new.node c.node_mut-node.result.now there) ∙ (ap not c.in_ok-turn.ensures.node.over

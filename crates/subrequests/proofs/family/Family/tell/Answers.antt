@@ -5,6 +5,7 @@ use Rattle.node_seats.specs.Seats.{doing_by, is_captured, most_levels, seen, sta
 use Rattle.node_turn.specs.declared.node.Node.{Node}
 use Rattle.subrequests.proofs.Members as members
 use Rattle.node_line.proofs.Steps as steps
+use Rattle.family_nodes.proofs.Sets as sets
 use Rattle.subrequests.proofs.Wholes as wholes
 use Rattle.subrequests.proofs.family.Family.tell.Goals as goal
 
@@ -17,7 +18,7 @@ returns-then-at-len-clause-steps c = λ ps g.
     let at = c.args.at in
     let old = c.node_mut.result.now in
     let new = c.put_end.new.node in
-    let there = wholes.there_some nodes at old (omega (arith, c.if-at-len.true, c.len.ensures)) c.node_mut.ensures.value in
+    let there = sets.there_some nodes at old (omega (arith, c.if-at-len.true, c.len.ensures)) c.node_mut.ensures.value in
     wholes.both_ways c.shows_the_same.ensures ps g f _ 0 (wholes.as_many nodes at new)
     (λ tree texts. steps.alike (c.shows_the_same.ensures.others (seen w ps site f.main f.order nodes texts) (stance_in (doing_by w ps site f.main texts) (set nodes at new) most_levels)
     (λ j e. members.told_same w ps site f.main nodes texts at old new.children new.waits j there ∙ ap (λ n. stance_in (doing_by w ps site f.main texts) (set nodes at n) most_levels j) (sym c.put_end.ensures))) steps.stays)
@@ -27,8 +28,8 @@ pub returns-then-at-len-clause-whole : goal.returns-then-at-len-clause-whole
 returns-then-at-len-clause-whole c =
     let f = c.args.self.now in
     members.set_sound f.order f.order f.nodes c.args.at c.node_mut.result.now c.put_end.new.node
-    (wholes.there_some f.nodes c.args.at c.node_mut.result.now (omega (arith, c.if-at-len.true, c.len.ensures)) c.node_mut.ensures.value) c.requires.whole c.requires.whole.well refl (λ j. refl)
-    (ap (λ (n : Node). n.over) c.put_end.ensures) (ap (λ (n : Node). is_captured n.place) c.put_end.ensures)
+    (sets.there_some f.nodes c.args.at c.node_mut.result.now (omega (arith, c.if-at-len.true, c.len.ensures)) c.node_mut.ensures.value) c.requires.whole c.requires.whole.well refl (λ j. refl)
+    (ap (λ (n : Node). n.over) c.put_end.ensures) (ap (λ (n : Node). is_captured n.place) c.put_end.ensures) (ap (λ (n : Node). n.parent) c.put_end.ensures)
 
 pub returns-else-at-len-clause-steps : goal.returns-else-at-len-clause-steps
 returns-else-at-len-clause-steps c = λ patterns g. wholes.no_steps patterns g c.args.self.now

@@ -33,4 +33,4 @@ pub returns-clause-whole : goal.returns-clause-whole
 returns-clause-whole c =
     let f = c.args.self.now in
     members.set_sound f.order f.order f.nodes c.args.at c.node_mut-node.result.now c.turns.new.node
-    (wholes.here_is is_turning f.nodes c.args.at c.node_mut-node.result.now c.requires.there c.node_mut-node.ensures.value) c.requires.whole c.requires.whole.well refl (λ j. refl) c.in_ok-turns.ensures.node.over (ap is_captured c.in_ok-turns.ensures.place)
+    (wholes.here_is is_turning f.nodes c.args.at c.node_mut-node.result.now c.requires.there c.node_mut-node.ensures.value) c.requires.whole c.requires.whole.well refl (λ j. refl) c.in_ok-turns.ensures.node.over (ap is_captured c.in_ok-turns.ensures.place) c.in_ok-turns.ensures.node.parent

@@ -1,0 +1,3 @@
+pub mod Sets
+mod Marks
+mod Hearing
