@@ -131,13 +131,14 @@ impl Nodes {
         &mut self.all[at]
     }
 
-    /// Puts a node after all others. One for whose mark there is no memory has none.
+    /// Puts a node after all others. It is moved once, to room that is there.
     #[inline(always)]
     pub fn push(&mut self, node: Node) -> Result<(), OutOfMemory>
         ensures items { OnOk result (self.new ≡ self.old ++ node ∷ []) }
     {
-        self.all.push(node)?;
+        self.all.reserve(1)?;
         self.marks.push(UNKNOWN)?;
+        self.all.push_reserved(node);
         Ok(())
     }
 

@@ -170,6 +170,7 @@ fn paged(
 }
 
 /// The body of a text or a file, as it is sent.
+#[inline(always)]
 fn sent(
     alloc: Global,
     scene: &Scene<'_>,
@@ -200,6 +201,7 @@ fn sent(
 ///
 /// # Errors
 /// `OutOfMemory`.
+#[inline(always)]
 pub fn answering(
     alloc: Global,
     ground: &Ground<'_>,
@@ -255,6 +257,7 @@ pub(crate) struct Turned {
 
 /// What becomes of a node by a step of its phases. Subrequests ask for none that decides on access:
 /// there is no memory for one.
+#[inline(always)]
 fn after_step(
     alloc: Global,
     ground: &Ground<'_>,

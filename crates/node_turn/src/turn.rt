@@ -182,6 +182,7 @@ fn stage_after(body: Box<Body>) -> Stage
 ///
 /// # Errors
 /// `OutOfMemory`, where the buffer can't grow; the node is then not to go on.
+#[inline(always)]
 pub fn places(
     alloc: Global,
     order: &mut Order,
@@ -411,6 +412,7 @@ fn asks_block(alloc: Global, node: &mut Node) -> Result<(), OutOfMemory>
 }
 
 /// What a node comes to by the next part of its page, at whose stage it is.
+#[inline(always)]
 fn turn_of(alloc: Global, node: &mut Node, served: Served) -> Result<Turn, OutOfMemory>
     ensures acts { IfOk result (λ turn. (g : GroundView) (patterns : List SetPattern)
         (main : MainView) (text : List ℕ) (vars : Vars) (old : Serving Answer) →

@@ -178,6 +178,7 @@ fn run_from(
 /// # Errors
 /// `OutOfMemory`; `progress` and `vars` are then fit to be dropped alone. A text that is too long is no error here: the
 /// program ends with `Failed`.
+#[inline(always)]
 pub fn run(
     setting: &Setting<'_>,
     program: &Program,
