@@ -1,5 +1,7 @@
 -- What definitions answer, row by row. Each is computed by the check.
 use Rattle.std.specs.Prelude.{◌≡◌, ℕ, Bool, true, false, List, [], ◌∷◌, codes, refl}
+use Rattle.std.specs.Str.{chars, is_utf8}
+use Rattle.ngx_pattern.specs.Pattern.{is_match, match_of, expression_of, pattern_at}
 use Rattle.file_tree.specs.declared.job.Node.TheVariants.{File, Folder, Locked, Missing}
 use Rattle.site_views.specs.Values.{PageRule}
 use Rattle.site_views.specs.Values.Shown.{OwnCode}
@@ -45,3 +47,8 @@ found-4 = refl
 
 found-5 : is_found (codes "/") Missing ≡ false
 found-5 = refl
+
+-- a number that no pattern has matches nothing
+pattern-1 : is_match (pattern_at [] 0) (codes "a") ≡ false
+unfolding match_of expression_of is_utf8 chars
+pattern-1 = refl

@@ -1,5 +1,6 @@
 -- What definitions answer, row by row: examples of the RFCs and of nginx's documentation. Each is computed by the check.
-use Rattle.std.specs.Prelude.{◌≡◌, true, false, Ok, Err, Some, None, codes, refl}
+use Rattle.std.specs.Prelude.{◌≡◌, Bool, true, false, [], Ok, Err, Some, None, codes, refl}
+use Rattle.std.specs.Fmt.{digits}
 use Rattle.uri_text.specs.Target.{absolute_of, behind_root, decoded, kind_of, normal_of, path_and_query, path_from, path_of, resolved, segments, spelled}
 use Rattle.uri_text.specs.declared.fault.UriFault.TheVariants.{BadEscape, Zero, AboveRoot, NotAPath}
 use Rattle.resp_head.specs.Phrases.{page_phrase_of, phrase_in, phrase_of, phrases}
@@ -8,6 +9,9 @@ use Rattle.static_content.specs.declared.content.Content.TheVariants.{Send, Stat
 use Rattle.http_types.specs.declared.words.Method.TheVariants.{Get, Head, Post, Other}
 use Rattle.file_tree.specs.declared.job.Node.TheVariants.{File, Folder, Locked, Missing}
 use Rattle.file_type.specs.Extension.{extension}
+use Rattle.report_text.specs.declared.report.ConnState.TheVariants.{Idle}
+use Rattle.report_text.specs.Lines.{ended, lines_text}
+use Rattle.report_text.specs.Report.{Report, conn_text, conn_lines, conn_line, spaced, state_word, next_word, cause_or_dash, sent_line, sent_word}
 
 -- targets: RFC 3986, sections 5.2.4 and 5.4.1 (against the base `/b/c/d;p`); nginx's documentation of `merge_slashes`
 
@@ -304,3 +308,16 @@ extension-9 = refl
 
 extension-10 : extension (codes "") ≡ None
 extension-10 = refl
+
+-- what is printed of a connection that is idle: whether its link is to be closed
+
+abbrev idle : Bool → Report
+idle closes = record { conn = 1; state = Idle; closes = closes; cause = None; journal = []; sent = [] }
+
+report-1 : conn_text (idle true) ≡ codes "conn 1 idle close -\nsent -\n"
+unfolding conn_text conn_lines conn_line spaced state_word next_word cause_or_dash sent_line sent_word lines_text ended digits
+report-1 = refl
+
+report-2 : conn_text (idle false) ≡ codes "conn 1 idle keep -\nsent -\n"
+unfolding conn_text conn_lines conn_line spaced state_word next_word cause_or_dash sent_line sent_word lines_text ended digits
+report-2 = refl

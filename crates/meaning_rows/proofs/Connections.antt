@@ -4,7 +4,7 @@ use Prim.Native.String.{String}
 use Rattle.file_tree.specs.Tree.{Trees}
 use Rattle.ngx_outside.specs.Views.{Start, Log}
 use Rattle.meaning_rows.proofs.Opened.{opened}
-use Rattle.meaning_rows.proofs.Samples.{plain, level, server, none, at, lit, ipv4, members, no_pattern}
+use Rattle.meaning_rows.proofs.Samples.{plain, with_ssi, level, server, file, none, at, lit, ipv4, members, no_pattern}
 use Rattle.answers_meaning.specs.Asking.{Service}
 use Rattle.answers_meaning.specs.Answers.{responses, logs_in, close_in, answers}
 use Rattle.site_views.specs.Views.Matching.{Prefix}
@@ -69,3 +69,14 @@ row_close = refl
 row_close_closes : closes "GET / HTTP/1.1\r\nHost: a\r\nConnection: close\r\n\r\n" ≡ true
 unfolding opened
 row_close_closes = refl
+
+-- and so after a page of parts
+abbrev pub pages : Service
+pages = record hello { site = record { folder = []; servers = server (level with_ssi []) NoMore ∷ [] } }
+
+abbrev pub page_closes : String → Bool
+page_closes input = close_in (responses pages 0 (λ number. file "/w/p.html" "a<!--# echo var=\"uri\" -->" none) (codes input) (start 0 ∷ start 0 ∷ []))
+
+row_page_closes : page_closes "GET /p.html HTTP/1.1\r\nHost: a\r\nConnection: close\r\n\r\n" ∷ page_closes "GET /p.html HTTP/1.1\r\nHost: a\r\n\r\n" ∷ [] ≡ true ∷ false ∷ []
+unfolding opened
+row_page_closes = refl

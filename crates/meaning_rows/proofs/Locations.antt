@@ -133,6 +133,11 @@ row_default : (ends_of local (listening everywhere false "1" ∷ listening every
 unfolding opened
 row_default = refl
 
+-- a server that is the default of another address is not that of this one
+row_other_default : ends_of local (listening local false "1" ∷ record (listening local false "2") { listens = record { addr = local; default = false } ∷ record { addr = record { ip = ipv4 127 0 0 1; port = 81 }; default = true } ∷ [] } ∷ []) ≡ Some (codes "1")
+unfolding opened
+row_other_default = refl
+
 -- the groups of a regular expression within another are those that hold; an inner location without groups leaves those around it
 abbrev pub finds_rest : Finds
 finds_rest p bytes = if starts_with nat_eq bytes p.text then Some (Some (0, length bytes) ∷ Some (length p.text, length bytes) ∷ []) else None

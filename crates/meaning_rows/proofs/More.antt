@@ -1,15 +1,20 @@
 -- Rows of rules that the worked ones don't show.
-use Rattle.std.specs.Prelude.{◌≡◌, true, false, Bool, [], ◌∷◌, codes, refl, Some, None}
+use Rattle.std.specs.Prelude.{◌≡◌, ℕ, true, false, Bool, [], ◌∷◌, codes, replicate, refl, Some, None}
 use Prim.Native.String.{String}
+use Rattle.acts.specs.Act.{Done}
+use Rattle.acts.specs.Vars.{set}
 use Rattle.http_types.specs.declared.words.Method.TheVariants.{Post}
 use Rattle.ngx_variables.specs.declared.value.Piece.TheVariants.{Literal, Builtin}
 use Rattle.ngx_variables.specs.declared.variable.Variable.TheVariants.{Uri, Args}
 use Rattle.meaning_rows.proofs.Opened.{opened}
 use Rattle.meaning_rows.proofs.Samples.{plain, with_ssi, level, server, world, file, locked, none, get, shows, gives, fails, at, lit, main_with, request_with}
+use Rattle.meaning_rows.proofs.Cuts.{doc}
 use Rattle.meaning_rows.proofs.Documents.{page, page_in}
 use Rattle.meaning_rows.proofs.Phases.{front, finds_front, get_args, guarded, allow_peer, ok, since}
 use Rattle.meaning_rows.proofs.Races.{three}
 use Rattle.race_meaning.specs.Named.{is_named}
+use Rattle.request_meaning.specs.Commands.{block_closed}
+use Rattle.request_meaning.specs.Documents.{Doc, oops}
 use Rattle.request_meaning.specs.Serving.{World}
 use Rattle.request_meaning.specs.Replies.{main_reply}
 use Rattle.site_views.specs.Values.LastTry.{ToCode}
@@ -116,3 +121,25 @@ row_method = refl
 row_slash : page "<!--# set var=\"x\" value=\"/\" --><!--# if expr=\"$x = /\" -->1<!--# else -->2<!--# endif --><!--# if expr=\"$x = //\" -->1<!--# else -->2<!--# endif -->" none ≡ gives 200 "1[an error occurred while processing the directive]2"
 unfolding opened
 row_slash = refl
+
+-- a name is set in lower case
+row_capture_case : page "<!--# include virtual=\"/v.html\" set=\"V\" --><!--# echo var=\"v\" -->" (file "/w/v.html" "abc" none) ≡ gives 200 "abc"
+unfolding opened
+row_capture_case = refl
+
+-- a document that ends in a command that has begun
+row_cut_off : page "a<!--# echo var=\"uri\"" none ≡ gives 200 "a<!--# echo var=\"uri\""
+unfolding opened
+row_cut_off = refl
+
+-- the blocks of a document have 32768 bytes together, and no more
+abbrev pub with_block : ℕ → Doc
+with_block size = record doc { blocks = (codes "m", replicate size 97) ∷ [] }
+
+row_blocks_full : block_closed (with_block 32767) (codes "n") (codes "b") ≡ Done (record (with_block 32767) { blocks = set (codes "n") (codes "b") (with_block 32767).blocks })
+unfolding opened
+row_blocks_full = refl
+
+row_blocks_over : block_closed (with_block 32768) (codes "n") (codes "b") ≡ oops (with_block 32768)
+unfolding opened
+row_blocks_over = refl

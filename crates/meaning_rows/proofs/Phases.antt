@@ -1,5 +1,5 @@
 -- Rows of rewriting, errors, access and files.
-use Rattle.std.specs.Prelude.{◌≡◌, ℕ, nat_eq, true, false, Bool, List, [], ◌∷◌, codes, length, replicate, refl, Some, None, if◌then◌else◌}
+use Rattle.std.specs.Prelude.{◌≡◌, ℕ, nat_eq, true, false, Bool, List, [], ◌∷◌, codes, length, map, replicate, refl, Some, None, if◌then◌else◌}
 use Rattle.std.specs.List.{starts_with}
 use Prim.Native.String.{String}
 use Rattle.file_tree.specs.Tree.{Tree, AFile}
@@ -14,15 +14,16 @@ use Rattle.meaning_rows.proofs.Opened.{opened}
 use Rattle.meaning_rows.proofs.Samples.{plain, level, server, world, file, folder, locked, none, get, shows, gives, fails, at, lit, ipv4, main_with, request_with, subs_of}
 use Rattle.request_meaning.specs.Serving.{World, Reply}
 use Rattle.request_meaning.specs.Replies.{main_reply}
+use Rattle.request_meaning.specs.Rewriting.{stays_first}
 use Rattle.site_views.specs.Pattern.{Finds, Pattern}
 use Rattle.site_views.specs.Values.{Shown}
 use Rattle.site_views.specs.Values.LastTry.{ToLocation, ToCode}
 use Rattle.site_views.specs.Values.Shown.{OwnCode, Fixed}
 use Rattle.site_views.specs.Values.PageTarget.{AtPath, AtUrl}
 use Rattle.site_views.specs.Rewrites.{Program}
-use Rattle.site_views.specs.Rewrites.Directive.{Set, If, Rewrite, Return}
+use Rattle.site_views.specs.Rewrites.Directive.{Set, If, Rewrite, Return, Stop}
 use Rattle.site_views.specs.Rewrites.Flag.{NoFlag, Last}
-use Rattle.site_views.specs.Rewrites.Test.{OnFile}
+use Rattle.site_views.specs.Rewrites.Test.{OnFile, Matches}
 use Rattle.site_views.specs.Rewrites.FileTest.{IsFile}
 use Rattle.site_views.specs.Views.Matching.{Exactly, Prefix}
 use Rattle.site_views.specs.Views.Locations.{NoMore}
@@ -59,6 +60,19 @@ row_if_file = refl
 row_if_no_file : shows (get testing none "/x") ≡ gives 200 "on"
 unfolding opened
 row_if_no_file = refl
+
+-- `if ($uri ~ ^/a) { return 200 in; } return 200 out;`
+abbrev pub matching : World
+matching = record (world (server (level plain (If (Matches (Builtin Uri) (front "/a")) false 1 None ∷ Return 200 (Some (lit "in")) ∷ Return 200 (Some (lit "out")) ∷ [])) NoMore)) { finds = finds_front }
+
+row_if_match : (shows (get matching none "/ab") ∷ shows (get matching none "/b") ∷ []) ≡ gives 200 "in" ∷ gives 200 "out" ∷ []
+unfolding opened
+row_if_match = refl
+
+-- the run of `set`s that begins a program goes on past a `set` alone
+row_first_sets : map (stays_first true) (Set (codes "a") (lit "1") ∷ If (OnFile IsFile (lit "/w/up")) false 0 None ∷ Return 204 None ∷ Stop ∷ []) ≡ true ∷ false ∷ false ∷ false ∷ []
+unfolding opened
+row_first_sets = refl
 
 -- the eleventh change
 abbrev pub looping : World

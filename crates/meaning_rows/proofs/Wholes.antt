@@ -7,7 +7,7 @@ use Rattle.meaning_rows.proofs.Samples.{plain, level, server, world, file, file_
 use Rattle.meaning_rows.proofs.Documents.{documents}
 use Rattle.request_meaning.specs.Serving.{Reply}
 use Rattle.request_meaning.specs.Replies.{main_reply}
-use Rattle.request_meaning.specs.Responses.{response, keeps}
+use Rattle.request_meaning.specs.Responses.{response, keeps, log_of}
 use Rattle.site_views.specs.Views.Matching.{Prefix}
 use Rattle.site_views.specs.Rewrites.Directive.{Return}
 use Rattle.site_views.specs.Views.Locations.{NoMore}
@@ -59,3 +59,8 @@ row_one_chunk = refl
 row_chunk_and_rest : response (of_size 4097) 0 V11 false true ≡ chunked_head ++ codes "1000\r\n" ++ replicate 4096 97 ++ codes "\r\n1\r\na\r\n0\r\n\r\n"
 unfolding opened
 row_chunk_and_rest = refl
+
+-- each byte of a body is logged once, however long the body is
+row_long_log : log_of (record small { body = replicate 70000 97 }) false ≡ (200, 70000)
+unfolding opened
+row_long_log = refl
