@@ -51,6 +51,9 @@ over-2 = refl
 auth-1 : auth_by (codes "off") ≡ None
 auth-1 = refl
 
+auth-2 : auth_by (codes "/q?a=b") ≡ Some (codes "/q?a=b")
+auth-2 = refl
+
 added-1 : added_by [] ≡ None
 added-1 = refl
 

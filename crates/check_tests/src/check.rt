@@ -1,24 +1,17 @@
 use byte_text::{ByteText, OutOfMemory};
-use conf_check::{ReadError, check, check_effects};
+use conf_check::{ReadError, check};
 use conf_text::{ConfError, ConfFault, FaultKind, parse};
 use ngx_pattern::CrateMaker;
 use std::alloc::Global;
 use std::process::Abort;
 use std::test::Fail;
 
-fn fault_of(read: Result<(), ConfError>) -> Result<Option<ConfFault>, OutOfMemory> {
-    match read {
-        Ok(()) => Ok(None),
-        Err(ConfError::Fault(fault)) => Ok(Some(fault)),
-        Err(ConfError::OutOfMemory) => Err(OutOfMemory),
-    }
-}
-
 /// The first fault of a configuration, if there is one.
 fn first_fault(alloc: Global, text: &[u8]) -> Result<Option<ConfFault>, OutOfMemory> {
     let directives = match parse(alloc, 0, text) {
         Ok(directives) => directives,
-        Err(error) => return fault_of(Err(error)),
+        Err(ConfError::Fault(fault)) => return Ok(Some(fault)),
+        Err(ConfError::OutOfMemory) => return Err(OutOfMemory),
     };
     let mut maker = CrateMaker::new();
     match check(alloc, &mut maker, directives.as_slice()) {
@@ -27,14 +20,6 @@ fn first_fault(alloc: Global, text: &[u8]) -> Result<Option<ConfFault>, OutOfMem
         Err(ReadError::TooBig(fault)) => Ok(Some(fault)),
         Err(ReadError::OutOfMemory) => Err(OutOfMemory),
     }
-}
-
-/// The first directive of a configuration that has no effect yet, if there is one.
-fn first_without_effect(alloc: Global, text: &[u8]) -> Result<Option<ConfFault>, OutOfMemory> {
-    fault_of(match parse(alloc, 0, text) {
-        Ok(directives) => check_effects(alloc, directives.as_slice()),
-        Err(error) => Err(error),
-    })
 }
 
 fn word_of(fault: &ConfFault) -> &[u8] {
@@ -78,6 +63,16 @@ fn what_is_right_has_no_fault(rt: HostRuntime) -> Result<(), Fail> {
             b"http { root a$uri; server { location /a { alias b; } location /b { root ''; } } server { listen 81; root c; } }",
             b"http { types { m/n y Z; } keepalive_timeout 0 5m; server { default_type u/v; location / { keepalive_requests 7; } } }",
             b"http { server { return 404; location / { return 200 'a $uri'; return 201; } } }",
+            b"http { server { } server { } }",
+            b"http { allow 10.0.0.0/8; deny all; satisfy any; server { } }",
+            b"http { auth_request /q; root $A$b; server { set $a 1; auth_request off; location / { auth_request_set $B $uri; } } }",
+            b"http { client_max_body_size 5; recursive_error_pages on; error_page 404 =200 /e; server { index a; location /e { internal; try_files $uri =404; } } }",
+            b"http { server { server_name a; } server { listen 80 default_server; server_name *.b c.* ''; merge_slashes off; } }",
+            b"http { server { location ^~ /a { location /a/b { location = /a/b/c { } } } location = / { } location @d { } } }",
+            b"http { server { server_name b ~x; location ~ x { location ~* /a { } } return 302; } }",
+            b"http { ssi on; ssi_types a/b; ssi_silent_errors on; ssi_value_length 9; subrequest_output_buffer_size 9; server { } }",
+            b"http { server { add_before_body /a; location / { addition_types *; add_after_body /b; } } }",
+            b"http { server { set $a 1; rewrite ^ /b last; if ($a) { return 444; } location / { if ($a ~ b) { root c; break; } } } }",
         ],
     )
 }
@@ -94,70 +89,6 @@ fn other_names_are_unknown(rt: HostRuntime) -> Result<(), Fail> {
             (b"http { server { foo { bar; } } }", 1, b"foo"),
             (b"http { server { gzipx; } }", 1, b"gzipx"),
             (b"http { server { index a; }\nserve { } }", 2, b"serve"),
-        ],
-    )
-}
-
-/// Each text has no fault, and its first directive without an effect is in this line and has this name.
-fn are_without_effect(
-    rt: &impl Abort,
-    alloc: Global,
-    cases: &[(&[u8], u64, &[u8])],
-) -> Result<(), Fail> {
-    for (text, line, word) in cases {
-        assert!(rt; first_fault(alloc, *text)?.is_none());
-        let fault = first_without_effect(alloc, *text)?.ok_or("a text that isn't served")?;
-        assert!(rt; matches!(fault.kind, FaultKind::NotServed));
-        assert_eq!(rt; fault.line, *line);
-        assert_eq!(rt; word_of(&fault), *word);
-    }
-    Ok(())
-}
-
-#[test]
-fn what_has_no_effect_yet_is_told_so(rt: HostRuntime) -> Result<(), Fail> {
-    are_without_effect(
-        &rt,
-        rt.alloc(),
-        &[
-            (
-                b"http { root $A$b; server { set $a 1;\nauth_request_set $B 1; } }",
-                2,
-                b"auth_request_set",
-            ),
-            (
-                b"http { ssi on;\nauth_request /q; server { } }",
-                2,
-                b"auth_request",
-            ),
-        ],
-    )
-}
-
-/// Each text has no fault, and each of its directives has an effect.
-fn have_effects(rt: &impl Abort, alloc: Global, texts: &[&[u8]]) -> Result<(), Fail> {
-    for text in texts {
-        assert!(rt; first_fault(alloc, *text)?.is_none());
-        assert!(rt; first_without_effect(alloc, *text)?.is_none());
-    }
-    Ok(())
-}
-
-#[test]
-fn what_has_an_effect_is_served(rt: HostRuntime) -> Result<(), Fail> {
-    have_effects(
-        &rt,
-        rt.alloc(),
-        &[
-            b"http { server { } server { } }",
-            b"http { allow 10.0.0.0/8; deny all; satisfy any; server { } }",
-            b"http { client_max_body_size 5; recursive_error_pages on; error_page 404 =200 /e; server { index a; location /e { internal; try_files $uri =404; } } }",
-            b"http { server { server_name a; } server { listen 80 default_server; server_name *.b c.* ''; merge_slashes off; } }",
-            b"http { server { location ^~ /a { location /a/b { location = /a/b/c { } } } location = / { } location @d { } } }",
-            b"http { server { server_name b ~x; location ~ x { location ~* /a { } } return 302; } }",
-            b"http { ssi on; ssi_types a/b; ssi_silent_errors on; ssi_value_length 9; subrequest_output_buffer_size 9; server { } }",
-            b"http { server { add_before_body /a; location / { addition_types *; add_after_body /b; } } }",
-            b"http { server { set $a 1; rewrite ^ /b last; if ($a) { return 444; } location / { if ($a ~ b) { root c; break; } } } }",
         ],
     )
 }

@@ -1,6 +1,6 @@
 use byte_text::{ByteText, OutOfMemory};
 use conf_check::ReadError;
-use conf_inherit::{Purpose, build};
+use conf_inherit::build;
 use conf_text::{ConfError, parse};
 use ngx_pattern::CrateMaker;
 use site_model::{Server, ServerName, Site};
@@ -54,8 +54,7 @@ fn names_in(alloc: Global, text: &[u8]) -> Result<ByteText, ReadError> {
         Err(ConfError::OutOfMemory) => return Err(ReadError::OutOfMemory),
     };
     let mut maker = CrateMaker::new();
-    let purpose = Purpose::Reading;
-    let built = build(alloc, &mut maker, purpose, b"/etc", directives.as_slice())?;
+    let built = build(alloc, &mut maker, b"/etc", directives.as_slice())?;
     Ok(site_text(alloc, &built.site)?)
 }
 

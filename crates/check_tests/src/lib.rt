@@ -1,5 +1,5 @@
-//! Tests of the crates that check a configuration and make a site of it: faults, what has no effect, names of servers, lists, levels,
-//! patterns. What a level has of those around it is in rows (`proofs/Rows.antt`), which the check computes.
+//! Tests of the crates that check a configuration and make a site of it: faults, names of servers, lists, levels, patterns. What a
+//! level has of those around it is in rows (`proofs/Rows.antt`), which the check computes.
 #![tactic(auto)]
 
 #[cfg(test)]

@@ -1,6 +1,6 @@
 use byte_text::{ByteText, OutOfMemory};
 use conf_check::ReadError;
-use conf_inherit::{Purpose, build};
+use conf_inherit::build;
 use conf_text::{ConfError, parse};
 use file_type::Types;
 use ngx_pattern::CrateMaker;
@@ -105,8 +105,7 @@ fn read(alloc: Global, text: &[u8]) -> Result<ByteText, OutOfMemory> {
         Err(ConfError::OutOfMemory) => return Err(OutOfMemory),
     };
     let mut maker = CrateMaker::new();
-    let purpose = Purpose::Serving;
-    match build(alloc, &mut maker, purpose, b"/etc", directives.as_slice()) {
+    match build(alloc, &mut maker, b"/etc", directives.as_slice()) {
         Ok(built) => site_text(alloc, &built.site),
         Err(ReadError::Fault(fault)) => Ok(fault.word.unwrap_or(ByteText::new(alloc))),
         Err(ReadError::TooBig(fault)) => Ok(fault.word.unwrap_or(ByteText::new(alloc))),
@@ -155,7 +154,11 @@ fn a_site_is_read(rt: HostRuntime) -> Result<(), Fail> {
             ),
             (
                 b"http { root a; server { auth_request /q; } }",
-                b"auth_request",
+                b"80 a text/html text/plain text/plain 1000 75000\n",
+            ),
+            (
+                b"http { server { auth_request_set $uri a; } }",
+                b"auth_request_set",
             ),
         ],
     )

@@ -4,14 +4,12 @@ use Rattle.std.specs.List.{list_any}
 use Rattle.conf_text.specs.declared.directive.Directive.{Directive}
 use Rattle.conf_text.specs.declared.fault.FaultKind.{FaultKind}
 use Rattle.conf_text.specs.declared.fault.ConfFault.{ConfFault}
-use Rattle.conf_text.specs.declared.fault.ConfError.{ConfError}
-use Rattle.conf_text.specs.declared.fault.ConfError.TheVariants as error
 use Rattle.http_types.specs.declared.words.Addr.{Addr}
 use Rattle.conf_block.specs.declared.role.Content.{Content}
 use Rattle.conf_block.specs.Forest.{Forest, End, Branch, forest_of}
 use Rattle.conf_check.specs.declared.error.ReadError.{ReadError}
 use Rattle.conf_check.specs.declared.error.ReadError.TheVariants as reads
-use Rattle.conf_check.specs.Gives.{◌>>=◌, ◌>>◌, sound, faulty, Fails, FailsBy}
+use Rattle.conf_check.specs.Gives.{◌>>=◌, ◌>>◌, sound, faulty, FailsBy}
 use Rattle.conf_check.specs.Patterns.{pattern_fault}
 use Rattle.conf_block.specs.Roles.{content_inside}
 use Rattle.std.specs.BTreeSet.{BTreeSet}
@@ -31,14 +29,6 @@ then-err : {A B : Type 0} (r : Result A ConfFault) (f : ConfFault) (next : Resul
 unfolding ◌>>◌
 then-err r f next e = ap (λ r. r >> next) e
 
--- a fault stays the first, whatever follows
-pub fails-then : {A B : Type 0} (e : ConfError) (r : Result A ConfFault) (next : Result B ConfFault) → Fails e r → Fails e (r >> next)
-fails-then (error.Fault f) r next h = then-err r f next h
-fails-then error.OutOfMemory r next h = tt
-
-pub fails-same : {A : Type 0} (e : ConfError) (r s : Result A ConfFault) → r ≡ s → Fails e r → Fails e s
-fails-same e r s same h = subst (Fails e) same h
-
 pub bind-ok : {A B : Type 0} (r : Result A ConfFault) (x : A) (f : A → Result B ConfFault) → r ≡ Ok x → (r >>= f) ≡ f x
 unfolding ◌>>=◌
 bind-ok r x f e = ap (λ r. r >>= f) e
@@ -47,8 +37,7 @@ bind-err : {A B : Type 0} (r : Result A ConfFault) (fault : ConfFault) (f : A �
 unfolding ◌>>=◌
 bind-err r fault f e = ap (λ r. r >>= f) e
 
--- and so where a maker may refuse patterns
-
+-- a fault stays the first, whatever follows
 pub reads-then : {A B : Type 0} (R : Type 0) (e : ReadError) (r : Result A ConfFault) (next : Result B ConfFault) → FailsBy R e r → FailsBy R e (r >> next)
 reads-then R (reads.Fault f) r next h = then-err r f next h
 reads-then R (reads.TooBig f) r next h = h

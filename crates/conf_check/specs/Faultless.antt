@@ -1,4 +1,4 @@
--- The first fault of a configuration, and its first directive that isn't served.
+-- The first fault of a configuration.
 use Rattle.std.specs.Prelude.{List, [], false, None, is_some, Result, Ok, Err, codes, if◌then◌else◌}
 use Rattle.conf_text.specs.declared.directive.Directive.{Directive}
 use Rattle.conf_text.specs.declared.fault.FaultKind.TheVariants.{NoServer}
@@ -10,7 +10,6 @@ use Rattle.conf_block.specs.Blocks.{block_of, http_in}
 use Rattle.conf_check.specs.Gives.{◌>>◌, sound}
 use Rattle.conf_check.specs.Names.{is_set_in}
 use Rattle.conf_check.specs.Checked.{checked}
-use Rattle.conf_check.specs.Served.{served}
 
 -- a configuration without a server: at the beginning of the main file
 abbrev pub no_server : ConfFault
@@ -27,10 +26,6 @@ only (Err fault) = Err fault
 -- the first fault of the directives alone, where no address has a default server before
 unfoldable pub no_fault : Forest → Result (Unit {0}) ConfFault
 no_fault top = only (checked (is_set_in (Directives places.Top) top) (λ addr. false) (Directives places.Top) [] top)
-
--- the first directive that isn't served
-abbrev pub all_served : Forest → Result (Unit {0}) ConfFault
-all_served top = served (Directives places.Top) top
 
 -- A configuration is right; or the first fault of its directives; or that there is no server.
 unfoldable pub faultless : List Directive → Result (Unit {0}) ConfFault

@@ -3,8 +3,6 @@ use Rattle.std.specs.Prelude.{◌≡◌, ⊤, Option, None, Some, Result, Ok, Er
 use Rattle.conf_text.specs.declared.directive.Directive.{Directive}
 use Rattle.conf_text.specs.declared.fault.FaultKind.{FaultKind}
 use Rattle.conf_text.specs.declared.fault.ConfFault.{ConfFault}
-use Rattle.conf_text.specs.declared.fault.ConfError.{ConfError}
-use Rattle.conf_text.specs.declared.fault.ConfError.TheVariants as error
 use Rattle.conf_text.specs.declared.fault.FaultKind.TheVariants.{PatternTooBig}
 use Rattle.conf_check.specs.declared.error.ReadError.{ReadError}
 use Rattle.conf_check.specs.declared.error.ReadError.TheVariants as reads
@@ -33,16 +31,8 @@ unfoldable pub faulty : Directive → Option FaultKind → Result (Unit {0}) Con
 faulty d None = sound
 faulty d (Some kind) = Err (fault_of d kind)
 
--- what was returned, seen by view, is what the definition gives, unless memory ran out
-abbrev pub Fails : {Y : Type 0} → ConfError → Result Y ConfFault → Type 0
-Fails (error.Fault f) meant = meant ≡ Err f
-Fails error.OutOfMemory meant = ⊤
-
-abbrev pub Gives : {X Y : Type 0} → (X → Y) → Result X ConfError → Result Y ConfFault → Type 0
-Gives view (Ok x) meant = meant ≡ Ok (view x)
-Gives view (Err e) meant = Fails e meant
-
--- and so where a maker of patterns may refuse some
+-- what was returned, seen by view, is what the definition gives, unless memory ran out, or a pattern was too big for its maker,
+-- where that may refuse some
 abbrev pub FailsBy : {Y : Type 0} → (refused : Type 0) → ReadError → Result Y ConfFault → Type 0
 FailsBy refused (reads.Fault f) meant = meant ≡ Err f
 FailsBy refused (reads.TooBig f) meant = refused × (f.kind ≡ PatternTooBig)

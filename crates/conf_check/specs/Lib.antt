@@ -7,5 +7,4 @@ pub mod Faults
 pub mod Patterns
 pub mod Before
 pub mod Checked
-pub mod Served
 pub mod Faultless

@@ -6,7 +6,7 @@ ghost use Rattle.std.specs.Prelude.{Option, is_some};
 ghost use Rattle.rewrite_compile.specs.Conditions.{condition_of};
 ghost use Rattle.rewrite_compile.specs.Readings.{if_by};
 ghost use Rattle.rewrite_compile.specs.declared.raw.RawCondition.{RawCondition};
-ghost use Rattle.conf_check.specs.Gives.{fault_of, faulty, Gives, ReadsAlone};
+ghost use Rattle.conf_check.specs.Gives.{fault_of, faulty, ReadsAlone};
 ghost use Rattle.std.specs.List.{list_any};
 ghost use Rattle.http_types.specs.declared.words.Addr.{Addr as End};
 ghost use Rattle.conf_values.specs.TextSet.{holds};
@@ -27,7 +27,7 @@ use crate::error::ReadError;
 use byte_text::{ByteText, OutOfMemory};
 use conf_block::{Content, has_modifier, is_misplaced, key_of, place_of, role_of};
 use conf_table::{DirectiveRule, Role, entry};
-use conf_text::{ConfError, ConfFault, Directive, FaultKind};
+use conf_text::{ConfFault, Directive, FaultKind};
 use conf_values::{
     TextSet, are_listed, are_values, has_known_parameters, is_folder_text, is_marked, is_return,
     is_text, listened_by, variable_in,
@@ -54,24 +54,6 @@ pub fn fault_of(
 }
 
 /// The fault of this kind, if there is one.
-#[tactic(auto, unfolding(crate::specs::Gives::faulty))]
-pub fn faulty(
-    alloc: Global,
-    directive: &Directive,
-    kind: Option<FaultKind>,
-) -> Result<(), ConfError>
-    ensures { Gives (λ x. x) result (faulty directive.now kind) }
-{
-    match kind {
-        None => Ok(()),
-        Some(kind) => match fault_of(alloc, directive, kind) {
-            Ok(fault) => Err(ConfError::Fault(fault)),
-            Err(OutOfMemory) => Err(ConfError::OutOfMemory),
-        },
-    }
-}
-
-/// The same, of what may also fail by a maker of patterns.
 #[tactic(auto, unfolding(crate::specs::Gives::faulty))]
 pub fn wrong(alloc: Global, directive: &Directive, kind: Option<FaultKind>) -> Result<(), ReadError>
     ensures { ReadsAlone (λ x. x) result (faulty directive.now kind) }

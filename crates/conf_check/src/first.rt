@@ -3,19 +3,18 @@ ghost use Rattle.std.specs.Prelude.{◌≡◌, IfOk};
 ghost use Rattle.conf_values.specs.TextSet.{holds};
 ghost use Rattle.ngx_pattern.specs.Makers.{Rose};
 ghost use Rattle.conf_block.specs.Forest.{forest_of};
-ghost use Rattle.conf_check.specs.Gives.{Gives, Reads, ReadsAlone};
+ghost use Rattle.conf_check.specs.Gives.{Reads, ReadsAlone};
 ghost use Rattle.conf_check.specs.Names.{is_set_in};
-ghost use Rattle.conf_check.specs.Faultless.{some_server, no_fault, all_served, faultless};
+ghost use Rattle.conf_check.specs.Faultless.{some_server, no_fault, faultless};
 
 use crate::ends::Ends;
 use crate::error::ReadError;
 use crate::levels::check_level;
 use crate::names::add_names;
-use crate::served::check_served;
 use byte_text::OutOfMemory;
 use conf_block::{Content, has_named, http_in};
 use conf_table::Context;
-use conf_text::{ConfError, ConfFault, Directive, FaultKind};
+use conf_text::{ConfFault, Directive, FaultKind};
 use conf_values::TextSet;
 use ngx_pattern::PatternMaker;
 use std::alloc::Global;
@@ -69,20 +68,6 @@ fn check_all<M: PatternMaker>(
         Content::Directives(Context::Top),
         directives,
     )
-}
-
-/// Looks for the first directive that has no effect yet, in the order of the text.
-///
-/// Each directive that the table names has an effect, or needs none, as it is accepted without effect; but those whose effect
-/// is a subrequest, `auth_request` and `auth_request_set`, have none yet.
-///
-/// # Errors
-///
-/// `Fault` for the first such directive, and `OutOfMemory`.
-pub fn check_effects(alloc: Global, directives: &[Directive]) -> Result<(), ConfError>
-    ensures { Gives (λ x. x) result (all_served (forest_of directives.now)) }
-{
-    check_served(alloc, Content::Directives(Context::Top), directives)
 }
 
 /// Looks for the first fault of a configuration, whose files are put in their places (nginx's documentation, "Core

@@ -1,5 +1,4 @@
-//! The first fault of a configuration, in the order of its text, its regular expressions too, and its first directive that has
-//! no effect yet.
+//! The first fault of a configuration, in the order of its text, its regular expressions too.
 #![tactic(auto)]
 
 mod before;
@@ -11,8 +10,7 @@ mod levels;
 mod locations;
 mod names;
 mod patterns;
-mod served;
 
 pub use error::ReadError;
-pub use first::{check, check_effects, names_in};
+pub use first::{check, names_in};
 pub use patterns::{name_pattern, regex_case};

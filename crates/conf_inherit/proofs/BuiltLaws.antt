@@ -14,15 +14,14 @@ use Rattle.conf_block.specs.Listening.{listens_of, or_default}
 use Rattle.conf_block.specs.Blocks.{blocks_of, http_in}
 use Rattle.conf_check.specs.Gives.{◌>>◌, sound, FailsBy}
 use Rattle.conf_check.specs.Faultless.{faultless}
-use Rattle.conf_inherit.specs.declared.site.Purpose.{Purpose}
 use Rattle.conf_lists.specs.Hosts.{names_in, or_empty, first_shown, marked_in}
 use Rattle.conf_inherit.specs.Values.{Values, word_in, stated, over, defaults, server_level}
 use Rattle.conf_inherit.specs.Pools.{list_seen, patterns_in, level_built, named_built, server_built, site_built}
-use Rattle.conf_inherit.specs.Built.{locations_in, named_in, server_with, server_in, site_of, suits, set_in, built}
+use Rattle.conf_inherit.specs.Built.{locations_in, named_in, server_with, server_in, site_of, set_in, built}
 
-built-step : (purpose : Purpose) (folder : List ℕ) (ds : List Directive) → built purpose folder ds ≡ (faultless ds >> (suits purpose ds >> Ok (site_of (set_in ds) folder (http_in (forest_of ds)))))
+built-step : (folder : List ℕ) (ds : List Directive) → built folder ds ≡ (faultless ds >> Ok (site_of (set_in ds) folder (http_in (forest_of ds))))
 unfolding built
-built-step purpose folder ds = refl
+built-step folder ds = refl
 
 after : {A : Type 0} (r : Result (Unit {0}) ConfFault) (next : Result A ConfFault) → r ≡ sound → (r >> next) ≡ next
 unfolding ◌>>◌
@@ -32,23 +31,16 @@ faulty : {A : Type 0} (r : Result (Unit {0}) ConfFault) (next : Result A ConfFau
 unfolding ◌>>◌
 faulty r next fault e = ap (λ r. r >> next) e
 
-pub built-faulty : (R : Type 0) (e : ReadError) (purpose : Purpose) (folder : List ℕ) (ds : List Directive) → FailsBy R e (faultless ds) → FailsBy R e (built purpose folder ds)
-built-faulty R (reads.Fault f) purpose folder ds h = built-step purpose folder ds ∙ faulty (faultless ds) (suits purpose ds >> Ok (site_of (set_in ds) folder (http_in (forest_of ds)))) f h
-built-faulty R (reads.TooBig f) purpose folder ds h = h
-built-faulty R reads.OutOfMemory purpose folder ds h = tt
+pub built-faulty : (R : Type 0) (e : ReadError) (folder : List ℕ) (ds : List Directive) → FailsBy R e (faultless ds) → FailsBy R e (built folder ds)
+built-faulty R (reads.Fault f) folder ds h = built-step folder ds ∙ faulty (faultless ds) (Ok (site_of (set_in ds) folder (http_in (forest_of ds)))) f h
+built-faulty R (reads.TooBig f) folder ds h = h
+built-faulty R reads.OutOfMemory folder ds h = tt
 
-pub built-unsuited : (R : Type 0) (e : ReadError) (purpose : Purpose) (folder : List ℕ) (ds : List Directive) → faultless ds ≡ sound → FailsBy ⊥ e (suits purpose ds) → FailsBy R e (built purpose folder ds)
-built-unsuited R (reads.Fault f) purpose folder ds a h =
-    let site : Result SiteView ConfFault = Ok (site_of (set_in ds) folder (http_in (forest_of ds))) in
-    built-step purpose folder ds ∙ after (faultless ds) (suits purpose ds >> site) a ∙ faulty (suits purpose ds) site f h
-built-unsuited R (reads.TooBig f) purpose folder ds a h = absurd h.0
-built-unsuited R reads.OutOfMemory purpose folder ds a h = tt
-
-pub built-ok : (purpose : Purpose) (folder : List ℕ) (ds http : List Directive) (known : List ℕ → Bool) (site : SiteView) → faultless ds ≡ sound → suits purpose ds ≡ sound
-    → known ≡ set_in ds → forest_of http ≡ http_in (forest_of ds) → site ≡ site_of known folder (forest_of http) → built purpose folder ds ≡ Ok site
-built-ok purpose folder ds http known site a s k i e =
+pub built-ok : (folder : List ℕ) (ds http : List Directive) (known : List ℕ → Bool) (site : SiteView) → faultless ds ≡ sound
+    → known ≡ set_in ds → forest_of http ≡ http_in (forest_of ds) → site ≡ site_of known folder (forest_of http) → built folder ds ≡ Ok site
+built-ok folder ds http known site a k i e =
     let meant : Result SiteView ConfFault = Ok (site_of (set_in ds) folder (http_in (forest_of ds))) in
-    built-step purpose folder ds ∙ after (faultless ds) (suits purpose ds >> meant) a ∙ after (suits purpose ds) meant s
+    built-step folder ds ∙ after (faultless ds) meant a
     ∙ ap (λ k. Ok (site_of k folder (http_in (forest_of ds)))) (sym k) ∙ ap (λ f. Ok (site_of known folder f)) (sym i) ∙ ap Ok (sym e)
 
 pub server-shown : (known : List ℕ → Bool) (b : Built) (s : Server) (body : Forest) (v : Values) → s.listens ≡ or_default (listens_of (roots body)) → s.defaults ≡ marked_in (roots body)

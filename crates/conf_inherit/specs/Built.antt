@@ -12,16 +12,14 @@ use Rattle.conf_block.specs.Forest.{Forest, End, Branch, roots, forest_of}
 use Rattle.conf_block.specs.Blocks.{Block, blocks_of, http_in}
 use Rattle.conf_block.specs.Listening.{listens_of, or_default}
 use Rattle.conf_block.specs.Locations.{text_in, alias_prefix, is_found}
-use Rattle.conf_check.specs.Gives.{◌>>◌, sound}
-use Rattle.conf_check.specs.Faultless.{faultless, all_served}
+use Rattle.conf_check.specs.Gives.{◌>>◌}
+use Rattle.conf_check.specs.Faultless.{faultless}
 use Rattle.conf_check.specs.Names.{is_set_in}
 use Rattle.conf_check.specs.Patterns.{regex_case}
 use Rattle.conf_table.specs.declared.rule.Context.TheVariants as places
 use Rattle.conf_block.specs.declared.role.Content.TheVariants.{Directives}
 use Rattle.conf_lists.specs.Hosts.{names_in, or_empty, first_shown, marked_in}
 use Rattle.conf_inherit.specs.Values.{Values, defaults, word_in, stated, over, level_of, server_level}
-use Rattle.conf_inherit.specs.declared.site.Purpose.{Purpose}
-use Rattle.conf_inherit.specs.declared.site.Purpose.TheVariants.{Reading, Serving}
 
 -- how a location is matched that is found by a text
 unfoldable pub plain_kind : List (List ℕ) → LocationKind
@@ -88,19 +86,12 @@ module _ (known : List ℕ → Bool) where
         (server_in (over (stated (Some []) http) defaults)) (blocks_of (codes "server") http);
   }
 
--- to be read, a configuration needs nothing more; to be served, each of its directives has an effect
-abbrev pub suits : Purpose → List Directive → Result (Unit {0}) ConfFault
-suits Reading ds = sound
-suits Serving ds = all_served (forest_of ds)
-
 -- the names of the variables that some directive sets
 abbrev pub set_in : List Directive → List ℕ → Bool
 set_in ds = is_set_in (Directives places.Top) (forest_of ds)
 
--- What directives are read as, where relative paths start at this folder: the first fault of the configuration; or, to be
--- served, its first directive that has no effect yet; or the site.
-unfoldable pub built : Purpose → (folder : List ℕ) → List Directive → Result SiteView ConfFault
-built purpose folder ds = do
+-- What directives are read as, where relative paths start at this folder: the first fault of the configuration, or the site.
+unfoldable pub built : (folder : List ℕ) → List Directive → Result SiteView ConfFault
+built folder ds = do
   faultless ds
-  suits purpose ds
   Ok (site_of (set_in ds) folder (http_in (forest_of ds)))

@@ -11,4 +11,4 @@ mod shelf;
 mod site;
 
 pub use laws::{the_last_holds, what_is_around_holds, what_is_stated_holds};
-pub use site::{Built, Purpose, build};
+pub use site::{Built, build};

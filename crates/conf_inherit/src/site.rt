@@ -12,12 +12,12 @@ ghost use Rattle.conf_block.specs.Blocks.{blocks_of};
 ghost use Rattle.conf_block.specs.Locations.{text_in};
 ghost use Rattle.rewrite_compile.specs.Readings.{reading_by};
 ghost use Rattle.rewrite_compile.specs.Programs.{parts_of, patterns_at, steps_from};
-ghost use Rattle.conf_check.specs.Gives.{Reads, ReadsAlone};
+ghost use Rattle.conf_check.specs.Gives.{Reads};
 ghost use Rattle.conf_lists.specs.Words.{variables_in as variables_meant};
 ghost use Rattle.conf_inherit.specs.Programs.{leads, blocks_in};
 ghost use Rattle.conf_inherit.specs.Values.{server_level, level_of as level_meant};
 ghost use Rattle.conf_inherit.specs.Pools.{Keeps, KeepsAll, Holds, Fits, Added, BlocksAdded, list_seen, values_by, level_built, location_built, named_built, server_built, site_built};
-ghost use Rattle.conf_inherit.specs.Built.{plain_kind, matching_of, inner_values, location_with, locations_in as locations_meant, named_with, named_in as named_meant, server_with, server_in, site_of, suits, built};
+ghost use Rattle.conf_inherit.specs.Built.{plain_kind, matching_of, inner_values, location_with, locations_in as locations_meant, named_with, named_in as named_meant, server_with, server_in, site_of, built};
 
 use crate::entries::types_of;
 use crate::level::{Inherited, defaults, level_of, word_in};
@@ -29,9 +29,9 @@ use byte_text::{ByteText, ByteTexts, OutOfMemory};
 use conf_block::{
     Branch, alias_prefix, first_branch, http_in, listens_of, next_location, next_named, text_in,
 };
-use conf_check::{ReadError, check, check_effects, names_in, regex_case};
+use conf_check::{ReadError, check, names_in, regex_case};
 use conf_lists::{defaults_of, first_shown, variables_in};
-use conf_text::{ConfError, Directive};
+use conf_text::Directive;
 use conf_values::TextSet;
 use ngx_pattern::{PatternMaker, PatternSet};
 use rewrite_compile::{Compiled, RawStep, Reading, compile, reading_by};
@@ -43,15 +43,6 @@ use std::alloc::Global;
 pub struct Built {
     pub site: Site,
     pub patterns: PatternSet,
-}
-
-/// What a site is built for.
-#[derive(Clone, Copy, Debug, PartialEq, Eq)]
-pub enum Purpose {
-    /// To be read: a directive that has no effect yet is one like the others.
-    Reading,
-    /// To be served: such a directive is refused.
-    Serving,
 }
 
 /// Whether the block of what this says has a part in a rewrite program.
@@ -518,20 +509,6 @@ fn site_of<M: PatternMaker>(
     Ok(Built { site, patterns })
 }
 
-/// Whether directives suit their purpose.
-fn suit(alloc: Global, purpose: Purpose, directives: &[Directive]) -> Result<(), ReadError>
-    ensures { ReadsAlone (λ x. x) result (suits purpose directives.now) }
-{
-    match purpose {
-        Purpose::Reading => Ok(()),
-        Purpose::Serving => match check_effects(alloc, directives) {
-            Ok(()) => Ok(()),
-            Err(ConfError::Fault(fault)) => Err(ReadError::Fault(fault)),
-            Err(ConfError::OutOfMemory) => Err(ReadError::OutOfMemory),
-        },
-    }
-}
-
 /// The site that the directives of a configuration describe, whose files are put in their places (nginx's
 /// documentation, "Core functionality" and "Module ngx_http_core_module"). The main file's number is 0, and its folder is
 /// that at which relative paths start.
@@ -542,21 +519,18 @@ fn suit(alloc: Global, purpose: Purpose, directives: &[Directive]) -> Result<(),
 ///
 /// # Errors
 ///
-/// `Fault` for the first fault, as `conf_check::check` finds it; of a site that is to be served then for the first directive
-/// that has no effect yet. `TooBig` for a pattern that the maker refused. And `OutOfMemory`, also where the maker refuses a pattern that
-/// it made before.
+/// `Fault` for the first fault, as `conf_check::check` finds it. `TooBig` for a pattern that the maker refused. And
+/// `OutOfMemory`, also where the maker refuses a pattern that it made before.
 pub fn build<M: PatternMaker>(
     alloc: Global,
     maker: &mut M,
-    purpose: Purpose,
     folder: &[u8],
     directives: &[Directive],
 ) -> Result<Built, ReadError>
     ensures { Reads (Rose (M.refusals maker.old) (M.refusals maker.new)) site_built result
-        (built purpose folder.now directives.now) }
+        (built folder.now directives.now) }
 {
     check(alloc, maker, directives)?;
-    suit(alloc, purpose, directives)?;
     let known = names_in(alloc, directives)?;
     let built = site_of(alloc, maker, &known, folder, http_in(directives))?;
     Ok(built)

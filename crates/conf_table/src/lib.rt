@@ -6,5 +6,5 @@ mod rule;
 mod table;
 
 pub use role::{Listing, Role, Setting, Switch, Time};
-pub use rule::{Context, Contexts, DirectiveRule, Feature};
+pub use rule::{Context, Contexts, DirectiveRule};
 pub use table::entry;

@@ -52,28 +52,6 @@ impl Contexts {
     }
 }
 
-/// The feature of this server that gives a directive its effect.
-#[derive(Clone, Copy, Debug, PartialEq, Eq)]
-pub enum Feature {
-    /// Reading configuration at all, one server with plain locations, `return` of a text, and static files; also the
-    /// directives that are accepted without effect.
-    Core,
-    /// The choice of a server by its names, and of a location by each of its modifiers.
-    Matching,
-    /// Rewrite programs, variables of one's own, and the form of redirects.
-    Rewriting,
-    /// Index files, `try_files`, error pages and the size of request bodies.
-    Content,
-    /// Access by address and by subrequest.
-    Access,
-    /// Server side includes.
-    Includes,
-    /// Texts added before and after a response.
-    Addition,
-    /// How long a peer may take.
-    Deadlines,
-}
-
 /// What holds of a directive: where it may be, how many words may follow its name, and whether it has a block and may
 /// be several times in one level.
 #[derive(Clone, Copy, Debug, PartialEq, Eq)]
@@ -89,8 +67,6 @@ pub struct DirectiveRule {
     pub many: bool,
     /// Whether it is accepted and has no effect.
     pub ignored: bool,
-    /// The feature that gives it its effect.
-    pub served_by: Feature,
     /// What it is to those who read it.
     pub role: Role,
 }

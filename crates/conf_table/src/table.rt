@@ -8,7 +8,7 @@ ghost use Rattle.std.specs.Option.{option_copied};
 ghost use Rattle.conf_table.specs.Table.{rows, in_family, entry_of};
 
 use crate::role::{Listing, Role, Setting, Switch, Time};
-use crate::rule::{Contexts, DirectiveRule, Feature};
+use crate::rule::{Contexts, DirectiveRule};
 use std::cmp::Ordering;
 
 /// A directive's name and its rule.
@@ -120,7 +120,7 @@ const ANYWHERE: Contexts = Contexts {
 
 // A row with each of its parts.
 macro_rules! row {
-    ($name:expr, $places:expr, $least:expr, $greatest:expr, $block:expr, $many:expr, $ignored:expr, $feature:ident, $role:expr) => {
+    ($name:expr, $places:expr, $least:expr, $greatest:expr, $block:expr, $many:expr, $ignored:expr, $role:expr) => {
         Row {
             name: $name,
             rule: DirectiveRule {
@@ -130,7 +130,6 @@ macro_rules! row {
                 block: $block,
                 many: $many,
                 ignored: $ignored,
-                served_by: Feature::$feature,
                 role: $role,
             },
         }
@@ -139,36 +138,36 @@ macro_rules! row {
 
 // A directive without a block that may be once in a level.
 macro_rules! once {
-    ($name:expr, $places:expr, $least:expr, $greatest:expr, $feature:ident, $role:expr) => {
-        row!($name, $places, $least, $greatest, false, false, false, $feature, $role)
+    ($name:expr, $places:expr, $least:expr, $greatest:expr, $role:expr) => {
+        row!($name, $places, $least, $greatest, false, false, false, $role)
     };
 }
 
 // One without a block that may be several times.
 macro_rules! many {
-    ($name:expr, $places:expr, $least:expr, $greatest:expr, $feature:ident, $role:expr) => {
-        row!($name, $places, $least, $greatest, false, true, false, $feature, $role)
+    ($name:expr, $places:expr, $least:expr, $greatest:expr, $role:expr) => {
+        row!($name, $places, $least, $greatest, false, true, false, $role)
     };
 }
 
 // One with a block that may be once.
 macro_rules! one_block {
-    ($name:expr, $places:expr, $least:expr, $greatest:expr, $feature:ident, $role:expr) => {
-        row!($name, $places, $least, $greatest, true, false, false, $feature, $role)
+    ($name:expr, $places:expr, $least:expr, $greatest:expr, $role:expr) => {
+        row!($name, $places, $least, $greatest, true, false, false, $role)
     };
 }
 
 // One with a block of which there may be several.
 macro_rules! blocks {
-    ($name:expr, $places:expr, $least:expr, $greatest:expr, $feature:ident, $role:expr) => {
-        row!($name, $places, $least, $greatest, true, true, false, $feature, $role)
+    ($name:expr, $places:expr, $least:expr, $greatest:expr, $role:expr) => {
+        row!($name, $places, $least, $greatest, true, true, false, $role)
     };
 }
 
 // One that is accepted anywhere, with any words, and has no effect.
 macro_rules! ignored {
     ($name:expr) => {
-        row!($name, ANYWHERE, 0, None, false, true, true, Core, Role::Ignored)
+        row!($name, ANYWHERE, 0, None, false, true, true, Role::Ignored)
     };
 }
 
@@ -179,7 +178,6 @@ static TABLE: [Row; 80] = [
         HTTP_SERVER_LOCATION,
         1,
         Some(1),
-        Rewriting,
         Role::Setting(Setting::Switch(Switch::AbsoluteRedirect))
     ),
     ignored!(b"access_log"),
@@ -188,7 +186,6 @@ static TABLE: [Row; 80] = [
         HTTP_SERVER_LOCATION,
         1,
         Some(1),
-        Addition,
         Role::Other
     ),
     once!(
@@ -196,7 +193,6 @@ static TABLE: [Row; 80] = [
         HTTP_SERVER_LOCATION,
         1,
         Some(1),
-        Addition,
         Role::Other
     ),
     many!(
@@ -204,16 +200,14 @@ static TABLE: [Row; 80] = [
         HTTP_SERVER_LOCATION,
         1,
         None,
-        Addition,
         Role::Listing(Listing::AdditionTypes)
     ),
-    once!(b"alias", LOCATION, 1, Some(1), Core, Role::Alias),
+    once!(b"alias", LOCATION, 1, Some(1), Role::Alias),
     many!(
         b"allow",
         HTTP_SERVER_LOCATION,
         1,
         Some(1),
-        Access,
         Role::Listing(Listing::Allow)
     ),
     once!(
@@ -221,7 +215,6 @@ static TABLE: [Row; 80] = [
         HTTP_SERVER_LOCATION,
         1,
         Some(1),
-        Access,
         Role::Other
     ),
     many!(
@@ -229,17 +222,9 @@ static TABLE: [Row; 80] = [
         HTTP_SERVER_LOCATION,
         2,
         Some(2),
-        Access,
         Role::Set
     ),
-    many!(
-        b"break",
-        SERVER_LOCATION_IFS,
-        0,
-        Some(0),
-        Rewriting,
-        Role::Other
-    ),
+    many!(b"break", SERVER_LOCATION_IFS, 0, Some(0), Role::Other),
     ignored!(b"client_body_buffer_size"),
     ignored!(b"client_body_timeout"),
     ignored!(b"client_header_buffer_size"),
@@ -248,7 +233,6 @@ static TABLE: [Row; 80] = [
         HTTP_SERVER,
         1,
         Some(1),
-        Deadlines,
         Role::Setting(Setting::Time(Time::ClientHeaderTimeout))
     ),
     once!(
@@ -256,7 +240,6 @@ static TABLE: [Row; 80] = [
         HTTP_SERVER_LOCATION,
         1,
         Some(1),
-        Content,
         Role::Setting(Setting::ClientMaxBodySize)
     ),
     ignored!(b"daemon"),
@@ -265,7 +248,6 @@ static TABLE: [Row; 80] = [
         HTTP_SERVER_LOCATION,
         1,
         Some(1),
-        Core,
         Role::DefaultType
     ),
     many!(
@@ -273,7 +255,6 @@ static TABLE: [Row; 80] = [
         HTTP_SERVER_LOCATION,
         1,
         Some(1),
-        Access,
         Role::Listing(Listing::Deny)
     ),
     ignored!(b"error_log"),
@@ -282,30 +263,27 @@ static TABLE: [Row; 80] = [
         HTTP_SERVER_LOCATION_IF,
         2,
         None,
-        Content,
         Role::Listing(Listing::ErrorPage)
     ),
     ignored!(b"etag"),
-    one_block!(b"events", TOP, 0, Some(0), Core, Role::Events),
+    one_block!(b"events", TOP, 0, Some(0), Role::Events),
     ignored!(b"gzip"),
-    one_block!(b"http", TOP, 0, Some(0), Core, Role::Http),
-    blocks!(b"if", SERVER_LOCATION, 1, None, Rewriting, Role::If),
-    many!(b"include", ANYWHERE, 1, Some(1), Core, Role::Other),
+    one_block!(b"http", TOP, 0, Some(0), Role::Http),
+    blocks!(b"if", SERVER_LOCATION, 1, None, Role::If),
+    many!(b"include", ANYWHERE, 1, Some(1), Role::Other),
     many!(
         b"index",
         HTTP_SERVER_LOCATION,
         1,
         None,
-        Content,
         Role::Listing(Listing::Index)
     ),
-    once!(b"internal", LOCATION, 0, Some(0), Content, Role::Internal),
+    once!(b"internal", LOCATION, 0, Some(0), Role::Internal),
     once!(
         b"keepalive_requests",
         HTTP_SERVER_LOCATION,
         1,
         Some(1),
-        Core,
         Role::Setting(Setting::KeepaliveRequests)
     ),
     once!(
@@ -313,19 +291,11 @@ static TABLE: [Row; 80] = [
         HTTP_SERVER_LOCATION,
         1,
         Some(2),
-        Core,
         Role::Setting(Setting::Time(Time::KeepaliveTimeout))
     ),
     ignored!(b"large_client_header_buffers"),
-    many!(b"listen", SERVER, 1, Some(2), Core, Role::Listen),
-    blocks!(
-        b"location",
-        SERVER_LOCATION,
-        1,
-        Some(2),
-        Core,
-        Role::Location
-    ),
+    many!(b"listen", SERVER, 1, Some(2), Role::Listen),
+    blocks!(b"location", SERVER_LOCATION, 1, Some(2), Role::Location),
     ignored!(b"log_format"),
     ignored!(b"log_not_found"),
     once!(
@@ -333,7 +303,6 @@ static TABLE: [Row; 80] = [
         HTTP_SERVER,
         1,
         Some(1),
-        Matching,
         Role::Setting(Setting::Switch(Switch::MergeSlashes))
     ),
     ignored!(b"multi_accept"),
@@ -346,7 +315,6 @@ static TABLE: [Row; 80] = [
         HTTP_SERVER_LOCATION,
         1,
         Some(1),
-        Rewriting,
         Role::Setting(Setting::Switch(Switch::PortInRedirect))
     ),
     ignored!(b"postpone_output"),
@@ -355,40 +323,23 @@ static TABLE: [Row; 80] = [
         HTTP_SERVER_LOCATION,
         1,
         Some(1),
-        Content,
         Role::Setting(Setting::Switch(Switch::RecursiveErrorPages))
     ),
-    many!(
-        b"return",
-        SERVER_LOCATION_IFS,
-        1,
-        Some(2),
-        Core,
-        Role::Return
-    ),
+    many!(b"return", SERVER_LOCATION_IFS, 1, Some(2), Role::Return),
     many!(
         b"rewrite",
         SERVER_LOCATION_IFS,
         2,
         Some(3),
-        Rewriting,
         Role::Listing(Listing::Rewrite)
     ),
     ignored!(b"rewrite_log"),
-    once!(
-        b"root",
-        HTTP_SERVER_LOCATION_IF,
-        1,
-        Some(1),
-        Core,
-        Role::Root
-    ),
+    once!(b"root", HTTP_SERVER_LOCATION_IF, 1, Some(1), Role::Root),
     once!(
         b"satisfy",
         HTTP_SERVER_LOCATION,
         1,
         Some(1),
-        Access,
         Role::Setting(Setting::Satisfy)
     ),
     once!(
@@ -396,17 +347,15 @@ static TABLE: [Row; 80] = [
         HTTP_SERVER_LOCATION,
         1,
         Some(1),
-        Deadlines,
         Role::Setting(Setting::Time(Time::SendTimeout))
     ),
     ignored!(b"sendfile"),
-    blocks!(b"server", HTTP, 0, Some(0), Core, Role::Server),
+    blocks!(b"server", HTTP, 0, Some(0), Role::Server),
     many!(
         b"server_name",
         SERVER,
         1,
         None,
-        Matching,
         Role::Listing(Listing::ServerName)
     ),
     once!(
@@ -414,26 +363,17 @@ static TABLE: [Row; 80] = [
         HTTP_SERVER_LOCATION,
         1,
         Some(1),
-        Rewriting,
         Role::Setting(Setting::Switch(Switch::ServerNameInRedirect))
     ),
     ignored!(b"server_names_hash_bucket_size"),
     ignored!(b"server_names_hash_max_size"),
     ignored!(b"server_tokens"),
-    many!(
-        b"set",
-        SERVER_LOCATION_IFS,
-        2,
-        Some(2),
-        Rewriting,
-        Role::Set
-    ),
+    many!(b"set", SERVER_LOCATION_IFS, 2, Some(2), Role::Set),
     once!(
         b"ssi",
         HTTP_SERVER_LOCATION_IF,
         1,
         Some(1),
-        Includes,
         Role::Setting(Setting::Switch(Switch::Ssi))
     ),
     once!(
@@ -441,7 +381,6 @@ static TABLE: [Row; 80] = [
         HTTP_SERVER_LOCATION,
         1,
         Some(1),
-        Includes,
         Role::Setting(Setting::Switch(Switch::SsiSilentErrors))
     ),
     many!(
@@ -449,7 +388,6 @@ static TABLE: [Row; 80] = [
         HTTP_SERVER_LOCATION,
         1,
         None,
-        Includes,
         Role::Listing(Listing::SsiTypes)
     ),
     once!(
@@ -457,7 +395,6 @@ static TABLE: [Row; 80] = [
         HTTP_SERVER_LOCATION,
         1,
         Some(1),
-        Includes,
         Role::Setting(Setting::SsiValueLength)
     ),
     once!(
@@ -465,7 +402,6 @@ static TABLE: [Row; 80] = [
         HTTP_SERVER,
         1,
         None,
-        Includes,
         Role::Listing(Listing::SsiVisible)
     ),
     ignored!(b"ssl_prefer_server_ciphers"),
@@ -475,7 +411,6 @@ static TABLE: [Row; 80] = [
         HTTP_SERVER_LOCATION,
         1,
         Some(1),
-        Includes,
         Role::Setting(Setting::SubrequestOutputBufferSize)
     ),
     ignored!(b"tcp_nodelay"),
@@ -485,17 +420,9 @@ static TABLE: [Row; 80] = [
         SERVER_LOCATION,
         2,
         None,
-        Content,
         Role::Listing(Listing::TryFiles)
     ),
-    blocks!(
-        b"types",
-        HTTP_SERVER_LOCATION,
-        0,
-        Some(0),
-        Core,
-        Role::Types
-    ),
+    blocks!(b"types", HTTP_SERVER_LOCATION, 0, Some(0), Role::Types),
     ignored!(b"types_hash_bucket_size"),
     ignored!(b"types_hash_max_size"),
     ignored!(b"uninitialized_variable_warn"),
@@ -516,7 +443,6 @@ static IGNORED: DirectiveRule = DirectiveRule {
     block: false,
     many: true,
     ignored: true,
-    served_by: Feature::Core,
     role: Role::Ignored,
 };
 

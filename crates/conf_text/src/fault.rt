@@ -5,7 +5,7 @@ ghost use Rattle.conf_text.specs.declared.fault.ConfError.TheVariants.{OutOfMemo
 use byte_text::{ByteText, OutOfMemory};
 
 /// What is wrong with a configuration: each kind of fault that reading one can meet, its text's first. A fault is printed with its
-/// number here, but `NotServed` with that of `Unknown`.
+/// number here.
 #[derive(Clone, Copy, Debug, PartialEq, Eq)]
 pub enum FaultKind {
     /// The text ends within a word, a directive or a block.
@@ -48,8 +48,6 @@ pub enum FaultKind {
     TooNested,
     /// A regular expression that takes too much room.
     PatternTooBig,
-    /// A directive that is known and right, but that isn't served yet, or not in this form.
-    NotServed,
 }
 
 /// A fault and its place: the number of its file, in the order in which files are read, and the line there, from 1;

@@ -10,8 +10,9 @@ use Rattle.node_turn.specs.declared.node.Node.{Node}
 use Rattle.family_nodes.specs.Runs.{is_waiting}
 use Rattle.subrequests.specs.Wants.{jobs_from}
 use Rattle.request_flow.specs.Flows.{waits}
+use Rattle.access_flow.specs.Flows.{waits as access_waits}
 use Rattle.response_flow.specs.declared.flight.Flight.{Flight}
-use Rattle.response_flow.specs.declared.flight.Flight.TheVariants.{Alone, Page}
+use Rattle.response_flow.specs.declared.flight.Flight.TheVariants.{Alone, Asking, Page}
 use Rattle.response_flow.specs.Flights.{flight_tree, jobs_of}
 
 -- a node's job that waits asks of the page's tree
@@ -43,6 +44,18 @@ asks_known (Some (Alone flow)) node tree (Some ask) e h = by (waits flow.value.s
 
     by : (t : Bool) → Some ask.now ≡ ask_in (cond t (record { node = 0; ask = flow.value.ask } ∷ []) []) node → tree_of ask.now ≤ tree
     by true f = at (eqb 0 node) f
+    by false f = cc
+asks_known (Some (Asking flow)) node tree (Some ask) e h = by (access_waits flow.value.stage) e
+  where
+    own : ℕ
+    own = flow.value.request.value.opened
+
+    at : (t : Bool) → Some ask.now ≡ cond t (Some flow.value.ask) None → tree_of ask.now ≤ tree
+    at true f = let g = ap tree_of (let i : ask.now ≡ flow.value.ask = cc in i) in omega (arith, g, h)
+    at false f = cc
+
+    by : (t : Bool) → Some ask.now ≡ ask_in (cond t (record { node = own; ask = flow.value.ask } ∷ []) []) node → tree_of ask.now ≤ tree
+    by true f = at (eqb own node) f
     by false f = cc
 asks_known (Some (Page p)) node tree (Some ask) e h =
     let f = p.pages.value.family in

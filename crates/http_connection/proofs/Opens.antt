@@ -21,6 +21,7 @@ use Rattle.answers_meaning.specs.Answers.{Response, response_at, response_in, re
 use Rattle.request_phases.specs.declared.ground.Ground.{Ground}
 use Rattle.request_phases.specs.Rounds.{world_in}
 use Rattle.request_opening.specs.declared.asked.Opening.{Opening}
+use Rattle.access_flow.specs.declared.flow.AccessFlow.{AccessFlow}
 use Rattle.request_flow.specs.declared.flow.Flow.{Flow}
 use Rattle.std.specs.Global.{Box}
 use Rattle.request_flow.specs.Flows.{StageBy, stage_length, stage_server}
@@ -30,7 +31,7 @@ use Rattle.request_opening.specs.Openings.{main_at}
 use Rattle.request_flow.specs.Terms.{terms_at}
 use Rattle.request_flow.specs.Rests.{Rest, finished, opened_rest, act_rest, closes_after, logged_by, values_by}
 use Rattle.response_flow.specs.declared.flight.Flight.{Flight}
-use Rattle.response_flow.specs.declared.flight.Flight.TheVariants.{Alone, Page}
+use Rattle.response_flow.specs.declared.flight.Flight.TheVariants.{Alone, Asking, Page}
 use Rattle.response_flow.specs.declared.flight.PageFlow.{PageFlow}
 use Rattle.response_flow.specs.declared.flight.Ran.{Ran}
 use Rattle.response_flow.specs.declared.flight.Ran.TheVariants.{On, TooMany}
@@ -69,10 +70,16 @@ by_page : (x : Serves) (number length : ℕ) (p : PageFlow) (trees : Trees) → 
 by_page x number length p trees by =
     ap (λ n. rest_at x n p.length (Some (Page p)) trees) by.0 ∙ ap (λ l. rest_at x number l (Some (Page p)) trees) by.1
 
+by_access : (x : Serves) (number length : ℕ) (f : Box AccessFlow) (trees : Trees) → (f.value.request.value.server ≡ number) × (f.value.request.value.length ≡ length) →
+    rest_in x (Some (Asking f)) trees ≡ rest_at x number length (Some (Asking f)) trees
+by_access x number length f trees by =
+    ap (λ n. rest_at x n f.value.request.value.length (Some (Asking f)) trees) by.0 ∙ ap (λ l. rest_at x number l (Some (Asking f)) trees) by.1
+
 pub rest_by : (x : Serves) (number length : ℕ) (flight : Option Flight) (trees : Trees) → FlightServedBy number length flight →
     rest_in x flight trees ≡ rest_at x number length flight trees
 rest_by x number length None trees by = refl
 rest_by x number length (Some (Alone flow)) trees by = by_stage x number length flow flow.value.stage trees by
+rest_by x number length (Some (Asking f)) trees by = by_access x number length f trees by
 rest_by x number length (Some (Page p)) trees by = by_page x number length p trees by
 
 pub own_served : (flight : Flight) → FlightServedBy (flight_server flight) (flight_length flight) (Some flight)
@@ -83,6 +90,7 @@ own_served (Alone flow) = own_stage flow.value.stage
     own_stage (Told request wait node) = (refl, refl)
     own_stage (Reading sending left) = tt
     own_stage (Came sending left placed) = tt
+own_served (Asking f) = (refl, refl)
 own_served (Page p) = (refl, refl)
 
 -- and so is what has led to it
@@ -103,6 +111,9 @@ reached_stage x number length flow (Came sending left placed) by h r = (tt, firs
 pub reached_by : (x : Serves) (number length : ℕ) (flight : Option Flight) → FlightServedBy number length flight → HasServer x number → reached_at x number length flight → ReachedIn x flight
 reached_by x number length None by h r = tt
 reached_by x number length (Some (Alone flow)) by h r = reached_stage x number length flow flow.value.stage by h r
+reached_by x number length (Some (Asking a)) by h r =
+    let f : Option Flight = Some (Asking a) in
+    (subst (λ n. reached_at x n a.value.request.value.length f) (sym by.0) (subst (λ l. reached_at x number l f) (sym by.1) r), subst (HasServer x) (sym by.0) h)
 reached_by x number length (Some (Page p)) by h r =
     let f : Option Flight = Some (Page p) in
     (subst (λ n. reached_at x n p.length f) (sym by.0) (subst (λ l. reached_at x number l f) (sym by.1) r), subst (HasServer x) (sym by.0) h)

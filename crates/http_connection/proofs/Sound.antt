@@ -15,11 +15,12 @@ use Rattle.req_head.specs.Laws.{FullDecides}
 use Rattle.body_frame.specs.Outcome.{Short}
 use Rattle.body_frame.specs.State.{body_of}
 use Rattle.body_frame.specs.declared.state.BodyState.{BodyState}
+use Rattle.access_flow.specs.Flows.{waits}
 use Rattle.request_flow.specs.declared.flow.Flow.{Flow}
 use Rattle.std.specs.Global.{Box}
 use Rattle.response_flow.specs.declared.flight.Flight.{Flight}
-use Rattle.response_flow.specs.declared.flight.Flight.TheVariants.{Alone, Page}
-use Rattle.response_flow.specs.Flights.{FlightFits, are_done, jobs_by, most_kept, page_ready, pending_by, ready_by, shown_kept}
+use Rattle.response_flow.specs.declared.flight.Flight.TheVariants.{Alone, Asking, Page}
+use Rattle.response_flow.specs.Flights.{FlightFits, are_done, jobs_by, most_kept, next_of, page_ready, pending_by, ready_by, shown_kept}
 use Rattle.page_response.specs.declared.pages.Pages.{Pages}
 use Rattle.subrequests.specs.Wants as family
 use Rattle.request_flow.specs.declared.flow.Stage.{Stage}
@@ -203,9 +204,17 @@ stuck_runs false true (j ∷ jobs) ready h = never_all true (no_nodes (cond (fal
 busy_page : (p : Pages) → (no_bytes p.outgoing.pending && no_nodes (page_ready p) && no_jobs (family.jobs_of p.family)) ≡ true → ⊥
 busy_page p h = stuck_runs (are_done p.family.nodes) (no_bytes p.outgoing.pending) (family.jobs_of p.family) (family.ready_of p.family) h
 
+-- a subrequest that was asked whether a request is let in waits for its job, or one of the two runs
+busy_asking : (waits shown : Bool) (next : ℕ) (job : Job) → (shown && no_nodes (cond waits [] (next ∷ [])) && no_jobs (cond waits (job ∷ []) [])) ≡ true → ⊥
+busy_asking true shown next job h = never_all shown true h
+busy_asking false shown next job h = never_mid shown h
+
 busy : (flight : Flight) (out : List ℕ) → FlightFits (Some flight) (length out) →
     (no_bytes (pending_by flight out) && no_nodes (ready_by flight) && no_jobs (jobs_by flight)) ≡ true → ⊥
-busy (Alone flow) out fits h = busy_alone flow out fits h
+busy (Alone flow) out fits h = busy_alone flow out fits.0 h
+busy (Asking f) out fits h =
+    let a = f.value in
+    busy_asking (waits a.stage) (no_bytes (take shown_most out)) (next_of a.stage a.request.value.opened) (record { node = a.request.value.opened; ask = a.ask }) h
 busy (Page p) out fits h = busy_page p.pages.value h
 
 -- what is idle by its parts is shown as idle
@@ -235,7 +244,8 @@ none_most size e = omega (arith, e)
 
 pub bounded : (flight : Option Flight) (size : ℕ) → FlightFits flight size → size ≤ most_kept
 bounded None size f = f
-bounded (Some (Alone flow)) size f = few_most size (stage_bounded size flow.value.ask flow.value.stage f)
+bounded (Some (Alone flow)) size f = few_most size (stage_bounded size flow.value.ask flow.value.stage f.0)
+bounded (Some (Asking a)) size f = none_most size f.0
 bounded (Some (Page p)) size f = none_most size f.0
 
 module _ (serves : Serves) where

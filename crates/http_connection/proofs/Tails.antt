@@ -4,7 +4,7 @@ use Rattle.std.proofs.lemmas.List.{length-take-le, take-append-drop, take_all}
 use Rattle.std.proofs.Math.Logic.{∥∥₁_map}
 use Rattle.std.specs.Prelude.{is_some}
 use Rattle.response_flow.specs.declared.flight.Flight.{Flight}
-use Rattle.response_flow.specs.declared.flight.Flight.TheVariants.{Alone, Page}
+use Rattle.response_flow.specs.declared.flight.Flight.TheVariants.{Alone, Asking, Page}
 use Rattle.response_flow.specs.Flights.{EndsChunk, HasTail, ShowsWhole, TailFits, pending_of, shown_kept}
 use Rattle.http_connection.specs.Tails.{KeepsTail, LeftOf, PendsWhole}
 
@@ -23,6 +23,7 @@ fresh_tail out = ∣ ([], plain_tail out) ∣₁
 pub fits_tail : (was is : Option Flight) (tail : ℕ) (out : List ℕ) → TailFits was is tail out → KeepsTail is tail out
 fits_tail None None tail out e = ∣ ([], e) ∣₁
 fits_tail (Some (Alone flow)) None tail out e = ∣ ([], e) ∣₁
+fits_tail (Some (Asking f)) None tail out e = ∣ ([], e) ∣₁
 fits_tail (Some (Page p)) None tail out e = ∣ ([], (p.pages.value.outgoing.block, e)) ∣₁
 fits_tail was (Some flight) tail out e = e
 

@@ -218,29 +218,36 @@ abbrev pub in_flight : Option Flight → List ℕ → Bool
 in_flight None out = not (no_bytes out)
 in_flight (Some flight) out = true
 
--- no byte is buffered after a request that came to its end
-abbrev pub between : Conn → Bool
-between conn = not (no_entries conn.journal.items) && no_bytes conn.buffered &&
-    not (in_flight conn.flight conn.out)
-
-abbrev pub begun_by : (mark moment : ℕ) → Bool → List ℕ → ℕ
-begun_by mark moment between buffered = if between && not (no_bytes buffered) then moment else mark
+-- where these bytes are kept for the peer after a write, the mark: this moment where it was the last one of a response
+abbrev pub mark_written : (mark moment : ℕ) → Option Flight → List ℕ → ℕ
+mark_written mark moment flight out = if in_flight flight out then mark else moment
 
 abbrev pub mark_ran : ℕ → Conn → Conn → ℕ
 mark_ran moment old new = mark_by old.times.mark moment
     (not (no_bytes (pending_at old.flight old.out old.tail))) (in_flight old.flight old.out)
     (not (no_bytes (pending_at new.flight new.out new.tail))) (in_flight new.flight new.out)
 
--- The mark after an event at this moment. Each write sets it; so does the first byte that is buffered
--- after a request that came to its end; and so does a step by which bytes come to be pending or a
--- request comes to its end.
+-- The mark after an event at this moment, which is set by each step by which bytes come to be pending or a request comes to
+-- its end.
 abbrev pub mark_after : (moment : ℕ) → Event → StepAnswer → Conn → Conn → ℕ
-mark_after moment (Wrote conn count) (Done taken) old new = moment
-mark_after moment (Arrived conn bytes) (Done taken) old new = begun_by old.times.mark moment
-    (between old) new.buffered
+mark_after moment (Wrote conn count) (Done taken) old new = mark_written old.times.mark moment new.flight new.out
 mark_after moment (FileDone conn node answer) (Done taken) old new = mark_ran moment old new
 mark_after moment (Run conn node) (Done taken) old new = mark_ran moment old new
 mark_after moment e a old new = old.times.mark
+
+-- the moment of the last write after an event
+abbrev pub wrote_after : (moment : ℕ) → Event → StepAnswer → Conn → ℕ
+wrote_after moment (Wrote conn count) (Done taken) old = moment
+wrote_after moment e a old = old.times.wrote
+
+-- where bytes come to be buffered, the moment since which some are
+abbrev pub filled_by : (filled moment : ℕ) → (was_empty : Bool) → List ℕ → ℕ
+filled_by filled moment was_empty buffered = if was_empty && not (no_bytes buffered) then moment else filled
+
+-- the moment after an event since which bytes are buffered
+abbrev pub filled_after : (moment : ℕ) → Event → StepAnswer → Conn → Conn → ℕ
+filled_after moment (Arrived conn bytes) (Done taken) old new = filled_by old.times.filled moment (no_bytes old.buffered) new.buffered
+filled_after moment e a old new = old.times.filled
 
 -- The pace after an event that stopped nothing: that of the level that answers, where the event put
 -- the head of a response.
@@ -264,6 +271,8 @@ PaceAfter x now e a old new = new.times.pace ≡ old.times.pace
 pub record TimesConn (x : Serves) (now : Start) (e : Event) (a : StepAnswer)
     (old new : Conn) : Type 0 where
   pub mark : new.times.mark ≡ mark_after now.moment e a old new
+  pub wrote : new.times.wrote ≡ wrote_after now.moment e a old
+  pub filled : new.times.filled ≡ filled_after now.moment e a old new
   pub head : new.times.head ≡ old.times.head
   pub pace : PaceAfter x now e a old new
 

@@ -6,7 +6,7 @@ use Rattle.postpone_filter.specs.Row.{Piece}
 use Rattle.postpone_filter.specs.Buffers.{IsLawful}
 use Rattle.response_flow.specs.Flights.{FlightFits}
 use Rattle.response_flow.specs.declared.flight.Flight.{Flight}
-use Rattle.response_flow.specs.declared.flight.Flight.TheVariants.{Alone, Page}
+use Rattle.response_flow.specs.declared.flight.Flight.TheVariants.{Alone, Asking, Page}
 use Rattle.http_connection.specs.Tails.{KeepsTail}
 
 lawful_prop : (nodes : ℕ) (pieces : List Piece) → IsProp (IsLawful nodes pieces)
@@ -19,6 +19,7 @@ lawful_prop nodes (p ∷ pieces) =
 pub fits_prop : (flight : Option Flight) (size : ℕ) → IsProp (FlightFits flight size)
 fits_prop None size = hlevel props
 fits_prop (Some (Alone flow)) size = hlevel props
+fits_prop (Some (Asking f)) size = hlevel props
 fits_prop (Some (Page p)) size = hlevel (lawful_prop, props)
 
 pub tail_prop : (flight : Option Flight) (tail : ℕ) (out : List ℕ) → IsProp (KeepsTail flight tail out)

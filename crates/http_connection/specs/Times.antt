@@ -1,5 +1,5 @@
 -- How long a connection waits for its peer.
-use Rattle.std.specs.Prelude.{◌≡◌, ℕ, ◌+◌, ◌-◌, ◌^◌, ◌/◌, ◌%◌, ◌==◌, ◌≤◌, min, Bool, true, false, not, ◌&&◌, ◌||◌, Option, None, Some, if◌then◌else◌}
+use Rattle.std.specs.Prelude.{◌≡◌, ℕ, ◌+◌, ◌-◌, ◌^◌, ◌/◌, ◌%◌, ◌==◌, ◌≤◌, min, max, Bool, true, false, not, ◌&&◌, ◌||◌, Option, None, Some, if◌then◌else◌}
 use Rattle.file_tree.specs.Tree.{Trees}
 use Rattle.ngx_outside.specs.Views.{Start}
 use Rattle.site_views.specs.Choice.{default_server}
@@ -13,20 +13,20 @@ use Rattle.req_head.specs.declared.head.HeadStep.TheVariants.{More, Head, Bad}
 use Rattle.http_connection.specs.declared.times.Pace.{Pace}
 use Rattle.http_connection.specs.declared.times.Times.{Times}
 use Rattle.http_connection.specs.declared.times.Awaited.{Awaited}
-use Rattle.http_connection.specs.declared.times.Awaited.TheVariants.{Nothing, Room, Head as AHead, Further}
+use Rattle.http_connection.specs.declared.times.Awaited.TheVariants.{Nothing, Room, First, Head as AHead, Further}
 
 -- milliseconds as whole seconds, of which a part counts as one
 unfoldable pub seconds_in : ℕ → ℕ
 seconds_in milliseconds = milliseconds / 1000 + (if milliseconds % 1000 == 0 then 0 else 1)
 
 -- What is awaited of a peer: nothing where its link is to be closed, or where the connection itself
--- goes on; that it takes the bytes that are pending; a head, where none came yet or bytes are buffered;
+-- goes on; that it takes the bytes that are pending; the first head, where none came yet; a head, where bytes are buffered;
 -- else a further request.
 abbrev pub awaited_by : (shut pending busy first buffered : Bool) → Awaited
 awaited_by true pending busy first buffered = Nothing
 awaited_by false true busy first buffered = Room
 awaited_by false false true first buffered = Nothing
-awaited_by false false false true buffered = AHead
+awaited_by false false false true buffered = First
 awaited_by false false false false true = AHead
 awaited_by false false false false false = Further
 
@@ -35,11 +35,12 @@ abbrev pub after : (mark wait : ℕ) → Option ℕ
 after mark wait = if wait == 0 then None else Some (mark + wait)
 
 -- The moment at which a connection is given up (nginx's `send_timeout`, `client_header_timeout` and
--- `keepalive_timeout`).
+-- `keepalive_timeout`). Where two moments begin a wait, it is the later of them, also where the clock went back between them.
 abbrev pub due_of : Awaited → Times → Option ℕ
 due_of Nothing times = None
-due_of Room times = after times.mark (seconds_in times.pace.send)
-due_of AHead times = after times.mark times.head
+due_of Room times = after (max times.mark times.wrote) (seconds_in times.pace.send)
+due_of First times = after times.mark times.head
+due_of AHead times = after (max times.mark times.filled) times.head
 due_of Further times = Some (times.mark + seconds_in times.pace.idle)
 
 -- a moment that isn't later than this one, as far as a number of 64 bits says it

@@ -10,7 +10,7 @@ ghost use Rattle.http_connection.specs.Times.{NoneShorter};
 ghost use Rattle.body_frame.specs.Outcome.{Short};
 
 use crate::input::begins;
-use crate::sending::{is_fresh, is_in_flight, is_pending};
+use crate::sending::{is_fresh, is_pending};
 use crate::slot::put;
 use crate::times::{Awaited, NO_PACE, Times, awaited_of, due, head_wait_at};
 use body_frame::BodyState;
@@ -62,7 +62,7 @@ impl Conn {
     ghost use Rattle.subrequests.specs.Wants.{first_job as job_first, first_of as number_first, is_among};
     ghost use Rattle.http_connection.specs.Rests.{Serves};
     ghost use Rattle.http_connection.specs.Times.{own_values, head_wait_in, soonest};
-    ghost use Rattle.http_connection.specs.Conn.{awaited_at, due_at, between};
+    ghost use Rattle.http_connection.specs.Conn.{awaited_at, due_at};
     ghost use Rattle.ngx_outside.specs.Views.{Ticked};
     ghost use Rattle.site_views.specs.Choice.{default_server};
     ghost use Rattle.ngx_pattern.specs.Pattern.{Pattern as SetPattern};
@@ -81,7 +81,8 @@ impl Conn {
         ensures fresh { IfOk result (λ c. (x : Serves) →
             Fresh (fresh_course x.served.raceless x.patterns x.served.site local peer)
             (view_of x c)) }
-        ensures mark { IfOk result (λ c. c.times.mark ≡ moment) }
+        ensures mark { IfOk result (λ c. (c.times.mark ≡ moment) × (c.times.wrote ≡ moment)
+            × (c.times.filled ≡ moment)) }
         ensures head { (patterns : List SetPattern) → IfOk result (λ c. c.times.head
             ≡ head_wait_in (own_values (default_server
             (whole (patterns_seen patterns) served.now.site).servers local))) }
@@ -106,6 +107,8 @@ impl Conn {
             cause: None,
             times: Times {
                 mark: moment,
+                wrote: moment,
+                filled: moment,
                 head: head_wait_at(served, local),
                 pace: NO_PACE,
             },
@@ -146,15 +149,6 @@ impl Conn {
         ensures { result ≡ self.now.cause }
     {
         self.cause
-    }
-
-    // Whether no byte is buffered after a request that came to its end.
-    pub(crate) fn is_between(&self) -> bool
-        ensures { result ≡ between self.now }
-    {
-        !is_fresh(&self.journal)
-            && self.buffered.is_empty()
-            && !is_in_flight(&self.flight, &self.out)
     }
 
     pub(crate) fn is_stopped(&self) -> bool

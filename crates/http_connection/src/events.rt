@@ -8,7 +8,7 @@ use crate::conn::Conn;
 use crate::input::{first_bytes, last_bytes, take_in};
 use crate::journal::finish;
 use crate::open::Meeting;
-use crate::sending::{begun, sending};
+use crate::sending::{filled, mark_after_write, sending};
 use crate::slot::{put, take};
 use crate::start::{Setting, run_one};
 use crate::times::{AT_REST, Sending, marked, paced_on};
@@ -50,7 +50,7 @@ impl Conn {
         let taken = bytes.len().min(room);
         let bytes = first_bytes(bytes, taken);
         let dropped = drop_rest(self.body, bytes);
-        let is_between = self.is_between();
+        let was_empty = self.buffered.is_empty();
         match take_in(
             heads,
             &mut self.buffered,
@@ -60,7 +60,7 @@ impl Conn {
             Ok(()) => {
                 self.body = dropped.body;
                 self.closing = dropped.broken;
-                self.times.mark = begun(self.times.mark, moment, is_between, &self.buffered);
+                self.times.filled = filled(self.times.filled, moment, was_empty, &self.buffered);
                 StepAnswer::Done { taken }
             }
             Err(OutOfMemory) => {
@@ -101,7 +101,8 @@ impl Conn {
             return StepAnswer::Skipped;
         }
         written(&mut self.flight, &mut self.out, count);
-        self.times.mark = moment;
+        self.times.wrote = moment;
+        self.times.mark = mark_after_write(self.times.mark, moment, &self.flight, &self.out);
         StepAnswer::Done { taken: 0 }
     }
 

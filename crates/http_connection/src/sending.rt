@@ -1,21 +1,21 @@
 // What a connection has to send, and whether a request is in flight.
 ghost use Rattle.std.specs.Prelude.{◌≡◌, not};
 ghost use Rattle.ngx_outside.specs.Views.{no_bytes};
-ghost use Rattle.http_connection.specs.Conn.{pending_at, in_flight, begun_by, no_entries};
+ghost use Rattle.http_connection.specs.Conn.{pending_at, in_flight, filled_by, mark_written, no_entries};
 
 use crate::times::Sending;
 use byte_text::ByteQueue;
 use ngx_outside::Entry;
 use response_flow::{Flight, pending};
 
-// The mark where bytes arrived: this moment where they are the first after a request that came to its end.
-pub(crate) fn begun(mark: u64, moment: u64, is_between: bool, buffered: &ByteQueue) -> u64
-    ensures { result ≡ begun_by mark moment is_between buffered.now }
+// The moment since which bytes are buffered: this one where none was before.
+pub(crate) fn filled(filled: u64, moment: u64, was_empty: bool, buffered: &ByteQueue) -> u64
+    ensures { result ≡ filled_by filled moment was_empty buffered.now }
 {
-    if is_between && !buffered.is_empty() {
+    if was_empty && !buffered.is_empty() {
         moment
     } else {
-        mark
+        filled
     }
 }
 
@@ -40,6 +40,22 @@ pub(crate) fn is_in_flight(flight: &Option<Flight>, out: &ByteQueue) -> bool
     match flight {
         Some(_) => true,
         None => !out.is_empty(),
+    }
+}
+
+// The mark where bytes were written: this moment where they were the last of a response.
+pub(crate) fn mark_after_write(
+    mark: u64,
+    moment: u64,
+    flight: &Option<Flight>,
+    out: &ByteQueue,
+) -> u64
+    ensures { result ≡ mark_written mark moment flight.now out.now }
+{
+    if is_in_flight(flight, out) {
+        mark
+    } else {
+        moment
     }
 }
 

@@ -20,20 +20,24 @@ pub struct Pace {
     pub idle: u64,
 }
 
-/// What a connection waits by: the moment that its waiting began and how long it waits for a head, both in seconds
-/// (`client_header_timeout`, of which 0 is no limit), and the pace of its last response.
+/// What a connection waits by, in seconds: the moment at which bytes came to be pending or a request came to its end, and before
+/// the first request that of its opening; the moments of its last write, and of the arrival since which bytes are buffered; how
+/// long it waits for a head (`client_header_timeout`, of which 0 is no limit); and the pace of its last response.
 #[derive(Clone, Copy, Debug, PartialEq, Eq)]
 pub struct Times {
     pub mark: u64,
+    pub wrote: u64,
+    pub filled: u64,
     pub head: u64,
     pub pace: Pace,
 }
 
-/// What is awaited of a peer: nothing, that it takes bytes, a head, or a further request.
+/// What is awaited of a peer: nothing, that it takes bytes, its first head, the rest of a head, or a further request.
 #[derive(Clone, Copy, Debug, PartialEq, Eq)]
 pub enum Awaited {
     Nothing,
     Room,
+    First,
     Head,
     Further,
 }
@@ -137,7 +141,7 @@ pub(crate) fn awaited_of(
     } else if is_busy {
         Awaited::Nothing
     } else if is_first {
-        Awaited::Head
+        Awaited::First
     } else if is_buffered {
         Awaited::Head
     } else {
@@ -162,8 +166,9 @@ pub(crate) fn due(awaited: Awaited, times: Times) -> u64
 {
     match awaited {
         Awaited::Nothing => u64::MAX,
-        Awaited::Room => limit(times.mark, seconds(times.pace.send)),
-        Awaited::Head => limit(times.mark, times.head),
+        Awaited::Room => limit(times.mark.max(times.wrote), seconds(times.pace.send)),
+        Awaited::First => limit(times.mark, times.head),
+        Awaited::Head => limit(times.mark.max(times.filled), times.head),
         Awaited::Further => times.mark.saturating_add(seconds(times.pace.idle)),
     }
 }

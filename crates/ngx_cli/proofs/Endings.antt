@@ -9,8 +9,6 @@ use Rattle.conf_include.specs.Listings.{Names, IsNaming}
 use Rattle.conf_include.specs.Asked.{IsAskedAt}
 use Rattle.conf_include.specs.declared.main_file.PlacedFault.{PlacedFault}
 use Rattle.conf_inherit.specs.Values.{has_items}
-use Rattle.conf_inherit.specs.declared.site.Purpose.{Purpose}
-use Rattle.conf_inherit.specs.declared.site.Purpose.TheVariants as purposes
 use Rattle.report_text.specs.Lines.{ended}
 use Rattle.report_text.specs.Faults.{conf_fault_line}
 use Rattle.site_service.specs.Serving.{Outside, Serving}
@@ -46,7 +44,7 @@ unnamed true named e r = cc
 unnamed false named e r = sym e
 
 -- what was found at a path came to this
-module _ (found : ReadSite) (racy : Bool) (o : Outside) (reading : FilesSeen) (made : Made) (out : Output) (path : List ℕ) (turns : ℕ) (finds : Finds purposes.Serving o.files reading path found) where
+module _ (found : ReadSite) (racy : Bool) (o : Outside) (reading : FilesSeen) (made : Made) (out : Output) (path : List ℕ) (turns : ℕ) (finds : Finds o.files reading path found) where
   abbrev pub later : Outside
   later = record o { files = reading }
 
@@ -61,8 +59,8 @@ module _ (found : ReadSite) (racy : Bool) (o : Outside) (reading : FilesSeen) (m
     printed = s.printed;
   }
 
-  at_files : (files : FilesSeen) → files ≡ reading → Finds purposes.Serving o.files files path found
-  at_files files e = subst (λ f. Finds purposes.Serving o.files f path found) (sym e) finds
+  at_files : (files : FilesSeen) → files ≡ reading → Finds o.files files path found
+  at_files files e = subst (λ f. Finds o.files f path found) (sym e) finds
 
   pub found_ends : (s : Status) → FoundEnds found racy later out turns s → ServeEnds o made out path turns racy s
   found_ends status.Done h = (h.0, whole ending.Ended h.1)
@@ -98,7 +96,7 @@ unput_found found racy o out turns status.ScriptFault e p = absurd p
 unput_found found racy o out turns status.TurnsUsed e p = absurd p
 unput_found found racy o out turns status.PatternFault e p = absurd p
 
-pub unput_serving : (o : Outside) (made : Made) (out : Output) (path : List ℕ) (turns : ℕ) (racy : Bool) (text : List ℕ) (s : Status) → IsFaultLine purposes.Serving o.files o.files' made path text → PutsText out text (Err s) → ServeEnds o made out path turns racy s
+pub unput_serving : (o : Outside) (made : Made) (out : Output) (path : List ℕ) (turns : ℕ) (racy : Bool) (text : List ℕ) (s : Status) → IsFaultLine o.files o.files' made path text → PutsText out text (Err s) → ServeEnds o made out path turns racy s
 unput_serving o made out path turns racy text status.SinkFault due p = cut (IsRefusal o.files o.files' made path) out text (OfFault due) p
 unput_serving o made out path turns racy text status.OutOfMemory due p = p
 unput_serving o made out path turns racy text status.Done due p = absurd p
@@ -146,37 +144,37 @@ played files files' made out path racy outcome.PatternFault p = p
 played files files' made out path racy (outcome.ScriptFault fault) p = (fault, p)
 
 -- what was found of a configuration, of this error
-abbrev pub IsErrorOf : Purpose → (files files' : FilesSeen) → (path : List ℕ) → SiteError → Type 0
-IsErrorOf purpose files files' path e =
-    files.tells ≡ true → files'.newest ≡ files.newest → (names : Names) → IsNaming (files.trees files.newest) names → IsDescribed (IsAskedAt (files.trees files.newest) names path) (Err e) (site_at purpose (files.trees files.newest) names path)
+abbrev pub IsErrorOf : (files files' : FilesSeen) → (path : List ℕ) → SiteError → Type 0
+IsErrorOf files files' path e =
+    files.tells ≡ true → files'.newest ≡ files.newest → (names : Names) → IsNaming (files.trees files.newest) names → IsDescribed (IsAskedAt (files.trees files.newest) names path) (Err e) (site_at (files.trees files.newest) names path)
 
-pub error_described : (purpose : Purpose) (files files' : FilesSeen) (path : List ℕ) (e other : SiteError) → e ≡ other → Reading files files' → IsErrorOf purpose files files' path e →
-    Describes purpose files files' path (Err other)
-error_described purpose files files' path e other is reads exact = record { reads = reads; is = subst (IsErrorOf purpose files files' path) is exact }
+pub error_described : (files files' : FilesSeen) (path : List ℕ) (e other : SiteError) → e ≡ other → Reading files files' → IsErrorOf files files' path e →
+    Describes files files' path (Err other)
+error_described files files' path e other is reads exact = record { reads = reads; is = subst (IsErrorOf files files' path) is exact }
 
 -- a file that couldn't be read
-pub is_files_line : (purpose : Purpose) (files files' : FilesSeen) (made : Made) (path : List ℕ) (e : SiteError) (placed : PlacedFault) → e ≡ error.Failed placed → Reading files files' → IsErrorOf purpose files files' path e → FailsIf {A = ReadSite} (Err e) files.faults files'.faults made.before made.after →
-    IsFaultLine purpose files files' made path (ended (conf_fault_line placed.path placed.fault))
-is_files_line purpose files files' made path e placed is reads exact cause =
+pub is_files_line : (files files' : FilesSeen) (made : Made) (path : List ℕ) (e : SiteError) (placed : PlacedFault) → e ≡ error.Failed placed → Reading files files' → IsErrorOf files files' path e → FailsIf {A = ReadSite} (Err e) files.faults files'.faults made.before made.after →
+    IsFaultLine files files' made path (ended (conf_fault_line placed.path placed.fault))
+is_files_line files files' made path e placed is reads exact cause =
     let c : FailsIf {A = ReadSite} (Err (error.Failed placed)) files.faults files'.faults made.before made.after = subst (λ (x : SiteError). FailsIf {A = ReadSite} (Err x) files.faults files'.faults made.before made.after) is cause in
-    OfFiles placed c.0 c.1 (error_described purpose files files' path e (error.Failed placed) is reads exact) refl
+    OfFiles placed c.0 c.1 (error_described files files' path e (error.Failed placed) is reads exact) refl
 
 -- and was printed
-pub unread_printed : (purpose : Purpose) (files files' : FilesSeen) (made : Made) (out : Output) (path : List ℕ) (e : SiteError) (placed : PlacedFault) → e ≡ error.Failed placed → Reading files files' → IsErrorOf purpose files files' path e → FailsIf {A = ReadSite} (Err e) files.faults files'.faults made.before made.after →
-    Printed out (ended (conf_fault_line placed.path placed.fault)) → Unread purpose files files' out path
-unread_printed purpose files files' made out path e placed is reads exact cause printed =
+pub unread_printed : (files files' : FilesSeen) (made : Made) (out : Output) (path : List ℕ) (e : SiteError) (placed : PlacedFault) → e ≡ error.Failed placed → Reading files files' → IsErrorOf files files' path e → FailsIf {A = ReadSite} (Err e) files.faults files'.faults made.before made.after →
+    Printed out (ended (conf_fault_line placed.path placed.fault)) → Unread files files' out path
+unread_printed files files' made out path e placed is reads exact cause printed =
     let c : FailsIf {A = ReadSite} (Err (error.Failed placed)) files.faults files'.faults made.before made.after = subst (λ (x : SiteError). FailsIf {A = ReadSite} (Err x) files.faults files'.faults made.before made.after) is cause in
-    record { placed = placed; described = error_described purpose files files' path e (error.Failed placed) is reads exact; kind = c.0; rose = c.1; printed = printed }
+    record { placed = placed; described = error_described files files' path e (error.Failed placed) is reads exact; kind = c.0; rose = c.1; printed = printed }
 
 -- a pattern that the maker refused
-pub is_maker_line : (purpose : Purpose) (files files' : FilesSeen) (made : Made) (path : List ℕ) (e : SiteError) (placed : PlacedFault) → e ≡ error.TooBig placed → FailsIf {A = ReadSite} (Err e) files.faults files'.faults made.before made.after →
-    IsFaultLine purpose files files' made path (ended (conf_fault_line placed.path placed.fault))
-is_maker_line purpose files files' made path e placed is cause =
+pub is_maker_line : (files files' : FilesSeen) (made : Made) (path : List ℕ) (e : SiteError) (placed : PlacedFault) → e ≡ error.TooBig placed → FailsIf {A = ReadSite} (Err e) files.faults files'.faults made.before made.after →
+    IsFaultLine files files' made path (ended (conf_fault_line placed.path placed.fault))
+is_maker_line files files' made path e placed is cause =
     let c : FailsIf {A = ReadSite} (Err (error.TooBig placed)) files.faults files'.faults made.before made.after = subst (λ (x : SiteError). FailsIf {A = ReadSite} (Err x) files.faults files'.faults made.before made.after) is cause in
     OfMaker placed.fault placed.path c.0 c.1 refl
 
 -- what was found was printed
-pub checked : (files files' : FilesSeen) (made : Made) (out : Output) (path : List ℕ) (found : ReadSite) (racy : Bool) → has_items (conflicts_of found) ≡ racy → Finds purposes.Reading files files' path found → Printed out (check_text found) →
+pub checked : (files files' : FilesSeen) (made : Made) (out : Output) (path : List ℕ) (found : ReadSite) (racy : Bool) → has_items (conflicts_of found) ≡ racy → Finds files files' path found → Printed out (check_text found) →
     CheckEnds files files' made out path (if racy then status.Racy else status.Done)
 checked files files' made out path found true e d p = record { found = found; described = d; names = e; printed = p }
 checked files files' made out path found false e d p = record { found = found; described = d; names = e; printed = p }

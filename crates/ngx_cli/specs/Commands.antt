@@ -12,8 +12,6 @@ use Rattle.conf_include.specs.Listings.{Names, IsNaming}
 use Rattle.conf_include.specs.Asked.{IsAskedAt}
 use Rattle.conf_include.specs.declared.main_file.PlacedFault.{PlacedFault}
 use Rattle.conf_inherit.specs.Values.{has_items}
-use Rattle.conf_inherit.specs.declared.site.Purpose.{Purpose}
-use Rattle.conf_inherit.specs.declared.site.Purpose.TheVariants as purposes
 use Rattle.report_text.specs.Lines.{ended}
 use Rattle.report_text.specs.Faults.{conf_fault_line}
 use Rattle.ngx_cli.specs.declared.script.ScriptOutcome.{ScriptOutcome}
@@ -122,51 +120,51 @@ ReplayEnds files files' made out path racy status.SinkFault = CutShort
 ReplayEnds files files' made out path racy status.OutOfMemory = Printed out []
 ReplayEnds files files' made out path racy s = ⊥
 
--- The configuration at a path, read for this purpose, comes to this, as far as the files tell and
--- their newest tree stays while it is read; where they failed, they were asked where that is told.
-pub record Describes (purpose : Purpose) (files reading : FilesSeen) (path : List ℕ)
+-- The configuration at a path comes to this, as far as the files tell and their newest tree stays while
+-- it is read; where they failed, they were asked where that is told.
+pub record Describes (files reading : FilesSeen) (path : List ℕ)
     (outcome : Result ReadSite SiteError) : Type 0 where
   pub reads : Reading files reading
   pub is : files.tells ≡ true → reading.newest ≡ files.newest → (names : Names) →
       IsNaming (files.trees files.newest) names →
       IsDescribed (IsAskedAt (files.trees files.newest) names path) outcome
-      (site_at purpose (files.trees files.newest) names path)
+      (site_at (files.trees files.newest) names path)
 
 -- and its site with its named variables was found
-pub record Finds (purpose : Purpose) (files reading : FilesSeen) (path : List ℕ)
+pub record Finds (files reading : FilesSeen) (path : List ℕ)
     (found : ReadSite) : Type 0 where
-  pub described : Describes purpose files reading path (Ok found)
+  pub described : Describes files reading path (Ok found)
   pub raceless : conflicts_of found ≡ [] → AreRaceless found.built
 
 -- what is to be printed of a configuration that wasn't read: its first fault, with the path of
 -- its file; or that a file couldn't be read, with the path of the file that names it; or a pattern that the maker refused
-pub data IsFaultLine (purpose : Purpose) (files files' : FilesSeen) (made : Made)
+pub data IsFaultLine (files files' : FilesSeen) (made : Made)
     (path text : List ℕ) : Type 0 where
   OfFirst : (placed : PlacedFault) →
-      Describes purpose files files' path (Err (error.Fault placed)) →
+      Describes files files' path (Err (error.Fault placed)) →
       text ≡ ended (conf_fault_line placed.path placed.fault) →
-      IsFaultLine purpose files files' made path text
+      IsFaultLine files files' made path text
   OfFiles : (placed : PlacedFault) → placed.fault.kind ≡ ReadFault →
       Rose files.faults files'.faults →
-      Describes purpose files files' path (Err (error.Failed placed)) →
+      Describes files files' path (Err (error.Failed placed)) →
       text ≡ ended (conf_fault_line placed.path placed.fault) →
-      IsFaultLine purpose files files' made path text
+      IsFaultLine files files' made path text
   OfMaker : (fault : ConfFault) (at : List ℕ) → fault.kind ≡ PatternTooBig →
       Rose made.before made.after → text ≡ ended (conf_fault_line at fault) →
-      IsFaultLine purpose files files' made path text
+      IsFaultLine files files' made path text
 
 -- the configuration at a path has this first fault, which was printed with the path of its file
-pub record Faulty (purpose : Purpose) (files files' : FilesSeen) (out : Output)
+pub record Faulty (files files' : FilesSeen) (out : Output)
     (path : List ℕ) : Type 0 where
   pub placed : PlacedFault
-  pub described : Describes purpose files files' path (Err (error.Fault placed))
+  pub described : Describes files files' path (Err (error.Fault placed))
   pub printed : Printed out (ended (conf_fault_line placed.path placed.fault))
 
 -- a file of the configuration at a path couldn't be read, which was printed, with the path of the file that names it
-pub record Unread (purpose : Purpose) (files files' : FilesSeen) (out : Output)
+pub record Unread (files files' : FilesSeen) (out : Output)
     (path : List ℕ) : Type 0 where
   pub placed : PlacedFault
-  pub described : Describes purpose files files' path (Err (error.Failed placed))
+  pub described : Describes files files' path (Err (error.Failed placed))
   pub kind : placed.fault.kind ≡ ReadFault
   pub rose : Rose files.faults files'.faults
   pub printed : Printed out (ended (conf_fault_line placed.path placed.fault))
@@ -184,15 +182,15 @@ pub record Unmade (made : Made) (out : Output) : Type 0 where
 pub record Checked (files files' : FilesSeen) (out : Output) (path : List ℕ)
     (racy : Bool) : Type 0 where
   pub found : ReadSite
-  pub described : Finds purposes.Reading files files' path found
+  pub described : Finds files files' path found
   pub names : has_items (conflicts_of found) ≡ racy
   pub printed : Printed out (check_text found)
 
 -- what is to be printed of a check
 pub data IsCheckLine (files files' : FilesSeen) (made : Made) (path text : List ℕ) : Type 0 where
-  OfSite : (found : ReadSite) → Finds purposes.Reading files files' path found →
+  OfSite : (found : ReadSite) → Finds files files' path found →
       text ≡ check_text found → IsCheckLine files files' made path text
-  OfNoSite : IsFaultLine purposes.Reading files files' made path text →
+  OfNoSite : IsFaultLine files files' made path text →
       IsCheckLine files files' made path text
 
 -- When each status of a check comes.
@@ -201,9 +199,9 @@ abbrev pub CheckEnds : (files files' : FilesSeen) → Made → Output → (path 
 CheckEnds files files' made out path status.Done = Checked files files' out path false
 CheckEnds files files' made out path status.Racy = Checked files files' out path true
 CheckEnds files files' made out path status.ConfFault =
-    Faulty purposes.Reading files files' out path
+    Faulty files files' out path
 CheckEnds files files' made out path status.FilesFault =
-    Unread purposes.Reading files files' out path
+    Unread files files' out path
 CheckEnds files files' made out path status.PatternFault = Unmade made out
 CheckEnds files files' made out path status.SinkFault =
     CutShort (IsCheckLine files files' made path) out
@@ -217,7 +215,7 @@ pub record Served (o : Outside) (out : Output) (path : List ℕ) (turns : ℕ) (
     (e : Ending) : Type 0 where
   pub found : ReadSite
   pub reading : FilesSeen
-  pub described : Finds purposes.Serving o.files reading path found
+  pub described : Finds o.files reading path found
   pub names : racy ≡ false → has_items (conflicts_of found) ≡ false
   pub raceless : racy ≡ false → AreRaceless found.built
   pub serving : Serving (not (has_items (conflicts_of found))) found.built.patterns
@@ -228,7 +226,7 @@ pub record Served (o : Outside) (out : Output) (path : List ℕ) (turns : ℕ) (
 -- links and the clock.
 pub record Unserved (o : Outside) (out : Output) (path : List ℕ) : Type 0 where
   pub found : ReadSite
-  pub described : Finds purposes.Serving o.files o.files' path found
+  pub described : Finds o.files o.files' path found
   pub names : has_items (conflicts_of found) ≡ true
   pub links : o.links' ≡ o.links
   pub clock : o.clock' ≡ o.clock
@@ -236,9 +234,9 @@ pub record Unserved (o : Outside) (out : Output) (path : List ℕ) : Type 0 wher
 
 -- what is to be printed where a site isn't served
 pub data IsRefusal (files files' : FilesSeen) (made : Made) (path text : List ℕ) : Type 0 where
-  OfRaces : (found : ReadSite) → Finds purposes.Serving files files' path found →
+  OfRaces : (found : ReadSite) → Finds files files' path found →
       text ≡ check_text found → IsRefusal files files' made path text
-  OfFault : IsFaultLine purposes.Serving files files' made path text →
+  OfFault : IsFaultLine files files' made path text →
       IsRefusal files files' made path text
 
 -- What a site that was found came to, from here on: served, or refused.
@@ -283,9 +281,9 @@ ServeEnds o made out path turns racy status.TurnsUsed =
 ServeEnds o made out path turns racy status.Racy =
     (racy ≡ false) × Unserved o out path
 ServeEnds o made out path turns racy status.ConfFault =
-    Faulty purposes.Serving o.files o.files' out path
+    Faulty o.files o.files' out path
 ServeEnds o made out path turns racy status.FilesFault =
-    Unread purposes.Serving o.files o.files' out path
+    Unread o.files o.files' out path
 ServeEnds o made out path turns racy status.PatternFault = Unmade made out
 ServeEnds o made out path turns racy status.LinksFault =
     Rose o.links.faults o.links'.faults ×

@@ -20,7 +20,6 @@ use Rattle.conf_text.specs.declared.fault.ConfFault.{ConfFault}
 use Rattle.conf_text.specs.declared.fault.FaultKind.TheVariants.{PatternTooBig}
 use Rattle.replay_confs.specs.Confs.{conf_tree}
 use Rattle.conf_inherit.specs.Values.{has_items}
-use Rattle.conf_inherit.specs.declared.site.Purpose.TheVariants as purposes
 use Rattle.conf_inherit.specs.declared.site.Built.{Built}
 use Rattle.answers_meaning.specs.Answers.{responses, logs_in, close_in, answers}
 use Rattle.request_opening.specs.Openings.{service_of}
@@ -46,7 +45,7 @@ main_path (conf ∷ confs) = conf.path
 -- by those that it names, or the first fault, with the path of its configuration.
 abbrev pub Describe : List Conf → Result Configuration (ConfFault × List ℕ) → Type 0
 Describe confs outcome =
-    site_at purposes.Serving (conf_tree confs) (conf_names confs) (main_path confs) ≡ outcome
+    site_at (conf_tree confs) (conf_names confs) (main_path confs) ≡ outcome
 
 -- They were read, and these are the variables that are named of them.
 pub record AreFound (confs : List Conf) (found : ReadSite) : Type 0 where

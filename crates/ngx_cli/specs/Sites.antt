@@ -13,7 +13,6 @@ use Rattle.conf_include.specs.declared.main_file.ExpandError.{ExpandError}
 use Rattle.conf_include.specs.declared.main_file.ExpandError.TheVariants as expand
 use Rattle.conf_include.specs.Paths.{folder_of}
 use Rattle.conf_inherit.specs.Built.{built}
-use Rattle.conf_inherit.specs.declared.site.Purpose.{Purpose}
 use Rattle.site_views.specs.Views.{ServerView, SiteView}
 use Rattle.conf_inherit.specs.Pools.{site_built}
 use Rattle.conf_inherit.specs.declared.site.Built.{Built}
@@ -42,20 +41,17 @@ abbrev pub placed_in : {A : Type 0} → List (List ℕ) → Result A ConfFault �
 placed_in paths (Ok value) = Ok value
 placed_in paths (Err fault) = Err (fault, slice_index_or paths fault.file [])
 
--- the site of a configuration's directives for this purpose, whose relative paths start at this folder,
--- or the first fault
-abbrev pub site_in : Purpose → (folder : List ℕ) →
+-- the site of a configuration's directives, whose relative paths start at this folder, or the first fault
+abbrev pub site_in : (folder : List ℕ) →
     Result (List Directive × List (List ℕ)) (ConfFault × List ℕ) →
     Result Configuration (ConfFault × List ℕ)
-site_in purpose folder (Ok read) =
-    placed_in read.1 (with_files read (built purpose folder read.0))
-site_in purpose folder (Err fault) = Err fault
+site_in folder (Ok read) = placed_in read.1 (with_files read (built folder read.0))
+site_in folder (Err fault) = Err fault
 
--- the site of a main file and what it includes, for this purpose, or the first fault, with the path of
--- its file
-unfoldable pub site_at : Purpose → Tree → Names → List ℕ →
+-- the site of a main file and what it includes, or the first fault, with the path of its file
+unfoldable pub site_at : Tree → Names → List ℕ →
     Result Configuration (ConfFault × List ℕ)
-site_at purpose tree names main = site_in purpose (folder_of main) (expansion tree names main)
+site_at tree names main = site_in (folder_of main) (expansion tree names main)
 
 -- A configuration was read: the number of the newest tree was told when the reading began and when
 -- it was over.

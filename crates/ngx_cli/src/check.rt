@@ -13,7 +13,7 @@ use crate::command::{put_fault, put_text};
 use crate::site::{ReadSite, SiteError, site_at};
 use crate::status::Status;
 use byte_text::{ByteText, OutOfMemory};
-use conf_inherit::{Built, Purpose};
+use conf_inherit::Built;
 use ngx_outside::{Files, Sink};
 use ngx_pattern::PatternMaker;
 use race_places::Conflict;
@@ -132,7 +132,7 @@ pub(crate) fn run_check<F: Files, O: Sink, M: PatternMaker>(
         (record { before = M.refusals maker.old; after = M.refusals maker.new })
         (record { before = O.seen out.old; after = O.seen out.new }) path.now result }
 {
-    match site_at(alloc, Purpose::Reading, files, maker, path) {
+    match site_at(alloc, files, maker, path) {
         Ok(found) => match put_found(alloc, &found, out) {
             Ok(()) => status_by(is_racy(&found)),
             Err(status) => status,

@@ -16,7 +16,7 @@ use crate::text::read_text;
 use byte_text::{ByteText, OutOfMemory};
 use command_line::{Command, command_of};
 use conf_include::PlacedFault;
-use conf_inherit::{Built, Purpose};
+use conf_inherit::Built;
 use ngx_outside::{Clock, Failed, FileFault, Files, Links, Sink};
 use ngx_pattern::PatternMaker;
 use site_service::{CheckedSite, serve_site};
@@ -148,7 +148,7 @@ fn run_site<F: Files, L: Links, C: Clock, O: Sink, M: PatternMaker>(
         (record { before = O.seen out.old; after = O.seen out.new })
         asked.entry.conf.now asked.entry.turns asked.entry.racy result }
 {
-    match site_at(alloc, Purpose::Serving, files, maker, asked.conf) {
+    match site_at(alloc, files, maker, asked.conf) {
         Ok(found) => serve_found(alloc, found, asked, files, links, clock, out),
         Err(SiteError::Fault(placed)) => match put_fault(alloc, &placed, out) {
             Ok(()) => Status::ConfFault,

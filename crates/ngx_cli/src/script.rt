@@ -14,7 +14,7 @@ use crate::check::{found_text, is_racy, is_refused};
 use crate::site::{ReadSite, SiteError, site_at};
 use byte_text::{ByteText, OutOfMemory};
 use conf_include::PlacedFault;
-use conf_inherit::{Built, Purpose};
+use conf_inherit::Built;
 use connection_core::{Hub, cores_are_sound};
 use ngx_outside::{
     StopCause, all_is_logged_when_idle, all_is_sent_when_idle, all_is_sent_when_shut,
@@ -66,13 +66,7 @@ fn site_of<M: PatternMaker>(
         (M.refusals maker.new)) }
 {
     let mut files = ConfFiles::new(alloc, confs.as_slice());
-    match site_at(
-        alloc,
-        Purpose::Serving,
-        &mut files,
-        maker,
-        main_path(confs.as_slice()),
-    ) {
+    match site_at(alloc, &mut files, maker, main_path(confs.as_slice())) {
         Ok(found) => Ok(found),
         Err(error) => Err(error),
     }

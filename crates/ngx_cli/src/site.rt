@@ -10,7 +10,7 @@ ghost use Rattle.ngx_cli.specs.Sites.{AreRaceless, AreRacesOf, conflicts_of, Des
 use byte_text::{ByteText, ByteTexts, OutOfMemory};
 use conf_check::ReadError;
 use conf_include::{ExpandError, Expanded, PlacedFault, expand, folder_of};
-use conf_inherit::{Built, Purpose, build};
+use conf_inherit::{Built, build};
 use conf_races::{FoundRaces, races};
 use ngx_outside::Files;
 use ngx_pattern::PatternMaker;
@@ -84,7 +84,6 @@ fn checked(alloc: Global, built: Built, read: Expanded) -> Result<ReadSite, Site
 #[tactic(auto, unfolding(crate::specs::Sites::site_at))]
 fn site_read<F: Files, M: PatternMaker>(
     alloc: Global,
-    purpose: Purpose,
     files: &mut F,
     maker: &mut M,
     path: &[u8],
@@ -93,7 +92,7 @@ fn site_read<F: Files, M: PatternMaker>(
         (F.seen files.new).newest ≡ (F.seen files.old).newest → (names : Names) →
         IsNaming ((F.seen files.old).trees (F.seen files.old).newest) names →
         Describes (IsAskedAt ((F.seen files.old).trees (F.seen files.old).newest) names path.now)
-        result (site_found purpose
+        result (site_found
         ((F.seen files.old).trees (F.seen files.old).newest) names path.now) }
     ensures none { IfOk result (λ found. conflicts_of found ≡ [] → AreRaceless found.built) }
     ensures cause { FailsIf result (F.seen files.old).faults (F.seen files.new).faults
@@ -108,7 +107,7 @@ fn site_read<F: Files, M: PatternMaker>(
         Err(error) => return Err(unread(error)),
     };
     let directives = read.directives.as_slice();
-    match build(alloc, maker, purpose, folder_of(path), directives) {
+    match build(alloc, maker, folder_of(path), directives) {
         Ok(built) => match checked(alloc, built, read) {
             Ok(found) => Ok(found),
             Err(error) => Err(error),
@@ -125,18 +124,16 @@ fn site_read<F: Files, M: PatternMaker>(
     }
 }
 
-/// The site that a configuration describes for this purpose, from its main file and the files that it includes, where the
-/// files' newest tree stays the newest until it is read; and the variables that the race check names of it. The number of the
-/// newest tree is asked for at the beginning and at the end. Patterns are made by this maker.
+/// The site that a configuration describes, from its main file and the files that it includes, where the files' newest tree
+/// stays the newest until it is read; and the variables that the race check names of it. The number of the newest tree is
+/// asked for at the beginning and at the end. Patterns are made by this maker.
 ///
 /// # Errors
 ///
-/// `Fault` for the first fault of its files' texts, or of its directives; of a site that is to be served then for the first
-/// directive that has no effect yet. `Failed` only where the files failed in this call, for a place at which they were asked,
-/// and `TooBig` only where the maker refused a pattern in it. `OutOfMemory`.
+/// `Fault` for the first fault of its files' texts, or of its directives. `Failed` only where the files failed in this call,
+/// for a place at which they were asked, and `TooBig` only where the maker refused a pattern in it. `OutOfMemory`.
 pub fn site_at<F: Files, M: PatternMaker>(
     alloc: Global,
-    purpose: Purpose,
     files: &mut F,
     maker: &mut M,
     path: &[u8],
@@ -145,14 +142,14 @@ pub fn site_at<F: Files, M: PatternMaker>(
         (F.seen files.new).newest ≡ (F.seen files.old).newest → (names : Names) →
         IsNaming ((F.seen files.old).trees (F.seen files.old).newest) names →
         Describes (IsAskedAt ((F.seen files.old).trees (F.seen files.old).newest) names path.now)
-        result (site_found purpose
+        result (site_found
         ((F.seen files.old).trees (F.seen files.old).newest) names path.now) }
     ensures none { IfOk result (λ found. conflicts_of found ≡ [] → AreRaceless found.built) }
     ensures cause { FailsIf result (F.seen files.old).faults (F.seen files.new).faults
         (M.refusals maker.old) (M.refusals maker.new) }
     ensures reading { Reading (F.seen files.old) (F.seen files.new) }
 {
-    let outcome = site_read(alloc, purpose, files, maker, path);
+    let outcome = site_read(alloc, files, maker, path);
     files.version();
     outcome
 }

@@ -1,4 +1,4 @@
--- The kinds of faults, each by its number and its name. What isn't served yet has the number of what is unknown.
+-- The kinds of faults, each by its number and its name.
 use Rattle.std.specs.Prelude.{ℕ, List, codes}
 use Rattle.replay_words.specs.declared.faults.FaultKind.{FaultKind}
 use Rattle.replay_words.specs.declared.faults.FaultKind.TheVariants as script
@@ -32,4 +32,3 @@ conf_kind_text conf.NoServer = codes "17 NoServer"
 conf_kind_text conf.BuiltinSet = codes "18 BuiltinSet"
 conf_kind_text conf.TooNested = codes "19 TooNested"
 conf_kind_text conf.PatternTooBig = codes "20 PatternTooBig"
-conf_kind_text conf.NotServed = codes "11 NotServed"

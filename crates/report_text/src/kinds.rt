@@ -1,4 +1,4 @@
-// The kinds of faults, each by its number and its name. What isn't served yet has the number of what is unknown.
+// The kinds of faults, each by its number and its name.
 ghost use Rattle.std.specs.Prelude.{◌≡◌};
 ghost use Rattle.report_text.specs.Kinds.{script_kind_text, conf_kind_text};
 
@@ -42,6 +42,5 @@ pub fn conf_kind_text(kind: ConfKind) -> &'static [u8]
         ConfKind::BuiltinSet => b"18 BuiltinSet",
         ConfKind::TooNested => b"19 TooNested",
         ConfKind::PatternTooBig => b"20 PatternTooBig",
-        ConfKind::NotServed => b"11 NotServed",
     }
 }

@@ -37,7 +37,7 @@ same_follows site before after out closing e = record {
 }
 
 -- what was told of an item changes nothing of it
-told_same : (item : Item) (node : Node) → node ≡ node_of item → told_item node item ≡ item
+pub told_same : (item : Item) (node : Node) → node ≡ node_of item → told_item node item ≡ item
 told_same (AFile bytes date) node e = ap (λ n. told_item n (AFile bytes date)) e ∙ ap (λ b. AFile b date) (padded_whole bytes)
 told_same AFolder node e = ap (λ n. told_item n AFolder) e
 told_same ALocked node e = ap (λ n. told_item n ALocked) e

@@ -226,3 +226,21 @@ StageBy server length (Came sending left placed) = Unit {0}
 abbrev pub IsServedBy : (server length : ℕ) → Option (Box Flow) → Type 0
 IsServedBy server length None = Unit {0}
 IsServedBy server length (Some flow) = StageBy server length flow.value.stage
+
+-- how many subrequests it has asked whether it is let in, which matters as long as it is within its phases
+abbrev pub stage_opened : Stage → ℕ
+stage_opened (Asked request wait) = request.value.opened
+stage_opened (Told request wait node) = request.value.opened
+stage_opened (Reading sending left) = 0
+stage_opened (Came sending left placed) = 0
+
+-- it has asked so many
+abbrev pub StageOpened : (count : ℕ) → Stage → Type 0
+StageOpened count (Asked request wait) = request.value.opened ≡ count
+StageOpened count (Told request wait node) = request.value.opened ≡ count
+StageOpened count (Reading sending left) = Unit {0}
+StageOpened count (Came sending left placed) = Unit {0}
+
+abbrev pub HasOpened : (count : ℕ) → Option (Box Flow) → Type 0
+HasOpened count None = Unit {0}
+HasOpened count (Some flow) = StageOpened count flow.value.stage

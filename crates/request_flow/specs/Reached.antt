@@ -16,6 +16,7 @@ use Rattle.family_order.specs.Items.Stance.{Going}
 use Rattle.family_rest.specs.Reached.{Reached}
 use Rattle.request_phases.specs.Rounds.{phases_left, phases_told}
 use Rattle.request_phases.specs.declared.state.Step.{Step}
+use Rattle.request_phases.specs.declared.state.Step.TheVariants.{Calls}
 use Rattle.request_flow.specs.declared.flow.Flow.{Flow}
 use Rattle.request_flow.specs.declared.flow.InPhases.{InPhases}
 use Rattle.request_flow.specs.declared.flow.Stage.{Stage}
@@ -76,4 +77,5 @@ PageReached w patterns site p =
 
 abbrev pub WentReached : World → List SetPattern → Site → Went → Type 0
 WentReached w patterns site (went.On o) = FlowReached w patterns site o.flow
+WentReached w patterns site (went.Asks a) = StepReached w patterns site a.request.value (Calls a.path) 0
 WentReached w patterns site (went.Page p) = PageReached w patterns site p.value

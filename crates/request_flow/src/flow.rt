@@ -43,6 +43,8 @@ pub struct InPhases {
     /// No more questions to the files than these may follow: far more than a configuration can make
     /// a request ask.
     pub questions: u32,
+    /// How many subrequests were asked whether it is let in.
+    pub opened: u8,
 }
 
 /// Room for a request within its phases.
@@ -60,6 +62,7 @@ pub(crate) fn blank(alloc: Global) -> InPhases {
         server: 0,
         length: 0,
         questions: 0,
+        opened: 0,
     }
 }
 

@@ -14,8 +14,8 @@ pub use blocks::Sending;
 pub use flow::{
     Flow, InPhases, Onward, Stage, Terms, length_of, may_run, server_of, shown_by, waits, wrote,
 };
-pub use page::{PageHead, PageStart, Went};
+pub use page::{AccessStart, PageHead, PageStart, Went};
 pub use reply::{Workspace, put_refusal};
 pub use request_opening::Opening;
 pub use run::{answered, is_sending, run_on, sends_on};
-pub use steps::{FileAt, Known, start};
+pub use steps::{FileAt, Known, Replied, admits, start};

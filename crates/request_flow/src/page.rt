@@ -43,10 +43,23 @@ pub struct PageStart {
     pub level: u32,
 }
 
+/// A request that asks a subrequest whether it is let in
+/// (<https://nginx.org/en/docs/http/ngx_http_auth_request_module.html>): the path of that, and the
+/// number of the tree that it is served from; whether the connection closes after the response.
+#[derive(Drop)]
+pub struct AccessStart {
+    pub request: Box<InPhases>,
+    pub path: ByteText,
+    pub of: u64,
+    pub closing: bool,
+}
+
 /// What became of a request that went on.
 #[derive(Drop)]
 pub enum Went {
     On(Onward),
+    /// A subrequest decides on its access.
+    Asks(AccessStart),
     /// Filters act on its body: a family of nodes makes that.
     Page(Box<PageStart>),
 }

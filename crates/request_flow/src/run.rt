@@ -6,9 +6,9 @@ ghost use Rattle.site_model.specs.declared.site.Site.{Site as SiteRow};
 ghost use Rattle.request_meaning.specs.Laws.{shipped};
 ghost use Rattle.request_meaning.specs.Serving.{World};
 ghost use Rattle.request_phases.specs.Rounds.{IsGround, world_in};
-ghost use Rattle.request_flow.specs.Flows.{waits as waits_for, may_run as can_run, is_sending as sends, going_on, one_rest, flow_rest, flow_fits, flow_left, flow_most, tree_asked, heard_flow, file_length, stage_server, stage_length, IsServedBy};
+ghost use Rattle.request_flow.specs.Flows.{waits as waits_for, may_run as can_run, is_sending as sends, going_on, one_rest, flow_rest, flow_fits, flow_left, flow_most, tree_asked, heard_flow, file_length, stage_server, stage_length, stage_opened, HasOpened, IsServedBy};
 ghost use Rattle.request_flow.specs.Rests.{Follows};
-ghost use Rattle.request_flow.specs.Pages.{GoesTo, IfOn, IfPage, IsServed, IsTold, closing_of, tree_of_went};
+ghost use Rattle.request_flow.specs.Pages.{GoesTo, IfAsks, IfOn, IfPage, AreOpened, IsServed, IsTold, closing_of, tree_of_went};
 ghost use Rattle.request_flow.specs.Reached.{FlowReached, OneReached, WentReached};
 
 use crate::blocks::{Sending, to_next_block};
@@ -72,8 +72,11 @@ fn run_told(
         + flow_left o.flow (length out.new) < flow_most + 2 * heard.request.value.questions + 1)) }
     ensures by { IfOk result (λ went.
         IsServed heard.request.value.server heard.request.value.length went) }
+    ensures opened { IfOk result (λ went. AreOpened heard.request.value.opened went) }
     ensures asked { IfOk result (λ went. tree_of_went went ≤ tree_of heard.ask) }
     ensures put { IfOk result (λ went. IfPage went (λ p. out.new ≡ [])) }
+    ensures spends { IfOk result (λ went. IfAsks went (λ a. (out.new ≡ [])
+        × (a.request.value.questions < heard.request.value.questions))) }
     ensures told { IfOk result (λ went. IfPage went (λ p. IsTold p.page)) }
     ensures closes { IfOk result (λ went. closing ≡ true → closing_of went ≡ true) }
     ensures kept { space.new.patterns ≡ space.old.patterns }
@@ -143,6 +146,7 @@ pub fn sends_on(flow: &mut Box<Flow>, size: usize) -> Option<(u16, u64)>
     ensures lowers { flow_left (going_on flow.new result) size
         < flow_left (Some flow.old) size }
     ensures by { (server length : ℕ) → IsServedBy server length (going_on flow.new result) }
+    ensures opened { (count : ℕ) → HasOpened count (going_on flow.new result) }
     ensures asked { tree_asked (going_on flow.new result)
         ≤ tree_of flow.old.value.ask }
     ensures reached { (w : World) (patterns : List SetPattern) (site : SiteRow) →
@@ -230,8 +234,12 @@ pub fn run_on(
         < length out.old + flow_left (Some flow) (length out.old))) }
     ensures by { IfOk result (IsServed (stage_server flow.value.stage)
         (stage_length flow.value.stage)) }
+    ensures opened { IfOk result (AreOpened (stage_opened flow.value.stage)) }
     ensures asked { IfOk result (λ went. tree_of_went went ≤ tree_of flow.value.ask) }
     ensures put { IfOk result (λ went. IfPage went (λ p. out.new ≡ [])) }
+    ensures spends { IfOk result (λ went. IfAsks went (λ a. (out.new ≡ [])
+        × (flow_most + 2 * a.request.value.questions + 2
+        < length out.old + flow_left (Some flow) (length out.old)))) }
     ensures told { IfOk result (λ went. IfPage went (λ p. IsTold p.page)) }
     ensures closes { IfOk result (λ went. closing ≡ true → closing_of went ≡ true) }
     ensures kept { space.new.patterns ≡ space.old.patterns }
@@ -308,6 +316,7 @@ pub fn answered(
         < length out.old + flow_left (Some flow.old) (length out.old)) }
     ensures by { OnOk result (IsServedBy (stage_server flow.old.value.stage)
         (stage_length flow.old.value.stage) (Some flow.new)) }
+    ensures opened { OnOk result (HasOpened (stage_opened flow.old.value.stage) (Some flow.new)) }
     ensures asked { OnOk result (tree_of flow.new.value.ask ≡ tree_of flow.old.value.ask) }
     ensures reached { (w : World) (patterns : List SetPattern) (site : SiteRow) →
         FlowReached w patterns site (Some flow.old)

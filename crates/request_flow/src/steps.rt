@@ -8,28 +8,29 @@ ghost use Rattle.answers_meaning.specs.Asking.{request_of};
 ghost use Rattle.request_meaning.specs.Laws.{shipped};
 ghost use Rattle.request_meaning.specs.Serving.{is_head as is_head_method};
 ghost use Rattle.request_phases.specs.Rounds.{IsGround, world_in};
-ghost use Rattle.request_phases.specs.declared.state.Step.TheVariants.{Answers as ToAnswer, Asks as ToAsk};
+ghost use Rattle.request_phases.specs.declared.state.Step.TheVariants.{Answers as ToAnswer, Asks as ToAsk, Calls as ToCall};
 ghost use Rattle.request_opening.specs.Openings.{main_at};
 ghost use Rattle.request_flow.specs.Terms.{terms_at, terms_seen};
 ghost use Rattle.site_model.specs.declared.site.Site.{Site as SiteRow};
 ghost use Rattle.request_meaning.specs.Serving.{World};
-ghost use Rattle.request_flow.specs.Flows.{flow_rest, file_rest, item_asked, flow_fits, flow_left, flow_most, asking_most, tree_asked, IsServedBy};
-ghost use Rattle.request_flow.specs.Rests.{Follows, opened_rest};
-ghost use Rattle.request_flow.specs.Pages.{GoesTo, IfOn, IfPage, IsServed, IsTold, closing_of, tree_of_went};
-ghost use Rattle.request_flow.specs.Reached.{FlowReached, StepReached, WentReached};
+ghost use Rattle.request_flow.specs.Flows.{flow_rest, file_rest, item_asked, flow_fits, flow_left, flow_most, asking_most, tree_asked, HasOpened, IsServedBy};
+ghost use Rattle.request_phases.specs.Admitted.{phases_admitted};
+ghost use Rattle.request_flow.specs.Rests.{Follows, act_rest, finished, opened_rest};
+ghost use Rattle.request_flow.specs.Pages.{GoesTo, IfAsks, IfOn, IfPage, access_rest, AreOpened, IsServed, IsTold, closing_of, tree_of_went};
+ghost use Rattle.request_flow.specs.Reached.{FlowReached, IsReachedAt, StepReached, WentReached};
 ghost use Rattle.request_flow.specs.Sents.{known_bytes, known_tree, known_len, with_length as told_length, step_rest, is_plain as plain_reply, sends_file, file_known};
 
 use crate::blocks::{Sending, next_block};
 use crate::flow::{Flow, InPhases, Onward, Stage, Terms};
-use crate::page::{PageStart, Went, compose, composes};
+use crate::page::{AccessStart, PageStart, Went, compose, composes};
 use crate::reply::{Workspace, put_reply, stays};
 use crate::slot::put;
 use byte_text::{ByteQueue, ByteText, OutOfMemory};
 use file_tree::Ask;
 use http_types::Method;
-use ngx_variables::VarTable;
+use ngx_variables::{Request, VarTable};
 use request_opening::{Opening, put_phases};
-use request_phases::{Conclusion, Ground, Step, Wait, begin};
+use request_phases::{Conclusion, Ground, Step, Wait, admit, begin};
 use request_reply::{Body, Reply, reply_of};
 use std::alloc::Global;
 
@@ -166,6 +167,7 @@ fn reading(
     ensures lowers { (count : ℕ) → count ≤ 65536 → IfOk result (λ o.
         count + flow_left o.flow count < flow_most) }
     ensures by { (server length : ℕ) → IfOk result (λ o. IsServedBy server length o.flow) }
+    ensures opened { (count : ℕ) → IfOk result (λ o. HasOpened count o.flow) }
     ensures asked { IfOk result (λ o. tree_asked o.flow ≡ tree_of file.ask) }
     ensures reached { (w : World) (patterns : List SetPattern) (site : SiteRow) →
         IfOk result (λ o. FlowReached w patterns site o.flow) }
@@ -210,6 +212,7 @@ fn answer(
     ensures lowers { IfOk result (λ o. length out.new + flow_left o.flow
         (length out.new) < flow_most) }
     ensures by { (server length : ℕ) → IfOk result (λ o. IsServedBy server length o.flow) }
+    ensures opened { (count : ℕ) → IfOk result (λ o. HasOpened count o.flow) }
     ensures asked { IfOk result (λ o. tree_asked o.flow ≤ known_tree known) }
     ensures reached { (w : World) (patterns : List SetPattern) (site : SiteRow) →
         IfOk result (λ o. FlowReached w patterns site o.flow) }
@@ -264,6 +267,7 @@ fn asks(
     ensures lowers { (size : ℕ) → size ≡ 0 → IfOk result (λ o. size + flow_left o.flow size
         < flow_most + 2 * request.value.questions + 1) }
     ensures by { IfOk result (λ o. IsServedBy request.value.server request.value.length o.flow) }
+    ensures opened { IfOk result (λ o. HasOpened request.value.opened o.flow) }
     ensures asked { IfOk result (λ o. tree_asked o.flow ≤ known_tree known) }
     ensures reached { (w : World) (patterns : List SetPattern) (site : SiteRow) (len : ℕ) →
         StepReached w patterns site request.value (ToAsk wait path) len
@@ -284,6 +288,38 @@ fn asks(
         closing,
         log: None,
         level: None,
+    })
+}
+
+/// A request that asks a subrequest whether it is let in.
+fn calls(
+    request: Box<InPhases>,
+    path: ByteText,
+    known: &Known,
+    closing: bool,
+) -> Result<AccessStart, OutOfMemory>
+    ensures goes { (w : World) (patterns : List SetPattern) (site : SiteRow) (trees : Trees)
+        (bytes : List ℕ) → IfOk result (λ a. access_rest w patterns site trees a
+        ≡ step_rest w patterns site (trees (known_tree known.now)) request.value (ToCall path)
+        bytes) }
+    ensures reached { (w : World) (patterns : List SetPattern) (site : SiteRow) (len : ℕ) →
+        StepReached w patterns site request.value (ToCall path) len
+        → IfOk result (λ a. StepReached w patterns site a.request.value (ToCall a.path) 0) }
+    ensures spends { IfOk result (λ a. a.request.value.questions < request.value.questions) }
+    ensures by { IfOk result (λ a. (a.request.value.server ≡ request.value.server)
+        × (a.request.value.length ≡ request.value.length)) }
+    ensures opened { IfOk result (λ a. a.request.value.opened ≡ request.value.opened) }
+    ensures asked { IfOk result (λ a. a.of ≡ known_tree known.now) }
+    ensures closes { IfOk result (λ a. a.closing ≡ closing) }
+{
+    if request.questions == 0 {
+        return Err(OutOfMemory);
+    }
+    Ok(AccessStart {
+        request: spent(request),
+        path,
+        of: tree_in(known),
+        closing,
     })
 }
 
@@ -312,8 +348,11 @@ fn answers(
     ensures lowers { IfOk result (λ went. IfOn went (λ o. length out.new + flow_left o.flow
         (length out.new) < flow_most)) }
     ensures by { IfOk result (λ went. IsServed request.value.server request.value.length went) }
+    ensures opened { IfOk result (λ went. AreOpened request.value.opened went) }
     ensures asked { IfOk result (λ went. tree_of_went went ≤ known_tree known) }
     ensures put { IfOk result (λ went. IfPage went (λ p. out.new ≡ [])) }
+    ensures spends { IfOk result (λ went. IfAsks went (λ a. (out.new ≡ [])
+        × (a.request.value.questions < request.value.questions))) }
     ensures told { IfOk result (λ went. IfPage went (λ p. IsTold p.page)) }
     ensures closes { IfOk result (λ went. closing ≡ true → closing_of went ≡ true) }
     ensures kept { space.new.patterns ≡ space.old.patterns }
@@ -347,7 +386,7 @@ fn answers(
 }
 
 /// Goes on with a request by a step of its phases: a question is asked, or the response is put, or
-/// made a page. Subrequests that decide on access aren't served yet: there is no memory for them.
+/// made a page; or a subrequest is asked whether it is let in.
 pub(crate) fn go_on(
     space: &mut Workspace,
     ground: &Ground<'_>,
@@ -372,8 +411,11 @@ pub(crate) fn go_on(
     ensures lowers { IfOk result (λ went. IfOn went (λ o. length out.new + flow_left o.flow
         (length out.new) < flow_most + 2 * request.value.questions + 1)) }
     ensures by { IfOk result (λ went. IsServed request.value.server request.value.length went) }
+    ensures opened { IfOk result (λ went. AreOpened request.value.opened went) }
     ensures asked { IfOk result (λ went. tree_of_went went ≤ known_tree known) }
     ensures put { IfOk result (λ went. IfPage went (λ p. out.new ≡ [])) }
+    ensures spends { IfOk result (λ went. IfAsks went (λ a. (out.new ≡ [])
+        × (a.request.value.questions < request.value.questions))) }
     ensures told { IfOk result (λ went. IfPage went (λ p. IsTold p.page)) }
     ensures closes { IfOk result (λ went. closing ≡ true → closing_of went ≡ true) }
     ensures kept { space.new.patterns ≡ space.old.patterns }
@@ -387,10 +429,7 @@ pub(crate) fn go_on(
             known,
             closing,
         )?)),
-        Step::Calls(_) => {
-            drop(request);
-            Err(OutOfMemory)
-        }
+        Step::Calls(path) => Ok(Went::Asks(calls(request, path, &known, closing)?)),
         Step::Answers(outcome) => {
             Ok(answers(space, ground, request, outcome, known, out, closing)?)
         }
@@ -442,6 +481,7 @@ fn begun(
     ensures questions { request.new.questions ≤ 4294967295 }
     ensures server { IfOk result (λ step. request.new.server ≡ server) }
     ensures length { IfOk result (λ step. request.new.length ≡ ground.now.length) }
+    ensures opened { IfOk result (λ step. request.new.opened ≡ 0) }
     ensures kept { space.new.patterns ≡ space.old.patterns }
 {
     let alloc = space.alloc;
@@ -450,6 +490,7 @@ fn begun(
     request.server = server;
     request.length = ground.length;
     request.questions = u32::MAX;
+    request.opened = 0;
     put(&mut request.vars, VarTable::new(alloc));
     put_phases(ground, opening, &mut request.phases, &mut space.head_room)?;
     let step = begin(
@@ -492,8 +533,11 @@ pub fn start(
     ensures lowers { IfOk result (λ went. IfOn went (λ o. length out.new + flow_left o.flow
         (length out.new) < asking_most)) }
     ensures by { IfOk result (IsServed server ground.now.length) }
+    ensures opened { IfOk result (AreOpened 0) }
     ensures asked { IfOk result (λ went. tree_of_went went ≤ opening.tree) }
     ensures put { IfOk result (λ went. IfPage went (λ p. out.new ≡ [])) }
+    ensures spends { IfOk result (λ went. IfAsks went (λ a. (out.new ≡ [])
+        × (a.request.value.questions < 4294967295))) }
     ensures told { IfOk result (λ went. IfPage went (λ p. IsTold p.page)) }
     ensures kept { space.new.patterns ≡ space.old.patterns }
 {
@@ -508,6 +552,82 @@ pub fn start(
     let inside = &mut *request;
     match begun(space, ground, server, opening, inside) {
         Ok(step) => Ok(go_on(space, ground, request, step, known, out, false)?),
+        Err(OutOfMemory) => {
+            drop(request);
+            Err(OutOfMemory)
+        }
+    }
+}
+
+/// What a subrequest replied that decides on access: its status, what its request was at its end,
+/// and the number of the tree that it was served from.
+#[derive(Drop)]
+pub struct Replied {
+    pub status: u16,
+    pub request: Request,
+    pub of: u64,
+}
+
+/// Goes on with a main request by the reply of the subrequest that it asked whether it is let in.
+///
+/// # Errors
+/// `OutOfMemory`; the request is then not to be answered.
+pub fn admits(
+    space: &mut Workspace,
+    ground: &Ground<'_>,
+    request: Box<InPhases>,
+    replied: Replied,
+    out: &mut ByteQueue,
+    closing: bool,
+) -> Result<Went, OutOfMemory>
+    requires ground { IsGround ground.now }
+    requires unsent { out.old ≡ [] }
+    ensures goes { (trees : Trees) →
+        let w = world_in space.old.patterns ground.now shipped in
+        let site = ground.now.site.now in
+        IfOk result (λ went. GoesTo w space.old.patterns site trees
+        (act_rest w (trees replied.of) (terms_seen request.value.terms)
+        (phases_admitted w site request.value.phases replied.status replied.request)
+        request.value.vars) out.old out.new closing went) }
+    ensures reached { let w = world_in space.old.patterns ground.now shipped in
+        let site = ground.now.site.now in
+        IsReachedAt w (finished w (phases_admitted w site request.value.phases replied.status
+        replied.request)) request.value.vars
+        → IfOk result (WentReached w space.old.patterns site) }
+    ensures over { IfOk result (λ went. IfOn went (λ o. is_some o.log ≡ not (is_some o.flow))) }
+    ensures fits { IfOk result (λ went. IfOn went (λ o. flow_fits o.flow (length out.new) ≡ true)) }
+    ensures lowers { IfOk result (λ went. IfOn went (λ o. length out.new
+        + flow_left o.flow (length out.new) < flow_most + 2 * request.value.questions + 1)) }
+    ensures by { IfOk result (λ went. IsServed request.value.server request.value.length went) }
+    ensures opened { IfOk result (λ went. AreOpened request.value.opened went) }
+    ensures asked { IfOk result (λ went. tree_of_went went ≤ replied.of) }
+    ensures put { IfOk result (λ went. IfPage went (λ p. out.new ≡ [])) }
+    ensures spends { IfOk result (λ went. IfAsks went (λ a. (out.new ≡ [])
+        × (a.request.value.questions < request.value.questions))) }
+    ensures told { IfOk result (λ went. IfPage went (λ p. IsTold p.page)) }
+    ensures closes { IfOk result (λ went. closing ≡ true → closing_of went ≡ true) }
+    ensures kept { space.new.patterns ≡ space.old.patterns }
+{
+    let Replied {
+        status,
+        request: child,
+        of,
+    } = replied;
+    let mut request = request;
+    let inside = &mut *request;
+    let (phases, vars) = (&mut inside.phases, &mut inside.vars);
+    let known = Known::Nothing { of };
+    let alloc = space.alloc;
+    match admit(
+        alloc,
+        ground,
+        status,
+        &child,
+        &mut space.patterns,
+        phases,
+        vars,
+    ) {
+        Ok(step) => Ok(go_on(space, ground, request, step, known, out, closing)?),
         Err(OutOfMemory) => {
             drop(request);
             Err(OutOfMemory)

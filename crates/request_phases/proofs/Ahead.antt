@@ -26,6 +26,7 @@ use Rattle.family_meaning.specs.Suspended.{rounds_rest, round_rest, again, heard
 use Rattle.rewrite_code.specs.Places.{standing_seen}
 use Rattle.rewrite_code.specs.declared.place.Progress.{Progress}
 use Rattle.request_phases.proofs.Acts.{in_turn}
+use Rattle.request_phases.specs.Admitted.{admitted_act, phases_admitted}
 use Rattle.request_phases.specs.Nexts.{last_in}
 use Rattle.request_phases.specs.Rounds.{asked_in, asked_from, told_in, reached_in, decision_seen, phases_left, phases_told, tries_told}
 use Rattle.request_phases.specs.declared.state.Phases.{Phases}
@@ -163,6 +164,15 @@ module _ (w : World) (patterns : List SetPattern) (site : Site) (bytes : List �
   unfolding phases_told
   told_so p wait item next r old new is e h =
       rest_turn w p.changes (asked_in p) (told_in w patterns site (asked_in p) p.at wait item) (reached_in w patterns site (asked_in p) bytes next.at r) old new e
+      ∙ (ap (λ m. settled m new) (same_from w patterns site (asked_in p) next.at.request Find next.at.inside p.changes bytes next.at r)
+      ∙ (ap (λ q. settled (ahead w patterns site bytes q r) new) (sym is) ∙ h))
+
+  pub admitted_so : {x : Serving Prepared × Vars} (p : Phases) (status : ℕ) (request : Request) (next : Phases) (r : Reached) (old new : Vars) → next ≡ record p { at = next.at } →
+      settled (admitted_act (asked_in p) (standing_seen site p.at) status request) old ≡ (reached_in w patterns site (asked_in p) bytes next.at r, new) →
+      settled (ahead w patterns site bytes next r) new ≡ x → settled (phases_admitted w site p status request) old ≡ x
+  unfolding phases_admitted
+  admitted_so p status request next r old new is e h =
+      rest_turn w p.changes (asked_in p) (admitted_act (asked_in p) (standing_seen site p.at) status request) (reached_in w patterns site (asked_in p) bytes next.at r) old new e
       ∙ (ap (λ m. settled m new) (same_from w patterns site (asked_in p) next.at.request Find next.at.inside p.changes bytes next.at r)
       ∙ (ap (λ q. settled (ahead w patterns site bytes q r) new) (sym is) ∙ h))
 

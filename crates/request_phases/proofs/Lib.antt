@@ -1,3 +1,4 @@
+pub mod Admissions
 mod Acts
 mod Contents
 mod Nexts

@@ -1,3 +1,4 @@
+pub mod Admitted
 pub mod Located
 pub mod Nexts
 pub mod Programs

@@ -4,6 +4,7 @@
 #![tactic(auto)]
 
 mod access;
+mod admission;
 mod content;
 mod decide;
 mod ground;
@@ -12,6 +13,7 @@ mod locate;
 mod rounds;
 mod state;
 
+pub use admission::admit;
 pub use ground::Ground;
 pub use rounds::{begin, resume};
 pub use state::{Conclusion, Handled, Phases, Step, Wait};

@@ -1,9 +1,9 @@
 // The lists that levels name by number.
 ghost use Rattle.std.specs.Prelude.{◌≡◌, map};
-ghost use Rattle.site_whole.specs.Whole.{index_at, pages_at, rules_at, index_seen, page_seen, default_index};
+ghost use Rattle.site_whole.specs.Whole.{index_at, pages_at, rules_at, auth_sets_at, index_seen, page_seen, auth_set_seen, default_index};
 
 use access_rules::Rule;
-use site_model::{IndexName, PageRule, Site};
+use site_model::{AuthSet, IndexName, PageRule, Site};
 
 /// The rules of `error_page` with a number.
 pub(crate) fn pages_at(site: &Site, number: Option<u32>) -> &[PageRule]
@@ -44,6 +44,19 @@ pub(crate) fn index_at<'a>(
         None => unstated,
         Some(number) => match site.indexes.get(number as usize) {
             Some(names) => names.names.as_slice(),
+            None => &[],
+        },
+    }
+}
+
+/// What the directives `auth_request_set` with a number set.
+pub(crate) fn auth_sets_at(site: &Site, number: Option<u32>) -> &[AuthSet]
+    ensures { map auth_set_seen result.now ≡ auth_sets_at site.now number }
+{
+    match number {
+        None => &[],
+        Some(number) => match site.auth_sets.get(number as usize) {
+            Some(sets) => sets.sets.as_slice(),
             None => &[],
         },
     }

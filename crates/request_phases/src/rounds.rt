@@ -120,7 +120,7 @@ fn told(
 
 /// Works rounds off, as long as each is decided at once and makes a change.
 #[inline(always)]
-fn settle(
+pub(crate) fn settle(
     alloc: Global,
     ground: &Ground<'_>,
     reached: Reached,

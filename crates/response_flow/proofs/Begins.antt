@@ -39,7 +39,7 @@ use Rattle.request_flow.specs.declared.page.PageHead.{PageHead}
 use Rattle.request_flow.specs.declared.page.PageStart.{PageStart}
 use Rattle.request_flow.specs.declared.steps.Known.{Known}
 use Rattle.request_flow.specs.declared.steps.Known.TheVariants as knowns
-use Rattle.response_flow.specs.Flights.{most_kept, page_left, page_most}
+use Rattle.response_flow.specs.Flights.{most_kept, page_left, page_most, with_opened}
 use Rattle.response_flow.specs.Opens.{known_text}
 
 -- ---- the bytes of the file
@@ -134,7 +134,8 @@ put_together page came subs pending block status sent body asked ep eb es en ec 
 
 module _ (laws : ReachedStaysWell) (keep : StepsKeepStill) (fit : ShippedAreFit) (patterns : List SetPattern) (g : Ground) (start : PageStart) (p : Pages)
     (told : IsTold start.page) (begins : BeginsWith g start.request.value.phases start.request.value.vars start.page.outcome p.family)
-    (text : (trees : Trees) → files trees p.family 0 ≡ known_text start.page.known trees) (tree_is : p.family.tree ≡ known_tree start.page.known) (one : length p.family.nodes ≡ 1) where
+    (text : (trees : Trees) → files trees p.family 0 ≡ known_text start.page.known trees) (tree_is : p.family.tree ≡ known_tree start.page.known)
+    (many : length p.family.nodes ≡ 1 + start.request.value.opened) where
   abbrev w : World
   w = world_in patterns g shipped
 
@@ -163,7 +164,7 @@ module _ (laws : ReachedStaysWell) (keep : StepsKeepStill) (fit : ShippedAreFit)
       (begins patterns no_files texts s.first s.table (s.same ∙ ap (λ a. settled a vars) (act_is (texts 0)))).goes
 
   pub same : (trees : Trees) → IsRaceless w.server → PageReached w patterns site start → p.outgoing.pending ≡ start.page.head → p.outgoing.block ≡ cond start.page.chunked (Some []) None →
-      p.status ≡ start.page.status → p.sent ≡ 0 → page_left w patterns site trees p ≡ start_rest w patterns site trees start
+      p.status ≡ start.page.status → p.sent ≡ 0 → page_left w patterns site trees p ≡ with_opened start.request.value.opened (start_rest w patterns site trees start)
   same trees raceless h ep eb es en =
       let f = p.family in
       let tree = trees f.tree in
@@ -180,15 +181,16 @@ module _ (laws : ReachedStaysWell) (keep : StepsKeepStill) (fit : ShippedAreFit)
       sym (keep.counts_going w (fit w refl) raceless tree (alone 0 1 (Going most_depth s.first)) s.table (meant w patterns site texts f) f.vars s.reached o.goes
       ∙ (ap (λ n. n + subs_still w tree (meant w patterns site texts f) f.vars) o.opens ∙ none_more (subs_still w tree (meant w patterns site texts f) f.vars)))
       ∙ (subs_alone w tree s.first s.table ∙ subs_same w tree s.first (act (flow.padded len t)) s.table vars s.same) in
-      put_together start.page (run tree (reply w tree most_depth) (act (flow.padded len t)) vars) (act_subs w tree most_depth (act (flow.padded len t)) vars)
+      let opened = start.request.value.opened in
+      put_together start.page (run tree (reply w tree most_depth) (act (flow.padded len t)) vars) (act_subs w tree most_depth (act (flow.padded len t)) vars + opened)
       p.outgoing.pending p.outgoing.block p.status p.sent (left_in w patterns site trees p).body _ ep eb es en body
-      (less (length f.nodes) (subs_still w tree (meant w patterns site texts f) f.vars) one ∙ subs)
-      ∙ (ap (λ k. page_by start.page (run (trees k) (reply w (trees k) most_depth) (act (flow.padded len t)) vars) (act_subs w (trees k) most_depth (act (flow.padded len t)) vars)) tree_is
-      ∙ ap (λ b. page_by start.page (run (trees (known_tree start.page.known)) (reply w (trees (known_tree start.page.known)) most_depth) (act b) vars) (act_subs w (trees (known_tree start.page.known)) most_depth (act b) vars))
+      (less (length f.nodes) (subs_still w tree (meant w patterns site texts f) f.vars) _ opened many subs)
+      ∙ (ap (λ k. with_opened opened (page_by start.page (run (trees k) (reply w (trees k) most_depth) (act (flow.padded len t)) vars) (act_subs w (trees k) most_depth (act (flow.padded len t)) vars))) tree_is
+      ∙ ap (λ b. with_opened opened (page_by start.page (run (trees (known_tree start.page.known)) (reply w (trees (known_tree start.page.known)) most_depth) (act b) vars) (act_subs w (trees (known_tree start.page.known)) most_depth (act b) vars)))
       (sym (known_is start.page.known trees)))
     where
-      less : (nodes asked : ℕ) → nodes ≡ 1 → nodes + asked - 1 ≡ asked
-      less nodes asked e = omega (arith, e)
+      less : (nodes asked subs opened : ℕ) → nodes ≡ 1 + opened → asked ≡ subs → nodes + asked - 1 ≡ subs + opened
+      less nodes asked subs opened e f = omega (arith, e, f)
 
 -- ---- how much is left to do
 

@@ -5,3 +5,4 @@ mod Wanting
 mod Showing
 mod Tails
 mod Ending
+mod Wents

@@ -12,10 +12,12 @@ use Rattle.family_nodes.specs.Runs.{is_waiting, job_of}
 use Rattle.subrequests.specs.Wants.{is_among, jobs_from, ready_of}
 use Rattle.subrequests.proofs.Numbers.{job_is}
 use Rattle.page_response.specs.declared.pages.Pages.{Pages}
-use Rattle.request_flow.specs.Flows.{jobs_of, waits}
+use Rattle.access_flow.specs.Flows.{waits}
+use Rattle.access_flow.specs.declared.flow.AccessFlow.{AccessFlow}
+use Rattle.request_flow.specs.Flows.{jobs_of, waits as flow_waits}
 use Rattle.request_flow.specs.declared.flow.Flow.{Flow}
 use Rattle.std.specs.Global.{Box}
-use Rattle.response_flow.specs.Flights.{ends_first, page_ready}
+use Rattle.response_flow.specs.Flights.{access_jobs, ends_first, page_ready}
 
 -- ---- what can run
 
@@ -56,10 +58,46 @@ alone_runs false at e = absurd (never (sym (no_ready at) ∙ e))
     never : false ≡ true → ⊥
     never h = cc
 
+pub asking_runs : (waits : Bool) (next at : ℕ) → is_among at (cond waits [] (next ∷ [])) ≡ true → not waits ≡ true
+asking_runs true next at e = absurd (never (sym (no_ready at) ∙ e))
+  where
+    never : false ≡ true → ⊥
+    never h = cc
+asking_runs false next at e = refl
+
+pub asking_ready : (waits : Bool) (next at : ℕ) → ((next == at) && not waits) ≡ is_among at (cond waits [] (next ∷ []))
+unfolding is_among
+asking_ready true next at = none (next == at)
+  where
+    none : (b : Bool) → (b && false) ≡ false
+    none true = refl
+    none false = refl
+asking_ready false next at = one (next == at)
+  where
+    one : (b : Bool) → (b && true) ≡ cond b true false
+    one true = refl
+    one false = refl
+
 -- ---- jobs
 
+-- the job of a subrequest that was asked whether a request is let in
+pub record IsAsked (f : AccessFlow) (job : Ask) : Type 0 where
+  pub waits : waits f.stage ≡ true
+  pub own : f.ask ≡ job
+
+pub access_asked : (f : AccessFlow) (at : ℕ) (job : Ask) → ask_in (access_jobs f) at ≡ Some job → IsAsked f job
+access_asked f at job e = by (waits f.stage) refl e
+  where
+    named : (b : Bool) → cond b (Some f.ask) None ≡ Some job → f.ask ≡ job
+    named true h = let s : f.ask ≡ job = cc in s
+    named false h = cc
+
+    by : (b : Bool) → waits f.stage ≡ b → ask_in (cond b (record { node = f.request.value.opened; ask = f.ask } ∷ []) []) at ≡ Some job → IsAsked f job
+    by true w h = record { waits = w; own = named (f.request.value.opened == at) h }
+    by false w h = cc
+
 pub alone_ask : (flow : Box Flow) (at : ℕ) (job : Ask) → ask_in (jobs_of (Some flow)) at ≡ Some job → flow.value.ask ≡ job
-alone_ask flow at job e = by (waits flow.value.stage) e
+alone_ask flow at job e = by (flow_waits flow.value.stage) e
   where
     named : (b : Bool) → cond b (Some flow.value.ask) None ≡ Some job → flow.value.ask ≡ job
     named true h = let s : flow.value.ask ≡ job = cc in s

@@ -10,12 +10,12 @@ use Rattle.request_meaning.specs.Serving.{World}
 use Rattle.request_flow.specs.declared.flow.Flow.{Flow}
 use Rattle.request_flow.specs.declared.flow.Stage.{Stage}
 use Rattle.request_flow.specs.declared.flow.Stage.TheVariants.{Asked, Told, Reading, Came}
-use Rattle.request_flow.specs.Flows.{StageBy, kept_most, one_rest, placed_most, shown_by, shown_most, stage_fits, stage_left, stage_rest, stage_written}
+use Rattle.request_flow.specs.Flows.{StageBy, kept_most, one_rest, placed_most, shown_by, shown_most, stage_fits, stage_left, stage_opened, stage_rest, stage_written}
 use Rattle.request_flow.specs.Reached.{StageReached}
 use Rattle.request_flow.specs.Rests.{Rest}
 use Rattle.page_response.specs.Pages.{bytes_left, nodes_asked, whole_length}
 use Rattle.page_response.specs.declared.pages.Pages.{Pages}
-use Rattle.response_flow.specs.Flights.{page_left}
+use Rattle.response_flow.specs.Flights.{page_left, with_opened}
 use Rattle.response_flow.specs.Writes.{Writes, with_bytes}
 
 shown_within : (n k : ℕ) (xs : List ℕ) → n ≤ length (take k xs) → (n ≤ k) × (n ≤ length xs)
@@ -167,3 +167,28 @@ page_left_written w patterns site trees p q bytes eb el en es =
     ∙ (ap (λ x. mk (bytes ++ bytes_left w patterns site trees q) x (whole_length w patterns site trees p) (nodes_asked w patterns site trees p)) (sym es)
     ∙ (ap (λ x. mk (bytes ++ bytes_left w patterns site trees q) q.status x (nodes_asked w patterns site trees p)) el
     ∙ ap (λ x. mk (bytes ++ bytes_left w patterns site trees q) q.status (whole_length w patterns site trees q) x) en))
+
+-- with the subrequests that were asked before
+pub writes_opened : (before after : Rest) (old new : ℕ) (out out' bytes : List ℕ) → new ≡ old → Writes before after out out' bytes → Writes (with_opened old before) (with_opened new after) out out' bytes
+writes_opened before after old new out out' bytes e h = record {
+  bytes_are = h.bytes_are;
+  stays = h.stays;
+  logs = h.logs;
+  values = h.values;
+  subs = both after.subs before.subs h.subs;
+}
+  where
+    both : (a b : ℕ) → a ≡ b → a + new ≡ b + old
+    both a b d = omega (arith, d, e)
+
+pub opened_stays : (stage : Stage) (count : ℕ) → stage_opened (stage_written stage count) ≡ stage_opened stage
+opened_stays (Asked request wait) count = refl
+opened_stays (Told request wait node) count = refl
+opened_stays (Reading sending left) count = refl
+opened_stays (Came sending left placed) count = refl
+
+-- nothing is written where nothing is kept
+pub none_written : (count most : ℕ) (out : List ℕ) → length out ≡ 0 → 0 < count → count ≤ length (take most out) → ⊥
+none_written count most out none some h =
+    let e = length-take most out in
+    omega (arith, none, some, h, e)

@@ -17,7 +17,7 @@ use Rattle.request_flow.specs.declared.page.PageStart.{PageStart}
 use Rattle.request_flow.specs.declared.steps.Known.{Known}
 use Rattle.request_flow.specs.declared.steps.Known.TheVariants.{Nothing, Told}
 use Rattle.request_flow.specs.Flows.{item_asked}
-use Rattle.response_flow.specs.Flights.{page_left, page_most, most_kept}
+use Rattle.response_flow.specs.Flights.{page_left, page_most, most_kept, with_opened}
 
 -- the text of the file that was told last
 abbrev pub known_text : Known → Trees → List ℕ
@@ -27,7 +27,8 @@ known_text (Told f) trees = text_of (item_asked trees f.ask)
 -- As much is still to come of it as of its request, whatever is still to come of the files.
 pub record Opens (patterns : List SetPattern) (g : Ground) (start : PageStart) (p : Pages) : Type 0 where
   pub same : (trees : Trees) → IsRaceless (world_in patterns g shipped).server → PageReached (world_in patterns g shipped) patterns g.site.now start →
-      page_left (world_in patterns g shipped) patterns g.site.now trees p ≡ start_rest (world_in patterns g shipped) patterns g.site.now trees start
+      page_left (world_in patterns g shipped) patterns g.site.now trees p
+      ≡ with_opened start.request.value.opened (start_rest (world_in patterns g shipped) patterns g.site.now trees start)
   pub reached : PageReached (world_in patterns g shipped) patterns g.site.now start → IsReached (world_in patterns g shipped) patterns g.site.now p
   pub whole : IsWhole p.family
   pub bounded : length p.outgoing.pending ≤ most

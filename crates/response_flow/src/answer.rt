@@ -11,6 +11,7 @@ ghost use Rattle.response_flow.specs.declared.flight.Flight.{Flight as FlightVie
 ghost use Rattle.response_flow.specs.Flights.{FlightFits, FlightReached, FlightServedBy, flight_left, flight_length, flight_rest, flight_server, flight_tree, jobs_of};
 
 use crate::flight::Flight;
+use access_flow::answered as access_answered;
 use byte_text::{ByteQueue, OutOfMemory};
 use file_tree::JobAnswer;
 use request_flow::answered as flow_answered;
@@ -54,6 +55,10 @@ pub fn answered(
         }
         Some(Flight::Alone(flow)) => {
             flow_answered(flow, out, answer)?;
+            Ok(())
+        }
+        Some(Flight::Asking(flow)) => {
+            access_answered(&mut **flow, answer);
             Ok(())
         }
         None => unreachable!(),

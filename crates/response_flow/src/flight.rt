@@ -2,6 +2,7 @@
 ghost use Rattle.std.specs.Prelude.{◌≡◌};
 ghost use Rattle.response_flow.specs.Flights.{flight_length, flight_server};
 
+use access_flow::AccessFlow;
 use page_response::Pages;
 use request_flow::{Flow, length_of as flow_length, server_of as flow_server};
 
@@ -17,8 +18,10 @@ pub struct PageFlow {
 /// A response in flight.
 #[derive(Drop)]
 pub enum Flight {
-    /// Its request has no subrequest.
+    /// Its request has no subrequest now.
     Alone(Box<Flow>),
+    /// Its request asks a subrequest whether it is let in.
+    Asking(Box<AccessFlow>),
     /// Filters make its body of parts.
     Page(PageFlow),
 }
@@ -66,6 +69,7 @@ pub fn server_of(flight: &Flight) -> u32
 {
     match flight {
         Flight::Alone(flow) => flow_server(&flow.stage),
+        Flight::Asking(flow) => flow.request.server,
         Flight::Page(page) => page.server,
     }
 }
@@ -77,6 +81,7 @@ pub fn length_of(flight: &Flight) -> u64
 {
     match flight {
         Flight::Alone(flow) => flow_length(&flow.stage),
+        Flight::Asking(flow) => flow.request.length,
         Flight::Page(page) => page.length,
     }
 }

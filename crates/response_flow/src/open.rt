@@ -16,7 +16,7 @@ use race_meaning::shipped_are_fit;
 use request_flow::{InPhases, Known, PageHead, PageStart};
 use request_phases::Ground;
 use std::alloc::Global;
-use subrequests::Family;
+use subrequests::{Decided, Family};
 
 /// The job that told what is known of the files; where nothing is known yet, one that asks nothing.
 /// The number of the tree.
@@ -97,9 +97,16 @@ pub(crate) fn opened(
         server,
         length,
         questions: _,
+        opened,
     } = Box::into_inner(request);
     let Source { ask, tree } = source_of(alloc, known);
-    let family = Family::begin(alloc, ground, phases, vars, outcome, ask, tree)?;
+    let decided = Decided {
+        outcome,
+        ask,
+        tree,
+        opened,
+    };
+    let family = Family::begin(alloc, ground, phases, vars, decided)?;
     let pages = Pages::begin(alloc, family, head.as_slice(), chunked, status)?;
     Ok(PageFlow {
         pages: Box::new(alloc, pages)?,

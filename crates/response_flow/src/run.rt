@@ -1,5 +1,5 @@
 // A response goes on.
-ghost use Rattle.std.specs.Prelude.{◌≡◌, ◌≤◌, ◌<◌, ◌+◌, not, [], Bool, List, ℕ, true, false, length, is_some, option_map, IfOk, OnOk, None, Some, if◌then◌else◌};
+ghost use Rattle.std.specs.Prelude.{◌≡◌, ◌≤◌, ◌<◌, ◌+◌, ◌*◌, not, [], Bool, List, ℕ, true, false, length, is_some, option_map, IfOk, OnOk, None, Some, if◌then◌else◌};
 ghost use Rattle.file_tree.specs.Tree.{Trees};
 ghost use Rattle.ngx_pattern.specs.Pattern.{Pattern as SetPattern};
 ghost use Rattle.pattern_search.specs.Found.{patterns_seen};
@@ -14,12 +14,14 @@ ghost use Rattle.subrequests.specs.Moved.{IsDone, IsWhole};
 ghost use Rattle.subrequests.specs.Wants.{is_among};
 ghost use Rattle.outgoing.specs.Leaving.{most};
 ghost use Rattle.page_response.specs.Pages.{EndsIn, IsAllOver, IsReached, pages_left};
-ghost use Rattle.request_flow.specs.Flows.{asking_most, flow_fits, flow_left, flow_rest, tree_asked};
-ghost use Rattle.request_flow.specs.Flows.{IsServedBy};
+ghost use Rattle.request_flow.specs.Flows.{HasOpened, IsServedBy, asking_most, flow_fits, flow_left, flow_most, may_run as can_run, stage_length, stage_server, tree_asked};
 ghost use Rattle.request_opening.specs.Openings.{main_at};
 ghost use Rattle.request_flow.specs.Terms.{terms_at};
-ghost use Rattle.request_flow.specs.Pages.{IsTold, start_rest};
-ghost use Rattle.request_flow.specs.Reached.{FlowReached, PageReached};
+ghost use Rattle.request_flow.specs.Pages.{AreOpened, GoesTo, IfAsks, IfOn as IfGoes, IfPage, IsServed, IsTold, access_rest, closing_of, start_rest, tree_of_went};
+ghost use Rattle.request_flow.specs.Reached.{FlowReached, PageReached, StepReached, WentReached};
+ghost use Rattle.request_phases.specs.declared.state.Step.TheVariants.{Calls as ToCall};
+ghost use Rattle.access_flow.specs.Flows.{steps_left, waits};
+ghost use Rattle.access_flow.specs.Reached.{AccessReached};
 ghost use Rattle.request_flow.specs.Rests.{Follows, Rest, opened_rest};
 ghost use Rattle.request_flow.specs.Sents.{known_tree};
 ghost use Rattle.response_flow.specs.Continues.{Continues, IfOn, RunsOn, ran_as, ran_in};
@@ -28,20 +30,22 @@ ghost use Rattle.response_flow.specs.declared.flight.Flight.{Flight as FlightVie
 ghost use Rattle.response_flow.specs.declared.flight.PageFlow.{PageFlow as PageFlowView};
 ghost use Rattle.request_phases.specs.declared.ground.Ground.{Ground as GroundView};
 ghost use Rattle.page_response.specs.Ran.{RunsTo};
-ghost use Rattle.response_flow.specs.declared.flight.Flight.TheVariants.{Alone as AloneFlight, Page as PageFlight};
-ghost use Rattle.response_flow.specs.Flights.{FlightFits, FlightReached, FlightServedBy, TailFits, TailIn, flight_left, flight_length, flight_rest, flight_server, flight_tree, most_kept, page_left, page_most, ready_of, sends_alone};
+ghost use Rattle.response_flow.specs.declared.flight.Flight.TheVariants.{Alone as AloneFlight, Asking as AskingFlight, Page as PageFlight};
+ghost use Rattle.response_flow.specs.Flights.{FlightFits, FlightReached, FlightServedBy, TailFits, TailIn, alone_rest, flight_left, flight_length, flight_rest, flight_server, flight_tree, most_kept, page_left, page_most, ready_of, sends_alone, with_opened};
 
 use crate::flight::{Flight, Onward, PageFlow, Passed, Ran};
 use crate::open::opened;
 use crate::slot::{put, take};
+use access_flow::{AccessFlow, Ran as AccessRan, asks, run_on as access_run_on};
 use byte_text::{ByteQueue, OutOfMemory};
 use family_rest::row_tells_still;
 use page_response::Pages;
 use request_flow::{
-    Flow, Onward as FlowOnward, Opening, PageStart, Went, Workspace, is_sending as is_flow_sending,
-    run_on as flow_run_on, sends_on, start as flow_start,
+    AccessStart, Flow, Onward as FlowOnward, Opening, PageStart, Went, Workspace,
+    is_sending as is_flow_sending, run_on as flow_run_on, sends_on, start as flow_start,
 };
 use request_phases::Ground;
+use std::alloc::Global;
 use subrequests::Ran as FamilyRan;
 
 /// No more bytes are kept for a peer once a response is over.
@@ -60,12 +64,13 @@ fn alone_flight(flow: Option<Box<Flow>>) -> Option<Flight>
 fn alone(onward: FlowOnward) -> Onward
     ensures rest { (w : World) (patterns : List SetPattern) (site : SiteRow) (trees : Trees) →
         flight_rest w patterns site result.flight trees
-        ≡ flow_rest w patterns site onward.flow trees }
+        ≡ alone_rest w patterns site onward.flow trees }
     ensures others { (result.closing ≡ onward.closing) × (result.log ≡ onward.log)
         × (result.level ≡ onward.level) × (is_some result.flight ≡ is_some onward.flow) }
     ensures reached { (w : World) (patterns : List SetPattern) (site : SiteRow) →
         FlowReached w patterns site onward.flow → FlightReached w patterns site result.flight }
-    ensures fits { (size : ℕ) → flow_fits onward.flow size ≡ true → FlightFits result.flight size }
+    ensures fits { (size count : ℕ) → flow_fits onward.flow size ≡ true
+        → HasOpened count onward.flow → count ≤ 255 → FlightFits result.flight size }
     ensures left { (size : ℕ) → flight_left result.flight size
         ≤ page_most + flow_left onward.flow size }
     ensures by { (server length : ℕ) → IsServedBy server length onward.flow
@@ -215,7 +220,8 @@ fn opens(
         let w = world_in space.old.patterns ground.now shipped in
         let site = ground.now.site.now in
         IfOk result (λ ran. IsRaceless w.server → PageReached w space.old.patterns site start
-        → Follows site before (start_rest w space.old.patterns site trees start) from []
+        → Continues site before (with_opened start.request.value.opened
+        (start_rest w space.old.patterns site trees start)) from []
         first start.closing None (Some start.level)
         → RunsOn w space.old.patterns site trees before from out.new first ran) }
     ensures reached { let w = world_in space.old.patterns ground.now shipped in
@@ -277,9 +283,196 @@ pub fn start(
     ensures tail { IfOk result (λ ran. IfOn ran (λ o. TailFits None o.flight o.tail out.new)) }
     ensures kept { space.new.patterns ≡ space.old.patterns }
 {
-    match flow_start(space, ground, server, opening, out)? {
+    let went = flow_start(space, ground, server, opening, out)?;
+    Ok(went_on(space, ground, went, out)?)
+}
+
+/// A request asks a subrequest whether it is let in.
+#[inline(never)]
+fn asking(alloc: Global, ground: &Ground<'_>, start: AccessStart) -> Result<Onward, OutOfMemory>
+    ensures goes { (patterns : List SetPattern) (trees : Trees) (before : Rest)
+        (from out : List ℕ) (first : Bool) →
+        let w = world_in patterns ground.now shipped in
+        let site = ground.now.site.now in
+        IfOk result (λ o. Follows site before (access_rest w patterns site trees start)
+        from out first start.closing None None
+        → Continues site (with_opened start.request.value.opened before)
+        (flight_rest w patterns site o.flight trees) from out first o.closing o.log o.level) }
+    ensures reached { (patterns : List SetPattern) →
+        let w = world_in patterns ground.now shipped in
+        let site = ground.now.site.now in
+        StepReached w patterns site start.request.value (ToCall start.path) 0
+        → IfOk result (λ o. FlightReached w patterns site o.flight) }
+    ensures over { IfOk result (λ o. (is_some o.flight ≡ true) × (o.log ≡ None)) }
+    ensures fits { IfOk result (λ o. FlightFits o.flight 0) }
+    ensures lowers { IfOk result (λ o. flight_left o.flight 0
+        ≡ page_most + (flow_most + 2 * start.request.value.questions + 2)) }
+    ensures by { IfOk result (λ o. FlightServedBy
+        start.request.value.server start.request.value.length o.flight) }
+    ensures asked { IfOk result (λ o. flight_tree o.flight ≡ start.of) }
+    ensures closes { IfOk result (λ o. o.closing ≡ start.closing) }
+    ensures tail { IfOk result (λ o. o.tail ≡ 0) }
+{
+    let closing = start.closing;
+    let flow = asks(alloc, ground, start)?;
+    Ok(Onward {
+        flight: Some(Flight::Asking(flow)),
+        closing,
+        log: None,
+        level: None,
+        tail: 0,
+    })
+}
+
+/// What became of a request that went on: it goes on alone, asks a subrequest whether it is let in, or its
+/// page begins.
+#[inline(always)]
+fn went_on(
+    space: &mut Workspace,
+    ground: &Ground<'_>,
+    went: Went,
+    out: &mut ByteQueue,
+) -> Result<Ran, OutOfMemory>
+    requires ground { IsGround ground.now }
+    requires pages { IfPage went (λ p. (out.old ≡ []) × IsTold p.page) }
+    requires asks { IfAsks went (λ a. out.old ≡ []) }
+    requires over { IfGoes went (λ o. is_some o.log ≡ not (is_some o.flow)) }
+    requires fits { IfGoes went (λ o. flow_fits o.flow (length out.old) ≡ true) }
+    requires few { (count : ℕ) × AreOpened count went × (count ≤ 255) }
+    ensures runs { (trees : Trees) (before : Rest) (from : List ℕ) (first : Bool) (count : ℕ) →
+        let w = world_in space.old.patterns ground.now shipped in
+        let site = ground.now.site.now in
+        IfOk result (λ ran. IsRaceless w.server → WentReached w space.old.patterns site went
+        → AreOpened count went → count ≤ 255
+        → GoesTo w space.old.patterns site trees before from out.old first went
+        → RunsOn w space.old.patterns site trees (with_opened count before) from out.new first ran) }
+    ensures reached { let w = world_in space.old.patterns ground.now shipped in
+        WentReached w space.old.patterns ground.now.site.now went
+        → IfOk result (λ ran. IfOn ran (λ o.
+        FlightReached w space.old.patterns ground.now.site.now o.flight)) }
+    ensures over { IfOk result (λ ran. IfOn ran (λ o. is_some o.log ≡ not (is_some o.flight))) }
+    ensures fits { IfOk result (λ ran. IfOn ran (λ o. FlightFits o.flight (length out.new))) }
+    ensures lowers { (top : ℕ) →
+        IfGoes went (λ o. length out.old + flow_left o.flow (length out.old) < top)
+        → IfAsks went (λ a. flow_most + 2 * a.request.value.questions + 2 < top)
+        → IfOk result (λ ran. IfOn ran (λ o.
+        length out.new + flight_left o.flight (length out.new) < page_most + top)) }
+    ensures by { (server length : ℕ) → IsServed server length went
+        → IfOk result (λ ran. IfOn ran (λ o. FlightServedBy server length o.flight)) }
+    ensures asked { IfOk result (λ ran. IfOn ran (λ o. flight_tree o.flight ≤ tree_of_went went)) }
+    ensures closes { closing_of went ≡ true
+        → IfOk result (λ ran. IfOn ran (λ o. o.closing ≡ true)) }
+    ensures tail { IfOk result (λ ran. IfOn ran (λ o. TailFits None o.flight o.tail out.new)) }
+    ensures kept { space.new.patterns ≡ space.old.patterns }
+{
+    match went {
         Went::On(onward) => Ok(Ran::On(alone(onward))),
+        Went::Asks(start) => Ok(Ran::On(asking(space.alloc, ground, start)?)),
         Went::Page(page) => Ok(opens(space, ground, Box::into_inner(page), out)?),
+    }
+}
+
+/// Runs a request on that goes on alone.
+#[inline(always)]
+fn run_alone(
+    space: &mut Workspace,
+    ground: &Ground<'_>,
+    flow: Box<Flow>,
+    out: &mut ByteQueue,
+    closing: bool,
+) -> Result<Ran, OutOfMemory>
+    requires ground { IsGround ground.now }
+    requires fits { FlightFits (Some (AloneFlight flow)) (length out.old) }
+    requires runs { can_run flow.value.stage ≡ true }
+    ensures runs { (trees : Trees) →
+        let w = world_in space.old.patterns ground.now shipped in
+        let site = ground.now.site.now in
+        IfOk result (λ ran. IsRaceless w.server
+        → FlowReached w space.old.patterns site (Some flow)
+        → RunsOn w space.old.patterns site trees
+        (flight_rest w space.old.patterns site (Some (AloneFlight flow)) trees)
+        out.old out.new closing ran) }
+    ensures reached { let w = world_in space.old.patterns ground.now shipped in
+        FlowReached w space.old.patterns ground.now.site.now (Some flow)
+        → IfOk result (λ ran. IfOn ran (λ o.
+        FlightReached w space.old.patterns ground.now.site.now o.flight)) }
+    ensures over { IfOk result (λ ran. IfOn ran (λ o. is_some o.log ≡ not (is_some o.flight))) }
+    ensures fits { IfOk result (λ ran. IfOn ran (λ o. FlightFits o.flight (length out.new))) }
+    ensures lowers { IfOk result (λ ran. IfOn ran (λ o.
+        length out.new + flight_left o.flight (length out.new)
+        < page_most + (length out.old + flow_left (Some flow) (length out.old)))) }
+    ensures by { IfOk result (λ ran. IfOn ran (λ o. FlightServedBy
+        (stage_server flow.value.stage) (stage_length flow.value.stage) o.flight)) }
+    ensures asked { IfOk result (λ ran. IfOn ran (λ o.
+        flight_tree o.flight ≤ tree_asked (Some flow))) }
+    ensures closes { closing ≡ true → IfOk result (λ ran. IfOn ran (λ o. o.closing ≡ true)) }
+    ensures tail { IfOk result (λ ran. IfOn ran (λ o. TailFits None o.flight o.tail out.new)) }
+    ensures kept { space.new.patterns ≡ space.old.patterns }
+{
+    let went = flow_run_on(space, ground, flow, out, closing)?;
+    Ok(went_on(space, ground, went, out)?)
+}
+
+/// A subrequest that was asked whether a main request is let in goes on.
+fn still_asking(flow: Box<AccessFlow>, closing: bool) -> Onward
+    ensures { result ≡ record {
+      flight = Some (AskingFlight flow);
+      closing = closing;
+      log = None;
+      level = None;
+      tail = 0;
+    } }
+{
+    Onward {
+        flight: Some(Flight::Asking(flow)),
+        closing,
+        log: None,
+        level: None,
+        tail: 0,
+    }
+}
+
+/// Runs a request on that asked a subrequest whether it is let in: that subrequest, or, once it has
+/// replied, the main request.
+#[inline(never)]
+fn run_asking(
+    space: &mut Workspace,
+    ground: &Ground<'_>,
+    flow: Box<AccessFlow>,
+    out: &mut ByteQueue,
+    closing: bool,
+) -> Result<Ran, OutOfMemory>
+    requires ground { IsGround ground.now }
+    requires fits { FlightFits (Some (AskingFlight flow)) (length out.old) }
+    requires runs { not (waits flow.value.stage) ≡ true }
+    ensures runs { (trees : Trees) →
+        let w = world_in space.old.patterns ground.now shipped in
+        let site = ground.now.site.now in
+        IfOk result (λ ran. IsRaceless w.server
+        → AccessReached w space.old.patterns site flow.value
+        → RunsOn w space.old.patterns site trees
+        (flight_rest w space.old.patterns site (Some (AskingFlight flow)) trees)
+        out.old out.new closing ran) }
+    ensures reached { let w = world_in space.old.patterns ground.now shipped in
+        AccessReached w space.old.patterns ground.now.site.now flow.value
+        → IfOk result (λ ran. IfOn ran (λ o.
+        FlightReached w space.old.patterns ground.now.site.now o.flight)) }
+    ensures over { IfOk result (λ ran. IfOn ran (λ o. is_some o.log ≡ not (is_some o.flight))) }
+    ensures fits { IfOk result (λ ran. IfOn ran (λ o. FlightFits o.flight (length out.new))) }
+    ensures lowers { IfOk result (λ ran. IfOn ran (λ o.
+        length out.new + flight_left o.flight (length out.new)
+        < page_most + (length out.old + steps_left flow.value))) }
+    ensures by { IfOk result (λ ran. IfOn ran (λ o. FlightServedBy
+        flow.value.request.value.server flow.value.request.value.length o.flight)) }
+    ensures asked { IfOk result (λ ran. IfOn ran (λ o. flight_tree o.flight ≤ flow.value.of)) }
+    ensures closes { closing ≡ true → IfOk result (λ ran. IfOn ran (λ o. o.closing ≡ true)) }
+    ensures tail { IfOk result (λ ran. IfOn ran (λ o. TailFits None o.flight o.tail out.new)) }
+    ensures kept { space.new.patterns ≡ space.old.patterns }
+{
+    let ran = access_run_on(space, ground, flow, out, closing)?;
+    match ran {
+        AccessRan::Rests(flow) => Ok(Ran::On(still_asking(flow, closing))),
+        AccessRan::Went(went) => Ok(went_on(space, ground, went, out)?),
     }
 }
 
@@ -325,10 +518,8 @@ pub fn run_on(
     ensures kept { space.new.patterns ≡ space.old.patterns }
 {
     match flight {
-        Flight::Alone(flow) => match flow_run_on(space, ground, flow, out, closing)? {
-            Went::On(onward) => Ok(Ran::On(alone(onward))),
-            Went::Page(page) => Ok(opens(space, ground, Box::into_inner(page), out)?),
-        },
+        Flight::Alone(flow) => Ok(run_alone(space, ground, flow, out, closing)?),
+        Flight::Asking(flow) => Ok(run_asking(space, ground, flow, out, closing)?),
         Flight::Page(page) => Ok(run_page(space, ground, page, at, out, closing, None)?),
     }
 }
@@ -418,6 +609,7 @@ fn page_ends(
             Ok(goes_on(flight, onward))
         }
         Some(Flight::Alone(_)) => unreachable!(),
+        Some(Flight::Asking(_)) => unreachable!(),
         None => unreachable!(),
     }
 }
@@ -428,6 +620,7 @@ fn is_sending(flight: &Option<Flight>) -> bool
 {
     match flight {
         Some(Flight::Alone(flow)) => is_flow_sending(&**flow),
+        Some(Flight::Asking(_)) => false,
         Some(Flight::Page(_)) => false,
         None => false,
     }
@@ -458,6 +651,7 @@ fn sends(flight: &mut Option<Flight>, size: usize, closing: bool) -> Passed
 {
     let log = match flight {
         Some(Flight::Alone(flow)) => sends_on(flow, size),
+        Some(Flight::Asking(_)) => unreachable!(),
         Some(Flight::Page(_)) => unreachable!(),
         None => unreachable!(),
     };
@@ -470,6 +664,57 @@ fn sends(flight: &mut Option<Flight>, size: usize, closing: bool) -> Passed
         level: None,
         tail: 0,
     }
+}
+
+/// Runs a node of the request in flight on, as `run_on` does, with the flight taken out and put back.
+#[inline(always)]
+fn moves_on(
+    space: &mut Workspace,
+    ground: &Ground<'_>,
+    flight: &mut Option<Flight>,
+    at: u32,
+    out: &mut ByteQueue,
+    closing: bool,
+) -> Result<Passed, OutOfMemory>
+    requires ground { IsGround ground.now }
+    requires some { is_some flight.old ≡ true }
+    requires fits { FlightFits flight.old (length out.old) }
+    requires runs { is_among at (ready_of flight.old) ≡ true }
+    ensures runs { (trees : Trees) →
+        let w = world_in space.old.patterns ground.now shipped in
+        let site = ground.now.site.now in
+        IfOk result (λ passed. IsRaceless w.server
+        → FlightReached w space.old.patterns site flight.old
+        → RunsOn w space.old.patterns site trees
+        (flight_rest w space.old.patterns site flight.old trees) out.old out.new closing
+        (ran_in flight.new passed)) }
+    ensures reached { let w = world_in space.old.patterns ground.now shipped in
+        FlightReached w space.old.patterns ground.now.site.now flight.old
+        → IfOk result (λ passed. IfOn (ran_in flight.new passed) (λ o.
+        FlightReached w space.old.patterns ground.now.site.now o.flight)) }
+    ensures over { IfOk result (λ passed. IfOn (ran_in flight.new passed) (λ o.
+        is_some o.log ≡ not (is_some o.flight))) }
+    ensures fits { IfOk result (λ passed. IfOn (ran_in flight.new passed) (λ o.
+        FlightFits o.flight (length out.new))) }
+    ensures lowers { IfOk result (λ passed. IfOn (ran_in flight.new passed) (λ o.
+        length out.new + flight_left o.flight (length out.new)
+        < length out.old + flight_left flight.old (length out.old))) }
+    ensures by { (f : FlightView) → flight.old ≡ Some f
+        → IfOk result (λ passed. IfOn (ran_in flight.new passed) (λ o.
+        FlightServedBy (flight_server f) (flight_length f) o.flight)) }
+    ensures asked { IfOk result (λ passed. IfOn (ran_in flight.new passed) (λ o.
+        flight_tree o.flight ≤ flight_tree flight.old)) }
+    ensures closes { IfOk result (λ passed. IfOn (ran_in flight.new passed) (λ o.
+        closing ≡ true → o.closing ≡ true)) }
+    ensures tail { IfOk result (λ passed. IfOn (ran_in flight.new passed) (λ o.
+        TailFits flight.old o.flight o.tail out.new)) }
+    ensures kept { space.new.patterns ≡ space.old.patterns }
+{
+    let Some(moved) = take(flight, None) else {
+        unreachable!()
+    };
+    let ran = run_on(space, ground, moved, at, out, closing)?;
+    Ok(passed(flight, ran))
 }
 
 /// Runs a node of the request in flight on, as `run_on` does, with the flight in its place: neither a
@@ -524,13 +769,8 @@ pub fn run_in_place(
     }
     let over = match flight {
         Some(Flight::Page(page)) => page_passes(space, ground, &mut *page.pages, at)?,
-        Some(Flight::Alone(_)) => {
-            let Some(alone) = take(flight, None) else {
-                unreachable!()
-            };
-            let ran = run_on(space, ground, alone, at, out, closing)?;
-            return Ok(passed(flight, ran));
-        }
+        Some(Flight::Alone(_)) => return Ok(moves_on(space, ground, flight, at, out, closing)?),
+        Some(Flight::Asking(_)) => return Ok(moves_on(space, ground, flight, at, out, closing)?),
         None => unreachable!(),
     };
     match over {

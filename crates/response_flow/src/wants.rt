@@ -10,13 +10,14 @@ ghost use Rattle.subrequests.specs.Families.{over_node};
 ghost use Rattle.subrequests.specs.Moved.{IsWhole};
 ghost use Rattle.subrequests.specs.Wants.{first_job as job_first, first_of, is_among};
 ghost use Rattle.request_flow.specs.Flows.{shown_most};
-ghost use Rattle.response_flow.specs.Flights.{FlightFits, FlightReached, FlightServedBy, flight_left, flight_rest, flight_tree, are_done as are_done_nodes, ends_first as ends_first_page, is_last as is_last_node, is_stuck as is_stuck_page, jobs_of, pending_of, ready_of, shown_kept, unsent_of};
+ghost use Rattle.response_flow.specs.Flights.{FlightFits, FlightReached, FlightServedBy, flight_left, flight_rest, flight_tree, are_done as are_done_nodes, ends_first as ends_first_page, is_last as is_last_node, is_stuck as is_stuck_page, jobs_of, next_of, pending_of, ready_of, shown_kept, unsent_of};
 ghost use Rattle.response_flow.specs.Flights.{page_left};
 ghost use Rattle.response_flow.specs.Writes.{Writes, with_bytes};
 ghost use Rattle.outgoing.specs.Leaving.{most};
 ghost use Rattle.page_response.specs.Pages.{IsReached, pages_left};
 
 use crate::flight::{Flight, PageFlow};
+use access_flow::{AccessFlow, is_inner, may_run as access_may_run, waits as access_waits};
 use byte_text::ByteQueue;
 use file_tree::Ask;
 use node_turn::{Node, Stage};
@@ -63,6 +64,14 @@ fn first_bytes(out: &ByteQueue, most: usize) -> &[u8]
     &bytes[..most.min(bytes.len())]
 }
 
+/// How many bytes are shown at most.
+#[tactic(auto, unfolding(request_flow::specs::Flows::shown_most))]
+fn most_shown() -> usize
+    ensures { result ≡ shown_most }
+{
+    SHOWN
+}
+
 /// The bytes that are written next, where these are kept for the peer, of which the last `tail` are the tail of a
 /// body in chunks once a page is over.
 pub fn pending<'a>(flight: &'a Option<Flight>, out: &'a ByteQueue, tail: usize) -> &'a [u8]
@@ -71,8 +80,19 @@ pub fn pending<'a>(flight: &'a Option<Flight>, out: &'a ByteQueue, tail: usize) 
     match flight {
         None => first_bytes(out, shown_in(tail, out.len())),
         Some(Flight::Alone(flow)) => first_bytes(out, shown_by(&flow.stage)),
+        Some(Flight::Asking(_)) => first_bytes(out, most_shown()),
         Some(Flight::Page(page)) => page.pages.outgoing.pending(),
     }
+}
+
+/// Which of a main request and the subrequest that it asked goes on next.
+fn access_next(flow: &AccessFlow) -> u32
+    ensures { result ≡ next_of flow.now.stage flow.now.request.value.opened }
+{
+    if is_inner(&flow.stage) {
+        return flow.request.opened as u32;
+    }
+    0
 }
 
 /// The job of a node; none where it has no job that waits.
@@ -83,6 +103,12 @@ pub fn ask(flight: &Option<Flight>, at: u32) -> Option<&Ask>
         None => None,
         Some(Flight::Alone(flow)) => {
             if at == 0 && waits(&flow.stage) {
+                return Some(&flow.ask);
+            }
+            None
+        }
+        Some(Flight::Asking(flow)) => {
+            if flow.request.opened as u32 == at && access_waits(&flow.stage) {
                 return Some(&flow.ask);
             }
             None
@@ -101,6 +127,12 @@ pub fn first_job(flight: &Option<Flight>) -> Option<u32>
         Some(Flight::Alone(flow)) => {
             if waits(&flow.stage) {
                 return Some(0);
+            }
+            None
+        }
+        Some(Flight::Asking(flow)) => {
+            if access_waits(&flow.stage) {
+                return Some(flow.request.opened as u32);
             }
             None
         }
@@ -171,6 +203,12 @@ pub fn first_ready(flight: &Option<Flight>) -> Option<u32>
             }
             None
         }
+        Some(Flight::Asking(flow)) => {
+            if access_may_run(&flow.stage) {
+                return Some(access_next(&**flow));
+            }
+            None
+        }
         Some(Flight::Page(page)) => {
             if ends_first(&*page.pages) {
                 return Some(0);
@@ -189,6 +227,7 @@ pub fn is_ready(flight: &Option<Flight>, at: u32) -> bool
     match flight {
         None => false,
         Some(Flight::Alone(flow)) => 0 == at && may_run(&flow.stage),
+        Some(Flight::Asking(flow)) => access_next(&**flow) == at && access_may_run(&flow.stage),
         Some(Flight::Page(page)) => {
             if ends_first(&*page.pages) {
                 return 0 == at;
@@ -246,6 +285,7 @@ pub fn written(flight: &mut Option<Flight>, out: &mut ByteQueue, count: usize)
             out.used(count);
             wrote(flow, count);
         }
+        Some(Flight::Asking(_)) => unreachable!(),
         Some(Flight::Page(page)) => page_written(page, count),
     }
 }

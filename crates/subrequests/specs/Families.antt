@@ -1,11 +1,11 @@
 -- A family as its nodes keep it.
-use Rattle.std.specs.Prelude.{◌≡◌, ℕ, ◌-◌, ◌≤◌, Bool, true, false, not, List, [], ◌∷◌, ◌++◌, length, slice_get, Option, None, Some, nat_le, nat_lt, ◌==◌, ◌||◌}
+use Rattle.std.specs.Prelude.{◌≡◌, ℕ, ◌-◌, ◌≤◌, ◌&&◌, Bool, true, false, not, List, [], ◌∷◌, ◌++◌, length, slice_get, Option, None, Some, nat_le, nat_lt, ◌==◌, ◌||◌}
 use Rattle.std.specs.List.{list_all}
 use Rattle.file_tree.specs.Tree.{Trees}
 use Rattle.ngx_pattern.specs.Pattern.{Pattern as SetPattern}
 use Rattle.ngx_variables.specs.declared.request.Main.{Main}
 use Rattle.site_model.specs.declared.site.Site.{Site}
-use Rattle.postpone_filter.specs.Row.{Row, is_open}
+use Rattle.postpone_filter.specs.Row.{Row, fresh, is_open}
 use Rattle.request_meaning.specs.Replies.{or_stub, script}
 use Rattle.request_meaning.specs.Serving.{World}
 use Rattle.family_order.specs.Items.{IsWellRow}
@@ -146,6 +146,21 @@ pub record IsInnerOpened (old new : Node) (before : List ℕ) : Type 0 where
   pub takes : takes_up old.place ≡ true
   pub bytes : before ≡ withheld_text old.place
   pub is : new ≡ record old { children = new.children; waits = new.waits; place = with_text [] old.place }
+
+-- the node of a subrequest that is over, whose bytes don't come to its parent
+abbrev pub is_past : Node → Bool
+is_past n = n.over && is_in_row n.place
+
+-- After these nodes come as many that are over.
+pub record ArePast (old new : List Node) (count : ℕ) : Type 0 where
+  pub past : List Node
+  pub items : new ≡ old ++ past
+  pub over : list_all is_past past ≡ true
+  pub size : length past ≡ count
+
+-- the row of this many nodes, of which the main request's alone goes on, which has placed nothing
+abbrev pub first_row : (nodes : ℕ) → Row
+first_row nodes = record { pieces = fresh 0 ∷ []; nodes = nodes }
 
 abbrev pub rises_at : (number : ℕ) → Option Node → Bool
 rises_at number None = true

@@ -57,7 +57,13 @@ pub(crate) fn blank_main(alloc: Global, method: Method) -> Main
 /// level holds for it yet
 /// (<https://nginx.org/en/docs/dev/development_guide.html#http_subrequests>). Of its main request
 /// it has the method alone.
-fn child_phases(alloc: Global, level: u32, method: Method, path: ByteText, args: ByteText) -> Phases
+pub(crate) fn child_phases(
+    alloc: Global,
+    level: u32,
+    method: Method,
+    path: ByteText,
+    args: ByteText,
+) -> Phases
     ensures main { result.main.method ≡ method }
     ensures asked { (result.at.request ≡ record {
       method = GetMethod;

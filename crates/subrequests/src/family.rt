@@ -1,5 +1,5 @@
 // A request and its subrequests.
-ghost use Rattle.std.specs.Prelude.{◌≡◌, ℕ, List, length, IfOk, OnOk, None, true, false, slice_get, if◌then◌else◌};
+ghost use Rattle.std.specs.Prelude.{◌≡◌, ℕ, ◌+◌, List, length, IfOk, OnOk, None, true, false, slice_get, if◌then◌else◌};
 ghost use Rattle.file_tree.specs.Tree.{Trees, text_of};
 ghost use Rattle.ngx_pattern.specs.Pattern.{Pattern as SetPattern};
 ghost use Rattle.family_order.specs.Items.{IsWell};
@@ -19,6 +19,7 @@ ghost use Rattle.subrequests.specs.declared.family.Stepped.TheVariants.{On as Go
 
 use crate::child::blank_main;
 use crate::next_step::{Next, is_in_row, next_of};
+use crate::past::put_all_past;
 use crate::wants::can_run;
 use byte_text::{ByteText, OutOfMemory};
 use family_nodes::{Nodes, hears};
@@ -57,6 +58,17 @@ const MOST_LEFT: u32 = 50;
 
 /// No node does more than this in one go: far more than the parts of a block of its page.
 const MOST_STEPS: u32 = u32::MAX;
+
+/// What the phases of a main request came to: what its body is; the job that told of its file, and
+/// the number of the tree from which it is answered; and how many subrequests were opened before,
+/// which decided on its access and are over.
+#[derive(Drop)]
+pub struct Decided {
+    pub outcome: Conclusion,
+    pub ask: Ask,
+    pub tree: u64,
+    pub opened: u8,
+}
 
 /// What became of a node by what it did.
 #[derive(Clone, Copy)]
@@ -132,8 +144,8 @@ fn put_end(node: &mut Node, id: u32)
 }
 
 impl Family {
-    /// A main request whose phases came to an answer: its body is to come. `ask` is the job that
-    /// told of its file.
+    /// A main request whose phases came to an answer: its body is to come. The subrequests that were
+    /// opened before it are over, and have the first numbers after its own.
     ///
     /// # Errors
     /// `OutOfMemory`.
@@ -142,18 +154,22 @@ impl Family {
         ground: &Ground<'_>,
         phases: Phases,
         vars: VarTable,
-        outcome: Conclusion,
-        ask: Ask,
-        tree: u64,
+        decided: Decided,
     ) -> Result<Family, OutOfMemory>
-        ensures begins { IfOk result (λ f. BeginsWith ground.now phases vars outcome f) }
+        ensures begins { IfOk result (λ f. BeginsWith ground.now phases vars decided.outcome f) }
         ensures files { IfOk result (λ f. (trees : Trees) →
-            files trees f 0 ≡ text_of (item_asked trees ask)) }
+            files trees f 0 ≡ text_of (item_asked trees decided.ask)) }
         ensures whole { IfOk result (λ f. IsWhole f) }
-        ensures tree { IfOk result (λ f. f.tree ≡ tree) }
-        ensures one { IfOk result (λ f. length f.nodes ≡ 1) }
+        ensures tree { IfOk result (λ f. f.tree ≡ decided.tree) }
+        ensures nodes { IfOk result (λ f. length f.nodes ≡ 1 + decided.opened) }
     {
         shows_the_same();
+        let Decided {
+            outcome,
+            ask,
+            tree,
+            opened,
+        } = decided;
         let mut phases = phases;
         let stage = answering(
             alloc,
@@ -180,7 +196,8 @@ impl Family {
             stage,
             over: false,
         })?;
-        let order = Order::new(alloc)?;
+        let mut order = Order::new(alloc)?;
+        put_all_past(alloc, &mut order, &mut nodes, opened)?;
         Ok(Family {
             main,
             vars,

@@ -10,7 +10,8 @@ mod family;
 mod joining;
 mod next_step;
 mod opening;
+mod past;
 mod returning;
 mod wants;
 
-pub use family::{Family, Ran};
+pub use family::{Decided, Family, Ran};

@@ -1,7 +1,7 @@
 use Rattle.std.proofs.Common.{sym, subst}
 use Rattle.request_meaning.specs.Laws.{shipped}
 use Rattle.request_phases.specs.Rounds.{world_in}
-use Rattle.request_flow.specs.Flows.{IsServedBy, flow_rest, one_rest, stage_length, stage_server}
+use Rattle.request_flow.specs.Flows.{HasOpened, IsServedBy, flow_rest, one_rest, stage_length, stage_opened, stage_server}
 use Rattle.request_flow.specs.Pages.{GoesTo}
 use Rattle.request_flow.specs.Reached.{FlowReached}
 use Rattle.request_flow.specs.Rests.{Follows}
@@ -23,6 +23,11 @@ pub returns-then-is_sending-clause-by : goal.returns-then-is_sending-clause-by
 returns-then-is_sending-clause-by c =
     let s = c.args.flow.value.stage in
     subst (λ (o : Onward). IsServedBy (stage_server s) (stage_length s) o.flow) (sym c.sent_on.ensures) (c.sends_on-log.ensures.by (stage_server s) (stage_length s))
+
+pub returns-then-is_sending-clause-opened : goal.returns-then-is_sending-clause-opened
+returns-then-is_sending-clause-opened c =
+    let s = c.args.flow.value.stage in
+    subst (λ (o : Onward). HasOpened (stage_opened s) o.flow) (sym c.sent_on.ensures) (c.sends_on-log.ensures.opened (stage_opened s))
 
 pub returns-then-is_sending-clause-reached : goal.returns-then-is_sending-clause-reached
 returns-then-is_sending-clause-reached c = λ h.

@@ -7,7 +7,7 @@ use Rattle.request_meaning.specs.Laws.{shipped}
 use Rattle.request_phases.specs.Rounds.{world_in}
 use Rattle.request_flow.specs.declared.flow.Onward.{Onward}
 use Rattle.request_flow.specs.declared.page.Went.{Went}
-use Rattle.request_flow.specs.declared.page.Went.TheVariants.{On, Page}
+use Rattle.request_flow.specs.declared.page.Went.TheVariants.{On, Asks, Page}
 use Rattle.request_flow.specs.Flows.{asking_most, flow_left, flow_most}
 use Rattle.request_flow.specs.Pages.{GoesTo, IfOn}
 use Rattle.request_opening.specs.Openings.{main_at}
@@ -31,6 +31,7 @@ returns-in_ok-go_on-in-Ok-begun-clause-goes c = λ trees.
 lowered : (went : Went) (size : Onward → ℕ) (questions : ℕ) → IfOn went (λ o. size o < flow_most + 2 * questions + 1) → questions ≤ 4294967295 → IfOn went (λ o. size o < asking_most)
 unfolding asking_most
 lowered (On o) size questions lower few = omega (arith, lower, few)
+lowered (Asks a) size questions lower few = tt
 lowered (Page p) size questions lower few = tt
 
 pub returns-in_ok-go_on-in-Ok-begun-clause-lowers : goal.returns-in_ok-go_on-in-Ok-begun-clause-lowers

@@ -1,4 +1,4 @@
-use Rattle.std.proofs.Common.{true, false, sym, ◌∙◌, refl}
+use Rattle.std.proofs.Common.{sym, ◌∙◌}
 use Rattle.request_reply.proofs.Sents as sents
 use Rattle.request_reply.proofs.filters.facts_if.Goals as goal
 

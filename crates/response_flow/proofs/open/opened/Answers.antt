@@ -1,4 +1,4 @@
-use Rattle.std.proofs.Common.{◌≡◌, length, sym, ap, ◌∙◌, subst}
+use Rattle.std.proofs.Common.{◌≡◌, ◌+◌, length, sym, ap, ◌∙◌, subst}
 use Rattle.file_tree.specs.Tree.{Trees}
 use Rattle.subrequests.specs.Moved.{BeginsWith, IsWhole, files}
 use Rattle.subrequests.specs.declared.family.Family.{Family}
@@ -21,14 +21,14 @@ returns-clause-opens c = λ patterns.
     (subst (λ (r : InPhases). BeginsWith g r.phases r.vars start.page.outcome family) c.into_inner-phases.ensures f.begins) in
     let text : (trees : Trees) → files trees p.family 0 ≡ known_text start.page.known trees = λ trees. ap (λ (x : Family). files trees x 0) is ∙ (f.files trees ∙ c.source_of-ask.ensures.text trees) in
     let tree = ap (λ (x : Family). x.tree) is ∙ (f.tree ∙ c.source_of-ask.ensures.tree) in
-    let one = ap (λ (x : Family). length x.nodes) is ∙ f.one in
+    let many = subst (λ (r : InPhases). length p.family.nodes ≡ 1 + r.opened) c.into_inner-phases.ensures (ap (λ (x : Family). length x.nodes) is ∙ f.nodes) in
     let laws = c.reached_stays_well.ensures in
     let keep = c.steps_keep_still.ensures in
     let fit = c.shipped_are_fit.ensures in
     subst (λ x. Opens patterns g start x) (sym c.in_ok-new.ensures.ok)
     (record {
-      same = λ trees raceless h. begins.same laws keep fit patterns g start p c.requires.told begun text tree one trees raceless h (made.outgoing.0 ∙ c.as_slice.ensures) made.outgoing.1 made.log.0 made.log.1;
-      reached = begins.reached laws keep fit patterns g start p c.requires.told begun text tree one;
+      same = λ trees raceless h. begins.same laws keep fit patterns g start p c.requires.told begun text tree many trees raceless h (made.outgoing.0 ∙ c.as_slice.ensures) made.outgoing.1 made.log.0 made.log.1;
+      reached = begins.reached laws keep fit patterns g start p c.requires.told begun text tree many;
       whole = subst IsWhole (sym is) f.whole;
       bounded = made.bounded;
       few = begins.few p made.steps made.bounded;

@@ -1,4 +1,4 @@
-use Rattle.std.proofs.Common.{◌≤◌, ◌+◌, [], Some, None, length, refl, sym, subst}
+use Rattle.std.proofs.Common.{◌≤◌, ◌+◌, [], Some, length, refl, sym, subst}
 use Rattle.response_flow.specs.Continues.{IfOn}
 use Rattle.response_flow.specs.Flights.{TailIn, flight_left, flight_tree}
 use Rattle.response_flow.proofs.Goes as goes
@@ -11,13 +11,12 @@ pub run_page-requires-clause-bounded : goal.run_page-requires-clause-bounded
 run_page-requires-clause-bounded c = (c.in_ok-page.ensures.opens c.args.space.now.patterns).bounded
 
 pub returns-clause-runs : goal.returns-clause-runs
-returns-clause-runs c = λ trees before from first raceless reached follows.
+returns-clause-runs c = λ trees before from first raceless reached continues.
     let site = c.args.ground.now.site.now in
     let start = c.args.start in
     let o = c.in_ok-page.ensures.opens c.args.space.now.patterns in
     c.in_ok-run_page.ensures.runs trees before from first raceless (o.reached reached)
-    (goes.moved site before _ _ from [] [] first start.closing (Some start.level) (sym (o.same trees raceless reached)) refl
-    (goes.follows_continues site before _ from [] first start.closing None (Some start.level) follows))
+    (goes.moved site before _ _ from [] [] first start.closing (Some start.level) (sym (o.same trees raceless reached)) refl continues)
 
 pub returns-clause-reached : goal.returns-clause-reached
 returns-clause-reached c = λ reached. c.in_ok-run_page.ensures.reached ((c.in_ok-page.ensures.opens c.args.space.now.patterns).reached reached)

@@ -5,32 +5,12 @@ use Rattle.page_response.specs.declared.pages.Pages.{Pages}
 use Rattle.request_phases.specs.Rounds.{world_in}
 use Rattle.subrequests.specs.Moved.{files}
 use Rattle.response_flow.specs.Continues.{IfOn, RunsOn, ran_as, ran_in}
-use Rattle.response_flow.specs.Flights.{FlightFits, FlightReached, FlightServedBy, TailFits, flight_length, flight_rest, flight_server, page_left}
-use Rattle.response_flow.specs.declared.flight.Flight.{Flight}
+use Rattle.response_flow.specs.Flights.{FlightFits, FlightReached, TailFits, flight_rest, page_left}
 use Rattle.response_flow.specs.declared.flight.PageFlow.{PageFlow}
 use Rattle.response_flow.specs.declared.flight.Flight.TheVariants.{Page}
 use Rattle.response_flow.proofs.Goes as goes
 use Rattle.response_flow.proofs.Tails.{ran_page_as}
 use Rattle.response_flow.proofs.run.run_in_place.Goals as goal
-
-pub returns-in-Some-Alone-clause-runs : goal.returns-in-Some-Alone-clause-runs
-returns-in-Some-Alone-clause-runs c = λ trees raceless reached.
-    let g = c.args.ground.now in
-    let site = g.site.now in
-    let patterns = c.args.space.now.patterns in
-    let w = world_in patterns g shipped in
-    let is = c.in-Some-Alone.is ∙ (sym c.take.ensures.taken ∙ c.in-Some.is) in
-    let out = c.run_on.new.out in
-    subst (RunsOn w patterns site trees (flight_rest w patterns site c.args.flight.now trees) c.args.out.now out c.args.closing) (sym c.passed.ensures)
-    (subst (λ f. RunsOn w patterns site trees (flight_rest w patterns site f trees) c.args.out.now out c.args.closing c.in_ok-ran-in-Some-Alone.ran) (sym is)
-    (c.in_ok-ran-in-Some-Alone.ensures.runs trees raceless (subst (FlightReached w patterns site) is reached)))
-
-pub returns-in-Some-Alone-clause-by : goal.returns-in-Some-Alone-clause-by
-returns-in-Some-Alone-clause-by c = λ f so.
-    let is = sym so ∙ (c.in-Some-Alone.is ∙ (sym c.take.ensures.taken ∙ c.in-Some.is)) in
-    let same : c.in-Some.alone ≡ f = sym (ap (λ o. goes.flight_in o f) is) in
-    subst (λ ran. IfOn ran (λ o. FlightServedBy (flight_server f) (flight_length f) o.flight)) (sym c.passed.ensures)
-    (subst (λ (x : Flight). IfOn c.in_ok-ran-in-Some-Alone.ran (λ o. FlightServedBy (flight_server x) (flight_length x) o.flight)) same c.in_ok-ran-in-Some-Alone.ensures.by)
 
 pub returns-in_ok-page_ends-in-Some-true-clause-runs : goal.returns-in_ok-page_ends-in-Some-true-clause-runs
 returns-in_ok-page_ends-in-Some-true-clause-runs c = λ trees raceless reached.
@@ -61,14 +41,6 @@ returns-then-is_sending-clause-runs c = λ trees raceless reached.
     let patterns = c.args.space.now.patterns in
     c.sends.ensures.runs (world_in patterns c.args.ground.now shipped) patterns c.args.ground.now.site.now trees c.args.out.now
 
-pub returns-in-Some-Alone-clause-tail : goal.returns-in-Some-Alone-clause-tail
-returns-in-Some-Alone-clause-tail c =
-    let was = c.args.flight.now in
-    let out = c.run_on.new.out in
-    let is = c.in-Some-Alone.is ∙ (sym c.take.ensures.taken ∙ c.in-Some.is) in
-    subst (λ ran. IfOn ran (λ o. TailFits was o.flight o.tail out)) (sym c.passed.ensures)
-    (subst (λ f. IfOn c.in_ok-ran-in-Some-Alone.ran (λ o. TailFits f o.flight o.tail out)) (sym is) c.in_ok-ran-in-Some-Alone.ensures.tail)
-
 pub returns-in_ok-page_ends-in-Some-true-clause-tail : goal.returns-in_ok-page_ends-in-Some-true-clause-tail
 returns-in_ok-page_ends-in-Some-true-clause-tail c =
     let page = c.in-Some-Page.page in
@@ -80,3 +52,19 @@ returns-in_ok-page_ends-in-Some-true-clause-tail c =
     let ran = ran_in c.page_ends.new.flight c.in_ok-page_ends-in-Some-true.field-0 in
     let out = c.page_ends.new.out in
     subst (λ f. IfOn ran (λ o. TailFits f o.flight o.tail out)) (sym is) (ran_page_as page page' ran out kind c.in_ok-page_ends-in-Some-true.ensures.tail)
+
+pub returns-in-Some-Alone-clause-runs : goal.returns-in-Some-Alone-clause-runs
+returns-in-Some-Alone-clause-runs c = λ trees raceless reached.
+    let site = c.args.ground.now.site.now in
+    let patterns = c.args.space.now.patterns in
+    let w = world_in patterns c.args.ground.now shipped in
+    subst (λ f. RunsOn w patterns site trees (flight_rest w patterns site f trees) c.args.out.now c.moves_on.new.out c.args.closing (ran_in c.moves_on.new.flight c.in_ok-moves_on-in-Some-Alone.field-0)) (sym c.in-Some-Alone.is)
+    (c.in_ok-moves_on-in-Some-Alone.ensures.runs trees raceless (subst (FlightReached w patterns site) c.in-Some-Alone.is reached))
+
+pub returns-in-Some-Asking-clause-runs : goal.returns-in-Some-Asking-clause-runs
+returns-in-Some-Asking-clause-runs c = λ trees raceless reached.
+    let site = c.args.ground.now.site.now in
+    let patterns = c.args.space.now.patterns in
+    let w = world_in patterns c.args.ground.now shipped in
+    subst (λ f. RunsOn w patterns site trees (flight_rest w patterns site f trees) c.args.out.now c.moves_on-in-Some-Asking.new.out c.args.closing (ran_in c.moves_on-in-Some-Asking.new.flight c.in_ok-moves_on-in-Some-Asking.field-0)) (sym c.in-Some-Asking.is)
+    (c.in_ok-moves_on-in-Some-Asking.ensures.runs trees raceless (subst (FlightReached w patterns site) c.in-Some-Asking.is reached))

@@ -1,84 +1,125 @@
-use Rattle.std.proofs.Common.{◌≡◌, true, List, [], Some, None, sym, ap, subst}
-use Rattle.ngx_pattern.specs.Pattern.{Pattern as SetPattern}
-use Rattle.race_meaning.specs.Named.{IsRaceless}
+use Rattle.std.proofs.Common.{◌≡◌, ◌+◌, ◌<◌, ◌≤◌, true, Some, length, sym, subst, arith}
+use Rattle.file_tree.specs.Tree.{tree_of}
 use Rattle.request_meaning.specs.Laws.{shipped}
 use Rattle.request_phases.specs.Rounds.{world_in}
 use Rattle.subrequests.specs.Wants.{is_among}
-use Rattle.request_flow.specs.Flows.{flow_rest, may_run}
-use Rattle.request_flow.specs.Pages.{GoesTo, IfPage, IsServed, start_rest}
-use Rattle.request_flow.specs.Reached.{PageReached, WentReached}
-use Rattle.request_flow.specs.Rests.{Follows}
-use Rattle.request_flow.specs.declared.page.PageStart.{PageStart}
+use Rattle.access_flow.specs.Flows.{steps_left, waits}
+use Rattle.request_flow.specs.Flows.{flow_left, may_run}
 use Rattle.response_flow.specs.Continues.{IfOn, RunsOn}
-use Rattle.response_flow.specs.Flights.{FlightServedBy, IsReachedBy, TailFits, flight_length, flight_server, ready_by, rest_of}
+use Rattle.response_flow.specs.Flights.{FlightFits, FlightServedBy, IsReachedBy, TailFits, flight_left, flight_length, flight_rest, flight_server, flight_tree, next_of, page_most, ready_by}
 use Rattle.response_flow.specs.declared.flight.Flight.{Flight}
 use Rattle.response_flow.proofs.Goes as goes
-use Rattle.response_flow.proofs.Wanting.{alone_runs}
-use Rattle.response_flow.proofs.Tails.{alone_fits, ran_alone, ran_page}
+use Rattle.response_flow.proofs.Wanting.{alone_runs, asking_runs}
+use Rattle.response_flow.proofs.Wents.{closes_when, tree_below}
+use Rattle.response_flow.proofs.Tails.{ran_alone, ran_asking, ran_page}
 use Rattle.response_flow.proofs.run.run_on.Goals as goal
 
-pub run_on-requires-clause-runs : goal.run_on-requires-clause-runs
-run_on-requires-clause-runs c =
+other_order : (a b c : _) → b + (a + c) ≤ a + (b + c)
+other_order a b c = omega arith
+
+-- ---- run_alone
+
+pub run_alone-requires-clause-fits : goal.run_alone-requires-clause-fits
+run_alone-requires-clause-fits c = subst (λ (f : Flight). FlightFits (Some f) (length c.args.out.now)) c.in-Alone.is c.requires.fits
+
+pub run_alone-requires-clause-runs : goal.run_alone-requires-clause-runs
+run_alone-requires-clause-runs c =
     alone_runs (may_run c.in-Alone.flow.value.stage) c.args.at (subst (λ (f : Flight). is_among c.args.at (ready_by f) ≡ true) c.in-Alone.is c.requires.runs)
 
-pub returns-in-On-clause-runs : goal.returns-in-On-clause-runs
-returns-in-On-clause-runs c = λ trees raceless reached.
+pub returns-in_ok-run_alone-in-Alone-clause-runs : goal.returns-in_ok-run_alone-in-Alone-clause-runs
+returns-in_ok-run_alone-in-Alone-clause-runs c = λ trees raceless reached.
     let site = c.args.ground.now.site.now in
     let patterns = c.args.space.now.patterns in
     let w = world_in patterns c.args.ground.now shipped in
-    let flow = c.in-Alone.flow in
-    let out = c.args.out.now in
-    goes.said site (flow_rest w patterns site (Some flow) trees) _ _ _ out c.run_on.new.out c.args.closing _ _ _ _ _ _
-    (ap (rest_of w patterns site trees) c.in-Alone.is) (c.alone.ensures.rest w patterns site trees) c.alone.ensures.others.0 c.alone.ensures.others.1 c.alone.ensures.others.2
-    (subst (λ x. GoesTo w patterns site trees (flow_rest w patterns site (Some flow) trees) out c.run_on.new.out c.args.closing x) c.in-On.is (c.in_ok-onward-in-Alone.ensures.goes trees))
+    subst (λ (f : Flight). RunsOn w patterns site trees (flight_rest w patterns site (Some f) trees) c.args.out.now c.run_alone.new.out c.args.closing c.in_ok-run_alone-in-Alone.field-0) (sym c.in-Alone.is)
+    (c.in_ok-run_alone-in-Alone.ensures.runs trees raceless (subst (IsReachedBy w patterns site) c.in-Alone.is reached))
 
-pub returns-in-On-clause-reached : goal.returns-in-On-clause-reached
-returns-in-On-clause-reached c = λ reached.
+pub returns-in_ok-run_alone-in-Alone-clause-reached : goal.returns-in_ok-run_alone-in-Alone-clause-reached
+returns-in_ok-run_alone-in-Alone-clause-reached c = λ reached.
     let site = c.args.ground.now.site.now in
     let patterns = c.args.space.now.patterns in
     let w = world_in patterns c.args.ground.now shipped in
-    c.alone.ensures.reached w patterns site
-    (subst (WentReached w patterns site) c.in-On.is (c.in_ok-onward-in-Alone.ensures.reached (subst (IsReachedBy w patterns site) c.in-Alone.is reached)))
+    c.in_ok-run_alone-in-Alone.ensures.reached (subst (IsReachedBy w patterns site) c.in-Alone.is reached)
 
-pub returns-in-On-clause-by : goal.returns-in-On-clause-by
-returns-in-On-clause-by c =
-    subst (λ (f : Flight). FlightServedBy (flight_server f) (flight_length f) c.alone.result.flight) (sym c.in-Alone.is)
-    (c.alone.ensures.by _ _ (subst (IsServed _ _) c.in-On.is c.in_ok-onward-in-Alone.ensures.by))
+pub returns-in_ok-run_alone-in-Alone-clause-lowers : goal.returns-in_ok-run_alone-in-Alone-clause-lowers
+returns-in_ok-run_alone-in-Alone-clause-lowers c =
+    let size = length c.args.out.now in
+    let new = length c.run_alone.new.out in
+    let ran = c.in_ok-run_alone-in-Alone.field-0 in
+    subst (λ (f : Flight). IfOn ran (λ o. new + flight_left o.flight new < size + flight_left (Some f) size)) (sym c.in-Alone.is)
+    (goes.lower ran (λ o. new + flight_left o.flight new) _ _ (other_order size page_most (flow_left (Some c.in-Alone.flow) size)) c.in_ok-run_alone-in-Alone.ensures.lowers)
 
-pub returns-in_ok-opens-in-Page-2-clause-runs : goal.returns-in_ok-opens-in-Page-2-clause-runs
-returns-in_ok-opens-in-Page-2-clause-runs c = λ trees raceless reached.
-    let g = c.args.ground.now in
-    let site = g.site.now in
+pub returns-in_ok-run_alone-in-Alone-clause-by : goal.returns-in_ok-run_alone-in-Alone-clause-by
+returns-in_ok-run_alone-in-Alone-clause-by c =
+    subst (λ (f : Flight). IfOn c.in_ok-run_alone-in-Alone.field-0 (λ o. FlightServedBy (flight_server f) (flight_length f) o.flight)) (sym c.in-Alone.is) c.in_ok-run_alone-in-Alone.ensures.by
+
+pub returns-in_ok-run_alone-in-Alone-clause-asked : goal.returns-in_ok-run_alone-in-Alone-clause-asked
+returns-in_ok-run_alone-in-Alone-clause-asked c =
+    subst (λ (f : Flight). IfOn c.in_ok-run_alone-in-Alone.field-0 (λ o. flight_tree o.flight ≤ flight_tree (Some f))) (sym c.in-Alone.is) c.in_ok-run_alone-in-Alone.ensures.asked
+
+pub returns-in_ok-run_alone-in-Alone-clause-closes : goal.returns-in_ok-run_alone-in-Alone-clause-closes
+returns-in_ok-run_alone-in-Alone-clause-closes c = closes_when c.in_ok-run_alone-in-Alone.field-0 c.args.closing c.in_ok-run_alone-in-Alone.ensures.closes
+
+pub returns-in_ok-run_alone-in-Alone-clause-tail : goal.returns-in_ok-run_alone-in-Alone-clause-tail
+returns-in_ok-run_alone-in-Alone-clause-tail c =
+    let ran = c.in_ok-run_alone-in-Alone.field-0 in
+    let out = c.run_alone.new.out in
+    subst (λ (f : Flight). IfOn ran (λ o. TailFits (Some f) o.flight o.tail out)) (sym c.in-Alone.is) (ran_alone c.in-Alone.flow ran out c.in_ok-run_alone-in-Alone.ensures.tail)
+
+-- ---- run_asking
+
+pub run_asking-requires-clause-fits : goal.run_asking-requires-clause-fits
+run_asking-requires-clause-fits c = subst (λ (f : Flight). FlightFits (Some f) (length c.args.out.now)) c.in-Asking.is c.requires.fits
+
+pub run_asking-requires-clause-runs : goal.run_asking-requires-clause-runs
+run_asking-requires-clause-runs c =
+    asking_runs (waits c.in-Asking.flow.value.stage) (next_of c.in-Asking.flow.value.stage c.in-Asking.flow.value.request.value.opened) c.args.at (subst (λ (f : Flight). is_among c.args.at (ready_by f) ≡ true) c.in-Asking.is c.requires.runs)
+
+pub returns-in_ok-run_asking-in-Asking-clause-runs : goal.returns-in_ok-run_asking-in-Asking-clause-runs
+returns-in_ok-run_asking-in-Asking-clause-runs c = λ trees raceless reached.
+    let site = c.args.ground.now.site.now in
     let patterns = c.args.space.now.patterns in
-    let w = world_in patterns g shipped in
-    let flow = c.in-Alone.flow in
-    let p = c.into_inner.result in
-    let same = sym c.into_inner.ensures in
-    let out = c.args.out.now in
-    let before = rest_of w patterns site trees c.args.flight in
-    let ran = c.in_ok-onward-in-Alone.ensures in
-    let put = subst (λ x. IfPage x (λ q. c.run_on.new.out ≡ [])) c.in-Page-2.is ran.put in
-    let follows = subst (λ (p : PageStart). Follows site (flow_rest w patterns site (Some flow) trees) (start_rest w patterns site trees p) out c.run_on.new.out c.args.closing p.closing None (Some p.level)) same
-    (subst (λ x. GoesTo w patterns site trees (flow_rest w patterns site (Some flow) trees) out c.run_on.new.out c.args.closing x) c.in-Page-2.is (ran.goes trees)) in
-    subst (λ (ps : List SetPattern). IsRaceless (world_in ps g shipped).server → PageReached (world_in ps g shipped) ps site p
-    → Follows site before (start_rest (world_in ps g shipped) ps site trees p) out [] c.args.closing p.closing None (Some p.level)
-    → RunsOn (world_in ps g shipped) ps site trees before out c.opens.new.out c.args.closing c.in_ok-opens-in-Page-2.field-0) ran.kept
-    (c.in_ok-opens-in-Page-2.ensures.runs trees before out c.args.closing)
-    raceless (subst (PageReached w patterns site) same (subst (WentReached w patterns site) c.in-Page-2.is (ran.reached (subst (IsReachedBy w patterns site) c.in-Alone.is reached))))
-    (subst (λ r. Follows site r (start_rest w patterns site trees p) out [] c.args.closing p.closing None (Some p.level)) (ap (rest_of w patterns site trees) (sym c.in-Alone.is))
-    (subst (λ o. Follows site (flow_rest w patterns site (Some flow) trees) (start_rest w patterns site trees p) out o c.args.closing p.closing None (Some p.level)) put follows))
+    let w = world_in patterns c.args.ground.now shipped in
+    subst (λ (f : Flight). RunsOn w patterns site trees (flight_rest w patterns site (Some f) trees) c.args.out.now c.run_asking.new.out c.args.closing c.in_ok-run_asking-in-Asking.field-0) (sym c.in-Asking.is)
+    (c.in_ok-run_asking-in-Asking.ensures.runs trees raceless (subst (IsReachedBy w patterns site) c.in-Asking.is reached))
 
-pub returns-in-On-clause-tail : goal.returns-in-On-clause-tail
-returns-in-On-clause-tail c =
-    let o = c.alone.result in
-    let out = c.run_on.new.out in
-    subst (λ (f : Flight). TailFits (Some f) o.flight o.tail out) (sym c.in-Alone.is) (alone_fits c.in-Alone.flow None o.flight o.tail out (c.alone.ensures.tail out))
+pub returns-in_ok-run_asking-in-Asking-clause-reached : goal.returns-in_ok-run_asking-in-Asking-clause-reached
+returns-in_ok-run_asking-in-Asking-clause-reached c = λ reached.
+    let site = c.args.ground.now.site.now in
+    let patterns = c.args.space.now.patterns in
+    let w = world_in patterns c.args.ground.now shipped in
+    c.in_ok-run_asking-in-Asking.ensures.reached (subst (IsReachedBy w patterns site) c.in-Asking.is reached)
 
-pub returns-in_ok-opens-in-Page-2-clause-tail : goal.returns-in_ok-opens-in-Page-2-clause-tail
-returns-in_ok-opens-in-Page-2-clause-tail c =
-    let ran = c.in_ok-opens-in-Page-2.field-0 in
-    let out = c.opens.new.out in
-    subst (λ (f : Flight). IfOn ran (λ o. TailFits (Some f) o.flight o.tail out)) (sym c.in-Alone.is) (ran_alone c.in-Alone.flow _ ran out c.in_ok-opens-in-Page-2.ensures.tail)
+pub returns-in_ok-run_asking-in-Asking-clause-lowers : goal.returns-in_ok-run_asking-in-Asking-clause-lowers
+returns-in_ok-run_asking-in-Asking-clause-lowers c =
+    let size = length c.args.out.now in
+    let new = length c.run_asking.new.out in
+    let ran = c.in_ok-run_asking-in-Asking.field-0 in
+    subst (λ (f : Flight). IfOn ran (λ o. new + flight_left o.flight new < size + flight_left (Some f) size)) (sym c.in-Asking.is)
+    (goes.lower ran (λ o. new + flight_left o.flight new) _ _ (other_order size page_most (steps_left c.in-Asking.flow.value)) c.in_ok-run_asking-in-Asking.ensures.lowers)
+
+pub returns-in_ok-run_asking-in-Asking-clause-by : goal.returns-in_ok-run_asking-in-Asking-clause-by
+returns-in_ok-run_asking-in-Asking-clause-by c =
+    subst (λ (f : Flight). IfOn c.in_ok-run_asking-in-Asking.field-0 (λ o. FlightServedBy (flight_server f) (flight_length f) o.flight)) (sym c.in-Asking.is) c.in_ok-run_asking-in-Asking.ensures.by
+
+pub returns-in_ok-run_asking-in-Asking-clause-asked : goal.returns-in_ok-run_asking-in-Asking-clause-asked
+returns-in_ok-run_asking-in-Asking-clause-asked c =
+    let f = c.in-Asking.flow.value in
+    let ran = c.in_ok-run_asking-in-Asking.field-0 in
+    let own = (subst (λ (f : Flight). FlightFits (Some f) (length c.args.out.now)) c.in-Asking.is c.requires.fits).1.1 in
+    subst (λ (f : Flight). IfOn ran (λ o. flight_tree o.flight ≤ flight_tree (Some f))) (sym c.in-Asking.is)
+    (tree_below ran f.of (tree_of f.ask) (omega (arith, own)) c.in_ok-run_asking-in-Asking.ensures.asked)
+
+pub returns-in_ok-run_asking-in-Asking-clause-closes : goal.returns-in_ok-run_asking-in-Asking-clause-closes
+returns-in_ok-run_asking-in-Asking-clause-closes c = closes_when c.in_ok-run_asking-in-Asking.field-0 c.args.closing c.in_ok-run_asking-in-Asking.ensures.closes
+
+pub returns-in_ok-run_asking-in-Asking-clause-tail : goal.returns-in_ok-run_asking-in-Asking-clause-tail
+returns-in_ok-run_asking-in-Asking-clause-tail c =
+    let ran = c.in_ok-run_asking-in-Asking.field-0 in
+    let out = c.run_asking.new.out in
+    subst (λ (f : Flight). IfOn ran (λ o. TailFits (Some f) o.flight o.tail out)) (sym c.in-Asking.is) (ran_asking c.in-Asking.flow ran out c.in_ok-run_asking-in-Asking.ensures.tail)
+
+-- ---- a page
 
 pub returns-in_ok-run_page-in-Page-clause-tail : goal.returns-in_ok-run_page-in-Page-clause-tail
 returns-in_ok-run_page-in-Page-clause-tail c =

@@ -1,10 +1,11 @@
 use Rattle.std.proofs.Common.{◌≡◌, true, false, Option, None, Some, is_some, option_map, refl, sym, ap, ◌∙◌, subst}
 use Rattle.subrequests.specs.Wants.{is_among}
-use Rattle.request_flow.specs.Flows.{IsServedBy, flow_rest, going_on, may_run}
+use Rattle.request_flow.specs.Flows.{IsServedBy, flow_rest, going_on, may_run, stage_opened}
 use Rattle.request_flow.specs.Reached.{FlowReached}
 use Rattle.request_flow.specs.declared.flow.Flow.{Flow}
 use Rattle.std.specs.Global.{Box}
-use Rattle.response_flow.specs.Flights.{FlightFits, TailFits, TailIn, flight_rest, ready_of}
+use Rattle.response_flow.specs.Continues.{Continues}
+use Rattle.response_flow.specs.Flights.{FlightFits, TailFits, TailIn, alone_rest, flight_rest, ready_of}
 use Rattle.response_flow.specs.declared.flight.Flight.{Flight}
 use Rattle.response_flow.specs.declared.flight.Flight.TheVariants.{Alone}
 use Rattle.response_flow.proofs.Goes as goes
@@ -30,6 +31,11 @@ sends_on-log-requires-clause-runs c =
     let is = is_alone c.args.flight.now c.in-Some-Alone.field-0 flow c.in-Some-Alone.is c.in-Some-Alone.field-0-is in
     alone_runs (may_run flow.value.stage) c.requires.runs.0 (subst (λ f. is_among c.requires.runs.0 (ready_of f) ≡ true) is c.requires.runs.1)
 
+pub sends_on-log-requires-clause-fits : goal.sends_on-log-requires-clause-fits
+sends_on-log-requires-clause-fits c =
+    let is = is_alone c.args.flight.now c.in-Some-Alone.field-0 c.in-Some-Alone.flow c.in-Some-Alone.is c.in-Some-Alone.field-0-is in
+    (subst (λ f. FlightFits f c.args.size) is c.requires.fits).0
+
 pub returns-then-is_some-clause-runs : goal.returns-then-is_some-clause-runs
 returns-then-is_some-clause-runs c = λ w patterns site trees out.
     let flow = c.in-Some-Alone.flow in
@@ -37,18 +43,36 @@ returns-then-is_some-clause-runs c = λ w patterns site trees out.
     let new = c.sends_on-log.new.flow in
     let log = c.sends_on-log.result in
     let none = over new log (sym c.is_some.ensures ∙ c.if-is_some.true) in
-    goes.said site (flow_rest w patterns site (Some flow) trees) (flight_rest w patterns site c.args.flight.now trees) (flow_rest w patterns site (going_on new log) trees) (flight_rest w patterns site c.put.new.slot trees)
-    out out c.args.closing c.args.closing c.args.closing log log None None
-    (ap (λ f. flight_rest w patterns site f trees) is) (ap (λ f. flight_rest w patterns site f trees) c.put.ensures ∙ sym (ap (λ f. flow_rest w patterns site f trees) none)) refl refl refl
-    (c.sends_on-log.ensures.goes w patterns site trees out c.args.closing)
+    let count = stage_opened flow.value.stage in
+    let closing = c.args.closing in
+    subst (λ r. Continues site r (flight_rest w patterns site c.put.new.slot trees) out out closing closing log None) (ap (λ f. flight_rest w patterns site f trees) (sym is))
+    (goes.same_said site (flight_rest w patterns site (Some (Alone flow)) trees) (alone_rest w patterns site (going_on new log) trees) (flight_rest w patterns site c.put.new.slot trees) out out closing closing closing log log None None
+    (ap (λ f. flight_rest w patterns site f trees) c.put.ensures ∙ sym (ap (λ f. alone_rest w patterns site f trees) none)) refl refl refl
+    (goes.alone_continues w patterns site trees (flow_rest w patterns site (Some flow) trees) (going_on new log) count out out closing closing log None
+    (c.sends_on-log.ensures.opened count) (subst (λ f. FlightFits f c.args.size) is c.requires.fits).1 (c.sends_on-log.ensures.goes w patterns site trees out closing)))
 
 pub returns-then-is_some-clause-fits : goal.returns-then-is_some-clause-fits
 returns-then-is_some-clause-fits c =
+    let flow = c.in-Some-Alone.flow in
+    let is = is_alone c.args.flight.now c.in-Some-Alone.field-0 flow c.in-Some-Alone.is c.in-Some-Alone.field-0-is in
     let new = c.sends_on-log.new.flow in
     let log = c.sends_on-log.result in
     let none = over new log (sym c.is_some.ensures ∙ c.if-is_some.true) in
+    let count = stage_opened flow.value.stage in
     subst (λ f. FlightFits f c.args.size) (sym c.put.ensures)
-    (subst (λ f. FlightFits (option_map (λ x. Alone x) f) c.args.size) none (goes.fits_alone (going_on new log) c.args.size c.sends_on-log.ensures.fits))
+    (subst (λ f. FlightFits (option_map (λ x. Alone x) f) c.args.size) none
+    (goes.fits_alone (going_on new log) c.args.size count c.sends_on-log.ensures.fits (c.sends_on-log.ensures.opened count) (subst (λ f. FlightFits f c.args.size) is c.requires.fits).1))
+
+pub returns-else-is_some-clause-fits : goal.returns-else-is_some-clause-fits
+returns-else-is_some-clause-fits c =
+    let flow = c.in-Some-Alone.flow in
+    let is = is_alone c.args.flight.now c.in-Some-Alone.field-0 flow c.in-Some-Alone.is c.in-Some-Alone.field-0-is in
+    let new = c.sends_on-log.new.flow in
+    let log = c.sends_on-log.result in
+    let some = still new log (sym c.is_some.ensures ∙ c.if-is_some.false) in
+    let count = stage_opened flow.value.stage in
+    subst (λ f. FlightFits (option_map (λ x. Alone x) f) c.args.size) some
+    (goes.fits_alone (going_on new log) c.args.size count c.sends_on-log.ensures.fits (c.sends_on-log.ensures.opened count) (subst (λ f. FlightFits f c.args.size) is c.requires.fits).1)
 
 pub returns-else-is_some-clause-runs : goal.returns-else-is_some-clause-runs
 returns-else-is_some-clause-runs c = λ w patterns site trees out.
@@ -57,10 +81,13 @@ returns-else-is_some-clause-runs c = λ w patterns site trees out.
     let new = c.sends_on-log.new.flow in
     let log = c.sends_on-log.result in
     let some = still new log (sym c.is_some.ensures ∙ c.if-is_some.false) in
-    goes.said site (flow_rest w patterns site (Some flow) trees) (flight_rest w patterns site c.args.flight.now trees) (flow_rest w patterns site (going_on new log) trees) (flow_rest w patterns site (Some new) trees)
-    out out c.args.closing c.args.closing c.args.closing log log None None
-    (ap (λ f. flight_rest w patterns site f trees) is) (sym (ap (λ f. flow_rest w patterns site f trees) some)) refl refl refl
-    (c.sends_on-log.ensures.goes w patterns site trees out c.args.closing)
+    let count = stage_opened flow.value.stage in
+    let closing = c.args.closing in
+    subst (λ r. Continues site r (flight_rest w patterns site (Some (Alone new)) trees) out out closing closing log None) (ap (λ f. flight_rest w patterns site f trees) (sym is))
+    (goes.same_said site (flight_rest w patterns site (Some (Alone flow)) trees) (alone_rest w patterns site (going_on new log) trees) (alone_rest w patterns site (Some new) trees) out out closing closing closing log log None None
+    (sym (ap (λ f. alone_rest w patterns site f trees) some)) refl refl refl
+    (goes.alone_continues w patterns site trees (flow_rest w patterns site (Some flow) trees) (going_on new log) count out out closing closing log None
+    (c.sends_on-log.ensures.opened count) (subst (λ f. FlightFits f c.args.size) is c.requires.fits).1 (c.sends_on-log.ensures.goes w patterns site trees out closing)))
 
 pub returns-else-is_some-clause-reached : goal.returns-else-is_some-clause-reached
 returns-else-is_some-clause-reached c = λ w patterns site.

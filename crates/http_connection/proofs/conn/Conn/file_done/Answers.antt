@@ -118,9 +118,11 @@ returns-in-Ok-clause-times c = λ x now conn m.
     let s = c.args.self.now in
     record {
       mark = marks_by s.times.mark c.args.moment now.moment c.marked-self.result _ _ _ _ _ _ _ _ c.marked-self.ensures m c.sending-before.ensures.pending c.sending-before.ensures.in_flight c.sending-after.ensures.pending c.sending-after.ensures.in_flight;
+      wrote = refl;
+      filled = refl;
       head = refl;
       pace = refl;
     }
 
 pub returns-in-Err-clause-times : goal.returns-in-Err-clause-times
-returns-in-Err-clause-times c = λ x now conn m. record { mark = refl; head = refl; pace = refl }
+returns-in-Err-clause-times c = λ x now conn m. record { mark = refl; wrote = refl; filled = refl; head = refl; pace = refl }

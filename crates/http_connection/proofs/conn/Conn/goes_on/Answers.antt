@@ -131,6 +131,8 @@ returns-in-Ok-On-clause-times c = λ now conn m.
     let runs : Runs x g (Some flight) flight = record { is = refl; site = c.ground-ground.ensures.site; server = c.ground-ground.ensures.server ∙ ap (raw_server x.served) c.server_of.ensures; size = c.ground-ground.ensures.length ∙ c.length_of.ensures } in
     record {
       mark = marks_by s.times.mark c.args.moment now.moment c.marked-self-in-Ok-On.result _ _ _ _ _ _ _ _ c.marked-self-in-Ok-On.ensures m c.sending-before.ensures.pending c.sending-before.ensures.in_flight c.sending-after.ensures.pending c.sending-after.ensures.in_flight;
+      wrote = refl;
+      filled = refl;
       head = refl;
       pace = λ alive. subst (λ f. PaceRan x now f s c.run_in_place.new.flight c.paced_on.new.pace) (sym is) (record {
         told = values_at c.args.served.now onward.level;
@@ -145,6 +147,8 @@ returns-in-Ok-TooMany-clause-times c = λ now conn m.
     let s = c.args.self.now in
     record {
       mark = c.marked-self.ensures ∙ mark_rests s.times.mark c.args.moment now.moment _ _ _ _ c.put.new.slot c.clear.new.self s.tail m c.sending-before.ensures.pending c.sending-before.ensures.in_flight c.put.ensures c.clear.ensures;
+      wrote = refl;
+      filled = refl;
       head = refl;
       pace = λ alive. cc;
     }
@@ -205,4 +209,4 @@ invariant_of-self-in-Err c =
     }
 
 pub returns-in-Err-clause-times : goal.returns-in-Err-clause-times
-returns-in-Err-clause-times c = λ now conn m. record { mark = refl; head = refl; pace = refl }
+returns-in-Err-clause-times c = λ now conn m. record { mark = refl; wrote = refl; filled = refl; head = refl; pace = refl }

@@ -174,6 +174,8 @@ returns-in-Ok-On-clause-times c = λ conn.
     let st = starts_if (is_some s.cause) s.closing s.out s.body s.next c.requires.ready in
     record {
       mark = mark_begins s.times.mark c.args.moment c.marked-self.result _ _ s.flight s.out s.tail _ _ c.marked-self.ensures c.requires.none st.4 c.sending-after.ensures.pending c.sending-after.ensures.in_flight;
+      wrote = refl;
+      filled = refl;
       head = refl;
       pace = λ on. subst (λ f. PaceRan x now f s c.put-in-Ok-On.new.slot c.paced_on.new.pace) (sym c.requires.none) (record {
         told = values_at c.args.served.now c.in-Ok-On.onward.level;
@@ -188,9 +190,11 @@ returns-in-Ok-TooMany-clause-times c = λ conn.
     let st = starts_if (is_some s.cause) s.closing s.out s.body s.next c.requires.ready in
     record {
       mark = mark_starts s.times.mark c.args.moment s.flight c.put.new.slot s.out c.clear.new.self s.tail s.tail c.requires.none st.4 c.put.ensures c.clear.ensures;
+      wrote = refl;
+      filled = refl;
       head = refl;
       pace = λ alive. cc;
     }
 
 pub returns-in-Err-clause-times : goal.returns-in-Err-clause-times
-returns-in-Err-clause-times c = λ conn. record { mark = refl; head = refl; pace = refl }
+returns-in-Err-clause-times c = λ conn. record { mark = refl; wrote = refl; filled = refl; head = refl; pace = refl }

@@ -1,4 +1,4 @@
-use Rattle.std.proofs.Common.{◌≡◌, false, [], ◌∷◌, ◌++◌, None, refl, sym, ap, ◌∙◌}
+use Rattle.std.proofs.Common.{◌≡◌, ◌≤◌, false, None, refl, sym, ap, ◌∙◌, arith}
 use Rattle.request_meaning.specs.Laws.{shipped}
 use Rattle.request_phases.specs.Rounds.{asked_in, prepared_as, world_in}
 use Rattle.request_phases.specs.declared.state.Phases.{Phases}
@@ -7,6 +7,7 @@ use Rattle.rewrite_code.specs.Places.{standing_seen}
 use Rattle.node_turn.specs.Nodes.{after_phases, asked_path, bytes_for, lent, stage_act}
 use Rattle.node_turn.specs.declared.node.Node.{Node}
 use Rattle.node_turn.specs.declared.node.Place.TheVariants.{Row as InRow}
+use Rattle.subrequests.specs.Families.{text_at}
 use Rattle.subrequests.proofs.Beginning as beginning
 use Rattle.subrequests.proofs.family.Family.begin.Goals as goal
 
@@ -15,14 +16,26 @@ returns-clause-begins c = λ ps tree texts first table same.
     let g = c.args.ground.now in
     let site = g.site.now in
     let w = world_in ps g shipped in
-    let n : Node = record { parent = 0; left = 50; children = 0; waits = None; asks = None; place = InRow; before = c.new-2.result; phases = c.lend.new.phases; ask = c.args.ask; start = 0; stage = c.in_ok-stage.stage; over = false } in
-    let path = asked_path c.args.ask in
+    let n : Node = record { parent = 0; left = 50; children = 0; waits = None; asks = None; place = InRow; before = c.new-2.result; phases = c.lend.new.phases; ask = c.args.decided.ask; start = 0; stage = c.in_ok-stage.stage; over = false } in
+    let made = c.in_ok-put_all_past.ensures in
+    let past = beginning.after_first c.new-nodes.ensures c.in_ok-push.ensures.items made.nodes in
+    let path = asked_path c.args.decided.ask in
     let back : lent c.lend.new.main c.lend.new.phases ≡ c.args.phases = beginning.given c.blank_main-main.result c.lend.new.main c.args.phases c.lend.new.phases c.lend.ensures.main c.lend.ensures.phases in
-    beginning.begins c.shows_the_same.ensures w tree ps site c.lend.new.main c.in_ok-order.order c.push.new.self texts c.args.vars n first c.in_ok-order.ensures (c.in_ok-push.ensures.items ∙ ap (λ ns. ns ++ n ∷ []) c.new-nodes.ensures) refl refl refl
-    table (same ∙ (ap (λ ssi. settled (after_phases w 50 ssi (prepared_as w (asked_in c.args.phases) (standing_seen site c.args.phases.at) (bytes_for c.args.outcome (texts 0)) c.args.outcome)) c.args.vars) (sym c.new.ensures)
+    beginning.begins c.shows_the_same.ensures w tree ps site c.lend.new.main c.put_all_past.new.order c.put_all_past.new.nodes texts c.args.vars c.args.decided.opened n first made.order past refl refl refl
+    table (same ∙ (ap (λ ssi. settled (after_phases w 50 ssi (prepared_as w (asked_in c.args.phases) (standing_seen site c.args.phases.at) (bytes_for c.args.decided.outcome (texts 0)) c.args.decided.outcome)) c.args.vars) (sym c.new.ensures)
     ∙ (c.in_ok-stage.ensures.acts ps path (texts 0) c.args.vars ∙ ap (λ (p : Phases). (stage_act w ps site p 50 path c.in_ok-stage.stage (texts 0), c.args.vars)) (sym back))))
 
 pub returns-clause-whole : goal.returns-clause-whole
 returns-clause-whole c =
-    let n : Node = record { parent = 0; left = 50; children = 0; waits = None; asks = None; place = InRow; before = c.new-2.result; phases = c.lend.new.phases; ask = c.args.ask; start = 0; stage = c.in_ok-stage.stage; over = false } in
-    beginning.sound c.in_ok-order.order c.push.new.self n c.in_ok-order.ensures (c.in_ok-push.ensures.items ∙ ap (λ ns. ns ++ n ∷ []) c.new-nodes.ensures) refl refl
+    let past = beginning.after_first c.new-nodes.ensures c.in_ok-push.ensures.items c.in_ok-put_all_past.ensures.nodes in
+    beginning.sound c.put_all_past.new.order c.put_all_past.new.nodes c.args.decided.opened _ c.in_ok-put_all_past.ensures.order past (let few : c.args.decided.opened ≤ 255 = omega arith in few) refl refl
+
+pub returns-clause-files : goal.returns-clause-files
+returns-clause-files c = λ trees.
+    let past = beginning.after_first c.new-nodes.ensures c.in_ok-push.ensures.items c.in_ok-put_all_past.ensures.nodes in
+    ap (text_at trees) (beginning.there c.put_all_past.new.order c.put_all_past.new.nodes c.args.decided.opened _ c.in_ok-put_all_past.ensures.order past)
+
+pub returns-clause-nodes : goal.returns-clause-nodes
+returns-clause-nodes c =
+    let past = beginning.after_first c.new-nodes.ensures c.in_ok-push.ensures.items c.in_ok-put_all_past.ensures.nodes in
+    beginning.many c.put_all_past.new.order c.put_all_past.new.nodes c.args.decided.opened _ c.in_ok-put_all_past.ensures.order past
