@@ -39,7 +39,7 @@ use Rattle.request_flow.specs.Flows.{item_asked}
 use Rattle.access_flow.proofs.Told.{same_outcome, told_same}
 use Rattle.request_flow.specs.Sents.{step_rest, with_length}
 use Rattle.request_flow.specs.Terms.{terms_seen}
-use Rattle.request_flow.specs.declared.flow.InPhases.{InPhases}
+use Rattle.reply_out.specs.declared.terms.InPhases.{InPhases}
 use Rattle.request_flow.specs.Rests.{Rest, act_rest, finished}
 use Rattle.request_flow.proofs.Turns.{subs_settled}
 use Rattle.access_flow.specs.Flows.{IsBare, IsOpened, access_left, by_answer, inner_depth, inner_left, inner_rest, inner_script, outer_of, stage_rest}

@@ -39,7 +39,7 @@ use Rattle.request_phases.specs.declared.state.Conclusion.{Conclusion}
 use Rattle.request_phases.specs.declared.state.Wait.{Wait}
 use Rattle.access_flow.proofs.Told.{same_outcome}
 use Rattle.request_flow.specs.Sents.{with_length}
-use Rattle.request_flow.specs.declared.flow.InPhases.{InPhases}
+use Rattle.reply_out.specs.declared.terms.InPhases.{InPhases}
 use Rattle.request_flow.specs.Reached.{IsReachedAt, Settles}
 use Rattle.request_flow.specs.Rests.{finished}
 use Rattle.access_flow.specs.Flows.{IsBare, by_answer, inner_depth, inner_script, outer_of}

@@ -3,7 +3,7 @@ ghost use Rattle.std.specs.Prelude.{◌≡◌, not};
 ghost use Rattle.access_flow.specs.Flows.{is_inner as inner_runs, waits as waits_for};
 
 use file_tree::{Ask, Node};
-use request_flow::InPhases;
+use reply_out::InPhases;
 use request_phases::{Phases, Wait};
 
 /// How far the subrequest is.

@@ -30,6 +30,7 @@ impl BodyState {
     ///
     /// All of them are used, unless the body ends among them: then those up to its end. Once it is ended it stays so
     /// and uses no more, and once it is broken it stays broken.
+    #[inline(always)]
     pub fn take(&mut self, bytes: &[u8]) -> (usize, BodyStep)
         ensures within { result.0 ≤ length bytes.now }
         ensures takes { Takes self.old bytes.now result.0 result.1 self.new }

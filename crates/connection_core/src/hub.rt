@@ -12,7 +12,7 @@ use http_types::Addr;
 use ngx_outside::{Entry, Event, EventCore, StepAnswer, StopCause, Want};
 use ngx_pattern::PatternSet;
 use ready_loop::TimedCore;
-use request_flow::Workspace;
+use reply_out::Workspace;
 use served_site::ServedSite;
 use std::alloc::Global;
 
@@ -168,6 +168,7 @@ impl EventCore for Hub {
 
     ghost seen = { seen_at };
 
+    #[inline(always)]
     fn step(&mut self, event: Event) -> StepAnswer {
         cores_are_sound();
         match event {
@@ -206,6 +207,7 @@ impl EventCore for Hub {
         }
     }
 
+    #[inline(always)]
     fn pending(&self, conn: u32) -> &[u8] {
         match self.get(conn) {
             Some(held) => held.pending(),
@@ -217,6 +219,7 @@ impl EventCore for Hub {
         self.table.ids.as_slice()
     }
 
+    #[inline(always)]
     fn next_want(&self, conn: u32, due: bool, full: bool) -> Option<Want> {
         connections_are_sound();
         match self.get(conn) {
@@ -225,6 +228,7 @@ impl EventCore for Hub {
         }
     }
 
+    #[inline(always)]
     fn ask(&self, conn: u32, node: u32) -> Option<&Ask> {
         match self.get(conn) {
             Some(held) => held.ask(node),

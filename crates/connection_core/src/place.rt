@@ -7,7 +7,7 @@ ghost use Rattle.connection_core.specs.Table.{serves_with, is_own, StandsAt, Bel
 
 use http_connection::Conn;
 use ngx_outside::{Event, StepAnswer};
-use request_flow::Workspace;
+use reply_out::Workspace;
 use served_site::ServedSite;
 
 /// The place of a number, or the place where it belongs.

@@ -9,7 +9,7 @@ use byte_text::OutOfMemory;
 use http_connection::Conn;
 use http_types::Addr;
 use ngx_outside::{Event, StepAnswer};
-use request_flow::Workspace;
+use reply_out::Workspace;
 use served_site::ServedSite;
 use std::alloc::Global;
 

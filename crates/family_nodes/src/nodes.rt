@@ -154,6 +154,7 @@ impl Nodes {
 
     /// The first number from this one on whose node may run, for all that is known; a number after all nodes, where
     /// there is none.
+    #[inline(always)]
     pub fn next_awake(&self, from: usize) -> usize
         ensures from { from ≤ result }
         ensures rest { (row : Row) (at : ℕ) → from ≤ at → at < result
@@ -171,6 +172,7 @@ impl Nodes {
 
     /// The first number from this one on whose node may have a job, for all that is known; a number after all nodes,
     /// where there is none.
+    #[inline(always)]
     pub fn next_asking(&self, from: usize) -> usize
         ensures from { from ≤ result }
         ensures rest { (tree at : ℕ) → from ≤ at → at < result

@@ -145,6 +145,7 @@ fn path_by_tests(
 }
 
 /// Appends the path to `out`, where `text` is what the text of `root` or `alias` evaluates to.
+#[inline(always)]
 pub fn path_under(
     alloc: Global,
     place: &FileRoot,

@@ -224,6 +224,7 @@ impl Types {
 
     /// The type of the file with this path: that of its extension, which is compared without regard to ASCII case, or
     /// the default type where it has no extension or no entry has it.
+    #[inline(always)]
     pub fn type_of(&self, path: &[u8]) -> &[u8]
         ensures { result.now ≡ type_of self.now path.now }
     {

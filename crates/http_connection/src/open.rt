@@ -12,8 +12,9 @@ ghost use Rattle.http_connection.specs.Steps.{OpenedTo, Refuses};
 use crate::slot::forget;
 use byte_text::{ByteQueue, OutOfMemory};
 use http_types::{Addr, BodyKind, Method};
+use reply_out::{Workspace, put_refusal};
 use req_head::Head;
-use request_flow::{Opening, Workspace, put_refusal};
+use request_opening::Opening;
 use response_flow::{Onward, Ran, start};
 use served_site::ServedSite;
 

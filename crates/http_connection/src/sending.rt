@@ -59,6 +59,7 @@ pub(crate) fn mark_after_write(
     }
 }
 
+#[inline(always)]
 pub(crate) fn sending(flight: &Option<Flight>, out: &ByteQueue, tail: usize) -> Sending
     ensures pending { result.pending ≡ not (no_bytes (pending_at flight.now out.now tail)) }
     ensures in_flight { result.in_flight ≡ in_flight flight.now out.now }

@@ -21,8 +21,8 @@ use crate::times::own_level;
 use body_frame::BodyState;
 use byte_text::{ByteQueue, OutOfMemory};
 use ngx_outside::Entry;
+use reply_out::Workspace;
 use req_head::{Head, HeadRoom, HeadStep, awaits_first, read_head_in, size_fits};
-use request_flow::Workspace;
 use response_flow::{Onward, Ran};
 use served_site::ServedSite;
 

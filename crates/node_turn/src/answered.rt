@@ -44,6 +44,7 @@ fn copied(alloc: Global, text: Option<&[u8]>) -> Result<Option<ByteText>, OutOfM
 }
 
 /// Parts a reply.
+#[inline(always)]
 pub(crate) fn apart(alloc: Global, reply: Reply<'_>) -> Result<Parted, OutOfMemory>
     ensures { IfOk result (λ parted. (site : SiteRow) (p : PhasesView) (bytes : List ℕ)
         (prepared : Prepared) → IsFor site p prepared.answer → IsReply reply.entry bytes prepared

@@ -110,6 +110,7 @@ fn bare(alloc: Global, answered: Answered) -> Result<Stage, OutOfMemory>
 }
 
 /// A body that is sent as it is: these bytes, and then this many of a file.
+#[inline(always)]
 fn plain(
     alloc: Global,
     answered: Answered,

@@ -64,6 +64,7 @@ impl Order {
 
     /// Puts the first of these bytes, as many as fit, where the node has come to, and answers how many. A node that has
     /// ended takes none. After want of memory all is as before.
+    #[inline(always)]
     pub fn append(&mut self, id: u32, bytes: &[u8]) -> Result<usize, OutOfMemory>
         ensures count { IfOk result (λ count. count
             ≡ min (length bytes.now) (room id self.old.pieces)) }
@@ -154,6 +155,7 @@ impl Order {
     }
 
     /// The node goes on no more. Nothing changes where it has ended before.
+    #[inline(always)]
     pub fn end(&mut self, id: u32)
         ensures row { self.new ≡ ended id self.old }
         ensures order { (gives : ℕ → List ℕ)
@@ -177,6 +179,7 @@ impl Order {
     }
 
     /// The first bytes of the front have left.
+    #[inline(always)]
     pub fn used(&mut self, count: usize)
         requires { count ≤ length (front_of self.old.pieces) }
         ensures row { self.new ≡ used count self.old }

@@ -5,7 +5,7 @@ use Rattle.std.proofs.lemmas.List.{append-nil}
 use Rattle.file_tree.specs.Tree.{Trees}
 use Rattle.http_types.specs.declared.words.Addr.{Addr}
 use Rattle.ngx_outside.specs.Linked.{LinkView}
-use Rattle.ngx_outside.specs.Views.{ConnView, Course, Start, Ground, Holds, IsStart, Fresh, IsSound, is_live, no_bytes, kept_moment}
+use Rattle.ngx_outside.specs.Views.{ConnView, Course, Start, Ground, Holds, IsStart, Fresh, IsSound, is_live, no_bytes}
 use Rattle.ngx_outside.specs.Runs.{Tracked, Agree}
 use Rattle.ngx_outside.specs.declared.event.StopCause.{StopCause}
 use Rattle.ngx_outside.specs.declared.event.StopCause.TheVariants as stop

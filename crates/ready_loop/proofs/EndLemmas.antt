@@ -1,5 +1,5 @@
 -- How serving ends by what was heard, and how many notices that were.
-use Rattle.std.proofs.Common.{◌≡◌, ◌≢◌, ℕ, ◌+◌, ◌-◌, ◌^◌, ◌<◌, ◌≤◌, min, Option, None, Some, Result, Ok, arith}
+use Rattle.std.proofs.Common.{◌≡◌, ◌≢◌, ℕ, ◌+◌, ◌-◌, ◌^◌, ◌<◌, ◌≤◌, min, None, Some, Result, Ok, arith}
 use Rattle.ready_loop.specs.Turns.{TurnsTaken, HeardCounts, ending_of}
 use Rattle.ready_loop.specs.declared.hear.Heard.{Heard}
 use Rattle.ready_loop.specs.declared.hear.Heard.TheVariants as heard

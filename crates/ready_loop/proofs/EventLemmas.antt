@@ -1,5 +1,5 @@
 -- What each event does to its connection, by its answer.
-use Rattle.std.proofs.Common.{◌≡◌, ◌≢◌, ℕ, ◌+◌, ◌*◌, ◌<◌, ◌≤◌, Bool, true, false, ◌&&◌, inl, inr, List, [], length, take, Option, None, Some, refl, sym, ap, ◌∙◌, subst, arith}
+use Rattle.std.proofs.Common.{◌≡◌, ◌≢◌, ◌⊎◌, ℕ, ◌+◌, ◌*◌, ◌<◌, ◌≤◌, Bool, true, false, ◌&&◌, inl, inr, List, [], length, take, Option, None, Some, refl, sym, ap, ◌∙◌, subst, arith}
 use Rattle.std.specs.List.{Contains}
 use Rattle.std.specs.Prelude.{is_none}
 use Rattle.std.proofs.lemmas.List.{take_all}
@@ -139,11 +139,18 @@ ran : {now : Start} {old new : ConnView} {R : Type 0} → Ran now old new → Pa
 ran (RunGoes started is w) = Goes started is w
 ran (Halts count started is s heavy) = Stops _ started is heavy refl s
 
-pub ran_own : (course : Course) (now : Start) (conn node : ℕ) (a : StepAnswer) (old new : ConnView) (price l l' r r' : ℕ) → Contains old.ready node → LeftBy price (ev.Run conn node) a l l' → CountsRefused (ev.Run conn node) a r r' → StepsOwn course now (ev.Run conn node) a old new →
-    Does (Passed now (Raceless old.raceless) ⊥ ⊥ (Rose r r') old new [] []) l l' r r'
-ran_own course now conn node (Done taken) old new price l l' r r' ready f k s = done (ran s.1) f k
-ran_own course now conn node Skipped old new price l l' r r' ready f k s = absurd (s.cause ready)
-ran_own course now conn node OutOfMemory old new price l l' r r' ready f k s = refused f k s
+-- what a run did where it could apply, or that nothing changed
+pub record Might (passed same ready : Type 0) (l l' r r' : ℕ) : Type 0 where
+  pub does : passed ⊎ same
+  pub left : l' ≤ l
+  pub falls : ready → l' < l
+  pub counts : Counts r r'
+
+pub ran_if_own : (course : Course) (now : Start) (conn node : ℕ) (a : StepAnswer) (old new : ConnView) (price l l' r r' : ℕ) → LeftBy price (ev.Run conn node) a l l' → CountsRefused (ev.Run conn node) a r r' → StepsOwn course now (ev.Run conn node) a old new →
+    Might (Passed now (Raceless old.raceless) ⊥ ⊥ (Rose r r') old new [] []) (new ≡ old) (Contains old.ready node) l l' r r'
+ran_if_own course now conn node (Done taken) old new price l l' r r' f k s = record { does = inl (ran s.1); left = omega (arith, f); falls = λ h. f; counts = inl k }
+ran_if_own course now conn node Skipped old new price l l' r r' f k s = record { does = inr s.same; left = omega (arith, f); falls = λ h. absurd (s.cause h); counts = inl k }
+ran_if_own course now conn node OutOfMemory old new price l l' r r' f k s = record { does = inl (Stops _ s.0 s.1 k refl s.2); left = omega (arith, f); falls = λ h. f; counts = inr k }
 
 -- its link was closed
 pub gone_own : (course : Course) (now : Start) (conn : ℕ) (a : StepAnswer) (old new : ConnView) (price l l' r r' : ℕ) → old.shut ≡ true → LeftBy price (ev.Gone conn) a l l' → CountsRefused (ev.Gone conn) a r r' → StepsOwn course now (ev.Gone conn) a old new →

@@ -9,7 +9,7 @@ use Rattle.http_types.specs.declared.words.Addr.{Addr}
 use Rattle.ngx_outside.specs.Causes.{Rose}
 use Rattle.ngx_outside.specs.Linked.{LinkView, Same, CrowdCloses, begun}
 use Rattle.ngx_outside.specs.Views.{ConnView, Course, Start, Ground, Holds, IsSound, Fresh, Ticked, GivesUp, Waits, kept_moment}
-use Rattle.ngx_outside.specs.Views.Ground.{Always}
+use Rattle.ngx_outside.specs.Views.Ground.{Always, Raceless}
 use Rattle.ngx_outside.specs.Runs.{Agree}
 use Rattle.ngx_outside.specs.Seen.{CoreSeen, LinksSeen, FilesSeen, Terms, opens_at}
 use Rattle.ready_loop.specs.Seen.{Begun, Tick, Elsewhere, Grown, HasTicked, OpenedAt, IsDated, last_start, start_at}
@@ -117,6 +117,15 @@ kept_same marks whole core core' links links' files files' ticks c s v same loca
     (λ k. stands_stays marks.terms (whole c) files files' ticks (core.view c) (core'.view c) (links.link c) (links'.link c) (links.used c) (links'.used c) (links.is_open c) (links'.is_open c)
     (rose_on (marks.link c) (links.link_faults c) (links'.link_faults c) (s.faults c)) (rose_on marks.files files.faults files'.faults s.store.faults) (rose_counts marks.refused core.refused core'.refused s.counts) s.store
     v local peer among taken sent ended (s.used c) same (k.all c))
+
+-- a node ran where it could
+pub kept_ran : (marks : Marks) (whole : ℕ → Addr → Addr → Course) (core core' : CoreSeen) (links : LinksSeen) (files : FilesSeen) (ticks : List Tick) (c : ℕ) → Steps c core core' links links files files → (core'.view c).ended ≡ (core.view c).ended →
+    Passed core.now (Raceless (core.view c).raceless) ⊥ ⊥ (Rose core.refused core'.refused) (core.view c) (core'.view c) [] [] ⊎ (core'.view c ≡ core.view c) → Kept marks whole core links files ticks → Kept marks whole core' links files ticks
+kept_ran marks whole core core' links files ticks c s e (inl p) =
+    kept_passed marks whole core core' links links files files ticks c (Raceless (core.view c).raceless) [] [] s
+    (λ raceless trees agree. raceless) (λ x. absurd x) (λ x. absurd x) (λ x. x) refl refl refl (sym (append-nil (links.link c).taken)) (sym (append-nil (links.link c).sent))
+    (ends_same (core.view c) (core'.view c) (links.link c) (links.link c) e refl) p
+kept_ran marks whole core core' links files ticks c s e (inr same) = kept_same marks whole core core' links links files files ticks c s same refl refl refl refl refl refl refl
 
 -- a link and its connection are closed
 pub kept_closed : (marks : Marks) (whole : ℕ → Addr → Addr → Course) (core core' : CoreSeen) (links links' : LinksSeen) (files files' : FilesSeen) (ticks : List Tick) (c : ℕ) →

@@ -7,10 +7,10 @@ ghost use Rattle.ngx_outside.specs.Wants.{doable};
 ghost use Rattle.ready_loop.specs.Turns.{IsRested, IsWanted, work};
 ghost use Rattle.ready_loop.specs.Tellings.{StandBeside};
 
-use crate::jobs::{job_one, run_one};
+use crate::jobs::{job_one, work_off};
 use crate::links::{close_one, read_one, write_one};
 use byte_text::OutOfMemory;
-use ngx_outside::{EventCore, Files, Links, Want};
+use ngx_outside::{EventCore, Files, Input, Links, Want};
 
 /// What is remembered of a link: whether it was reported readable and not read since, and whether its last write found
 /// no room.
@@ -18,6 +18,19 @@ use ngx_outside::{EventCore, Files, Links, Want};
 pub struct Readiness {
     pub due: bool,
     pub full: bool,
+}
+
+// The node of a main request: its run starts the request whose head was read.
+const MAIN: u32 = 0;
+
+// Whether a read brought bytes.
+fn has_bytes(read: Input) -> bool {
+    match read {
+        Input::Got(_) => true,
+        Input::NotYet => false,
+        Input::End => false,
+        Input::Failed => false,
+    }
 }
 
 // Serves a want that can be served. What is read of a link is read into `input`.
@@ -74,18 +87,24 @@ fn serve_want<E: EventCore, F: Files, L: Links>(
 {
     match want {
         Want::Read { conn: _, room } => {
-            read_one(core, links, input.as_mut_slice(), conn, room);
-            Ok(Readiness {
+            let after = Readiness {
                 due: false,
                 full: ready.full,
-            })
+            };
+            let read = read_one(core, links, input.as_mut_slice(), conn, room);
+            if !has_bytes(read) {
+                return Ok(after);
+            }
+            work_off(core, files, conn, MAIN)?;
+            Ok(after)
         }
         Want::Run { conn: _, node } => {
-            run_one(core, conn, node);
+            work_off(core, files, conn, node)?;
             Ok(ready)
         }
         Want::Job { conn: _, node } => {
             job_one(core, files, conn, node)?;
+            work_off(core, files, conn, node)?;
             Ok(ready)
         }
         Want::Write { conn: _ } => {

@@ -128,16 +128,18 @@ pub fn job_failed<E: EventCore>(core: &mut E, conn: u32, node: u32)
     core.step(Event::JobFailed { conn, node });
 }
 
-/// A node runs.
-pub fn ran<E: EventCore>(core: &mut E, conn: u32, node: u32)
-    requires ready { Contains ((E.seen core.old).view conn).ready node }
+/// A node runs where it can; where it can't, nothing changes.
+pub fn ran_if<E: EventCore>(core: &mut E, conn: u32, node: u32)
     ensures passed { Passed (E.seen core.old).now
         (Raceless ((E.seen core.old).view conn).raceless) ⊥ ⊥
         (Rose (E.seen core.old).refused (E.seen core.new).refused) ((E.seen core.old).view conn)
-        ((E.seen core.new).view conn) [] [] }
+        ((E.seen core.new).view conn) [] []
+        ⊎ ((E.seen core.new).view conn ≡ (E.seen core.old).view conn) }
     ensures ended { ((E.seen core.new).view conn).ended ≡ ((E.seen core.old).view conn).ended }
     ensures others { Elsewhere conn (E.seen core.old).view (E.seen core.new).view }
-    ensures left { (E.seen core.new).left < (E.seen core.old).left }
+    ensures left { (E.seen core.new).left ≤ (E.seen core.old).left }
+    ensures ready { Contains ((E.seen core.old).view conn).ready node →
+        (E.seen core.new).left < (E.seen core.old).left }
     ensures given { Adds (RunGiven conn node) (E.seen core.old).events (E.seen core.new).events }
     ensures steady { ((E.seen core.new).terms ≡ (E.seen core.old).terms) ×
         ((E.seen core.new).now ≡ (E.seen core.old).now) ×

@@ -11,14 +11,15 @@ ghost use Rattle.ready_loop.specs.Turns.{Gives};
 ghost use Rattle.ngx_outside.specs.Records.{Adds, FileAnswer, LinkAnswer, Failed as FailedFile};
 ghost use Rattle.ready_loop.specs.Tellings.{StandBeside, answer_found};
 
-use crate::events::{file_done, job_failed, ran};
+use crate::events::{file_done, job_failed, ran_if};
 use byte_text::OutOfMemory;
 use file_tree::{Ask, JobAnswer, Node};
 use ngx_outside::{EventCore, FileFault, Files};
 
-/// Lets a node run that can.
-pub fn run_one<E: EventCore>(core: &mut E, conn: u32, node: u32)
-    requires ready { Contains ((E.seen core.old).view conn).ready node }
+// Lets a node run where it can, and tells whether it has a job then.
+#[inline(always)]
+fn runs_to_job<E: EventCore>(core: &mut E, conn: u32, node: u32) -> bool
+    requires held { ((E.seen core.old).view conn).held ≡ true }
     ensures kept { (links : LinksSeen) (files : FilesSeen) →
         Keeps (E.seen core.old) (E.seen core.new) links links files files }
     ensures beside { (links : Option (List LinkAnswer)) (files : Option (List FileAnswer))
@@ -27,11 +28,18 @@ pub fn run_one<E: EventCore>(core: &mut E, conn: u32, node: u32)
         (E.seen core.new).events links links files files clock clock }
     ensures views { Elsewhere conn (E.seen core.old).view (E.seen core.new).view }
     ensures held { ((E.seen core.new).view conn).held ≡ true }
-    ensures falls { (E.seen core.new).left < (E.seen core.old).left }
+    ensures left { (E.seen core.new).left ≤ (E.seen core.old).left }
+    ensures ready { Contains ((E.seen core.old).view conn).ready node →
+        (E.seen core.new).left < (E.seen core.old).left }
     ensures steady { ((E.seen core.new).terms ≡ (E.seen core.old).terms) ×
         ((E.seen core.new).now ≡ (E.seen core.old).now) }
+    ensures waits { result ≡ true → ask_in ((E.seen core.new).view conn).jobs node ≢ None }
 {
-    ran(core, conn, node);
+    ran_if(core, conn, node);
+    match core.ask(conn, node) {
+        Some(_) => true,
+        None => false,
+    }
 }
 
 /// What the files have for a job: what is at its path, or a block of a file.
@@ -117,4 +125,38 @@ pub fn job_one<E: EventCore, F: Files>(
         }
         Err(FileFault::OutOfMemory) => Err(OutOfMemory),
     }
+}
+
+/// Lets a node run where it can, and answers its job from the files, until it has none: what it asks for next it is asked at once,
+/// with no look at what else is to be done on its connection.
+#[inline(always)]
+pub fn work_off<E: EventCore, F: Files>(
+    core: &mut E,
+    files: &mut F,
+    conn: u32,
+    node: u32,
+) -> Result<(), OutOfMemory>
+    requires held { ((E.seen core.old).view conn).held ≡ true }
+    requires known { (E.seen core.old).now.tree ≤ (F.seen files.old).newest }
+    ensures kept { OnOk result ((links : LinksSeen) →
+        Keeps (E.seen core.old) (E.seen core.new) links links (F.seen files.old)
+        (F.seen files.new)) }
+    ensures beside { OnOk result ((links : Option (List LinkAnswer)) (clock : Option (List ℕ)) →
+        StandBeside (E.seen core.old).events (E.seen core.new).events links links
+        (F.seen files.old).answers (F.seen files.new).answers clock clock) }
+    ensures views { Elsewhere conn (E.seen core.old).view (E.seen core.new).view }
+    ensures held { OnOk result (((E.seen core.new).view conn).held ≡ true) }
+    ensures left { OnOk result ((E.seen core.new).left ≤ (E.seen core.old).left) }
+    ensures ready { OnOk result (Contains ((E.seen core.old).view conn).ready node →
+        (E.seen core.new).left < (E.seen core.old).left) }
+    ensures steady { ((E.seen core.new).terms ≡ (E.seen core.old).terms) ×
+        ((E.seen core.new).now ≡ (E.seen core.old).now) }
+    ensures grown { (F.seen files.old).newest ≤ (F.seen files.new).newest }
+    ensures versions { (F.seen files.new).versions ≡ (F.seen files.old).versions }
+    ensures tells { (F.seen files.new).tells ≡ (F.seen files.old).tells }
+{
+    while runs_to_job(core, conn, node) {
+        job_one(core, files, conn, node)?;
+    }
+    Ok(())
 }

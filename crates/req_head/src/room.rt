@@ -43,6 +43,7 @@ fn in_room(text: ByteText, bytes: &[u8]) -> Result<ByteText, OutOfMemory>
 
 impl SpareTexts {
     /// A target, in the room of the last one.
+    #[inline(always)]
     pub(crate) fn target(&mut self, bytes: &[u8]) -> Result<ByteText, OutOfMemory>
         ensures { IfOk result (λ t. t ≡ bytes.now) }
     {

@@ -117,6 +117,7 @@ pub(crate) fn find_fault(minor: u8, target: &[u8], known: Known<'_>) -> Option<u
 }
 
 #[tactic(auto, unfolding(crate::specs::Heads::method_of))]
+#[inline(always)]
 pub(crate) fn method_of(alloc: Global, bytes: &[u8]) -> Result<Method, OutOfMemory>
     ensures { IfOk result (λ m. m ≡ method_of bytes.now) }
 {
@@ -180,6 +181,7 @@ fn body_by_length(length: Values<'_>) -> BodyKind
 }
 
 /// How the body after the head is framed.
+#[inline(always)]
 pub(crate) fn body_of(known: Known<'_>) -> BodyKind
     requires { (fields : Entries FieldValue) × IsKnown fields known
         × (length_is_bad (get_all fields (codes "content-length")) ≡ false) }

@@ -20,12 +20,13 @@ use Rattle.request_phases.specs.declared.state.Conclusion.{Conclusion}
 use Rattle.request_phases.specs.declared.state.Conclusion.TheVariants as outcomes
 use Rattle.request_reply.specs.Replies.{IsReply}
 use Rattle.request_reply.specs.declared.reply.Reply.{Reply}
-use Rattle.request_flow.specs.declared.flow.Terms.{Terms}
+use Rattle.reply_out.specs.declared.terms.Terms.{Terms}
 use Rattle.request_flow.specs.declared.page.PageHead.{PageHead}
 use Rattle.request_flow.specs.Terms.{terms_seen}
 use Rattle.request_flow.specs.Pages.{framed_if, page_by}
 use Rattle.request_flow.specs.Rests.{Follows, act_rest, came_rest, finished}
-use Rattle.request_flow.specs.Sents.{head_with, stays_seen, with_length}
+use Rattle.reply_out.specs.Puts.{head_with, stays_seen}
+use Rattle.request_flow.specs.Sents.{with_length}
 use Rattle.request_phases.specs.Rounds.{asked_in, prepared_as}
 use Rattle.request_phases.specs.declared.state.Step.TheVariants as steps
 use Rattle.rewrite_code.specs.Places.{standing_seen}
@@ -33,7 +34,7 @@ use Rattle.request_flow.specs.Padded.{padded}
 use Rattle.request_flow.specs.Pages.{page_act}
 use Rattle.request_flow.specs.Reached.{Settles, StepReached}
 use Rattle.request_flow.specs.Sents.{known_len}
-use Rattle.request_flow.specs.declared.flow.InPhases.{InPhases}
+use Rattle.reply_out.specs.declared.terms.InPhases.{InPhases}
 use Rattle.request_flow.specs.declared.steps.Known.{Known}
 use Rattle.request_flow.proofs.Puts.{kept_or, same_outcome, stays_as}
 

@@ -1,16 +1,12 @@
 -- A response is put.
 use Rattle.std.proofs.Common.{◌≡◌, ◌≤◌, ℕ, ◌+◌, ◌-◌, Bool, true, false, not, ◌&&◌, ◌||◌, cond, List, [], ◌∷◌, ◌++◌, length, drop, Option, None, Some, option_map, refl, sym, ap, ◌∙◌, subst, append_assoc, arith}
-use Rattle.std.specs.Prelude.{is_none, codes}
+use Rattle.std.specs.Prelude.{is_none}
 use Rattle.std.proofs.lemmas.List.{append-nil}
 use Rattle.acts.specs.Vars.{Vars}
 use Rattle.file_tree.specs.Tree.{Item, Trees, text_of}
 use Rattle.filter_api.specs.declared.facts.Facts.{Facts}
 use Rattle.ngx_pattern.specs.Pattern.{Pattern as SetPattern}
-use Rattle.resp_head.specs.declared.head.ReplyHead.{ReplyHead}
 use Rattle.resp_head.specs.Head.{head_of}
-use Rattle.error_page.specs.Page.{page_of}
-use Rattle.ngx_outside.specs.Views.{Start}
-use Rattle.answers_meaning.specs.Answers.{refusal, refusal_head}
 use Rattle.site_model.specs.Levels.{raw_level}
 use Rattle.site_model.specs.declared.site.Level.{Level}
 use Rattle.site_model.specs.declared.site.Site.{Site}
@@ -34,7 +30,7 @@ use Rattle.request_reply.specs.Replies.{IsReply, body_seen, FitsFile}
 use Rattle.request_reply.specs.declared.reply.Body.{Body}
 use Rattle.request_reply.specs.declared.reply.Body.TheVariants as bodies
 use Rattle.request_reply.specs.declared.reply.Reply.{Reply}
-use Rattle.request_flow.specs.declared.flow.Terms.{Terms}
+use Rattle.reply_out.specs.declared.terms.Terms.{Terms}
 use Rattle.request_flow.specs.declared.steps.FileAt.{FileAt}
 use Rattle.request_flow.specs.declared.steps.Known.{Known}
 use Rattle.request_flow.specs.declared.steps.Known.TheVariants.{Nothing, Told}
@@ -43,7 +39,8 @@ use Rattle.request_flow.specs.Padded.{padded}
 use Rattle.request_flow.proofs.Padding.{padded_length}
 use Rattle.request_flow.specs.Rests.{Rest, no_rest, Follows}
 use Rattle.request_flow.specs.Flows.{file_rest}
-use Rattle.request_flow.specs.Sents.{head_seen, sent_now, content_now, put_now, stays_seen, is_plain, is_file, sends_file, file_known, known_bytes, known_len, with_length, plain_bytes, prepared_rest}
+use Rattle.reply_out.specs.Puts.{head_seen, sent_now, content_now, put_now, stays_seen}
+use Rattle.request_flow.specs.Sents.{is_plain, is_file, sends_file, file_known, known_bytes, known_len, with_length, plain_bytes, prepared_rest}
 
 -- ---- what an outcome prepares
 
@@ -303,32 +300,3 @@ replied patterns g p known trees len o told t reply plain en et h =
 
 pub put_first : (old new : List ℕ) → old ≡ [] → length new ≤ length old + 65536 → length new ≤ 65536
 put_first old new e h = subst (λ (o : List ℕ). length new ≤ length o + 65536) e h
-
--- ---- what is refused
-
-refused_head : (code moment : ℕ) (start : Start) (kind : List ℕ) (len : ℕ) → start.moment ≡ moment → kind ≡ codes "text/html" → len ≡ length (page_of code) →
-    Path ReplyHead (record { status = code; moment = moment; kind = Some kind; length = Some len; modified = None; location = None; chunked = false; keep = false }) (refusal_head code start)
-unfolding refusal_head
-refused_head code moment start kind len m k l = rw (sym m) (rw k (rw l refl))
-
-pub refused : (code moment : ℕ) (start : Start) (no_body : Bool) (kind page text body : List ℕ) (len : ℕ) → start.moment ≡ moment → kind ≡ codes "text/html" → page ≡ page_of code → len ≡ length page →
-    text ≡ head_of (record { status = code; moment = moment; kind = Some kind; length = Some len; modified = None; location = None; chunked = false; keep = false }) →
-    body ≡ cond no_body [] page → text ++ body ≡ (refusal code start no_body).bytes
-unfolding refusal
-refused code moment start no_body kind page text body len m k p l t b =
-    ap (λ x. x ++ body) (t ∙ ap head_of (refused_head code moment start kind len m k (l ∙ ap length p)))
-    ∙ ap (λ x. head_of (refusal_head code start) ++ x) (b ∙ ap (λ x. cond no_body [] x) p)
-
-pub put_is : (t : Terms) (reply : Reply) (keep : Bool) (kind : Option (List ℕ)) (text body : List ℕ) → reply.gone ≡ false → kind ≡ option_map (λ k. k.now) reply.kind →
-    text ≡ head_of (record {
-      status = reply.status;
-      moment = t.moment;
-      kind = kind;
-      length = reply.length;
-      modified = reply.modified;
-      location = reply.location;
-      chunked = false;
-      keep = keep;
-    }) → body ≡ content_now reply t → text ++ body ≡ put_now reply t keep
-unfolding put_now
-put_is t reply keep kind text body g k e b = rw g (rw e (rw k (rw b refl)))

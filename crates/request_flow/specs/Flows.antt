@@ -12,7 +12,7 @@ use Rattle.site_model.specs.declared.site.Site.{Site}
 use Rattle.request_meaning.specs.Serving.{World}
 use Rattle.request_phases.specs.Rounds.{phases_told}
 use Rattle.request_flow.specs.declared.blocks.Sending.{Sending}
-use Rattle.request_flow.specs.declared.flow.InPhases.{InPhases}
+use Rattle.reply_out.specs.declared.terms.InPhases.{InPhases}
 use Rattle.request_phases.specs.declared.state.Wait.{Wait}
 use Rattle.request_flow.specs.declared.flow.Stage.{Stage}
 use Rattle.request_flow.specs.declared.flow.Stage.TheVariants.{Asked, Told, Reading, Came}

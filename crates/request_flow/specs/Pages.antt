@@ -9,7 +9,7 @@ use Rattle.request_phases.specs.Rounds.{phases_left}
 use Rattle.request_phases.specs.declared.state.Step.TheVariants.{Answers, Calls}
 use Rattle.site_model.specs.declared.site.Site.{Site}
 use Rattle.family_meaning.specs.Left.{act_subs}
-use Rattle.request_flow.specs.declared.flow.InPhases.{InPhases}
+use Rattle.reply_out.specs.declared.terms.InPhases.{InPhases}
 use Rattle.request_flow.specs.declared.flow.Onward.{Onward}
 use Rattle.request_flow.specs.declared.page.AccessStart.{AccessStart}
 use Rattle.request_flow.specs.declared.page.PageHead.{PageHead}

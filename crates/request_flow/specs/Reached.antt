@@ -18,7 +18,7 @@ use Rattle.request_phases.specs.Rounds.{phases_left, phases_told}
 use Rattle.request_phases.specs.declared.state.Step.{Step}
 use Rattle.request_phases.specs.declared.state.Step.TheVariants.{Calls}
 use Rattle.request_flow.specs.declared.flow.Flow.{Flow}
-use Rattle.request_flow.specs.declared.flow.InPhases.{InPhases}
+use Rattle.reply_out.specs.declared.terms.InPhases.{InPhases}
 use Rattle.request_flow.specs.declared.flow.Stage.{Stage}
 use Rattle.request_flow.specs.declared.flow.Stage.TheVariants.{Asked, Told, Reading, Came}
 use Rattle.request_flow.specs.declared.page.PageStart.{PageStart}

@@ -1,17 +1,12 @@
 -- What is sent for a reply.
-use Rattle.std.specs.Prelude.{ℕ, ◌+◌, ◌==◌, ◌&&◌, ◌||◌, nat_lt, Bool, true, false, not, List, [], ◌++◌, Option, None, Some, is_none, option_map, if◌then◌else◌}
+use Rattle.std.specs.Prelude.{ℕ, ◌&&◌, ◌||◌, Bool, true, false, not, List, [], Option, None, Some, is_none, if◌then◌else◌}
 use Rattle.acts.specs.Vars.{Vars}
-use Rattle.error_page.specs.Page.{page_of}
 use Rattle.file_tree.specs.Tree.{Tree, Trees, text_of, tree_of}
 use Rattle.ngx_pattern.specs.Pattern.{Pattern as SetPattern}
-use Rattle.resp_head.specs.declared.head.ReplyHead.{ReplyHead}
-use Rattle.resp_head.specs.Head.{head_of}
-use Rattle.site_model.specs.declared.site.Level.{Level}
 use Rattle.site_model.specs.declared.site.Site.{Site}
 use Rattle.request_meaning.specs.Serving.{World, Answer, Prepared, Body as MeantBody}
 use Rattle.request_meaning.specs.Serving.Body.{NoBody, Plain, Filtered}
 use Rattle.request_meaning.specs.Replies.{Came}
-use Rattle.request_meaning.specs.Responses.{framing, may_stay}
 use Rattle.family_meaning.specs.Flight.{Terms}
 use Rattle.request_phases.specs.Rounds.{phases_left}
 use Rattle.request_phases.specs.declared.state.Conclusion.{Conclusion}
@@ -20,8 +15,8 @@ use Rattle.request_phases.specs.declared.state.Step.{Step}
 use Rattle.request_reply.specs.declared.reply.Body.{Body}
 use Rattle.request_reply.specs.declared.reply.Body.TheVariants as bodies
 use Rattle.request_reply.specs.declared.reply.Reply.{Reply}
-use Rattle.request_flow.specs.declared.flow.InPhases.{InPhases}
-use Rattle.request_flow.specs.declared.flow.Terms.{Terms as CodeTerms}
+use Rattle.reply_out.specs.declared.terms.InPhases.{InPhases}
+use Rattle.reply_out.specs.declared.terms.Terms.{Terms as CodeTerms}
 use Rattle.request_flow.specs.declared.steps.FileAt.{FileAt}
 use Rattle.request_flow.specs.declared.steps.Known.{Known}
 use Rattle.request_flow.specs.declared.steps.Known.TheVariants.{Nothing, Told}
@@ -29,47 +24,6 @@ use Rattle.request_flow.specs.Flows.{item_asked}
 use Rattle.request_flow.specs.Terms.{terms_seen}
 use Rattle.request_flow.specs.Padded.{padded}
 use Rattle.request_flow.specs.Rests.{Rest, came_rest, act_rest}
-
--- ---- the head and what is put with it
-
--- the head of the response
-abbrev pub head_with : Reply → CodeTerms → (chunked keep : Bool) → ReplyHead
-head_with r t chunked keep =
-    record {
-      status = r.status;
-      moment = t.moment;
-      kind = option_map (λ k. k.now) r.kind;
-      length = r.length;
-      modified = r.modified;
-      location = r.location;
-      chunked = chunked;
-      keep = keep;
-    }
-
--- where the end of the body is told by its length, or it isn't sent
-abbrev pub head_seen : Reply → CodeTerms → (keep : Bool) → ReplyHead
-head_seen r t keep = head_with r t false keep
-
--- what of the body is put with the head: all, but for a file
-abbrev pub sent_now : Body → List ℕ
-sent_now bodies.Nothing = []
-sent_now (bodies.Page code) = page_of code
-sent_now (bodies.Text text) = text
-sent_now bodies.File = []
-
--- the body of a reply, but for a file; none to a HEAD
-abbrev pub content_now : Reply → CodeTerms → List ℕ
-content_now r t = if t.no_body then [] else sent_now r.body
-
-unfoldable pub put_now : Reply → CodeTerms → (keep : Bool) → List ℕ
-put_now r t keep = if r.gone then [] else head_of (head_seen r t keep) ++ content_now r t
-
--- Whether the connection stays open after a reply: where the request's head allows it, the level does, no error closes it, and
--- the end of the body is told.
-abbrev pub stays_seen : CodeTerms → Level → Reply → Bool
-stays_seen t level r =
-    t.head_keeps && (nat_lt (t.before + 1) level.requests && not (level.idle == 0))
-    && not (r.closes || r.gone) && may_stay (framing r.known t.version)
 
 -- no filter acts on the body of a reply, and its length is known, or it isn't sent
 abbrev pub is_plain : CodeTerms → Reply → Bool

@@ -1,7 +1,7 @@
 -- What a response is asked with.
 use Rattle.family_meaning.specs.Flight.{Terms}
 use Rattle.request_meaning.specs.Serving.{is_head}
-use Rattle.request_flow.specs.declared.flow.Terms.{Terms as CodeTerms}
+use Rattle.reply_out.specs.declared.terms.Terms.{Terms as CodeTerms}
 use Rattle.request_opening.specs.declared.asked.Opening.{Opening}
 
 -- what a response is asked with

@@ -5,17 +5,12 @@
 mod blocks;
 mod flow;
 mod page;
-mod reply;
 mod run;
 mod slot;
 mod steps;
 
 pub use blocks::Sending;
-pub use flow::{
-    Flow, InPhases, Onward, Stage, Terms, length_of, may_run, server_of, shown_by, waits, wrote,
-};
+pub use flow::{Flow, Onward, Stage, length_of, may_run, server_of, shown_by, waits, wrote};
 pub use page::{AccessStart, PageHead, PageStart, Went};
-pub use reply::{Workspace, put_refusal};
-pub use request_opening::Opening;
 pub use run::{answered, is_sending, run_on, sends_on};
 pub use steps::{FileAt, Known, Replied, admits, start};

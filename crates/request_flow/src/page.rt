@@ -11,11 +11,11 @@ ghost use Rattle.request_flow.specs.Rests.{Follows};
 ghost use Rattle.request_flow.specs.Sents.{known_bytes, known_len, known_tree, step_rest, with_length as told_length};
 ghost use Rattle.std.specs.Prelude.{List, ℕ, Some};
 
-use crate::flow::{InPhases, Onward, Terms};
-use crate::reply::{Workspace, head_alone, stays};
+use crate::flow::Onward;
 use crate::steps::{Known, closes, length_in, with_length};
 use byte_text::{ByteText, OutOfMemory};
 use http_types::Version;
+use reply_out::{InPhases, Terms, Workspace, head_alone, stays};
 use request_phases::{Conclusion, Ground};
 use request_reply::{Reply, reply_of};
 use site_model::Level;

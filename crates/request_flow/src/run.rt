@@ -12,13 +12,13 @@ ghost use Rattle.request_flow.specs.Pages.{GoesTo, IfAsks, IfOn, IfPage, AreOpen
 ghost use Rattle.request_flow.specs.Reached.{FlowReached, OneReached, WentReached};
 
 use crate::blocks::{Sending, to_next_block};
-use crate::flow::{Flow, InPhases, Onward, Stage};
+use crate::flow::{Flow, Onward, Stage};
 use crate::page::Went;
-use crate::reply::Workspace;
 use crate::slot::put;
 use crate::steps::{FileAt, Known, go_on};
 use byte_text::{ByteQueue, OutOfMemory};
 use file_tree::{Ask, JobAnswer, Node};
+use reply_out::{InPhases, Workspace};
 use request_phases::{Ground, Wait, resume};
 use std::mem::replace;
 

@@ -21,14 +21,14 @@ ghost use Rattle.request_flow.specs.Reached.{FlowReached, IsReachedAt, StepReach
 ghost use Rattle.request_flow.specs.Sents.{known_bytes, known_tree, known_len, with_length as told_length, step_rest, is_plain as plain_reply, sends_file, file_known};
 
 use crate::blocks::{Sending, next_block};
-use crate::flow::{Flow, InPhases, Onward, Stage, Terms};
+use crate::flow::{Flow, Onward, Stage};
 use crate::page::{AccessStart, PageStart, Went, compose, composes};
-use crate::reply::{Workspace, put_reply, stays};
 use crate::slot::put;
 use byte_text::{ByteQueue, ByteText, OutOfMemory};
 use file_tree::Ask;
 use http_types::Method;
 use ngx_variables::{Request, VarTable};
+use reply_out::{InPhases, Terms, Workspace, put_reply, stays};
 use request_opening::{Opening, put_phases};
 use request_phases::{Conclusion, Ground, Step, Wait, admit, begin};
 use request_reply::{Body, Reply, reply_of};

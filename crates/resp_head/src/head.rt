@@ -274,6 +274,7 @@ impl HeadWriter {
     /// # Errors
     ///
     /// Want of memory alone, where no head before was as long.
+    #[inline(always)]
     pub fn text_of_kind(
         &mut self,
         head: &ReplyHead,

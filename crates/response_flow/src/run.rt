@@ -40,10 +40,12 @@ use access_flow::{AccessFlow, Ran as AccessRan, asks, run_on as access_run_on};
 use byte_text::{ByteQueue, OutOfMemory};
 use family_rest::row_tells_still;
 use page_response::Pages;
+use reply_out::Workspace;
 use request_flow::{
-    AccessStart, Flow, Onward as FlowOnward, Opening, PageStart, Went, Workspace,
-    is_sending as is_flow_sending, run_on as flow_run_on, sends_on, start as flow_start,
+    AccessStart, Flow, Onward as FlowOnward, PageStart, Went, is_sending as is_flow_sending,
+    run_on as flow_run_on, sends_on, start as flow_start,
 };
+use request_opening::Opening;
 use request_phases::Ground;
 use std::alloc::Global;
 use subrequests::Ran as FamilyRan;

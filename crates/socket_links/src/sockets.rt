@@ -310,6 +310,7 @@ impl<'a, R: Net + Ticks> SocketLinks<'a, R> {
     }
 
     // A link may be read or written. Where it was closed, what it was sent is dropped.
+    #[inline(always)]
     fn take_event(&mut self, ready: Ready) -> Notice
         ensures opens { OpensIn result self.old.counts.items self.new.counts.items
             self.old.links.items self.new.links.items }

@@ -134,6 +134,7 @@ pub(crate) fn word_named(name: &[u8]) -> Option<Word>
 
 /// The value of a parameter, if it is there.
 #[tactic(auto, unfolding(request_meaning::specs::Commands::param))]
+#[inline(always)]
 pub(crate) fn param<'a>(name: &[u8], ps: &'a [Param]) -> Option<&'a [u8]>
     ensures { option_map (λ value. value.now) result ≡ value_of name.now ps.now }
 {

@@ -48,6 +48,7 @@ impl Model for Name {
 
 impl Name {
     /// These bytes in lower case.
+    #[inline(always)]
     pub fn lowercase(alloc: Global, name: &[u8]) -> Result<Name, OutOfMemory>
         ensures { IfOk result (λ lower. lower ≡ lowercase_of name.now) }
     {

@@ -149,6 +149,7 @@ fn front_of(alloc: Global, bytes: &[u8]) -> Result<Front, OutOfMemory>
     }
 }
 
+#[inline(always)]
 fn push_part(out: &mut Vec<Part>, part: Part) -> Result<(), OutOfMemory>
     ensures { IfOk result (λ _. marks out.new.items ≡ marks out.old.items ++ part_marks part) }
 {

@@ -188,13 +188,24 @@ pub enum Sought {
     LastFor(u64),
 }
 
-/// The bucket of a path.
+/// What eight bytes add to a hash: 2^64 over the golden ratio, so that each of them reaches the highest bits.
+const SPREAD: u64 = 0x9e37_79b9_7f4a_7c15;
+
+fn mixed(hash: u64, word: u64) -> u64 {
+    (hash ^ word).wrapping_mul(SPREAD).rotate_left(23)
+}
+
+/// The bucket of a path, whose bytes are hashed eight at a time.
 fn bucket_of(path: &[u8]) -> usize {
-    let mut hash = 0u32;
-    for byte in path {
-        hash = hash.wrapping_mul(31).wrapping_add(*byte as u32);
+    let (words, rest) = path.as_chunks::<8>();
+    let mut hash = path.len() as u64;
+    for word in words {
+        hash = mixed(hash, u64::from_le_bytes(*word));
     }
-    hash as usize % BUCKETS
+    for byte in rest {
+        hash = mixed(hash, *byte as u64);
+    }
+    (hash >> 32) as usize % BUCKETS
 }
 
 fn empty_buckets<F: Drop>(alloc: Global) -> Result<Vec<Vec<KeptFile<F>>>, AllocError> {

@@ -13,11 +13,14 @@ use byte_text::OutOfMemory;
 use family_order::shows_the_same;
 use node_line::decides;
 use node_seats::{comes_beside, next_inner};
+use node_turn::{Stage, put};
+use ssi_values::Table;
 use std::alloc::Global;
 
 impl Family {
-    /// A node that has come to its answer is over: the number of its parent.
-    pub(crate) fn close_at(&mut self, at: u32) -> u32
+    /// A node that has come to its answer is over: the number of its parent. What its body kept goes, so that the next
+    /// subrequest takes its room.
+    pub(crate) fn close_at(&mut self, alloc: Global, at: u32) -> u32
         requires whole { IsWhole self.old }
         requires there { stands is_ending self.old at }
         requires seated { has_seat self.old.nodes at (slice_get self.old.nodes at)
@@ -34,6 +37,7 @@ impl Family {
         self.order.end(at);
         let node = self.nodes.node_mut(at as usize);
         node.over = true;
+        put(&mut node.stage, Stage::Begins(Table::new(alloc)));
         node.parent
     }
 

@@ -429,7 +429,7 @@ impl Family {
                 Ok(Stepped::On)
             }
             Next::Ends => {
-                let parent = self.close_at(at);
+                let parent = self.close_at(alloc, at);
                 self.tell(parent, at);
                 Ok(Stepped::Rests)
             }

@@ -70,6 +70,7 @@ impl Family {
     }
 
     /// The first node, by its number, whose job waits for an answer.
+    #[inline(always)]
     pub fn first_job(&self) -> Option<u32>
         requires { IsWhole self.now }
         ensures { result ≡ job_first (jobs_of self.now) }
@@ -86,6 +87,7 @@ impl Family {
 
     /// The first node, by its number, that can run. One that has come to its answer runs once more
     /// when its last subrequest is over: then it is over too.
+    #[inline(always)]
     pub fn first_ready(&self) -> Option<u32>
         requires { IsWhole self.now }
         ensures { result ≡ first_of (ready_of self.now) }

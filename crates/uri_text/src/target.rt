@@ -70,6 +70,7 @@ fn without_slash(text: &[u8]) -> Option<&[u8]>
 }
 
 /// What comes after the slash with which the path begins.
+#[inline(always)]
 fn text_behind_root(target: &[u8]) -> Option<&[u8]>
     ensures { MatchOption result (behind_root target.now ≡ None)
         (λ text. behind_root target.now ≡ Some text.now) }
@@ -144,6 +145,7 @@ fn set_args(query: &[u8], args: &mut ByteText) -> Result<(), OutOfMemory>
     Ok(())
 }
 
+#[inline(always)]
 fn fill(raw: &[u8], merge: bool, path: &mut ByteText, args: &mut ByteText) -> Result<(), UriFault>
     ensures ok { OnOk result (normal_of raw.now merge ≡ Ok (path.new, args.new)) }
     ensures err { IfErr result (λ f. f ≢ UriFault.OutOfMemory → normal_of raw.now merge ≡ Err f) }

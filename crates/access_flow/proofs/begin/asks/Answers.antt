@@ -9,7 +9,7 @@ use Rattle.request_phases.specs.declared.state.Phases.{Phases}
 use Rattle.request_phases.specs.declared.state.Step.TheVariants.{Calls}
 use Rattle.request_flow.specs.Flows.{item_asked}
 use Rattle.request_flow.specs.Sents.{step_rest}
-use Rattle.request_flow.specs.declared.flow.InPhases.{InPhases}
+use Rattle.reply_out.specs.declared.terms.InPhases.{InPhases}
 use Rattle.access_flow.specs.Flows.{IsOpened, inner_left, outer_of, stage_rest}
 use Rattle.access_flow.specs.Reached.{StageReached}
 use Rattle.access_flow.specs.declared.flow.AccessFlow.{AccessFlow}

@@ -1,6 +1,6 @@
 use Rattle.std.proofs.Common.{◌≡◌, ◌∙◌, true, false, refl, sym, ap, arith}
 use Rattle.ngx_outside.specs.Views.{Start}
-use Rattle.ngx_outside.specs.Wants.{wants_at, doable}
+use Rattle.ngx_outside.specs.Wants.{wants_at}
 use Rattle.ready_loop.proofs.WantLemmas.{is_wanted, first_there, first_can, none_can}
 use Rattle.ready_loop.proofs.BesideLemmas.{stand_none, stand_then}
 use Rattle.ready_loop.proofs.drain.drain.Goals as goal

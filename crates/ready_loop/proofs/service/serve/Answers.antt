@@ -1,5 +1,4 @@
-use Rattle.std.proofs.Common.{◌∙◌, refl, ap, inl, sym, subst}
-use Rattle.ngx_outside.specs.Linked.{LinkView}
+use Rattle.std.proofs.Common.{refl, sym, subst}
 use Rattle.ready_loop.proofs.ThroughLemmas.{through_none, through_told, keeps_listening}
 use Rattle.ngx_outside.specs.Seen.{LinksSeen}
 use Rattle.ready_loop.specs.Tellings.{StandBeside, moments_told}

@@ -1,4 +1,4 @@
-use Rattle.std.proofs.Common.{◌≡◌, ◌≤◌, ◌+◌, ◌-◌, ◌^◌, ℕ, true}
+use Rattle.std.proofs.Common.{◌≡◌, ◌≤◌, ◌+◌, ◌-◌, ◌^◌, true}
 use Rattle.std.specs.Prelude.{IfSome, min}
 use Rattle.ready_loop.specs.Standing.{KeptThrough, IsMatched}
 use Rattle.ready_loop.specs.Turns.{IsHeard}

@@ -4,7 +4,7 @@ use Rattle.request_meaning.specs.Laws.{shipped}
 use Rattle.request_meaning.specs.Serving.{Serving, Prepared}
 use Rattle.request_phases.specs.Rounds.{world_in, phases_told, phases_left}
 use Rattle.request_flow.specs.Flows.{told_item, item_asked}
-use Rattle.request_flow.specs.declared.flow.InPhases.{InPhases}
+use Rattle.reply_out.specs.declared.terms.InPhases.{InPhases}
 use Rattle.request_flow.specs.Terms.{terms_seen}
 use Rattle.request_flow.specs.Padded.{padded}
 use Rattle.request_flow.specs.Pages.{GoesTo}

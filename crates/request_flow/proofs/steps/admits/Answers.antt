@@ -2,7 +2,7 @@ use Rattle.std.proofs.Common.{[], sym, ap, ◌∙◌, subst}
 use Rattle.request_meaning.specs.Laws.{shipped}
 use Rattle.request_phases.specs.Admitted.{phases_admitted}
 use Rattle.request_phases.specs.Rounds.{world_in, phases_left}
-use Rattle.request_flow.specs.declared.flow.InPhases.{InPhases}
+use Rattle.reply_out.specs.declared.terms.InPhases.{InPhases}
 use Rattle.request_flow.specs.Terms.{terms_seen}
 use Rattle.request_flow.specs.Pages.{GoesTo}
 use Rattle.request_flow.specs.Reached.{IsReachedAt, Settles}

@@ -7,7 +7,8 @@ use Rattle.request_reply.specs.Replies.{body_seen}
 use Rattle.request_flow.specs.declared.flow.Onward.{Onward}
 use Rattle.request_flow.specs.Flows.{flow_rest, item_asked}
 use Rattle.request_flow.specs.Terms.{terms_seen}
-use Rattle.request_flow.specs.Sents.{known_bytes, known_tree, plain_bytes, sent_now, file_known}
+use Rattle.reply_out.specs.Puts.{sent_now}
+use Rattle.request_flow.specs.Sents.{known_bytes, known_tree, plain_bytes, file_known}
 use Rattle.request_flow.proofs.Padding.{padded_length}
 use Rattle.request_flow.proofs.Puts as puts
 use Rattle.request_flow.proofs.Turns.{done_rest}

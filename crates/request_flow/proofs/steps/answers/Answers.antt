@@ -6,7 +6,7 @@ use Rattle.request_flow.specs.Pages.{page_rest, start_rest}
 use Rattle.request_flow.specs.Reached.{PageReached}
 use Rattle.request_flow.specs.Rests.{Follows, Rest}
 use Rattle.request_flow.specs.declared.page.PageStart.{PageStart}
-use Rattle.request_flow.specs.declared.flow.InPhases.{InPhases}
+use Rattle.reply_out.specs.declared.terms.InPhases.{InPhases}
 use Rattle.request_flow.specs.declared.steps.Known.{Known}
 use Rattle.request_flow.specs.Sents.{known_bytes, known_tree, step_rest}
 use Rattle.request_flow.proofs.Composing.{page_reached}

@@ -4,7 +4,7 @@ use Rattle.request_flow.specs.declared.flow.Flow.{Flow}
 use Rattle.acts.specs.Act.{Stat}
 use Rattle.file_tree.specs.Tree.{Item}
 use Rattle.request_phases.specs.Rounds.{phases_told}
-use Rattle.request_flow.specs.declared.flow.InPhases.{InPhases}
+use Rattle.reply_out.specs.declared.terms.InPhases.{InPhases}
 use Rattle.request_flow.specs.Flows.{one_rest, told_rest}
 use Rattle.request_flow.specs.Terms.{terms_seen}
 use Rattle.request_flow.specs.Reached.{IsReachedAt, OneReached}

@@ -1,6 +1,6 @@
 use Rattle.std.proofs.Common.{[], sym, ap, ◌∙◌, subst}
 use Rattle.request_phases.specs.declared.state.Step.TheVariants.{Calls as ToCall}
-use Rattle.request_flow.specs.declared.flow.InPhases.{InPhases}
+use Rattle.reply_out.specs.declared.terms.InPhases.{InPhases}
 use Rattle.request_flow.specs.Reached.{StepReached}
 use Rattle.request_flow.specs.Sents.{step_rest}
 use Rattle.request_flow.proofs.steps.calls.Goals as goal

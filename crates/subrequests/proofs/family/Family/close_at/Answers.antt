@@ -18,7 +18,7 @@ returns-clause-steps c = λ ps g.
     let nodes = f.nodes in
     let at = c.args.at in
     let old = c.node_mut-node.result.now in
-    let new : Node = record old { over = true } in
+    let new : Node = record old { over = true; stage = c.put.new.slot } in
     let there = wholes.here_is is_ending nodes at old c.requires.there c.node_mut-node.ensures.value in
     let goes_on = wholes.open_is is_ending f.order nodes at c.requires.whole c.requires.there in
     let done = wholes.stage_is is_ending nodes at old c.requires.there there in
@@ -36,5 +36,5 @@ pub returns-clause-whole : goal.returns-clause-whole
 returns-clause-whole c =
     let f = c.args.self.now in
     let old = c.node_mut-node.result.now in
-    members.over_sound f.order c.end.new.self f.nodes c.args.at old (record old { over = true }) (wholes.here_is is_ending f.nodes c.args.at old c.requires.there c.node_mut-node.ensures.value)
+    members.over_sound f.order c.end.new.self f.nodes c.args.at old (record old { over = true; stage = c.put.new.slot }) (wholes.here_is is_ending f.nodes c.args.at old c.requires.there c.node_mut-node.ensures.value)
     c.requires.whole (members.ended_well f.order c.end.new.self c.args.at c.requires.whole.well c.requires.child c.end.ensures.row) (ap (λ (r : Row). r.nodes) c.end.ensures.row) c.end.ensures.opened refl refl refl

@@ -1,7 +1,7 @@
 use Rattle.std.proofs.Common.{ap, ◌∙◌, ◌++◌, cond, [], codes, refl}
 use Rattle.error_page.specs.Page.{page_of}
-use Rattle.request_flow.proofs.Puts.{refused}
-use Rattle.request_flow.proofs.reply.put_refusal.Goals as goal
+use Rattle.reply_out.proofs.Putting.{refused}
+use Rattle.reply_out.proofs.reply.put_refusal.Goals as goal
 
 pub returns-clause-put : goal.returns-clause-put
 returns-clause-put c = λ start m.

@@ -4,10 +4,9 @@ ghost use Rattle.ngx_outside.specs.Views.{Start};
 ghost use Rattle.answers_meaning.specs.Answers.{refusal};
 ghost use Rattle.resp_head.specs.Head.{head_of};
 ghost use Rattle.request_meaning.specs.Responses.{framing, may_stay};
-ghost use Rattle.request_flow.specs.Sents.{head_with, sent_now, content_now, put_now, stays_seen};
+ghost use Rattle.reply_out.specs.Puts.{head_with, sent_now, content_now, put_now, stays_seen};
 
-use crate::flow::{InPhases, Terms, blank};
-use crate::slot::put;
+use crate::terms::{InPhases, Terms, blank};
 use byte_text::{ByteQueue, ByteText, OutOfMemory};
 use error_page::page_text;
 use http_types::Version;
@@ -47,7 +46,7 @@ impl Workspace {
     }
 
     /// Room for a request.
-    pub(crate) fn room(&mut self) -> Result<Box<InPhases>, OutOfMemory>
+    pub fn room(&mut self) -> Result<Box<InPhases>, OutOfMemory>
         ensures { self.new.patterns ≡ self.old.patterns }
     {
         if let Some(request) = self.spare.take() {
@@ -58,11 +57,19 @@ impl Workspace {
     }
 
     /// Takes the room of a request that is over.
-    pub(crate) fn keep(&mut self, request: Box<InPhases>)
+    pub fn keep(&mut self, request: Box<InPhases>)
         ensures { self.new.patterns ≡ self.old.patterns }
     {
         put(&mut self.spare, Some(request));
     }
+}
+
+// In a function of its own, so that to a caller the drop of what is in the slot is one step.
+#[inline(always)]
+fn put<T: Drop>(slot: &mut T, value: T)
+    ensures { slot.new ≡ value }
+{
+    *slot = value;
 }
 
 /// No more bytes than these are put at once.
@@ -92,7 +99,7 @@ fn tells_end(known: bool, version: Version) -> bool
 }
 
 /// Whether the connection stays open after a reply that this level answers.
-pub(crate) fn stays(terms: Terms, level: &Level, reply: &Reply<'_>) -> bool
+pub fn stays(terms: Terms, level: &Level, reply: &Reply<'_>) -> bool
     ensures { result ≡ stays_seen terms level.now reply.now }
 {
     terms.head_keeps
@@ -168,8 +175,8 @@ fn room_for(body: &Body, no_body: bool, length: Option<u64>) -> usize {
 /// Puts the head of a response, and its body where that isn't a file, after what is kept for the
 /// peer: how many bytes of the body these are. A connection that is closed at once is sent nothing.
 /// Where it doesn't fit, there is no memory for it.
-#[tactic(auto, unfolding(crate::specs::Sents::put_now))]
-pub(crate) fn put_reply(
+#[tactic(auto, unfolding(crate::specs::Puts::put_now))]
+pub fn put_reply(
     space: &mut Workspace,
     out: &mut ByteQueue,
     reply: Reply<'_>,
@@ -213,7 +220,7 @@ pub(crate) fn put_reply(
 }
 
 /// The head of a response whose body comes after it, in chunks or not.
-pub(crate) fn head_alone(
+pub fn head_alone(
     space: &mut Workspace,
     reply: Reply<'_>,
     terms: Terms,

@@ -1,6 +1,6 @@
 use Rattle.std.proofs.Common.{ap, ◌∙◌, ◌++◌, option_map, refl}
-use Rattle.request_flow.proofs.Puts.{put_is}
-use Rattle.request_flow.proofs.reply.put_reply.Goals as goal
+use Rattle.reply_out.proofs.Putting.{put_is}
+use Rattle.reply_out.proofs.reply.put_reply.Goals as goal
 
 pub returns-clause-put : goal.returns-clause-put
 returns-clause-put c =

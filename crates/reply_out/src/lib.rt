@@ -1,0 +1,9 @@
+//! The response to what a request is replied, put for the peer: its head, and its body where that
+//! isn't a file; and what requests work with, one after another.
+#![tactic(auto)]
+
+mod reply;
+mod terms;
+
+pub use reply::{Workspace, head_alone, put_refusal, put_reply, stays};
+pub use terms::{InPhases, Terms};
