@@ -20,7 +20,7 @@ use ssi_values::Table;
 use std::alloc::Global;
 
 /// Whether the job of a node waits for an answer.
-pub fn waits(stage: &Stage) -> bool
+pub(crate) fn waits(stage: &Stage) -> bool
     ensures { result ≡ (is_asking stage.now || is_reading stage.now) }
 {
     match stage {

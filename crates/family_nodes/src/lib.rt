@@ -4,6 +4,8 @@
 
 mod hear;
 mod nodes;
+mod runs;
 
-pub use hear::{hears, waits};
+pub use hear::hears;
 pub use nodes::Nodes;
+pub use runs::{can_run, is_waiting};

@@ -101,6 +101,15 @@ impl Nodes {
         }
     }
 
+    /// Makes room for this many more nodes, so that one growth serves them all.
+    pub fn reserve(&mut self, additional: usize) -> Result<(), OutOfMemory>
+        ensures { self.new ≡ self.old }
+    {
+        self.all.reserve(additional)?;
+        self.marks.reserve(additional)?;
+        Ok(())
+    }
+
     pub fn len(&self) -> usize
         ensures { result ≡ length self.now }
     {

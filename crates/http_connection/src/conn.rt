@@ -131,6 +131,7 @@ impl Conn {
     }
 
     /// The first node whose job waits for an answer.
+    #[inline(always)]
     pub fn first_job(&self) -> Option<u32>
         ensures { result ≡ job_first (jobs_of self.now.flight) }
     {
@@ -188,6 +189,7 @@ impl Conn {
     }
 
     /// The first node that can run: one of the request in flight, or that with which a further one starts.
+    #[inline(always)]
     pub fn first_ready(&self) -> Option<u32>
         ensures { result ≡ number_first (ready_at (is_some self.now.cause) self.now.flight
             self.now.closing self.now.out self.now.body self.now.next) }

@@ -35,6 +35,7 @@ impl Conn {
     ghost use Rattle.http_connection.specs.Conn.{TimesConn};
 
     /// Bytes arrived: it takes as many as there is room for. A head that is whole then is read into the room of one that is over.
+    #[inline(always)]
     pub fn arrived(&mut self, heads: &mut HeadRoom, moment: u64, bytes: &[u8]) -> StepAnswer
         ensures steps { (x : Serves) (now : Start) (conn : ℕ) →
             StepsConn x now (Arrived conn bytes.entry) result self.old self.new }
@@ -91,6 +92,7 @@ impl Conn {
     }
 
     /// The first pending bytes were written.
+    #[inline(always)]
     pub fn wrote(&mut self, moment: u64, count: usize) -> StepAnswer
         ensures steps { (x : Serves) (now : Start) (conn : ℕ) →
             StepsConn x now (Wrote conn count) result self.old self.new }

@@ -14,6 +14,11 @@ use std::alloc::Global;
 use std::collections::VecDeque;
 use std::marker::Model;
 
+/// There is room for so many nodes, and for two pieces and a place of each, from the beginning.
+const FEW_NODES: usize = 12;
+
+const FEW_PARTS: usize = 32;
+
 /// The order of a response: which node's bytes leave next, and what waits after them.
 ///
 /// The main request is node 0; each subrequest is a node with the next number, and its place is where its parent had
@@ -52,8 +57,10 @@ impl Order {
         ensures { IfOk result (λ order. order ≡ begun) }
     {
         let mut parts = VecDeque::new(alloc);
+        parts.reserve(FEW_PARTS)?;
         parts.push_back(Part::fresh(0))?;
         let mut nodes = Vec::new(alloc);
+        nodes.reserve(FEW_NODES)?;
         nodes.push(Node::new(alloc, 0))?;
         Ok(Order {
             parts,

@@ -89,6 +89,7 @@ pub fn link_failed<E: EventCore>(core: &mut E, conn: u32)
 }
 
 /// A node's job is answered, by what fits it.
+#[inline(always)]
 pub fn file_done<E: EventCore>(core: &mut E, conn: u32, node: u32, answer: JobAnswer)
     requires waits { ask_in ((E.seen core.old).view conn).jobs node ≢ None }
     requires fits { (ask : Ask) → ask_in ((E.seen core.old).view conn).jobs node ≡ Some ask →
@@ -129,6 +130,7 @@ pub fn job_failed<E: EventCore>(core: &mut E, conn: u32, node: u32)
 }
 
 /// A node runs where it can; where it can't, nothing changes.
+#[inline(always)]
 pub fn ran_if<E: EventCore>(core: &mut E, conn: u32, node: u32)
     ensures passed { Passed (E.seen core.old).now
         (Raceless ((E.seen core.old).view conn).raceless) ⊥ ⊥

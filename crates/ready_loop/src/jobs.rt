@@ -84,6 +84,7 @@ fn find<F: Files>(files: &mut F, ask: &Ask) -> Result<JobResult, FileFault>
 }
 
 /// Answers the job of a node from the files, or tells the core that it failed.
+#[inline(always)]
 pub fn job_one<E: EventCore, F: Files>(
     core: &mut E,
     files: &mut F,

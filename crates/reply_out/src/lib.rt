@@ -2,7 +2,9 @@
 //! isn't a file; and what requests work with, one after another.
 #![tactic(auto)]
 
+mod heads;
 mod reply;
+mod slot;
 mod terms;
 
 pub use reply::{Workspace, head_alone, put_refusal, put_reply, stays};

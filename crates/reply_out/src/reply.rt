@@ -6,6 +6,8 @@ ghost use Rattle.resp_head.specs.Head.{head_of};
 ghost use Rattle.request_meaning.specs.Responses.{framing, may_stay};
 ghost use Rattle.reply_out.specs.Puts.{head_with, sent_now, content_now, put_now, stays_seen};
 
+use crate::heads::Heads;
+use crate::slot::put;
 use crate::terms::{InPhases, Terms, blank};
 use byte_text::{ByteQueue, ByteText, OutOfMemory};
 use error_page::page_text;
@@ -13,7 +15,7 @@ use http_types::Version;
 use ngx_pattern::PatternSet;
 use req_head::HeadRoom;
 use request_reply::{Body, Reply};
-use resp_head::{HeadWriter, ReplyHead};
+use resp_head::ReplyHead;
 use site_model::Level;
 use std::alloc::Global;
 
@@ -22,7 +24,7 @@ use std::alloc::Global;
 #[derive(Drop)]
 pub struct Workspace {
     pub alloc: Global,
-    pub heads: HeadWriter,
+    heads: Heads,
     /// The room of the heads of requests that are over.
     pub head_room: HeadRoom,
     /// The patterns of the site that is served.
@@ -38,7 +40,7 @@ impl Workspace {
     {
         Workspace {
             alloc,
-            heads: HeadWriter::new(alloc),
+            heads: Heads::new(alloc),
             head_room: HeadRoom::new(alloc),
             patterns,
             spare: None,
@@ -62,14 +64,6 @@ impl Workspace {
     {
         put(&mut self.spare, Some(request));
     }
-}
-
-// In a function of its own, so that to a caller the drop of what is in the slot is one step.
-#[inline(always)]
-fn put<T: Drop>(slot: &mut T, value: T)
-    ensures { slot.new ≡ value }
-{
-    *slot = value;
 }
 
 /// No more bytes than these are put at once.
@@ -174,7 +168,9 @@ fn room_for(body: &Body, no_body: bool, length: Option<u64>) -> usize {
 
 /// Puts the head of a response, and its body where that isn't a file, after what is kept for the
 /// peer: how many bytes of the body these are. A connection that is closed at once is sent nothing.
-/// Where it doesn't fit, there is no memory for it.
+///
+/// # Errors
+/// Want of memory, also where head and body have more than 65,536 bytes.
 #[tactic(auto, unfolding(crate::specs::Puts::put_now))]
 pub fn put_reply(
     space: &mut Workspace,
@@ -220,6 +216,9 @@ pub fn put_reply(
 }
 
 /// The head of a response whose body comes after it, in chunks or not.
+///
+/// # Errors
+/// Want of memory alone.
 pub fn head_alone(
     space: &mut Workspace,
     reply: Reply<'_>,
@@ -254,6 +253,9 @@ pub fn head_alone(
 
 /// Puts the response to what is no request, or is refused: the built-in page of a code, after which
 /// the connection closes. How many bytes of the page these are.
+///
+/// # Errors
+/// Want of memory alone.
 #[tactic(auto, unfolding(answers_meaning::specs::Answers::refusal, answers_meaning::specs::Answers::refusal_head))]
 pub fn put_refusal(
     space: &mut Workspace,

@@ -16,10 +16,11 @@ use crate::flow::{Flow, Onward, Stage};
 use crate::page::Went;
 use crate::slot::put;
 use crate::steps::{FileAt, Known, go_on};
-use byte_text::{ByteQueue, OutOfMemory};
+use byte_text::{ByteQueue, ByteText, OutOfMemory};
 use file_tree::{Ask, JobAnswer, Node};
 use reply_out::{InPhases, Workspace};
 use request_phases::{Ground, Wait, resume};
+use std::alloc::Global;
 use std::mem::replace;
 
 /// No more bytes than these are placed for a peer.
@@ -44,6 +45,8 @@ struct Heard {
     request: Box<InPhases>,
     wait: Wait,
     node: Node,
+    /// Where it was kept, as room for what comes of it.
+    room: Box<Flow>,
 }
 
 /// Goes on with its phases.
@@ -86,6 +89,7 @@ fn run_told(
         mut request,
         wait,
         node,
+        room,
     } = heard;
     let alloc = space.alloc;
     let inside = &mut *request;
@@ -93,7 +97,7 @@ fn run_told(
     match resume(alloc, ground, wait, node, &mut space.patterns, phases, vars) {
         Ok(step) => {
             let len = length_of(node);
-            let known = Known::Told(FileAt { ask, len });
+            let known = Known::Told(FileAt { ask, len, room });
             Ok(go_on(space, ground, request, step, known, out, closing)?)
         }
         Err(OutOfMemory) => {
@@ -204,6 +208,31 @@ fn sent_on(flow: Box<Flow>, closing: bool, log: Option<(u16, u64)>) -> Onward
     }
 }
 
+/// A request that was taken out of its box, and the box.
+struct Emptied {
+    flow: Flow,
+    room: Box<Flow>,
+}
+
+/// Takes a request out of its box, which is kept as room for what comes of it.
+fn empty(alloc: Global, flow: Box<Flow>) -> Emptied
+    ensures { result.flow ≡ flow.value }
+{
+    let mut room = flow;
+    let nothing = Flow {
+        ask: Ask::Stat {
+            path: ByteText::new(alloc),
+            of: 0,
+        },
+        stage: Stage::Reading {
+            sending: Sending { status: 0, len: 0 },
+            left: 0,
+        },
+    };
+    let flow = replace(&mut *room, nothing);
+    Emptied { flow, room }
+}
+
 /// Runs a request on, to its next job or its end, or to its page.
 ///
 /// # Errors
@@ -249,7 +278,8 @@ pub fn run_on(
         let log = sends_on(&mut flow, out.len());
         return Ok(Went::On(sent_on(flow, closing, log)));
     }
-    let Flow { ask, stage } = Box::into_inner(flow);
+    let Emptied { flow, room } = empty(space.alloc, flow);
+    let Flow { ask, stage } = flow;
     match stage {
         Stage::Told {
             request,
@@ -261,6 +291,7 @@ pub fn run_on(
                 request,
                 wait,
                 node,
+                room,
             };
             Ok(run_told(space, ground, heard, out, closing)?)
         }

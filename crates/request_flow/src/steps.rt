@@ -34,11 +34,13 @@ use request_phases::{Conclusion, Ground, Step, Wait, admit, begin};
 use request_reply::{Body, Reply, reply_of};
 use std::alloc::Global;
 
-/// What a job told of its path, and how many bytes of it are a file's.
+/// What a job told of its path, how many bytes of it are a file's, and the room of the request that
+/// asked, for what comes of it.
 #[derive(Drop)]
 pub struct FileAt {
     pub ask: Ask,
     pub len: u64,
+    pub room: Box<Flow>,
 }
 
 /// What is known of the files: nothing yet of the tree with this number, or what a job told.
@@ -146,33 +148,34 @@ fn over(number: u32, status: u16, size: u64, closing: bool) -> Onward
     }
 }
 
+/// Puts how a request goes on into the room of one.
+fn refill(room: Box<Flow>, flow: Flow) -> Box<Flow>
+    ensures { result.value ≡ flow }
+{
+    let mut room = room;
+    put(&mut *room, flow);
+    room
+}
+
 /// A request whose head was put, and whose file is read from now on.
 #[tactic(auto, unfolding(crate::specs::Flows::flow_most, crate::specs::Flows::placed_most))]
-fn reading(
-    alloc: Global,
-    number: u32,
-    status: u16,
-    file: FileAt,
-    closing: bool,
-) -> Result<Onward, OutOfMemory>
+fn reading(number: u32, status: u16, file: FileAt, closing: bool) -> Onward
     ensures rest { (w : World) (patterns : List SetPattern) (site : SiteRow) (trees : Trees) →
-        IfOk result (λ o. flow_rest w patterns site o.flow trees
+        flow_rest w patterns site result.flow trees
         ≡ file_rest (record { status = status; len = file.len }) file.len
-        (item_asked trees file.ask)) }
-    ensures flow { IfOk result (λ o. is_some o.flow ≡ true) }
-    ensures others { IfOk result (λ o. (o.closing ≡ closing) × (o.log ≡ None) ×
-        (o.level ≡ Some number)) }
-    ensures fits { (count : ℕ) → count ≤ 65536 → IfOk result (λ o.
-        flow_fits o.flow count ≡ true) }
-    ensures lowers { (count : ℕ) → count ≤ 65536 → IfOk result (λ o.
-        count + flow_left o.flow count < flow_most) }
-    ensures by { (server length : ℕ) → IfOk result (λ o. IsServedBy server length o.flow) }
-    ensures opened { (count : ℕ) → IfOk result (λ o. HasOpened count o.flow) }
-    ensures asked { IfOk result (λ o. tree_asked o.flow ≡ tree_of file.ask) }
+        (item_asked trees file.ask) }
+    ensures flow { is_some result.flow ≡ true }
+    ensures others { (result.closing ≡ closing) × (result.log ≡ None) ×
+        (result.level ≡ Some number) }
+    ensures fits { (count : ℕ) → count ≤ 65536 → flow_fits result.flow count ≡ true }
+    ensures lowers { (count : ℕ) → count ≤ 65536 → count + flow_left result.flow count < flow_most }
+    ensures by { (server length : ℕ) → IsServedBy server length result.flow }
+    ensures opened { (count : ℕ) → HasOpened count result.flow }
+    ensures asked { tree_asked result.flow ≡ tree_of file.ask }
     ensures reached { (w : World) (patterns : List SetPattern) (site : SiteRow) →
-        IfOk result (λ o. FlowReached w patterns site o.flow) }
+        FlowReached w patterns site result.flow }
 {
-    let FileAt { ask, len } = file;
+    let FileAt { ask, len, room } = file;
     let flow = Flow {
         ask: next_block(ask, len, len),
         stage: Stage::Reading {
@@ -180,12 +183,12 @@ fn reading(
             left: len,
         },
     };
-    Ok(Onward {
-        flow: Some(Box::new(alloc, flow)?),
+    Onward {
+        flow: Some(refill(room, flow)),
         closing,
         log: None,
         level: Some(number),
-    })
+    }
 }
 
 /// Puts the head of the response to what phases decided, and its body where that isn't a file.
@@ -234,7 +237,7 @@ fn answer(
     let closing = closes(closing, keep);
     match file {
         None => Ok(over(number, status, size, closing)),
-        Some(file) => Ok(reading(space.alloc, number, status, file, closing)?),
+        Some(file) => Ok(reading(number, status, file, closing)),
     }
 }
 

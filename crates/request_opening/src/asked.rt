@@ -32,10 +32,14 @@ pub struct Opening {
     pub before: u64,
 }
 
-/// Writes a text in place of another.
+/// Writes a text in place of another, which mostly is the same.
+#[inline(always)]
 fn put_text(text: &mut ByteText, bytes: &[u8]) -> Result<(), OutOfMemory>
     ensures { OnOk result (text.new ≡ bytes.now) }
 {
+    if text.as_slice() == bytes {
+        return Ok(());
+    }
     text.clear();
     text.extend(bytes)?;
     Ok(())

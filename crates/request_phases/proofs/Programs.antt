@@ -8,12 +8,13 @@ use Rattle.site_model.specs.declared.site.Level.{Level}
 use Rattle.site_model.specs.declared.site.Server.{Server}
 use Rattle.site_model.specs.declared.site.Site.{Site}
 use Rattle.site_views.specs.Values.{Values}
+use Rattle.site_views.specs.Views.{LevelView}
 use Rattle.site_views.specs.Rewrites.{Program}
 use Rattle.site_views.specs.Search.{Found, search, named}
 use Rattle.site_whole.specs.Whole.{values_seen, level_whole, server_whole}
 use Rattle.request_meaning.specs.Serving.{World, Serving, Asked, Standing}
 use Rattle.request_meaning.specs.Serving.From.{Start, Find, Named}
-use Rattle.request_meaning.specs.Rewriting.{Passed, program_run, in_level, with_groups}
+use Rattle.request_meaning.specs.Rewriting.{Passed, program_run, rewritten, in_level, with_groups}
 use Rattle.request_meaning.specs.Errors.{Decided, decided}
 use Rattle.request_meaning.specs.Errors.Outcome.{Fails, Gives, Text, Seeks}
 use Rattle.request_meaning.specs.Phases.{after_program, find_config, located, entered, in_location, is_too_large, phases_from, at_named, standing, access}
@@ -240,6 +241,29 @@ module _ (w : World) (a : Asked) (patterns : List SetPattern) (site : Site) (byt
     begins vars at h =
         ap (λ v. settled (program_run w a.main w.server.level.program (standing (begun at) v) >>= λ r. after_program true r (follows w (begun at) true)) vars) server_values
         ∙ (ap (λ (p : Program). settled (program_run w a.main p (standing (begun at) (values_seen site (raw_level site own))) >>= λ r. after_program true r (follows w (begun at) true)) vars) server_program ∙ h)
+
+    -- the search of a location looks at no level
+    same_place : (v : Values) (s : Standing) (b : Asked) (level : LevelView) (groups : Option (List (List ℕ))) →
+        (let s' = in_level v s in entered w b level.values (record s' { request = with_groups groups s'.request }) (in_location w b level (record s' { request = with_groups groups s'.request })))
+        ≡ entered w b level.values (record s { request = with_groups groups s.request }) (in_location w b level (record s { request = with_groups groups s.request }))
+    unfolding entered in_location
+    same_place v s b level None = refl
+    same_place v s b level (Some groups) = refl
+
+    same_found : (v : Values) (s : Standing) (b : Asked) (o : Option Found) → located w b (in_level v s) o ≡ located w b s o
+    unfolding located entered
+    same_found v s b None = refl
+    same_found v s b (Some found) = same_place v s b found.level found.groups
+
+    -- where the server has no program, a location is sought at once
+    pub begins_bare : {x : Serving Decided × Vars} (vars : Vars) (at : Progress) → (raw_level site own).program ≡ [] →
+        settled (find_config w (begun at) (standing_seen site at)) vars ≡ x →
+        settled (phases_from w (begun at) Start) vars ≡ x
+    unfolding phases_from find_config located program_run rewritten values_seen ◌>>=◌
+    begins_bare vars at bare h =
+        ap (λ v. settled (program_run w a.main w.server.level.program (standing (begun at) v) >>= λ r. after_program true r (λ p. find_config w (begun at) p.at)) vars) server_values
+        ∙ (ap (λ (p : Program). settled (program_run w a.main p (standing (begun at) (values_seen site (raw_level site own))) >>= λ r. after_program true r (λ q. find_config w (begun at) q.at)) vars) (server_program ∙ ap (program_of patterns site) bare)
+        ∙ (ap (λ m. settled m vars) (same_found (values_seen site (raw_level site own)) (standing_seen site at) (begun at) (search w.finds w.server.locations at.request.path)) ∙ h))
 
     pub seeks_again : {x : Serving Decided × Vars} (vars : Vars) (at : Progress) →
         settled (find_config w (begun at) (standing_seen site (moved_into site own at))) vars ≡ x →

@@ -372,7 +372,14 @@ fn in_named(
     }
 }
 
-/// A round of phases.
+/// Whether a level has no rewrite program.
+fn is_bare(level: &Level) -> bool
+    ensures { result ≡ true → level.now.program ≡ [] }
+{
+    level.program.as_slice().is_empty()
+}
+
+/// A round of phases. Where the server has no program, its level isn't entered before the one that is found.
 pub(crate) fn round(
     alloc: Global,
     ground: &Ground<'_>,
@@ -390,6 +397,9 @@ pub(crate) fn round(
 {
     match from {
         From::Start => {
+            if is_bare(ground.site.level(ground.server.level)) {
+                return Ok(find_config(alloc, ground, patterns, main, at, vars)?);
+            }
             enter(alloc, ground.site, ground.server.level, at)?;
             Ok(run_server(alloc, ground, patterns, main, at, vars)?)
         }

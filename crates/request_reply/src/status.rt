@@ -121,6 +121,16 @@ fn same_date(date: Option<u64>, since: Option<u64>) -> bool
     }
 }
 
+/// Whether a file's date is the one that the request names, which is looked for only where there is a file.
+fn is_same(main: &Main, date: Option<u64>) -> bool
+    ensures { result ≡ dates_same date (date_since main.now) }
+{
+    match date {
+        Some(_) => same_date(date, since_date(main)),
+        None => false,
+    }
+}
+
 /// A file of the main request that was not modified since then, and on which no filter acts.
 #[tactic(auto, unfolding(request_meaning::specs::Answering::is_unmodified))]
 pub(crate) fn is_unmodified(
@@ -132,7 +142,7 @@ pub(crate) fn is_unmodified(
 ) -> bool
     ensures { result ≡ unmodified main.now request.now status filtered date }
 {
-    is_main(request.role) && status == 200 && !filtered && same_date(date, since_date(main))
+    is_main(request.role) && status == 200 && !filtered && is_same(main, date)
 }
 
 /// The date of a file is told where it is sent, or is not modified, and no filter acts on it.

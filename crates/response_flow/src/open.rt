@@ -14,7 +14,7 @@ use file_tree::Ask;
 use page_response::Pages;
 use race_meaning::shipped_are_fit;
 use reply_out::InPhases;
-use request_flow::{Known, PageHead, PageStart};
+use request_flow::{FileAt, Known, PageHead, PageStart};
 use request_phases::Ground;
 use std::alloc::Global;
 use subrequests::{Decided, Family};
@@ -39,8 +39,8 @@ fn source_of(alloc: Global, known: Known) -> Source
             },
             tree: of,
         },
-        Known::Told(file) => {
-            let tree = match &file.ask {
+        Known::Told(FileAt { ask, .. }) => {
+            let tree = match &ask {
                 Ask::Stat { path: _, of } => *of,
                 Ask::Read {
                     path: _,
@@ -49,10 +49,7 @@ fn source_of(alloc: Global, known: Known) -> Source
                     of,
                 } => *of,
             };
-            Source {
-                ask: file.ask,
-                tree,
-            }
+            Source { ask, tree }
         }
     }
 }

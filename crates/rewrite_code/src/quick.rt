@@ -22,22 +22,10 @@ ghost use Rattle.rewrite_code.specs.Moves.{values_at, set_made, if_made};
 
 use crate::condition::{is_true, variable_of};
 use crate::place::Progress;
-use crate::text::fitted;
+use crate::text::literal_fit;
 use byte_text::{ByteText, OutOfMemory};
 use ngx_variables::{Main, Piece, Request, Value, VarTable};
 use site_model::{RewriteStep, Test};
-
-/// A text that is the same for every request and isn't too long.
-#[tactic(auto, unfolding(crate::specs::Texts::fit_of))]
-fn literal_fit(text: &Value) -> Option<&[u8]>
-    ensures { IfSome result (λ fit. (main : MainRow) (request : RequestRow) (vars : Vars)
-        → fit_of main request vars text.now ≡ Some fit.now) }
-{
-    match text.literal() {
-        Some(bytes) => fitted(bytes),
-        None => None,
-    }
-}
 
 /// `set` of such a text; of another it does nothing.
 fn set_at_once(name: &ByteText, text: &Value, vars: &mut VarTable) -> Result<bool, OutOfMemory>

@@ -1,5 +1,8 @@
 // Texts with variables, evaluated.
-ghost use Rattle.std.specs.Prelude.{◌≡◌, ℕ, ◌+◌, ◌<◌, ◌≤◌, List, [], ◌∷◌, ◌++◌, length, IfOk, option_map};
+ghost use Rattle.std.specs.Prelude.{◌≡◌, ℕ, ◌+◌, ◌<◌, ◌≤◌, List, [], ◌∷◌, ◌++◌, length, IfOk, IfSome, Some, option_map};
+ghost use Rattle.acts.specs.Vars.{Vars};
+ghost use Rattle.ngx_variables.specs.declared.request.Main.{Main as MainRow};
+ghost use Rattle.ngx_variables.specs.declared.request.Request.{Request as RequestRow};
 ghost use Rattle.ngx_variables.specs.Texts.{is_too_long, value_text};
 ghost use Rattle.rewrite_code.specs.Texts.{fitted, fit_of};
 
@@ -27,6 +30,18 @@ pub(crate) fn fitted(text: &[u8]) -> Option<&[u8]>
     Some(text)
 }
 
+/// A text that is the same for every request and isn't too long.
+#[tactic(auto, unfolding(crate::specs::Texts::fit_of))]
+pub(crate) fn literal_fit(text: &Value) -> Option<&[u8]>
+    ensures { IfSome result (λ fit. (main : MainRow) (request : RequestRow) (vars : Vars)
+        → fit_of main request vars text.now ≡ Some fit.now) }
+{
+    match text.literal() {
+        Some(bytes) => fitted(bytes),
+        None => None,
+    }
+}
+
 /// What a text evaluates to; `None` where it is too long.
 #[tactic(auto, unfolding(crate::specs::Texts::fit_of))]
 pub(crate) fn fit_text(
@@ -38,6 +53,9 @@ pub(crate) fn fit_text(
 ) -> Result<Option<ByteText>, OutOfMemory>
     ensures { IfOk result (λ fit. fit ≡ fit_of main.now request.now vars.now text.now) }
 {
+    if let Some(literal) = literal_fit(text) {
+        return Ok(Some(ByteText::from_slice(alloc, literal)?));
+    }
     let mut out = ByteText::new(alloc);
     match text.eval(alloc, main, request, vars, &mut out) {
         Ok(()) => Ok(Some(out)),

@@ -1,5 +1,5 @@
 -- What a map has after a text got a number.
-use Rattle.std.proofs.Common.{◌≡◌, ℕ, true, false, List, Option, Some, None, is_some, if◌then◌else◌, bytes_eq, refl, sym, ◌∙◌, subst, ⊎_elim}
+use Rattle.std.proofs.Common.{◌≡◌, ℕ, ◌<◌, ◌≤◌, true, false, List, length, Option, Some, None, is_some, if◌then◌else◌, bytes_eq, refl, sym, ap, ◌∙◌, subst, ⊎_elim, arith}
 use mathlib.Core.Bool.{true≢false}
 use Rattle.std.proofs.lemmas.Bool.{cases_Bool}
 use Rattle.std.specs.Map.{lookup, KeepsOthers}
@@ -25,6 +25,20 @@ put-first f g text number absent here others other = ⊎_elim
     let there : g other ≡ Some number = subst (λ t. g t ≡ Some number) same here in
     rw hit (rw gone there))
     (λ (miss : bytes_eq text other ≡ false). rw miss (others other miss ∙ else_none (f other)))
+    (cases_Bool (bytes_eq text other))
+
+-- texts that are longer than one that got a number, and than all that had one before, have none
+pub put-short : (f g : List ℕ → Option ℕ) (text : List ℕ) (number : ℕ) (old new : ℕ) →
+    ((other : List ℕ) → g other ≡ or_else (f other) (if bytes_eq text other then Some number else None)) →
+    ((other : List ℕ) → old < length other → f other ≡ None) → old ≤ new → length text ≤ new →
+    (other : List ℕ) → new < length other → g other ≡ None
+put-short f g text number old new got short longer within other beyond = ⊎_elim
+    (λ (hit : bytes_eq text other ≡ true).
+    let same : length text ≡ length other = ap length ((bytes_eq-Decides text other).0 hit) in
+    absurd (omega (arith, same, within, beyond)))
+    (λ (miss : bytes_eq text other ≡ false).
+    let gone : f other ≡ None = short other (let more : old < length other = omega (arith, longer, beyond) in more) in
+    got other ∙ rw miss (rw gone refl))
     (cases_Bool (bytes_eq text other))
 
 -- keys that are compared by their bytes

@@ -1,6 +1,7 @@
 // Numbers of servers by the texts of their names.
-ghost use Rattle.std.specs.Prelude.{◌≡◌, ℕ, List, None, OnOk, OnErr};
-ghost use Rattle.server_choice.specs.Names.{number_of, GetsNumber, HasSameNumbers};
+ghost use Rattle.std.specs.Prelude.{◌≡◌, ◌<◌, ◌≤◌, ℕ, List, Some, None, OnOk, OnErr, false, is_some, bytes_eq, length, if◌then◌else◌};
+ghost use Rattle.std.specs.HashMap.{get_by};
+ghost use Rattle.site_views.specs.Choice.{or_else};
 
 use byte_text::OutOfMemory;
 use std::alloc::Global;
@@ -10,16 +11,46 @@ use std::collections::HashMap;
 #[derive(Drop)]
 pub struct NameMap {
     pub(crate) numbers: HashMap<Vec<u8>, u32>,
+    /// No text that has a number has more bytes.
+    longest: usize,
     alloc: Global,
+    ghost short: { (text : List ℕ) → longest < length text
+        → get_by (λ key. bytes_eq text key.items) numbers ≡ None },
+}
+
+/// Gives a text that has none a number.
+fn put_number(
+    numbers: &mut HashMap<Vec<u8>, u32>,
+    key: Vec<u8>,
+    number: u32,
+) -> Result<(), OutOfMemory>
+    requires { is_some (get_by (λ k. bytes_eq key.items k.items) numbers.old) ≡ false }
+    ensures ok { OnOk result ((text : List ℕ) → get_by (λ k. bytes_eq text k.items) numbers.new
+        ≡ or_else (get_by (λ k. bytes_eq text k.items) numbers.old)
+        (if bytes_eq key.items text then Some number else None)) }
+    ensures err { OnErr result ((text : List ℕ) → get_by (λ k. bytes_eq text k.items) numbers.new
+        ≡ get_by (λ k. bytes_eq text k.items) numbers.old) }
+    ensures short { (most : ℕ) → length key.items ≤ most
+        → ((text : List ℕ) → most < length text
+        → get_by (λ k. bytes_eq text k.items) numbers.old ≡ None)
+        → (text : List ℕ) → most < length text
+        → get_by (λ k. bytes_eq text k.items) numbers.new ≡ None }
+{
+    numbers.insert(key, number)?;
+    Ok(())
 }
 
 impl NameMap {
+    ghost use Rattle.std.specs.Prelude.{◌≡◌, ℕ, List, None, OnOk, OnErr};
+    ghost use Rattle.server_choice.specs.Names.{number_of, GetsNumber, HasSameNumbers};
+
     /// No text has a number, which takes no memory.
     pub fn new(alloc: Global) -> Self
         ensures { (text : List ℕ) → number_of result text ≡ None }
     {
         NameMap {
             numbers: HashMap::new(alloc),
+            longest: 0,
             alloc,
         }
     }
@@ -28,6 +59,9 @@ impl NameMap {
     pub fn get(&self, text: &[u8]) -> Option<u32>
         ensures { result ≡ number_of self.now text.now }
     {
+        if text.len() > self.longest {
+            return None;
+        }
         self.numbers.get(text).copied()
     }
 
@@ -40,7 +74,8 @@ impl NameMap {
             return Ok(());
         }
         let key = text.to_vec(self.alloc)?;
-        self.numbers.insert(key, number)?;
+        self.longest = self.longest.max(text.len());
+        put_number(&mut self.numbers, key, number)?;
         Ok(())
     }
 }

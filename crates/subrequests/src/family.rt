@@ -20,9 +20,8 @@ ghost use Rattle.subrequests.specs.declared.family.Stepped.TheVariants.{On as Go
 use crate::child::blank_main;
 use crate::next_step::{Next, is_in_row, next_of};
 use crate::past::put_all_past;
-use crate::wants::can_run;
 use byte_text::{ByteText, OutOfMemory};
-use family_nodes::{Nodes, hears};
+use family_nodes::{Nodes, can_run, hears};
 use family_order::shows_the_same;
 use family_rest::{quiet_is_exact, row_tells_still};
 use file_tree::{Ask, JobAnswer};
@@ -52,6 +51,9 @@ pub struct Family {
 
 /// No more nodes than these make one response, the main request among them.
 pub(crate) const MOST_NODES: usize = 1001;
+
+/// There is room for so many nodes from the beginning.
+const FEW_NODES: usize = 12;
 
 /// How many levels of subrequests a main request may open.
 const MOST_LEFT: u32 = 50;
@@ -182,6 +184,7 @@ impl Family {
         let mut main = blank_main(alloc, Method::Get);
         lend(&mut main, &mut phases);
         let mut nodes = Nodes::new(alloc);
+        nodes.reserve(FEW_NODES)?;
         nodes.push(Node {
             parent: 0,
             left: MOST_LEFT,

@@ -41,8 +41,8 @@ returns-clause-goes c = λ trees.
     let site = c.args.ground.now.site.now in
     let patterns = c.args.space.now.patterns in
     let w = world_in patterns c.args.ground.now shipped in
-    let f = c.into_inner-ask.result in
+    let f = c.empty-flow.result.flow in
     let went = c.in_ok-run_told-in-Told.field-0 in
-    subst (λ (f : Flow). GoesTo w patterns site trees (one_rest w patterns site f trees) c.args.out.now c.run_told.new.out c.args.closing went) c.into_inner-ask.ensures
+    subst (λ (f : Flow). GoesTo w patterns site trees (one_rest w patterns site f trees) c.args.out.now c.run_told.new.out c.args.closing went) c.empty-flow.ensures
     (subst (λ (s : Stage). GoesTo w patterns site trees (one_rest w patterns site (record { ask = f.ask; stage = s }) trees) c.args.out.now c.run_told.new.out c.args.closing went) (sym c.in-Told.is)
     (c.in_ok-run_told-in-Told.ensures.goes trees))

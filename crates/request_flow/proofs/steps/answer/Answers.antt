@@ -38,8 +38,8 @@ returns-in-None-clause-goes c = λ patterns trees.
     (puts.no_file t reply made known trees is (puts.gone_bare w (asked_in p) s bytes c.args.outcome)
     (ap (λ b. file_known b known) (sym c.sends_file.ensures) ∙ (sym c.file_if-file.ensures ∙ c.in-None.is))))
 
-pub returns-in_ok-reading-in-Some-clause-goes : goal.returns-in_ok-reading-in-Some-clause-goes
-returns-in_ok-reading-in-Some-clause-goes c = λ patterns trees.
+pub returns-in-Some-clause-goes : goal.returns-in-Some-clause-goes
+returns-in-Some-clause-goes c = λ patterns trees.
     let g = c.args.ground.now in
     let site = g.site.now in
     let w = world_in patterns g shipped in
@@ -58,18 +58,18 @@ returns-in_ok-reading-in-Some-clause-goes c = λ patterns trees.
     let text = ap plain_bytes (sym is.body) ∙ (ap (λ b. plain_bytes (body_seen bytes None b)) sent.is ∙ ap (λ k. known_bytes k trees) sent.told) in
     puts.moved_follows site _ _ _ _ c.args.out.now c.put_reply.new.out c.args.closing _ _ _ _ _ _
     (done_rest w (trees (known_tree known)) (terms_seen t) made bytes reply.body c.args.request.now.vars is.body)
-    (c.in_ok-reading-in-Some.ensures.rest w patterns site trees) c.in_ok-reading-in-Some.ensures.others.0 c.in_ok-reading-in-Some.ensures.others.1 c.in_ok-reading-in-Some.ensures.others.2
+    (c.reading.ensures.rest w patterns site trees) c.reading.ensures.others.0 c.reading.ensures.others.1 c.reading.ensures.others.2
     (puts.file_follows site p.at.level t c.level-level.result.now reply bytes made c.args.request.now.vars is c.level-level.ensures
     (puts.values_are w (asked_in p) s bytes c.args.outcome)
     c.args.out.now c.put_reply.new.out c.args.closing c.closes-closing.result c.stays-keep.result c.in_ok-size.size c.stays-keep.ensures c.closes-closing.ensures c.in_ok-size.ensures.put c.in_ok-size.ensures.size
     file.len item sent.sent (sym is.gone ∙ sent.there)
     (ap (λ b. cond t.no_body [] (sent_now b)) sent.is ∙ ap (λ n. cond {A = List ℕ} n [] []) sent.sent) text (ap length text ∙ padded_length file.len (text_of item)))
 
-pub returns-in_ok-reading-in-Some-clause-asked : goal.returns-in_ok-reading-in-Some-clause-asked
-returns-in_ok-reading-in-Some-clause-asked c =
+pub returns-in-Some-clause-asked : goal.returns-in-Some-clause-asked
+returns-in-Some-clause-asked c =
     let known = c.args.known in
     let file = c.in-Some.file in
     let sent = puts.file_sent c.args.request.now.terms c.in_ok-reply.reply known file (ap (λ b. file_known b known) (sym c.sends_file.ensures) ∙ (sym c.file_if-file.ensures ∙ c.in-Some.is)) in
     let told = ap known_tree sent.told in
-    let asked = c.in_ok-reading-in-Some.ensures.asked in
+    let asked = c.reading.ensures.asked in
     omega (arith, told, asked)

@@ -1,16 +1,19 @@
-use Rattle.std.proofs.Common.{◌≡◌, Some, bytes_eq, subst, rules}
-use Rattle.std.specs.Map.{KeepsOthers}
+use Rattle.std.proofs.Common.{◌≡◌, ◌<◌, ◌≤◌, ◌∙◌, Some, None, length, ap, bytes_eq, if◌then◌else◌, arith, rules}
+use Rattle.site_views.specs.Choice.{or_else}
 use Rattle.server_choice.specs.Names.{number_of}
-use Rattle.server_choice.proofs.Put.{put-first, others-kept}
 use Rattle.server_choice.proofs.names.NameMap.add.Goals as goal
 
 pub returns-clause-ok : goal.returns-clause-ok
-returns-clause-ok c =
-    let text = c.args.text.now in
-    let same : c.in_ok-key.key.items ≡ text = search rules in
-    let updates = c.in_ok-insert.ensures.updates in
-    put-first (number_of c.args.self.now) (number_of (record { numbers = c.insert.new.self; alloc = c.args.self.now.alloc })) text c.args.number
-    (search rules)
-    (subst (λ t. number_of (record { numbers = c.insert.new.self; alloc = c.args.self.now.alloc }) t ≡ Some c.args.number) same updates.1)
-    (others-kept (λ k. k.items) c.args.self.now.numbers.entries c.insert.new.self.entries text
-    (subst (λ t. KeepsOthers (λ x y. bytes_eq x.items y.items) (λ k. bytes_eq t k.items) c.args.self.now.numbers.entries c.insert.new.self.entries) same updates.3))
+returns-clause-ok c = λ other.
+    let same : c.in_ok-key.key.items ≡ c.args.text.now = search rules in
+    c.in_ok-put_number.ensures.ok other
+    ∙ ap (λ t. or_else (number_of c.args.self.now other) (if bytes_eq t other then Some c.args.number else None)) same
+
+pub invariant_of-self : goal.invariant_of-self
+invariant_of-self c =
+    let same : c.in_ok-key.key.items ≡ c.args.text.now = search rules in
+    let within : length c.in_ok-key.key.items ≤ c.max-self.result = omega (arith, ap length same, c.max-self.ensures) in
+    record {
+      short = c.put_number.ensures.short c.max-self.result within
+          (λ t beyond. c.args.self.now.short t (let more : c.args.self.now.longest < length t = omega (arith, c.max-self.ensures, beyond) in more));
+    }

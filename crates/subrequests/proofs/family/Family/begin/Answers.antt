@@ -18,7 +18,7 @@ returns-clause-begins c = λ ps tree texts first table same.
     let w = world_in ps g shipped in
     let n : Node = record { parent = 0; left = 50; children = 0; waits = None; asks = None; place = InRow; before = c.new-2.result; phases = c.lend.new.phases; ask = c.args.decided.ask; start = 0; stage = c.in_ok-stage.stage; over = false } in
     let made = c.in_ok-put_all_past.ensures in
-    let past = beginning.after_first c.new-nodes.ensures c.in_ok-push.ensures.items made.nodes in
+    let past = beginning.after_first (c.reserve.ensures ∙ c.new-nodes.ensures) c.in_ok-push.ensures.items made.nodes in
     let path = asked_path c.args.decided.ask in
     let back : lent c.lend.new.main c.lend.new.phases ≡ c.args.phases = beginning.given c.blank_main-main.result c.lend.new.main c.args.phases c.lend.new.phases c.lend.ensures.main c.lend.ensures.phases in
     beginning.begins c.shows_the_same.ensures w tree ps site c.lend.new.main c.put_all_past.new.order c.put_all_past.new.nodes texts c.args.vars c.args.decided.opened n first made.order past refl refl refl
@@ -27,15 +27,15 @@ returns-clause-begins c = λ ps tree texts first table same.
 
 pub returns-clause-whole : goal.returns-clause-whole
 returns-clause-whole c =
-    let past = beginning.after_first c.new-nodes.ensures c.in_ok-push.ensures.items c.in_ok-put_all_past.ensures.nodes in
+    let past = beginning.after_first (c.reserve.ensures ∙ c.new-nodes.ensures) c.in_ok-push.ensures.items c.in_ok-put_all_past.ensures.nodes in
     beginning.sound c.put_all_past.new.order c.put_all_past.new.nodes c.args.decided.opened _ c.in_ok-put_all_past.ensures.order past (let few : c.args.decided.opened ≤ 255 = omega arith in few) refl refl
 
 pub returns-clause-files : goal.returns-clause-files
 returns-clause-files c = λ trees.
-    let past = beginning.after_first c.new-nodes.ensures c.in_ok-push.ensures.items c.in_ok-put_all_past.ensures.nodes in
+    let past = beginning.after_first (c.reserve.ensures ∙ c.new-nodes.ensures) c.in_ok-push.ensures.items c.in_ok-put_all_past.ensures.nodes in
     ap (text_at trees) (beginning.there c.put_all_past.new.order c.put_all_past.new.nodes c.args.decided.opened _ c.in_ok-put_all_past.ensures.order past)
 
 pub returns-clause-nodes : goal.returns-clause-nodes
 returns-clause-nodes c =
-    let past = beginning.after_first c.new-nodes.ensures c.in_ok-push.ensures.items c.in_ok-put_all_past.ensures.nodes in
+    let past = beginning.after_first (c.reserve.ensures ∙ c.new-nodes.ensures) c.in_ok-push.ensures.items c.in_ok-put_all_past.ensures.nodes in
     beginning.many c.put_all_past.new.order c.put_all_past.new.nodes c.args.decided.opened _ c.in_ok-put_all_past.ensures.order past
