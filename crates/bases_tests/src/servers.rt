@@ -2,7 +2,6 @@
 use crate::samples::text;
 use crate::sites::{listens, patterns, server, site};
 use http_types::Addr;
-use ngx_pattern::Spans;
 use server_choice::Servers;
 use site_model::{Server, ServerName};
 use std::alloc::Global;
@@ -50,8 +49,7 @@ fn are_chosen(
 ) -> Result<(), Fail> {
     let mut patterns = patterns(alloc)?;
     for (local, host, expected) in cases {
-        let mut spans = Spans::new();
-        let chosen = servers.choose(*local, host, &mut patterns, &mut spans);
+        let chosen = servers.choose(*local, host, &mut patterns);
         assert_eq!(rt; chosen, *expected);
     }
     Ok(())

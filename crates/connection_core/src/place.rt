@@ -116,7 +116,7 @@ pub(crate) fn happen(
         } => StepAnswer::Skipped,
         Event::Arrived { conn: _, bytes } => conn.arrived(&mut space.head_room, moment, bytes),
         Event::Ended { conn: _ } => conn.input_ended(),
-        Event::Wrote { conn: _, count } => conn.wrote(moment, count),
+        Event::Wrote { conn: _, count } => conn.wrote(&mut space.out_room, moment, count),
         Event::LinkFailed { conn: _ } => conn.link_failed(),
         Event::FileDone {
             conn: _,

@@ -1,6 +1,6 @@
 -- What a connection shows, with the moment at which it is given up.
 use Rattle.std.proofs.Common.{◌≡◌, ℕ, ◌-◌, ◌^◌, ◌≤◌, ◌<◌, Bool, true, false, ◌||◌, eqb, List, [], ◌∷◌, length, Option, None, Some, map, refl, sym, ap, subst, ◌∙◌, arith}
-use Rattle.std.specs.Prelude.{not, is_some, is_none}
+use Rattle.std.specs.Prelude.{not, is_some, is_none, ◌==◌, ◌&&◌, if◌then◌else◌}
 use Rattle.std.proofs.lemmas.List.{append-nil}
 use Rattle.std.specs.List.{Contains}
 use Rattle.std.proofs.lemmas.Bool.Decides.{nat_tests}
@@ -144,24 +144,50 @@ marks_by mark moment now result p f p' f' q g q' g' e m ep ef ep' ef' =
     e ∙ (ap (λ b. mark_by mark moment b f p' f') ep ∙ (ap (λ b. mark_by mark moment q b p' f') ef ∙ (ap (λ b. mark_by mark moment q g b f') ep'
     ∙ (ap (λ b. mark_by mark moment q g q' b) ef' ∙ ap (λ n. mark_by mark n q g q' g') (sym m)))))
 
+-- of a mark that is this moment nothing matters: it stays
+same_mark : (b : Bool) (mark moment : ℕ) → mark ≡ moment → (if b then moment else mark) ≡ mark
+same_mark true mark moment e = sym e
+same_mark false mark moment e = refl
+
+-- where two marks aren't told apart they are one
+same_moment : (mark moment : ℕ) → (mark == moment) ≡ true → mark ≡ moment
+same_moment mark moment e = grind (arith, nat_tests, e)
+
+-- the mark after a step, of which is known what matters
+pub marks_if : (mark moment now result : ℕ) (p f p' f' q g q' g' : Bool) → result ≡ mark_by mark moment p f p' f' → now ≡ moment
+    → (not (mark == moment) ≡ true → p ≡ q) → (not (mark == moment) ≡ true → f ≡ g) → (not (mark == moment) ≡ true → p' ≡ q') → (not (mark == moment) ≡ true → f' ≡ g')
+    → result ≡ mark_by mark now q g q' g'
+marks_if mark moment now result p f p' f' q g q' g' e m ep ef ep' ef' = by (mark == moment) refl
+  where
+    by : (t : Bool) → (mark == moment) ≡ t → result ≡ mark_by mark now q g q' g'
+    by false h = marks_by mark moment now result p f p' f' q g q' g' e m (ep (ap not h)) (ef (ap not h)) (ep' (ap not h)) (ef' (ap not h))
+    by true h =
+        let is = same_moment mark moment h in
+        e ∙ (same_mark ((not p && p') || (f && not f')) mark moment is ∙ sym (same_mark ((not q && q') || (g && not g')) mark now (is ∙ sym m)))
+
+-- nothing is sent where no request is in flight, and no bytes are kept
+not_pending : (flight : Option Flight) (out : List ℕ) (tail : ℕ) → flight ≡ None → out ≡ [] → false ≡ not (no_bytes (pending_at flight out tail))
+not_pending flight out tail none empty = sym (ap (λ xs. not (no_bytes xs)) (unsent flight out tail none empty))
+
+not_flying : (flight : Option Flight) (out : List ℕ) → flight ≡ None → out ≡ [] → false ≡ in_flight flight out
+not_flying flight out none empty = sym (ap (λ h. in_flight h out) none ∙ ap (λ o. not (no_bytes o)) empty)
+
 -- the mark after one that was stopped
-pub mark_rests : (mark moment now : ℕ) (p f q g : Bool) (flight : Option Flight) (out : List ℕ) (tail : ℕ) → now ≡ moment → p ≡ q → f ≡ g → flight ≡ None → out ≡ [] →
-    mark_by mark moment p f false false ≡ mark_by mark now q g (not (no_bytes (pending_at flight out tail))) (in_flight flight out)
-mark_rests mark moment now p f q g flight out tail m ep ef none empty =
-    ap (λ b. mark_by mark moment b f false false) ep ∙ (ap (λ b. mark_by mark moment q b false false) ef ∙ (ap (λ n. mark_by mark n q g false false) (sym m)
-    ∙ (ap (λ xs. mark_by mark now q g (not (no_bytes xs)) false) (sym (unsent flight out tail none empty))
-    ∙ ap (λ b. mark_by mark now q g (not (no_bytes (pending_at flight out tail))) b) (sym (ap (λ h. in_flight h out) none ∙ ap (λ o. not (no_bytes o)) empty)))))
+pub mark_rests : (mark moment now result : ℕ) (p f q g : Bool) (flight : Option Flight) (out : List ℕ) (tail : ℕ) → result ≡ mark_by mark moment p f false false → now ≡ moment
+    → (not (mark == moment) ≡ true → p ≡ q) → (not (mark == moment) ≡ true → f ≡ g) → flight ≡ None → out ≡ []
+    → result ≡ mark_by mark now q g (not (no_bytes (pending_at flight out tail))) (in_flight flight out)
+mark_rests mark moment now result p f q g flight out tail e m ep ef none empty =
+    marks_if mark moment now result p f false false q g _ _ e m ep ef (λ h. not_pending flight out tail none empty) (λ h. not_flying flight out none empty)
 
 -- the mark after one with which a further one starts
-pub mark_begins : (mark moment result : ℕ) (p' f' : Bool) (flight : Option Flight) (out : List ℕ) (tail : ℕ) (q' g' : Bool) → result ≡ mark_by mark moment false false p' f' → flight ≡ None → out ≡ [] → p' ≡ q' → f' ≡ g' →
-    result ≡ mark_by mark moment (not (no_bytes (pending_at flight out tail))) (in_flight flight out) q' g'
+pub mark_begins : (mark moment result : ℕ) (p' f' : Bool) (flight : Option Flight) (out : List ℕ) (tail : ℕ) (q' g' : Bool) → result ≡ mark_by mark moment false false p' f' → flight ≡ None → out ≡ []
+    → (not (mark == moment) ≡ true → p' ≡ q') → (not (mark == moment) ≡ true → f' ≡ g')
+    → result ≡ mark_by mark moment (not (no_bytes (pending_at flight out tail))) (in_flight flight out) q' g'
 mark_begins mark moment result p' f' flight out tail q' g' e none empty ep ef =
-    e ∙ (ap (λ b. mark_by mark moment false false b f') ep ∙ (ap (λ b. mark_by mark moment false false q' b) ef
-    ∙ (ap (λ xs. mark_by mark moment (not (no_bytes xs)) false q' g') (sym (unsent flight out tail none empty))
-    ∙ ap (λ b. mark_by mark moment (not (no_bytes (pending_at flight out tail))) b q' g') (sym (ap (λ h. in_flight h out) none ∙ ap (λ o. not (no_bytes o)) empty)))))
+    marks_if mark moment moment result false false p' f' _ _ q' g' e refl (λ h. not_pending flight out tail none empty) (λ h. not_flying flight out none empty) ep ef
 
 pub mark_starts : (mark moment : ℕ) (flight flight' : Option Flight) (out out' : List ℕ) (tail tail' : ℕ) → flight ≡ None → out ≡ [] → flight' ≡ None → out' ≡ [] →
     mark_by mark moment false false false false ≡ mark_by mark moment (not (no_bytes (pending_at flight out tail))) (in_flight flight out) (not (no_bytes (pending_at flight' out' tail'))) (in_flight flight' out')
 mark_starts mark moment flight flight' out out' tail tail' none empty none' empty' =
     mark_begins mark moment (mark_by mark moment false false false false) false false flight out tail (not (no_bytes (pending_at flight' out' tail'))) (in_flight flight' out') refl none empty
-    (ap (λ xs. not (no_bytes xs)) (sym (unsent flight' out' tail' none' empty'))) (sym (ap (λ h. in_flight h out') none' ∙ ap (λ o. not (no_bytes o)) empty'))
+    (λ h. not_pending flight' out' tail' none' empty') (λ h. not_flying flight' out' none' empty')

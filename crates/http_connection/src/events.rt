@@ -8,14 +8,14 @@ use crate::conn::Conn;
 use crate::input::{first_bytes, last_bytes, take_in};
 use crate::journal::finish;
 use crate::open::Meeting;
-use crate::sending::{filled, mark_after_write, sending};
+use crate::sending::{filled, mark_after_write, sending_if};
 use crate::slot::{put, take};
 use crate::start::{Setting, run_one};
 use crate::times::{AT_REST, Sending, marked, paced_on};
 use byte_text::OutOfMemory;
 use file_tree::{JobAnswer, is_fitting};
 use ngx_outside::{StepAnswer, StopCause};
-use reply_out::Workspace;
+use reply_out::{OutRoom, Workspace};
 use req_head::{HeadRoom, head_stays, refusal_stays, size_fits};
 use response_flow::{Passed, Ran, answered, length_of, run_in_place, server_of, written};
 use served_site::ServedSite;
@@ -91,9 +91,9 @@ impl Conn {
         }
     }
 
-    /// The first pending bytes were written.
+    /// The first pending bytes were written. `room` is where the room of a large response is kept that went out whole.
     #[inline(always)]
-    pub fn wrote(&mut self, moment: u64, count: usize) -> StepAnswer
+    pub fn wrote(&mut self, room: &mut OutRoom, moment: u64, count: usize) -> StepAnswer
         ensures steps { (x : Serves) (now : Start) (conn : ℕ) →
             StepsConn x now (Wrote conn count) result self.old self.new }
         ensures times { (x : Serves) (now : Start) (conn : ℕ) → now.moment ≡ moment →
@@ -102,7 +102,7 @@ impl Conn {
         if count == 0 || count > self.pending().len() {
             return StepAnswer::Skipped;
         }
-        written(&mut self.flight, &mut self.out, count);
+        written(&mut self.flight, &mut self.out, count, room);
         self.times.wrote = moment;
         self.times.mark = mark_after_write(self.times.mark, moment, &self.flight, &self.out);
         StepAnswer::Done { taken: 0 }
@@ -129,10 +129,12 @@ impl Conn {
             }
             None => return StepAnswer::Skipped,
         }
-        let before = sending(&self.flight, &self.out, self.tail);
+        // By a mark that is this moment already nothing changes.
+        let matters = self.times.mark != moment;
+        let before = sending_if(matters, &self.flight, &self.out, self.tail);
         match answered(alloc, &mut self.flight, node, &mut self.out, answer) {
             Ok(()) => {
-                let after = sending(&self.flight, &self.out, self.tail);
+                let after = sending_if(matters, &self.flight, &self.out, self.tail);
                 self.times.mark = marked(self.times.mark, moment, before, after);
                 StepAnswer::Done { taken: 0 }
             }
@@ -192,7 +194,8 @@ impl Conn {
             (Run conn node) result self.old self.new }
         ensures patterns { space.new.patterns ≡ space.old.patterns }
     {
-        let before = sending(&self.flight, &self.out, self.tail);
+        let matters = self.times.mark != moment;
+        let before = sending_if(matters, &self.flight, &self.out, self.tail);
         let ground = match &self.flight {
             Some(flight) => served.ground(server_of(flight), length_of(flight)),
             None => unreachable!(),
@@ -225,7 +228,7 @@ impl Conn {
                 finish(&mut self.journal, log);
                 self.closing = closing;
                 self.tail = tail;
-                let after = sending(&self.flight, &self.out, self.tail);
+                let after = sending_if(matters, &self.flight, &self.out, self.tail);
                 self.times.mark = marked(self.times.mark, moment, before, after);
                 paced_on(
                     &mut self.times.pace,
@@ -267,6 +270,7 @@ impl Conn {
         head_stays();
         refusal_stays();
         size_fits();
+        let matters = self.times.mark != moment;
         let meeting = Meeting {
             local: self.local,
             peer: self.peer,
@@ -296,7 +300,7 @@ impl Conn {
                 put(&mut self.flight, onward.flight);
                 self.closing = onward.closing;
                 self.tail = onward.tail;
-                let after = sending(&self.flight, &self.out, self.tail);
+                let after = sending_if(matters, &self.flight, &self.out, self.tail);
                 self.times.mark = marked(self.times.mark, moment, AT_REST, after);
                 paced_on(
                     &mut self.times.pace,

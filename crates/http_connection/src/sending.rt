@@ -1,9 +1,9 @@
 // What a connection has to send, and whether a request is in flight.
-ghost use Rattle.std.specs.Prelude.{◌≡◌, not};
+ghost use Rattle.std.specs.Prelude.{◌≡◌, not, true};
 ghost use Rattle.ngx_outside.specs.Views.{no_bytes};
 ghost use Rattle.http_connection.specs.Conn.{pending_at, in_flight, filled_by, mark_written, no_entries};
 
-use crate::times::Sending;
+use crate::times::{AT_REST, Sending};
 use byte_text::ByteQueue;
 use ngx_outside::Entry;
 use response_flow::{Flight, pending};
@@ -60,7 +60,7 @@ pub(crate) fn mark_after_write(
 }
 
 #[inline(always)]
-pub(crate) fn sending(flight: &Option<Flight>, out: &ByteQueue, tail: usize) -> Sending
+fn sending(flight: &Option<Flight>, out: &ByteQueue, tail: usize) -> Sending
     ensures pending { result.pending ≡ not (no_bytes (pending_at flight.now out.now tail)) }
     ensures in_flight { result.in_flight ≡ in_flight flight.now out.now }
 {
@@ -68,4 +68,22 @@ pub(crate) fn sending(flight: &Option<Flight>, out: &ByteQueue, tail: usize) -> 
         pending: is_pending(flight, out, tail),
         in_flight: is_in_flight(flight, out),
     }
+}
+
+// What is being sent, where it matters; where it doesn't, it isn't looked at.
+#[inline(always)]
+pub(crate) fn sending_if(
+    matters: bool,
+    flight: &Option<Flight>,
+    out: &ByteQueue,
+    tail: usize,
+) -> Sending
+    ensures pending { matters ≡ true →
+        result.pending ≡ not (no_bytes (pending_at flight.now out.now tail)) }
+    ensures in_flight { matters ≡ true → result.in_flight ≡ in_flight flight.now out.now }
+{
+    if matters {
+        return sending(flight, out, tail);
+    }
+    AT_REST
 }

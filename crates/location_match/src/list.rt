@@ -108,6 +108,13 @@ impl Prefixes {
         }
     }
 
+    /// Whether it has no text.
+    pub fn is_empty(&self) -> bool
+        ensures { result ≡ true → self.now.texts ≡ [] }
+    {
+        self.entries.is_empty()
+    }
+
     /// Adds the text of a location, by its number. `false` where it isn't above all texts that are there, in the order of
     /// their bytes; then, and without memory, nothing changes.
     pub fn add(&mut self, text: ByteText, location: u32) -> Result<bool, OutOfMemory>

@@ -4,5 +4,6 @@ mod Outcomes
 mod Measure
 mod Numbering
 mod Named
+mod Leaves
 mod Returns
 mod Sound

@@ -1,6 +1,6 @@
 -- Each way in which the search of a list comes to its end.
-use Rattle.std.proofs.Common.{◌≡◌, ℕ, zero, suc, ◌≤◌, Bool, true, false, List, length, slice_index_or, replicate, find, Option, Some, None, is_some, option_map, option_and_then, slice_get, ⊎_elim, refl, sym, ap, ◌∙◌, subst, IfSome, arith}
-use Rattle.ngx_pattern.specs.Pattern.{Pattern as SetPattern, spans_of}
+use Rattle.std.proofs.Common.{◌≡◌, ℕ, Bool, true, false, List, length, find, Option, Some, None, is_some, option_map, option_and_then, slice_get, ⊎_elim, refl, sym, ap, ◌∙◌, subst, IfSome, arith}
+use Rattle.ngx_pattern.specs.Pattern.{Pattern as SetPattern}
 use Rattle.site_model.specs.declared.site.Site.{Site}
 use Rattle.site_views.specs.Pattern.{Span, groups_in}
 use Rattle.site_views.specs.Views.{Locations as LocationsView}
@@ -11,7 +11,7 @@ use Rattle.location_match.specs.Numbers.{number_of, IsLongestOf}
 use Rattle.location_search.specs.Lists.{Numbered, members, patterns_in}
 use Rattle.location_search.specs.Lists.Numbered.{NoneLeft}
 use Rattle.location_search.specs.Nodes.{HasList, IsListAt, IsTreeAt}
-use Rattle.location_search.specs.Found.{AreSpans, IsFirstMatch, locations_in, level_at, is_firm_at, below, remembering, goes_on, with_groups}
+use Rattle.location_search.specs.Found.{IsFirstMatch, locations_in, level_at, is_firm_at, below, remembering, goes_on, with_groups}
 use Rattle.location_search.specs.declared.node.Node.{Node}
 use Rattle.location_search.specs.declared.node.PatternLocation.{PatternLocation}
 use Rattle.location_search.specs.declared.search.Sought.{Sought as CodeSought}

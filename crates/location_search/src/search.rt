@@ -1,5 +1,5 @@
 // The search of the location that holds for a path.
-ghost use Rattle.std.specs.Prelude.{◌≡◌, ◌<◌, ◌==◌, ℕ, nat_lt, true, List, Option, None, Some, IfSome, is_some, option_map, option_and_then, option_copied, slice_get, length, find as first_of};
+ghost use Rattle.std.specs.Prelude.{◌≡◌, ◌<◌, ◌==◌, ℕ, nat_lt, true, List, [], Option, None, Some, IfSome, is_some, option_map, option_and_then, option_copied, slice_get, length, find as first_of};
 ghost use Rattle.site_model.specs.declared.site.Site.{Site as SiteRow};
 ghost use Rattle.site_views.specs.Search.{decided, candidates};
 ghost use Rattle.pattern_search.specs.Found.{patterns_seen, found as found_in, found_at};
@@ -166,6 +166,15 @@ fn with_groups(level: u32, inner: Sought, inner_spans: Spans, spans: &mut Spans)
     }
 }
 
+// Whether no location is in this one, as in most.
+fn is_leaf(list: &LocationList) -> bool
+    ensures exact { result ≡ true → list.now.exact.texts ≡ [] }
+    ensures prefixes { result ≡ true → list.now.prefixes.texts ≡ [] }
+    ensures patterns { result ≡ true → list.now.patterns.items ≡ [] }
+{
+    list.patterns.is_empty() && list.prefixes.is_empty() && list.exact.is_empty()
+}
+
 /// The search of the list in a location. A regular expression's groups are left in the spans where the search ends at it.
 pub(crate) fn seek(
     nodes: &[Node],
@@ -187,6 +196,9 @@ pub(crate) fn seek(
     let Some(node) = node_at(nodes, number) else {
         return Sought::Remembers(None);
     };
+    if is_leaf(&node.list) {
+        return Sought::Remembers(None);
+    }
     if let Some(level) = level_of(nodes, node.list.exact.number(path)) {
         return Sought::Ends(FoundLocation {
             level,

@@ -14,7 +14,7 @@ use std::alloc::Global;
 use std::collections::VecDeque;
 use std::marker::Model;
 
-/// There is room for so many nodes, and for two pieces and a place of each, from the beginning.
+/// From the beginning there is room for this many nodes, and for two pieces and a place of each.
 const FEW_NODES: usize = 12;
 
 const FEW_PARTS: usize = 32;

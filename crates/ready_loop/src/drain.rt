@@ -1,5 +1,5 @@
 // Serves the wants of a connection.
-ghost use Rattle.std.specs.Prelude.{◌≡◌, ◌≢◌, ◌+◌, ◌*◌, ◌<◌, ◌≤◌, ℕ, [], true, List, OnOk, IfOk, vec_len, Option};
+ghost use Rattle.std.specs.Prelude.{◌≡◌, ◌≢◌, ◌+◌, ◌*◌, ◌<◌, ◌≤◌, ℕ, [], Bool, true, List, OnOk, IfOk, vec_len, Option};
 ghost use Rattle.ngx_outside.specs.Views.{IsSound};
 ghost use Rattle.ready_loop.specs.Seen.{Elsewhere};
 ghost use Rattle.ready_loop.specs.Standing.{Keeps};
@@ -7,7 +7,7 @@ ghost use Rattle.ngx_outside.specs.Wants.{doable};
 ghost use Rattle.ready_loop.specs.Turns.{IsRested, IsWanted, work};
 ghost use Rattle.ready_loop.specs.Tellings.{StandBeside};
 
-use crate::jobs::{job_one, work_off};
+use crate::jobs::{MUCH, job_one, work_off};
 use crate::links::{close_one, read_one, write_one};
 use byte_text::OutOfMemory;
 use ngx_outside::{EventCore, Files, Input, Links, Want};
@@ -30,6 +30,27 @@ fn has_bytes(read: Input) -> bool {
         Input::NotYet => false,
         Input::End => false,
         Input::Failed => false,
+    }
+}
+
+// What is served first of what a connection wants: where its next want is a job and much is pending, the write of that.
+#[inline(always)]
+fn served_first<E: EventCore>(core: &E, conn: u32, full: bool, want: Want) -> Want
+    requires wanted { IsWanted ((E.seen core.now).view conn) conn want }
+    ensures wanted { IsWanted ((E.seen core.now).view conn) conn result }
+    ensures doable { (due : Bool) → doable due full want ≡ true → doable due full result ≡ true }
+{
+    match want {
+        Want::Job { conn: _, node: _ } => {
+            if !full && core.pending(conn).len() >= MUCH {
+                return Want::Write { conn };
+            }
+            want
+        }
+        Want::Read { conn: _, room: _ } => want,
+        Want::Run { conn: _, node: _ } => want,
+        Want::Write { conn: _ } => want,
+        Want::Close { conn: _ } => want,
     }
 }
 
@@ -95,16 +116,16 @@ fn serve_want<E: EventCore, F: Files, L: Links>(
             if !has_bytes(read) {
                 return Ok(after);
             }
-            work_off(core, files, conn, MAIN)?;
+            work_off(core, files, conn, MAIN, false)?;
             Ok(after)
         }
         Want::Run { conn: _, node } => {
-            work_off(core, files, conn, node)?;
+            work_off(core, files, conn, node, false)?;
             Ok(ready)
         }
         Want::Job { conn: _, node } => {
-            job_one(core, files, conn, node)?;
-            work_off(core, files, conn, node)?;
+            let large = job_one(core, files, conn, node)?;
+            work_off(core, files, conn, node, large)?;
             Ok(ready)
         }
         Want::Write { conn: _ } => {
@@ -167,7 +188,8 @@ pub fn drain<E: EventCore, F: Files, L: Links>(
 {
     let mut ready = Readiness { due, full: false };
     while let Some(want) = core.next_want(conn, ready.due, ready.full) {
-        ready = serve_want(core, files, links, input, conn, want, ready)?;
+        let first = served_first(core, conn, ready.full, want);
+        ready = serve_want(core, files, links, input, conn, first, ready)?;
     }
     Ok(ready.due)
 }

@@ -1,5 +1,5 @@
 // Runs nodes, and answers their jobs from the files.
-ghost use Rattle.std.specs.Prelude.{◌≡◌, ◌≢◌, ◌+◌, ◌*◌, ◌<◌, ◌≤◌, ℕ, [], true, false, length, take, Some, None, List, Contains, OnOk, IfOk, IsErrOf, Option, OnErr};
+ghost use Rattle.std.specs.Prelude.{◌≡◌, ◌≢◌, ◌+◌, ◌*◌, ◌<◌, ◌≤◌, ℕ, [], true, false, length, take, Some, None, List, Contains, OnOk, IfOk, IsErrOf, Option, OnErr, is_some};
 ghost use Rattle.file_tree.specs.Tree.{tree_of};
 ghost use Rattle.ngx_outside.specs.Causes.{Rose};
 ghost use Rattle.ngx_outside.specs.Views.{ask_in};
@@ -16,9 +16,22 @@ use byte_text::OutOfMemory;
 use file_tree::{Ask, JobAnswer, Node};
 use ngx_outside::{EventCore, FileFault, Files};
 
-// Lets a node run where it can, and tells whether it has a job then.
+/// Where this many bytes are pending, they are written before more is asked of the files: so the room in which they wait runs empty,
+/// and none of them is moved in it.
+pub const MUCH: usize = 65536;
+
+// A block of this many bytes is a whole one of a file of which more may come.
+const LARGE: usize = 16384;
+
+// Whether what comes next waits until what is pending is written: where a large block came last, and much is pending.
 #[inline(always)]
-fn runs_to_job<E: EventCore>(core: &mut E, conn: u32, node: u32) -> bool
+fn has_much<E: EventCore>(core: &E, conn: u32, large: bool) -> bool {
+    large && core.pending(conn).len() >= MUCH
+}
+
+// Lets a node run where it can.
+#[inline(always)]
+fn runs_if<E: EventCore>(core: &mut E, conn: u32, node: u32)
     requires held { ((E.seen core.old).view conn).held ≡ true }
     ensures kept { (links : LinksSeen) (files : FilesSeen) →
         Keeps (E.seen core.old) (E.seen core.new) links links files files }
@@ -33,13 +46,8 @@ fn runs_to_job<E: EventCore>(core: &mut E, conn: u32, node: u32) -> bool
         (E.seen core.new).left < (E.seen core.old).left }
     ensures steady { ((E.seen core.new).terms ≡ (E.seen core.old).terms) ×
         ((E.seen core.new).now ≡ (E.seen core.old).now) }
-    ensures waits { result ≡ true → ask_in ((E.seen core.new).view conn).jobs node ≢ None }
 {
     ran_if(core, conn, node);
-    match core.ask(conn, node) {
-        Some(_) => true,
-        None => false,
-    }
 }
 
 /// What the files have for a job: what is at its path, or a block of a file.
@@ -83,14 +91,65 @@ fn find<F: Files>(files: &mut F, ask: &Ask) -> Result<JobResult, FileFault>
     }
 }
 
-/// Answers the job of a node from the files, or tells the core that it failed.
+// Answers the job of a node from the files, or tells the core that it failed: whether a large block came. None where the node has no
+// job.
+#[inline(always)]
+fn job_if<E: EventCore, F: Files>(
+    core: &mut E,
+    files: &mut F,
+    conn: u32,
+    node: u32,
+) -> Result<Option<bool>, OutOfMemory>
+    requires known { (E.seen core.old).now.tree ≤ (F.seen files.old).newest }
+    ensures kept { OnOk result ((links : LinksSeen) →
+        Keeps (E.seen core.old) (E.seen core.new) links links (F.seen files.old)
+        (F.seen files.new)) }
+    ensures beside { OnOk result ((links : Option (List LinkAnswer)) (clock : Option (List ℕ)) →
+        StandBeside (E.seen core.old).events (E.seen core.new).events links links
+        (F.seen files.old).answers (F.seen files.new).answers clock clock) }
+    ensures views { Elsewhere conn (E.seen core.old).view (E.seen core.new).view }
+    ensures held { IfOk result (λ large. is_some large ≡ true →
+        ((E.seen core.new).view conn).held ≡ true) }
+    ensures same { IfOk result (λ large. large ≡ None → E.seen core.new ≡ E.seen core.old) }
+    ensures falls { IfOk result (λ large. is_some large ≡ true →
+        (E.seen core.new).left < (E.seen core.old).left) }
+    ensures waits { ask_in ((E.seen core.old).view conn).jobs node ≢ None →
+        IfOk result (λ large. is_some large ≡ true) }
+    ensures steady { ((E.seen core.new).terms ≡ (E.seen core.old).terms) ×
+        ((E.seen core.new).now ≡ (E.seen core.old).now) }
+    ensures grown { (F.seen files.old).newest ≤ (F.seen files.new).newest }
+    ensures versions { (F.seen files.new).versions ≡ (F.seen files.old).versions }
+    ensures tells { (F.seen files.new).tells ≡ (F.seen files.old).tells }
+{
+    let Some(ask) = core.ask(conn, node) else {
+        return Ok(None);
+    };
+    match find(files, ask) {
+        Ok(JobResult::Node(node_there)) => {
+            file_done(core, conn, node, JobAnswer::Stat(node_there));
+            Ok(Some(false))
+        }
+        Ok(JobResult::Block) => {
+            let block = files.block();
+            file_done(core, conn, node, JobAnswer::Read(block));
+            Ok(Some(block.len() >= LARGE))
+        }
+        Err(FileFault::Failed) => {
+            job_failed(core, conn, node);
+            Ok(Some(false))
+        }
+        Err(FileFault::OutOfMemory) => Err(OutOfMemory),
+    }
+}
+
+/// Answers the job of a node from the files, or tells the core that it failed. Whether a large block came.
 #[inline(always)]
 pub fn job_one<E: EventCore, F: Files>(
     core: &mut E,
     files: &mut F,
     conn: u32,
     node: u32,
-) -> Result<(), OutOfMemory>
+) -> Result<bool, OutOfMemory>
     requires waits { ask_in ((E.seen core.old).view conn).jobs node ≢ None }
     requires known { (E.seen core.old).now.tree ≤ (F.seen files.old).newest }
     ensures kept { OnOk result ((links : LinksSeen) →
@@ -108,34 +167,59 @@ pub fn job_one<E: EventCore, F: Files>(
     ensures versions { (F.seen files.new).versions ≡ (F.seen files.old).versions }
     ensures tells { (F.seen files.new).tells ≡ (F.seen files.old).tells }
 {
-    let Some(ask) = core.ask(conn, node) else {
-        return Ok(());
-    };
-    match find(files, ask) {
-        Ok(JobResult::Node(node_there)) => {
-            file_done(core, conn, node, JobAnswer::Stat(node_there));
-            Ok(())
-        }
-        Ok(JobResult::Block) => {
-            file_done(core, conn, node, JobAnswer::Read(files.block()));
-            Ok(())
-        }
-        Err(FileFault::Failed) => {
-            job_failed(core, conn, node);
-            Ok(())
-        }
-        Err(FileFault::OutOfMemory) => Err(OutOfMemory),
+    match job_if(core, files, conn, node)? {
+        Some(large) => Ok(large),
+        None => Ok(false),
     }
 }
 
+// Lets a node run where it can, and answers its job then, if it has one that is answered at once: not where a large block came last and
+// much is pending. Whether a large block came; none where no job was answered.
+#[inline(always)]
+fn goes_one<E: EventCore, F: Files>(
+    core: &mut E,
+    files: &mut F,
+    conn: u32,
+    node: u32,
+    large: bool,
+) -> Result<Option<bool>, OutOfMemory>
+    requires held { ((E.seen core.old).view conn).held ≡ true }
+    requires known { (E.seen core.old).now.tree ≤ (F.seen files.old).newest }
+    ensures kept { OnOk result ((links : LinksSeen) →
+        Keeps (E.seen core.old) (E.seen core.new) links links (F.seen files.old)
+        (F.seen files.new)) }
+    ensures beside { OnOk result ((links : Option (List LinkAnswer)) (clock : Option (List ℕ)) →
+        StandBeside (E.seen core.old).events (E.seen core.new).events links links
+        (F.seen files.old).answers (F.seen files.new).answers clock clock) }
+    ensures views { Elsewhere conn (E.seen core.old).view (E.seen core.new).view }
+    ensures held { OnOk result (((E.seen core.new).view conn).held ≡ true) }
+    ensures left { OnOk result ((E.seen core.new).left ≤ (E.seen core.old).left) }
+    ensures falls { IfOk result (λ large. is_some large ≡ true →
+        (E.seen core.new).left < (E.seen core.old).left) }
+    ensures ready { OnOk result (Contains ((E.seen core.old).view conn).ready node →
+        (E.seen core.new).left < (E.seen core.old).left) }
+    ensures steady { ((E.seen core.new).terms ≡ (E.seen core.old).terms) ×
+        ((E.seen core.new).now ≡ (E.seen core.old).now) }
+    ensures grown { (F.seen files.old).newest ≤ (F.seen files.new).newest }
+    ensures versions { (F.seen files.new).versions ≡ (F.seen files.old).versions }
+    ensures tells { (F.seen files.new).tells ≡ (F.seen files.old).tells }
+{
+    runs_if(core, conn, node);
+    if has_much(core, conn, large) {
+        return Ok(None);
+    }
+    Ok(job_if(core, files, conn, node)?)
+}
+
 /// Lets a node run where it can, and answers its job from the files, until it has none: what it asks for next it is asked at once,
-/// with no look at what else is to be done on its connection.
+/// with no look at what else is to be done on its connection, until much is pending. `large` says whether a large block came last.
 #[inline(always)]
 pub fn work_off<E: EventCore, F: Files>(
     core: &mut E,
     files: &mut F,
     conn: u32,
     node: u32,
+    large: bool,
 ) -> Result<(), OutOfMemory>
     requires held { ((E.seen core.old).view conn).held ≡ true }
     requires known { (E.seen core.old).now.tree ≤ (F.seen files.old).newest }
@@ -156,8 +240,9 @@ pub fn work_off<E: EventCore, F: Files>(
     ensures versions { (F.seen files.new).versions ≡ (F.seen files.old).versions }
     ensures tells { (F.seen files.new).tells ≡ (F.seen files.old).tells }
 {
-    while runs_to_job(core, conn, node) {
-        job_one(core, files, conn, node)?;
+    let mut large = large;
+    while let Some(now_large) = goes_one(core, files, conn, node, large)? {
+        large = now_large;
     }
     Ok(())
 }

@@ -4,8 +4,10 @@
 
 mod heads;
 mod reply;
+mod room;
 mod slot;
 mod terms;
 
 pub use reply::{Workspace, head_alone, put_refusal, put_reply, stays};
+pub use room::OutRoom;
 pub use terms::{InPhases, Terms};

@@ -7,6 +7,7 @@ ghost use Rattle.request_meaning.specs.Responses.{framing, may_stay};
 ghost use Rattle.reply_out.specs.Puts.{head_with, sent_now, content_now, put_now, stays_seen};
 
 use crate::heads::Heads;
+use crate::room::OutRoom;
 use crate::slot::put;
 use crate::terms::{InPhases, Terms, blank};
 use byte_text::{ByteQueue, ByteText, OutOfMemory};
@@ -27,6 +28,8 @@ pub struct Workspace {
     heads: Heads,
     /// The room of the heads of requests that are over.
     pub head_room: HeadRoom,
+    /// The room of a large response that went out.
+    pub out_room: OutRoom,
     /// The patterns of the site that is served.
     pub patterns: PatternSet,
     /// The room of a request that is over, for the next one.
@@ -42,6 +45,7 @@ impl Workspace {
             alloc,
             heads: Heads::new(alloc),
             head_room: HeadRoom::new(alloc),
+            out_room: OutRoom::new(alloc),
             patterns,
             spare: None,
         }
@@ -211,6 +215,7 @@ pub fn put_reply(
         keep,
     };
     let room = room_for(&body, terms.no_body, length);
+    space.out_room.lend(out, room);
     put_parts(out, space.heads.text_of_kind(&head, kind)?, bytes, room)?;
     Ok(size)
 }

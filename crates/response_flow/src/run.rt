@@ -483,6 +483,7 @@ fn run_asking(
 ///
 /// # Errors
 /// `OutOfMemory`; the request is then not to be answered.
+#[inline(always)]
 pub fn run_on(
     space: &mut Workspace,
     ground: &Ground<'_>,

@@ -22,6 +22,7 @@ use byte_text::ByteQueue;
 use file_tree::Ask;
 use node_turn::{Node, Stage};
 use page_response::Pages;
+use reply_out::OutRoom;
 use request_flow::{may_run, shown_by, waits, wrote};
 
 /// No more bytes than these are shown as pending.
@@ -118,6 +119,7 @@ pub fn ask(flight: &Option<Flight>, at: u32) -> Option<&Ask>
 }
 
 /// The first node whose job waits for an answer.
+#[inline(always)]
 pub fn first_job(flight: &Option<Flight>) -> Option<u32>
     requires { (size : ℕ) × FlightFits flight.now size }
     ensures { result ≡ job_first (jobs_of flight.now) }
@@ -191,6 +193,7 @@ fn ends_first(pages: &Pages) -> bool
 }
 
 /// The first node that can run.
+#[inline(always)]
 pub fn first_ready(flight: &Option<Flight>) -> Option<u32>
     requires { (size : ℕ) × FlightFits flight.now size }
     ensures { result ≡ first_of (ready_of flight.now) }
@@ -259,8 +262,10 @@ fn page_written(page: &mut PageFlow, count: usize)
     inside.written(count);
 }
 
-/// The first of the pending bytes were written, with the flight in its place. It takes no memory.
-pub fn written(flight: &mut Option<Flight>, out: &mut ByteQueue, count: usize)
+/// The first of the pending bytes were written, with the flight in its place. It takes no memory. `room` is where the room of a
+/// large response is kept that went out whole.
+#[inline(always)]
+pub fn written(flight: &mut Option<Flight>, out: &mut ByteQueue, count: usize, room: &mut OutRoom)
     requires some { 0 < count }
     requires count { count ≤ length (unsent_of flight.old out.old) }
     requires fits { FlightFits flight.old (length out.old) }
@@ -280,9 +285,9 @@ pub fn written(flight: &mut Option<Flight>, out: &mut ByteQueue, count: usize)
     ensures used { flight.old ≡ None → out.new ≡ drop count out.old }
 {
     match flight {
-        None => out.used(count),
+        None => room.used(out, count),
         Some(Flight::Alone(flow)) => {
-            out.used(count);
+            room.used(out, count);
             wrote(flow, count);
         }
         Some(Flight::Asking(_)) => unreachable!(),

@@ -11,7 +11,7 @@ ghost use Rattle.served_site.specs.Facts.{servers_prop, each_prop};
 use byte_text::{ByteText, OutOfMemory};
 use http_types::Addr;
 use location_search::Locations;
-use ngx_pattern::{PatternSet, Spans};
+use ngx_pattern::PatternSet;
 use request_phases::Ground;
 use server_choice::Servers;
 use site_model::{IndexName, Listens, Server, Site};
@@ -127,8 +127,7 @@ impl ServedSite {
         ensures within { IfSome result (λ n. n < length self.now.site.servers.items) }
         ensures kept { patterns.new ≡ patterns.old }
     {
-        let mut spans = Spans::new();
-        self.known(self.servers.choose(local, host, patterns, &mut spans))
+        self.known(self.servers.choose(local, host, patterns))
     }
 
     /// The number of the server of a local end where no host is known, and none where no server listens there.

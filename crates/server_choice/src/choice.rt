@@ -115,7 +115,7 @@ impl ServerNames {
 
     /// The server that answers a host, which is in lower case and without its port: by its name, the longest name `*.x`, the
     /// longest name `x.*`, the first pattern that matches; else the default server, else the first.
-    pub fn choose(&self, host: &[u8], patterns: &mut PatternSet, spans: &mut Spans) -> u32
+    pub fn choose(&self, host: &[u8], patterns: &mut PatternSet) -> u32
         ensures chosen { IsChosen self.now patterns.old host.now result }
         ensures kept { patterns.new ≡ patterns.old }
     {
@@ -125,30 +125,31 @@ impl ServerNames {
         if let Some(server) = longest_ending(&self.endings, self.endings_dotted, host) {
             return server;
         }
-        self.choose_later(host, patterns, spans)
+        self.choose_later(host, patterns)
     }
 
     // The same, where no name ends the search before those that begin a host.
-    fn choose_later(&self, host: &[u8], patterns: &mut PatternSet, spans: &mut Spans) -> u32
+    fn choose_later(&self, host: &[u8], patterns: &mut PatternSet) -> u32
         ensures chosen { IsByBeginning self.now patterns.old host.now result }
         ensures kept { patterns.new ≡ patterns.old }
     {
         if let Some(server) = longest_beginning(&self.beginnings, self.beginnings_dotted, host) {
             return server;
         }
-        match self.first_like(host, patterns, spans) {
+        match self.first_like(host, patterns) {
             Some(server) => server,
             None => self.default.unwrap_or(self.first),
         }
     }
 
     // The server of the first pattern that matches the host.
-    fn first_like(&self, host: &[u8], patterns: &mut PatternSet, spans: &mut Spans) -> Option<u32>
+    fn first_like(&self, host: &[u8], patterns: &mut PatternSet) -> Option<u32>
         ensures server { result ≡ like_of patterns.old self.now.likes.items host.now }
         ensures kept { patterns.new ≡ patterns.old }
     {
         for like in &self.likes {
-            if find_spans(patterns, like.pattern, host, spans) {
+            let mut spans = Spans::new();
+            if find_spans(patterns, like.pattern, host, &mut spans) {
                 return Some(like.server);
             }
         }

@@ -10,7 +10,7 @@ use crate::ServerNames;
 use crate::address::{has_addr, is_default_at, is_exactly, is_wildcard};
 use byte_text::OutOfMemory;
 use http_types::Addr;
-use ngx_pattern::{PatternSet, Spans};
+use ngx_pattern::PatternSet;
 use site_model::{Server, ServerName, Site};
 use std::alloc::Global;
 
@@ -272,20 +272,14 @@ impl Servers {
     /// the one with that name; else the one with the longest name `*.x`; else the one with the longest name `x.*`; else
     /// the one of the first pattern that matches; else the default server; else the first
     /// (<https://nginx.org/en/docs/http/server_names.html>).
-    pub fn choose(
-        &self,
-        local: Addr,
-        host: &[u8],
-        patterns: &mut PatternSet,
-        spans: &mut Spans,
-    ) -> Option<u32>
+    pub fn choose(&self, local: Addr, host: &[u8], patterns: &mut PatternSet) -> Option<u32>
         ensures chosen { (site : SiteRow) → AreOf self.now site
             → server_at (whole (patterns_seen patterns.old) site) result
             ≡ server_of found (whole (patterns_seen patterns.old) site).servers local host.now }
         ensures kept { patterns.new ≡ patterns.old }
     {
         match entry_for(&self.entries, local) {
-            Some(entry) => Some(entry.names.choose(host, patterns, spans)),
+            Some(entry) => Some(entry.names.choose(host, patterns)),
             None => None,
         }
     }

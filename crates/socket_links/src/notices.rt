@@ -112,6 +112,7 @@ pub fn mark_of(marks: &[Mark], id: u32) -> Mark {
 }
 
 /// What an event of a link is as a notice. Where it is of both kinds the reading comes next.
+#[inline(always)]
 pub fn notice_of(
     links: &[Option<Link>],
     marks: &mut [Mark],

@@ -4,15 +4,17 @@ ghost use Rattle.ngx_outside.specs.Causes.{Rose};
 ghost use Rattle.ngx_outside.specs.declared.files.Listing.TheVariants.{Missing};
 
 use crate::kept::{Identity, KeptFile, KeptFiles, MOST, Slot, Sought};
+use crate::looks::Looks;
 use crate::room::Room;
 use byte_text::{ByteText, ByteTexts, OutOfMemory};
 use file_tree::Node;
 use libc::types::rlimit;
 use ngx_outside::{Failed, FileFault, Files, Listing};
 use std::alloc::Global;
-use std::fs::{Metadata, OpenFile};
+use std::fs::OpenFile;
 use std::io::ErrorKind;
-use std::os::unix::fs::{FileExt, MetadataExt};
+use std::os::fd::AsRawFd;
+use std::os::unix::fs::FileExt;
 use std::rt::Files as Host;
 use std::{fs, io, str};
 
@@ -24,21 +26,6 @@ const ENFILE: i32 = 23;
 const FEW: usize = 16;
 
 const DESCRIPTORS_BESIDE: u64 = 8;
-
-// What is at a path: its date is in seconds since 1970, and 0 where the host doesn't say it or it was before. What is
-// neither a file nor a folder, as a socket, can't be read.
-fn node_of(found: &Metadata) -> Node {
-    if found.is_dir() {
-        Node::Folder
-    } else if found.is_file() {
-        Node::File {
-            len: found.len(),
-            date: u64::try_from(found.mtime()).unwrap_or(0),
-        }
-    } else {
-        Node::Locked
-    }
-}
 
 // What an error of the host says of a path. Of what isn't said here the job fails.
 fn node_missed(kind: ErrorKind) -> Result<Node, Failed> {
@@ -88,14 +75,15 @@ fn keep_file<R: Host>(
     let Ok(found) = file.metadata() else {
         return Err(Failed);
     };
-    let node = node_of(&found);
+    let identity = Identity::of(&found);
+    let node = identity.node();
     if !found.is_file() {
         return Ok(node);
     }
     let Ok(path) = String::from_str(alloc, path) else {
         return Err(Failed);
     };
-    match kept.keep(KeptFile::new(alloc, path, file, Identity::of(&found), of)) {
+    match kept.keep(KeptFile::new(alloc, path, file, identity, of)) {
         Ok(()) => Ok(node),
         Err(OutOfMemory) => Err(Failed),
     }
@@ -107,6 +95,7 @@ fn keep_file<R: Host>(
 fn look_anew<R: Host>(
     alloc: Global,
     host: &R,
+    looks: &mut Looks,
     kept: &mut KeptFiles<R::File>,
     path: &[u8],
     of: u64,
@@ -114,19 +103,23 @@ fn look_anew<R: Host>(
     let Ok(path) = str::from_utf8(path) else {
         return Ok(Node::Missing);
     };
-    match fs::metadata(host, path) {
-        Ok(found) => match node_of(&found) {
+    if path.as_bytes().contains(&0) {
+        return Ok(Node::Missing);
+    }
+    match looks.at(path.as_bytes()) {
+        Ok(found) => match Identity::in_statx(found).node() {
             Node::File { len: _, date: _ } => keep_file(alloc, host, kept, path, of),
             node => Ok(node),
         },
-        Err(error) => node_missed(error.kind()),
+        Err(kind) => node_missed(kind),
     }
 }
 
-// Whether a kept file is still the one at its path, with the rights that it had.
-fn is_still_there<R: Host>(host: &R, kept: &KeptFile<R::File>) -> bool {
-    match fs::metadata(host, kept.path.as_str()) {
-        Ok(found) => Identity::of(&found) == kept.identity,
+// Whether a kept file is still the one at its path, with the rights that it had. There is no 0 in the path, since the file was
+// opened by it.
+fn is_still_there<F: Drop>(looks: &mut Looks, kept: &KeptFile<F>) -> bool {
+    match looks.at(kept.path.as_bytes()) {
+        Ok(found) => Identity::in_statx(found) == kept.identity,
         Err(_) => false,
     }
 }
@@ -137,6 +130,7 @@ fn is_still_there<R: Host>(host: &R, kept: &KeptFile<R::File>) -> bool {
 fn look<R: Host>(
     alloc: Global,
     host: &R,
+    looks: &mut Looks,
     kept: &mut KeptFiles<R::File>,
     path: &[u8],
     of: u64,
@@ -147,12 +141,12 @@ fn look<R: Host>(
         if !is_shown && kept.has_lost(of) {
             return Err(Failed);
         }
-        if is_shown || is_still_there(host, file) {
+        if is_shown || is_still_there(looks, file) {
             kept.show(place, of);
             return Ok(node);
         }
         kept.pass(place);
-        return look_anew(alloc, host, kept, path, of);
+        return look_anew(alloc, host, looks, kept, path, of);
     }
     if let Some((place, file)) = kept.find(path, Sought::ShownIn(of)) {
         let node = file.node();
@@ -162,22 +156,27 @@ fn look<R: Host>(
     if kept.has_lost(of) {
         return Err(Failed);
     }
-    look_anew(alloc, host, kept, path, of)
+    look_anew(alloc, host, looks, kept, path, of)
 }
 
 // Whether a file has been neither written nor cut since it was opened.
-pub(crate) fn has_same_bytes<F: OpenFile>(file: &F, identity: &Identity) -> bool {
-    match file.metadata() {
-        Ok(found) => Identity::of(&found).has_bytes_of(identity),
-        Err(_) => false,
+pub(crate) fn has_same_bytes<F: AsRawFd>(looks: &mut Looks, file: &F, identity: &Identity) -> bool {
+    match looks.of(file) {
+        Some(found) => Identity::in_statx(found).has_bytes_of(identity),
+        None => false,
     }
 }
 
 // Keeps the bytes of a small file, which were read just now, unless it was written since it was opened.
 #[inline(never)]
-fn keep_bytes<F: OpenFile + Drop>(kept: &mut KeptFiles<F>, place: Slot, bytes: &[u8]) {
+fn keep_bytes<F: AsRawFd + Drop>(
+    looks: &mut Looks,
+    kept: &mut KeptFiles<F>,
+    place: Slot,
+    bytes: &[u8],
+) {
     if let Some(file) = kept.file_mut(place) {
-        if has_same_bytes(&file.file, &file.identity) {
+        if has_same_bytes(looks, &file.file, &file.identity) {
             file.keep_bytes(bytes);
         }
     }
@@ -185,7 +184,8 @@ fn keep_bytes<F: OpenFile + Drop>(kept: &mut KeptFiles<F>, place: Slot, bytes: &
 
 // Reads bytes of the file that the tree of a number showed at a path, which are lent. One that isn't kept any more can't be
 // read: another may be there.
-fn read_file<F: FileExt + OpenFile + Drop>(
+fn read_file<F: FileExt + AsRawFd + OpenFile + Drop>(
+    looks: &mut Looks,
     kept: &mut KeptFiles<F>,
     room: &mut Room,
     path: &[u8],
@@ -198,10 +198,10 @@ fn read_file<F: FileExt + OpenFile + Drop>(
     let Some((place, file)) = kept.find(path, Sought::ShownIn(of)) else {
         return Err(FileFault::Failed);
     };
-    match room.read(file, start, count, of) {
+    match room.read(looks, file, start, count, of) {
         Ok(()) => {
             if file.lacks_bytes(start, count) {
-                keep_bytes(kept, place, room.block());
+                keep_bytes(looks, kept, place, room.block());
             }
             kept.show(place, of);
             kept.read(place, start, count, of);
@@ -226,7 +226,8 @@ fn most_kept() -> usize {
         .min(MOST as u64) as usize
 }
 
-/// The files of the host. It tells nothing of what the host holds. Each failing call raises the count of faults.
+/// The files of the host. It tells nothing of what the host holds. Each failing call raises the count of faults. What is at a
+/// path is asked of the system itself, whose files are those of each host that std knows.
 ///
 /// Files stay open after they were found, and a request reads the file that its tree showed first, whatever has been at the
 /// path since. So the number of the newest tree rises whenever that tree has shown a file: a request that starts later asks
@@ -235,6 +236,7 @@ fn most_kept() -> usize {
 #[derive(Drop)]
 pub struct HostFiles<R: Host + AllocGlobal + Clone + Drop> {
     host: R,
+    looks: Looks,
     kept: KeptFiles<R::File>,
     room: Room,
     newest: u64,
@@ -248,6 +250,7 @@ impl<R: Host + AllocGlobal + Clone + Drop> HostFiles<R> {
         let room = Room::new(host.alloc());
         Ok(HostFiles {
             host,
+            looks: Looks::new(),
             kept,
             room,
             newest: 0,
@@ -304,7 +307,7 @@ fn list_folder<R: Host + AllocGlobal + Clone + Drop>(
 
 impl<R: Host + AllocGlobal + Clone + Drop> Files for HostFiles<R>
 where
-    R::File: FileExt,
+    R::File: FileExt + AsRawFd,
 {
     ghost use Rattle.std.specs.Prelude.{false, None};
     ghost use Rattle.file_tree.specs.Tree.{Nothing};
@@ -324,7 +327,8 @@ where
     }
 
     fn stat(&mut self, path: &[u8], of: u64) -> Result<Node, Failed> {
-        match look(self.host.alloc(), &self.host, &mut self.kept, path, of) {
+        let alloc = self.host.alloc();
+        match look(alloc, &self.host, &mut self.looks, &mut self.kept, path, of) {
             Ok(node) => {
                 if let Node::File { len: _, date: _ } = node {
                     self.has_shown(of);
@@ -349,7 +353,8 @@ where
         count: u64,
         of: u64,
     ) -> Result<(), FileFault> {
-        match read_file(&mut self.kept, &mut self.room, path, start, count, of) {
+        let (looks, kept) = (&mut self.looks, &mut self.kept);
+        match read_file(looks, kept, &mut self.room, path, start, count, of) {
             Ok(()) => Ok(()),
             Err(FileFault::Failed) => {
                 self.count_fault();

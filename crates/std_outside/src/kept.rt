@@ -4,6 +4,7 @@ ghost use Rattle.std_outside.specs.declared.kept.Sought.TheVariants.{ShownIn};
 
 use byte_text::OutOfMemory;
 use file_tree::Node;
+use libc::types::{statx, statx_timestamp};
 use std::alloc::{AllocError, Global};
 use std::fs::Metadata;
 use std::os::unix::fs::MetadataExt;
@@ -32,7 +33,20 @@ pub struct Identity {
     changed: (i64, i64),
 }
 
+// The number of a device, as Linux makes it of two numbers, and as `Metadata` has it.
+fn device_of(major: u32, minor: u32) -> u64 {
+    let (major, minor) = (u64::from(major), u64::from(minor));
+    let high = ((major & 0xffff_f000) << 32) | ((minor & 0xffff_ff00) << 12);
+    let low = ((major & 0xfff) << 8) | (minor & 0xff);
+    high | low
+}
+
+fn moment(time: &statx_timestamp) -> (i64, i64) {
+    (time.tv_sec, i64::from(time.tv_nsec))
+}
+
 impl Identity {
+    /// Of a file that is open.
     pub fn of(found: &Metadata) -> Identity {
         Identity {
             device: found.dev(),
@@ -44,17 +58,35 @@ impl Identity {
         }
     }
 
+    /// As the system tells it.
+    #[inline(always)]
+    pub fn in_statx(found: &statx) -> Identity {
+        Identity {
+            device: device_of(found.stx_dev_major, found.stx_dev_minor),
+            number: found.stx_ino,
+            mode: u32::from(found.stx_mode),
+            len: found.stx_size,
+            written: moment(&found.stx_mtime),
+            changed: moment(&found.stx_ctime),
+        }
+    }
+
     /// Whether a file that is open was neither written nor cut since. Its rights and its names may have changed, as when
     /// another takes its path.
     pub fn has_bytes_of(&self, earlier: &Identity) -> bool {
         self.len == earlier.len && self.written == earlier.written
     }
 
-    /// What is where the file is: its date is in seconds since 1970, and 0 where it was before.
-    fn node(&self) -> Node {
-        Node::File {
-            len: self.len,
-            date: u64::try_from(self.written.0).unwrap_or(0),
+    /// What is there: a file's date is in seconds since 1970, and 0 where it was before. What is neither a file nor a folder,
+    /// as a socket, can't be read.
+    pub fn node(&self) -> Node {
+        match self.mode & libc::S_IFMT {
+            libc::S_IFREG => Node::File {
+                len: self.len,
+                date: u64::try_from(self.written.0).unwrap_or(0),
+            },
+            libc::S_IFDIR => Node::Folder,
+            _ => Node::Locked,
         }
     }
 }

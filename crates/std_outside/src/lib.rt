@@ -4,6 +4,7 @@
 
 mod files;
 mod kept;
+mod looks;
 mod room;
 mod sink;
 

@@ -3,10 +3,12 @@ ghost use Rattle.std.specs.Prelude.{◌≡◌, ◌≤◌, ◌+◌, ℕ, List, []
 
 use crate::files::has_same_bytes;
 use crate::kept::KeptFile;
+use crate::looks::Looks;
 use ngx_outside::FileFault;
 use std::alloc::Global;
 use std::fs::OpenFile;
 use std::marker::Model;
+use std::os::fd::AsRawFd;
 use std::os::unix::fs::FileExt;
 
 /// No more bytes than these are read of a file at once: all of a small one, and what comes next of one that is read on. So the host
@@ -111,15 +113,16 @@ impl Room {
     }
 
     // Reads all of a file. Where others began to read it, it has to be as it was opened: else their parts could be of two states.
-    fn fill<F: FileExt + OpenFile + Drop>(
+    fn fill<F: FileExt + AsRawFd + OpenFile + Drop>(
         &mut self,
+        looks: &mut Looks,
         kept: &KeptFile<F>,
         of: u64,
     ) -> Result<(), FileFault> {
         self.of = None;
         let len = kept.len().min(MOST) as usize;
         read_front(kept, 0, len, &mut self.bytes)?;
-        if kept.is_read() && !has_same_bytes(&kept.file, &kept.identity) {
+        if kept.is_read() && !has_same_bytes(looks, &kept.file, &kept.identity) {
             return Err(FileFault::Failed);
         }
         self.from = 0;
@@ -168,8 +171,9 @@ impl Room {
     // Reads bytes of a file from a place on, and lends those that are asked. Where they aren't all of the file, it fails if the file
     // was written since it was opened: else a response could have bytes of two states of it.
     #[inline(always)]
-    fn read_on<F: FileExt + OpenFile + Drop>(
+    fn read_on<F: FileExt + AsRawFd + OpenFile + Drop>(
         &mut self,
+        looks: &mut Looks,
         kept: &KeptFile<F>,
         start: u64,
         count: u64,
@@ -180,7 +184,7 @@ impl Room {
         let len = self.ahead(kept, start, count, of) as usize;
         self.of = None;
         read_front(kept, start, len, &mut self.bytes)?;
-        if !kept.is_whole(start, count) && !has_same_bytes(&kept.file, &kept.identity) {
+        if !kept.is_whole(start, count) && !has_same_bytes(looks, &kept.file, &kept.identity) {
             return Err(FileFault::Failed);
         }
         self.from = start;
@@ -193,8 +197,9 @@ impl Room {
 
     /// Lends this many bytes that a file has from a place on, as the tree of a number shows it: those of a small file from all its
     /// bytes, which were read at once, unless they are all of it. After a failure none are lent.
-    pub fn read<F: FileExt + OpenFile + Drop>(
+    pub fn read<F: FileExt + AsRawFd + OpenFile + Drop>(
         &mut self,
+        looks: &mut Looks,
         kept: &KeptFile<F>,
         start: u64,
         count: u64,
@@ -208,7 +213,7 @@ impl Room {
                 self.copy(bytes)?;
                 return Ok(());
             }
-            self.read_on(kept, start, count, of)?;
+            self.read_on(looks, kept, start, count, of)?;
             return Ok(());
         }
         if self.has(kept, start, count, of) {
@@ -216,11 +221,11 @@ impl Room {
             return Ok(());
         }
         if start == 0 && kept.len() <= MOST {
-            self.fill(kept, of)?;
+            self.fill(looks, kept, of)?;
             self.lend(start, count)?;
             return Ok(());
         }
-        self.read_on(kept, start, count, of)?;
+        self.read_on(looks, kept, start, count, of)?;
         Ok(())
     }
 }

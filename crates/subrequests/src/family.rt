@@ -52,7 +52,7 @@ pub struct Family {
 /// No more nodes than these make one response, the main request among them.
 pub(crate) const MOST_NODES: usize = 1001;
 
-/// There is room for so many nodes from the beginning.
+/// From the beginning there is room for this many nodes.
 const FEW_NODES: usize = 12;
 
 /// How many levels of subrequests a main request may open.

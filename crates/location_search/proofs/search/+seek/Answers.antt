@@ -1,12 +1,13 @@
-use Rattle.std.proofs.Common.{◌≡◌, List, Some, true, false, option_and_then, slice_get, sym, ap, ap₂, ◌∙◌, subst}
+use Rattle.std.proofs.Common.{◌≡◌, List, Some, None, true, false, refl, option_and_then, slice_get, sym, ap, ap₂, ◌∙◌, subst}
 use Rattle.ngx_pattern.specs.Pattern.{Pattern as SetPattern}
 use Rattle.site_views.specs.Pattern.{Span}
 use Rattle.site_views.specs.Search.{decided}
 use Rattle.location_search.specs.Found.{AreSpans, HasSpans, IsFirstMatch, level_at, is_firm_at, remembering, goes_on}
 use Rattle.location_search.specs.Nodes.{IsTreeAt}
 use Rattle.location_search.specs.declared.search.FoundLocation.{FoundLocation}
-use Rattle.location_search.specs.declared.search.Sought.TheVariants.{Ends}
+use Rattle.location_search.specs.declared.search.Sought.TheVariants.{Ends, Remembers}
 use Rattle.location_search.proofs.Seeks.{searched}
+use Rattle.location_search.proofs.Leaves.{no-match, no-number}
 use Rattle.location_search.proofs.Outcomes.{view, kept_of}
 use Rattle.location_search.proofs.Returns.{nowhere, has-node, exact-returns, exact-rests, prefix-returns, prefix-rests, regex-rests, regex-returns}
 use Rattle.location_search.proofs.Sound.{remembering-sound, rests-sound, groups-sound, some-sound}
@@ -20,6 +21,25 @@ pub returns-in_default-node_at-clause-sought : goal.returns-in_default-node_at-c
 returns-in_default-node_at-clause-sought t c = λ site tree at.
     absurd (has-node c.args.patterns.now site c.args.path.now c.args.nodes.now c.in-Some.number tree
     (subst (λ n. IsTreeAt c.args.nodes.now n tree) c.in-Some.is at) (sym c.in_default-node_at.ensures))
+
+pub returns-then-is_leaf-clause-sought : goal.returns-then-is_leaf-clause-sought
+returns-then-is_leaf-clause-sought t c = λ site tree at.
+    let ns = c.args.nodes.now in
+    let ps = c.args.patterns.now in
+    let path = c.args.path.now in
+    let spans = c.args.spans.now in
+    let number = c.in-Some.number in
+    let here = subst (λ n. IsTreeAt ns n tree) c.in-Some.is at in
+    let node = c.in-Some-node_at.node.now in
+    let is : slice_get ns number ≡ Some node = sym c.in-Some-node_at.ensures in
+    let exact = no-number node.list.exact (c.is_leaf.ensures.exact c.if-is_leaf.true) path in
+    let prefixes = no-number node.list.prefixes (c.is_leaf.ensures.prefixes c.if-is_leaf.true) in
+    let first : IsFirstMatch ps path number node.list.patterns.items None spans
+    = subst (λ items. IsFirstMatch ps path number items None spans) (sym (c.is_leaf.ensures.patterns c.if-is_leaf.true)) (no-match ps path number spans) in
+    regex-rests ps site path ns number tree here node is None spans first (Remembers None) false refl refl
+    ∙ prefix-rests ps site path ns number tree here node is None None (λ text fits. prefixes text) refl spans (Remembers None)
+    (nowhere ps site path ns spans) (Remembers None) refl refl
+    ∙ exact-rests ps site path ns number tree here node is (ap (option_and_then (level_at ns)) exact)
 
 pub returns-in-Some-level_of-clause-sought : goal.returns-in-Some-level_of-clause-sought
 returns-in-Some-level_of-clause-sought t c = λ site tree at.

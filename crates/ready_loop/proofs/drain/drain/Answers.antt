@@ -5,16 +5,22 @@ use Rattle.ready_loop.proofs.WantLemmas.{is_wanted, first_there, first_can, none
 use Rattle.ready_loop.proofs.BesideLemmas.{stand_none, stand_then}
 use Rattle.ready_loop.proofs.drain.drain.Goals as goal
 
-pub serve_want-requires-clause-wanted : goal.serve_want-requires-clause-wanted
-serve_want-requires-clause-wanted g c =
+pub served_first-first-requires : goal.served_first-first-requires
+served_first-first-requires g c =
     let v = (g.E.EventCore.seen c.loop-want.core).view c.args.conn in
-    is_wanted c.args.conn v c.in-Some.want
-    (first_there c.loop-want.ready.due c.loop-want.ready.full (wants_at c.args.conn v) c.in-Some.want (sym c.next_want.ensures.want ∙ c.in-Some.is))
+    record {
+      wanted = is_wanted c.args.conn v c.in-Some.want
+          (first_there c.loop-want.ready.due c.loop-want.ready.full (wants_at c.args.conn v) c.in-Some.want (sym c.next_want.ensures.want ∙ c.in-Some.is));
+    }
+
+pub serve_want-requires-clause-wanted : goal.serve_want-requires-clause-wanted
+serve_want-requires-clause-wanted g c = c.served_first-first.ensures.wanted
 
 pub serve_want-requires-clause-doable : goal.serve_want-requires-clause-doable
 serve_want-requires-clause-doable g c =
-    first_can c.loop-want.ready.due c.loop-want.ready.full (wants_at c.args.conn ((g.E.EventCore.seen c.loop-want.core).view c.args.conn)) c.in-Some.want
-    (sym c.next_want.ensures.want ∙ c.in-Some.is)
+    c.served_first-first.ensures.doable c.loop-want.ready.due
+    (first_can c.loop-want.ready.due c.loop-want.ready.full (wants_at c.args.conn ((g.E.EventCore.seen c.loop-want.core).view c.args.conn)) c.in-Some.want
+    (sym c.next_want.ensures.want ∙ c.in-Some.is))
 
 pub loop-want-preserved : goal.loop-want-preserved
 loop-want-preserved g c =

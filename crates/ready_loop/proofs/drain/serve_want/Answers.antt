@@ -18,7 +18,7 @@ pub returns-in_ok-work_off-in-Job-clause-kept : goal.returns-in_ok-work_off-in-J
 returns-in_ok-work_off-in-Job-clause-kept g c = λ links_tell files_tell marks whole ticks k.
     let links = g.L.Links.seen c.args.links.now in
     c.in_ok-work_off-in-Job.ensures.kept links links_tell (c.job_one.ensures.tells ∙ files_tell) marks whole ticks
-    (c.in_ok-job_one-in-Job.ensures.kept links links_tell files_tell marks whole ticks k)
+    (c.in_ok-large-in-Job.ensures.kept links links_tell files_tell marks whole ticks k)
 
 pub returns-in-Write-clause-kept : goal.returns-in-Write-clause-kept
 returns-in-Write-clause-kept g c = c.write_one-full.ensures.kept (g.F.Files.seen c.args.files.now)
@@ -39,7 +39,7 @@ returns-in_ok-work_off-in-Run-clause-beside g c = λ clock. c.in_ok-work_off-in-
 
 pub returns-in_ok-work_off-in-Job-clause-beside : goal.returns-in_ok-work_off-in-Job-clause-beside
 returns-in_ok-work_off-in-Job-clause-beside g c = λ clock.
-    stand_then (c.in_ok-job_one-in-Job.ensures.beside (g.L.Links.seen c.args.links.now).answers clock)
+    stand_then (c.in_ok-large-in-Job.ensures.beside (g.L.Links.seen c.args.links.now).answers clock)
     (c.in_ok-work_off-in-Job.ensures.beside (g.L.Links.seen c.args.links.now).answers clock)
 
 pub returns-in-Write-clause-beside : goal.returns-in-Write-clause-beside

@@ -1,10 +1,11 @@
+use Rattle.std.specs.Prelude.{is_some}
 use Rattle.std.proofs.Common.{◌≡◌, ◌≤◌, ◌<◌, ◌⊎◌, ◌∙◌, ℕ, inl, inr, refl, ap, arith}
 use Rattle.ngx_outside.specs.Views.{Start}
 use Rattle.ready_loop.proofs.BesideLemmas.{stand_none, stand_then}
 use Rattle.ready_loop.proofs.jobs.work_off.Goals as goal
 
-pub loop-core-init : goal.loop-core-init
-loop-core-init g c =
+pub loop-now_large-init : goal.loop-now_large-init
+loop-now_large-init g c =
     let e = g.E.EventCore.seen c.args.core.now in
     let f = g.F.Files.seen c.args.files.now in
     record {
@@ -21,23 +22,22 @@ loop-core-init g c =
       tells = refl;
     }
 
-pub loop-core-preserved : goal.loop-core-preserved
-loop-core-preserved g c =
-    let i = c.loop-core.invariant in
-    let r = c.runs_to_job.ensures in
-    let j = c.in_ok-job_one.ensures in
+pub loop-now_large-preserved : goal.loop-now_large-preserved
+loop-now_large-preserved g c =
+    let i = c.loop-now_large.invariant in
+    let s = c.in_ok-now_large.ensures in
     record {
-      kept = λ links tl tf marks whole ticks k. j.kept links tl (i.tells ∙ tf) marks whole ticks (r.kept links (g.F.Files.seen c.loop-core.files) tl (i.tells ∙ tf) marks whole ticks (i.kept links tl tf marks whole ticks k));
-      beside = λ links clock. stand_then (i.beside links clock) (stand_then (r.beside links (g.F.Files.seen c.loop-core.files).answers clock) (j.beside links clock));
-      views = λ d ne. j.views d ne ∙ (r.views d ne ∙ i.views d ne);
-      held = j.held;
-      left = inl (let a = r.left in let b = j.falls in let most : (g.E.EventCore.seen c.loop-core.core).left ≤ (g.E.EventCore.seen c.args.core.now).left = at_most i.left in omega (arith, a, b, most));
-      terms = j.steady.0 ∙ (r.steady.0 ∙ i.terms);
-      now = j.steady.1 ∙ (r.steady.1 ∙ i.now);
-      grown = (let a = i.grown in let b = j.grown in omega (arith, a, b));
-      known = (let a = i.known in let b = j.grown in let e : (g.E.EventCore.seen c.job_one.new.core).now.tree ≡ (g.E.EventCore.seen c.loop-core.core).now.tree = ap (λ (x : Start). x.tree) (j.steady.1 ∙ r.steady.1) in omega (arith, a, b, e));
-      versions = j.versions ∙ i.versions;
-      tells = j.tells ∙ i.tells;
+      kept = λ links tl tf marks whole ticks k. s.kept links tl (i.tells ∙ tf) marks whole ticks (i.kept links tl tf marks whole ticks k);
+      beside = λ links clock. stand_then (i.beside links clock) (s.beside links clock);
+      views = λ d ne. s.views d ne ∙ i.views d ne;
+      held = s.held;
+      left = inl (let a = s.falls (ap is_some c.in-Some.is) in let most : (g.E.EventCore.seen c.loop-now_large.core).left ≤ (g.E.EventCore.seen c.args.core.now).left = at_most i.left in omega (arith, a, most));
+      terms = s.steady.0 ∙ i.terms;
+      now = s.steady.1 ∙ i.now;
+      grown = (let a = i.grown in let b = s.grown in omega (arith, a, b));
+      known = (let a = i.known in let b = s.grown in let e : (g.E.EventCore.seen c.goes_one.new.core).now.tree ≡ (g.E.EventCore.seen c.loop-now_large.core).now.tree = ap (λ (x : Start). x.tree) s.steady.1 in omega (arith, a, b, e));
+      versions = s.versions ∙ i.versions;
+      tells = s.tells ∙ i.tells;
     }
   where
     at_most : {n m : ℕ} {S : Type 0} → (n < m) ⊎ ((n ≡ m) × S) → n ≤ m
@@ -46,8 +46,8 @@ loop-core-preserved g c =
 
 pub returns-clause-kept : goal.returns-clause-kept
 returns-clause-kept g c = λ links tl tf marks whole ticks k.
-    let i = c.loop-core.invariant in
-    c.runs_to_job.ensures.kept links (g.F.Files.seen c.loop-core.files) tl (i.tells ∙ tf) marks whole ticks (i.kept links tl tf marks whole ticks k)
+    let i = c.loop-now_large.invariant in
+    c.in_ok-now_large.ensures.kept links tl (i.tells ∙ tf) marks whole ticks (i.kept links tl tf marks whole ticks k)
 
 pub returns-clause-beside : goal.returns-clause-beside
-returns-clause-beside g c = λ links clock. stand_then (c.loop-core.invariant.beside links clock) (c.runs_to_job.ensures.beside links (g.F.Files.seen c.loop-core.files).answers clock)
+returns-clause-beside g c = λ links clock. stand_then (c.loop-now_large.invariant.beside links clock) (c.in_ok-now_large.ensures.beside links clock)

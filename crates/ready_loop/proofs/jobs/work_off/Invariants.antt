@@ -6,8 +6,8 @@ use Rattle.ready_loop.specs.Standing.{Keeps}
 use Rattle.ready_loop.specs.Tellings.{StandBeside}
 use Rattle.ready_loop.proofs.jobs.work_off.Given as goal
 
-abbrev pub invariant-loop-core : goal.invariant-loop-core
-invariant-loop-core g l =
+abbrev pub invariant-loop-now_large : goal.invariant-loop-now_large
+invariant-loop-now_large g l =
     let e = g.E.EventCore in
     let f = g.F.Files in
     record {
@@ -24,5 +24,5 @@ invariant-loop-core g l =
       tells : (f.seen l.files).tells ≡ (f.seen l.fn.files).tells;
     }
 
-abbrev pub decreases-loop-core : goal.decreases-loop-core
-decreases-loop-core g l = (g.E.EventCore.seen l.core).left
+abbrev pub decreases-loop-now_large : goal.decreases-loop-now_large
+decreases-loop-now_large g l = (g.E.EventCore.seen l.core).left

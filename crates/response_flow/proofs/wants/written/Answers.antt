@@ -13,7 +13,7 @@ pub returns-in-Some-Alone-clause-writes : goal.returns-in-Some-Alone-clause-writ
 returns-in-Some-Alone-clause-writes c = λ w patterns site trees.
     let flow = c.in-Some-Alone.flow.value in
     let out = c.args.out.now in
-    let new = c.used-in-Some-Alone.new.self in
+    let new = c.used-in-Some-Alone.new.out in
     subst (λ (f : Option Flight). Writes (flight_rest w patterns site f trees) (with_opened (stage_opened c.wrote.new.flow.value.stage) (one_rest w patterns site c.wrote.new.flow.value trees)) out new (take c.args.count (unsent_of f out))) (sym (c.in-Some-Alone.is ∙ ap (λ f. Some f) c.in-Some-Alone.field-0-is))
     (subst (λ (x : Flow). Writes (with_opened (stage_opened flow.stage) (one_rest w patterns site flow trees)) (with_opened (stage_opened x.stage) (one_rest w patterns site x trees)) out new (take c.args.count (take (shown_by flow.stage) out))) (sym c.wrote.ensures)
     (writing.writes_opened _ _ (stage_opened flow.stage) _ out new _ (writing.opened_stays flow.stage c.args.count)
@@ -24,7 +24,7 @@ pub returns-in-Some-Alone-clause-fits : goal.returns-in-Some-Alone-clause-fits
 returns-in-Some-Alone-clause-fits c =
     let flow = c.in-Some-Alone.flow.value in
     let out = c.args.out.now in
-    let new = c.used-in-Some-Alone.new.self in
+    let new = c.used-in-Some-Alone.new.out in
     let fits = subst (λ (f : Option Flight). FlightFits f (length out)) (c.in-Some-Alone.is ∙ ap (λ f. Some f) c.in-Some-Alone.field-0-is) c.requires.fits in
     subst (λ (x : Flow). (stage_fits x.ask x.stage (length new) ≡ true) × (stage_opened x.stage ≤ 255)) (sym c.wrote.ensures) (
       writing.flow_stands flow out new c.args.count c.requires.some c.used-in-Some-Alone.ensures

@@ -9,7 +9,7 @@ use Rattle.http_connection.specs.Steps.{logged_in, IsLogged}
 use Rattle.http_connection.proofs.Moves.{goes_went, goes_left, refused, stopped_left, waits_live}
 use Rattle.http_connection.proofs.Kept.{never, none_fits}
 use Rattle.http_connection.proofs.Going.{flies_by, flight_of, told_in_place, told_keeps, told_reached}
-use Rattle.http_connection.proofs.Timed.{went_until, refused_until, marks_by}
+use Rattle.http_connection.proofs.Timed.{went_until, refused_until, marks_if}
 use Rattle.http_connection.proofs.Tails.{flying_tail, stopped_tail}
 use Rattle.http_connection.proofs.conn.Conn.file_done.Goals as goal
 use Rattle.http_connection.specs.Rests.{ReachedIn, service_in, world_of}
@@ -117,7 +117,7 @@ pub returns-in-Ok-clause-times : goal.returns-in-Ok-clause-times
 returns-in-Ok-clause-times c = λ x now conn m.
     let s = c.args.self.now in
     record {
-      mark = marks_by s.times.mark c.args.moment now.moment c.marked-self.result _ _ _ _ _ _ _ _ c.marked-self.ensures m c.sending-before.ensures.pending c.sending-before.ensures.in_flight c.sending-after.ensures.pending c.sending-after.ensures.in_flight;
+      mark = marks_if s.times.mark c.args.moment now.moment c.marked-self.result _ _ _ _ _ _ _ _ c.marked-self.ensures m c.sending_if-before.ensures.pending c.sending_if-before.ensures.in_flight c.sending_if-after.ensures.pending c.sending_if-after.ensures.in_flight;
       wrote = refl;
       filled = refl;
       head = refl;

@@ -11,7 +11,7 @@ use Rattle.http_connection.proofs.Going.{Runs, on_by, on_runs, over_runs, runs_o
 use Rattle.http_connection.proofs.Opens.{level_is}
 use Rattle.http_connection.proofs.Readies.{ready_contains, ready_flying}
 use Rattle.served_site.specs.Served.{raw_server}
-use Rattle.http_connection.proofs.Timed.{went_until, ran_until, refused_until, marks_by, mark_rests}
+use Rattle.http_connection.proofs.Timed.{went_until, ran_until, refused_until, marks_if, mark_rests}
 use Rattle.http_connection.proofs.Tails.{fits_tail, stopped_tail}
 use Rattle.http_connection.proofs.conn.Conn.goes_on.Goals as goal
 use Rattle.http_connection.specs.Rests.{ReachedIn, Serves, service_in, rest_in, values_at}
@@ -130,7 +130,7 @@ returns-in-Ok-On-clause-times c = λ now conn m.
     let by = on_by _ ran onward on (c.in-Ok-On.ensures.by flight is) in
     let runs : Runs x g (Some flight) flight = record { is = refl; site = c.ground-ground.ensures.site; server = c.ground-ground.ensures.server ∙ ap (raw_server x.served) c.server_of.ensures; size = c.ground-ground.ensures.length ∙ c.length_of.ensures } in
     record {
-      mark = marks_by s.times.mark c.args.moment now.moment c.marked-self-in-Ok-On.result _ _ _ _ _ _ _ _ c.marked-self-in-Ok-On.ensures m c.sending-before.ensures.pending c.sending-before.ensures.in_flight c.sending-after.ensures.pending c.sending-after.ensures.in_flight;
+      mark = marks_if s.times.mark c.args.moment now.moment c.marked-self-in-Ok-On.result _ _ _ _ _ _ _ _ c.marked-self-in-Ok-On.ensures m c.sending_if-before.ensures.pending c.sending_if-before.ensures.in_flight c.sending_if-after.ensures.pending c.sending_if-after.ensures.in_flight;
       wrote = refl;
       filled = refl;
       head = refl;
@@ -146,7 +146,7 @@ pub returns-in-Ok-TooMany-clause-times : goal.returns-in-Ok-TooMany-clause-times
 returns-in-Ok-TooMany-clause-times c = λ now conn m.
     let s = c.args.self.now in
     record {
-      mark = c.marked-self.ensures ∙ mark_rests s.times.mark c.args.moment now.moment _ _ _ _ c.put.new.slot c.clear.new.self s.tail m c.sending-before.ensures.pending c.sending-before.ensures.in_flight c.put.ensures c.clear.ensures;
+      mark = mark_rests s.times.mark c.args.moment now.moment c.marked-self.result _ _ _ _ c.put.new.slot c.clear.new.self s.tail c.marked-self.ensures m c.sending_if-before.ensures.pending c.sending_if-before.ensures.in_flight c.put.ensures c.clear.ensures;
       wrote = refl;
       filled = refl;
       head = refl;

@@ -173,7 +173,7 @@ returns-in-Ok-On-clause-times c = λ conn.
     let now : Start = record { moment = c.args.moment; tree = c.args.tree } in
     let st = starts_if (is_some s.cause) s.closing s.out s.body s.next c.requires.ready in
     record {
-      mark = mark_begins s.times.mark c.args.moment c.marked-self.result _ _ s.flight s.out s.tail _ _ c.marked-self.ensures c.requires.none st.4 c.sending-after.ensures.pending c.sending-after.ensures.in_flight;
+      mark = mark_begins s.times.mark c.args.moment c.marked-self.result _ _ s.flight s.out s.tail _ _ c.marked-self.ensures c.requires.none st.4 c.sending_if-after.ensures.pending c.sending_if-after.ensures.in_flight;
       wrote = refl;
       filled = refl;
       head = refl;
