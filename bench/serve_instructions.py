@@ -1,7 +1,7 @@
 #!/usr/bin/env python3
 """Counts the instructions that a request costs a server, `ngx serve` and Debian's nginx (one worker, no access log), by callgrind
-(valgrind): requests one after another, on a number of open connections in turn, for a text of `return`, a file of 5 bytes and one of
-20,000 bytes, with the field Host alone or with those of two browsers; what 800 more of them cost is shared out. Counts of the same program on the same machine differ by less than 1 %.
+(valgrind): requests one after another, on a number of open connections in turn, for a text of `return`, a file of 5 bytes, one of
+20,000 bytes and one of 1 MiB, with the field Host alone or with those of two browsers; what 800 more of them cost is shared out. Counts of the same program on the same machine differ by less than 1 %.
 nginx is left out where it isn't installed.
 
 usage: bench/serve_instructions.py [connections, 1]
@@ -25,6 +25,7 @@ ASKED = {
     'return 200 hi': head(BARE, '/hi'),
     'a file of 5 bytes': head(BARE, '/small.txt'),
     'a file of 20,000 bytes': head(BARE, '/large.txt'),
+    'a file of 1 MiB': head(BARE, '/big.txt'),
     "return, Firefox's head": head(FIREFOX, '/hi'),
     "5 bytes, Chrome's head": head(CHROME, '/small.txt'),
 }
@@ -90,7 +91,7 @@ def main():
     connections = int(sys.argv[1]) if len(sys.argv) > 1 else 1
     with tempfile.TemporaryDirectory() as work:
         os.chmod(work, 0o755)
-        for name, size in (('small.txt', 5), ('large.txt', 20000)):
+        for name, size in (('small.txt', 5), ('large.txt', 20000), ('big.txt', 1048576)):
             with open(os.path.join(work, name), 'w') as out:
                 out.write('a' * size)
         for what, request in ASKED.items():

@@ -47,10 +47,22 @@ get_there : {X : Type 0} (front : List X) (here : X) (back : List X) (d : X) →
 get_there [] here back d = refl
 get_there (x ∷ front) here back d = get_there front here back d
 
+found_at : (at : ℕ) (conns : List Conn) (p : Placed at conns) (d : Conn) → get_or conns at d ≡ p.here
+found_at at conns p d =
+    ap (λ l. get_or l at d) p.whole ∙ ap (λ k. get_or (p.front ++ p.here ∷ p.back) k d) (sym p.size) ∙ get_there p.front p.here p.back d
+
 -- the connection at the place
 pub here_is : (at : ℕ) (conns : List Conn) (p : Placed at conns) (here : Conn) → here ≡ get_or conns at here → here ≡ p.here
-here_is at conns p here e =
-    e ∙ ap (λ l. get_or l at here) p.whole ∙ ap (λ k. get_or (p.front ++ p.here ∷ p.back) k here) (sym p.size) ∙ get_there p.front p.here p.back here
+here_is at conns p here e = e ∙ found_at at conns p here
+
+-- there is one alone
+pub one_here : (at : ℕ) (conns : List Conn) (p q : Placed at conns) → p.here ≡ q.here
+one_here at conns p q = sym (found_at at conns p p.here) ∙ found_at at conns q p.here
+
+-- another is put in its place
+pub set_at : (at : ℕ) (conns : List Conn) (p : Placed at conns) (new : Conn) → set conns at new ≡ p.front ++ new ∷ p.back
+set_at at conns p new =
+    ap (λ l. set l at new) p.whole ∙ ap (λ k. set (p.front ++ p.here ∷ p.back) k new) (sym p.size) ∙ set_there p.front p.here new p.back
 
 -- another is in its place
 pub replaced_at : (at : ℕ) (conns : List Conn) (Does : Conn → Conn → Type 0) (p : Placed at conns) (here new : Conn) → here ≡ get_or conns at here → Does here new →
@@ -58,8 +70,13 @@ pub replaced_at : (at : ℕ) (conns : List Conn) (Does : Conn → Conn → Type 
 replaced_at at conns Does p here new e d = record {
   there = new;
   does = subst (λ x. Does x new) (here_is at conns p here e) d;
-  whole = ap (λ l. set l at new) p.whole ∙ ap (λ k. set (p.front ++ p.here ∷ p.back) k new) (sym p.size) ∙ set_there p.front p.here new p.back;
+  whole = set_at at conns p new;
 }
+
+-- the same is in its place
+pub unchanged_at : (at : ℕ) (conns : List Conn) (p : Placed at conns) (here new : Conn) → here ≡ get_or conns at here → new ≡ here → set conns at new ≡ conns
+unchanged_at at conns p here new e same =
+    set_at at conns p new ∙ ap (λ n. p.front ++ n ∷ p.back) (same ∙ here_is at conns p here e) ∙ sym p.whole
 
 -- what the connection under the number shows
 pub seen : (serves : Serves) (c at : ℕ) (ids : List ℕ) (conns : List Conn) (s : Seat c at ids conns) → view_in serves ids conns c ≡ view_of serves s.placed.here

@@ -9,3 +9,4 @@ pub mod Ticks
 pub mod Reached
 pub mod Told
 pub mod Asked
+pub mod Blocks

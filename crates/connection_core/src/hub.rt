@@ -9,7 +9,7 @@ use crate::table::Table;
 use file_tree::Ask;
 use http_connection::{Conn, connections_are_sound, next_want};
 use http_types::Addr;
-use ngx_outside::{Entry, Event, EventCore, StepAnswer, StopCause, Want};
+use ngx_outside::{Entry, Event, EventCore, FileFault, Files, StepAnswer, StopCause, Want};
 use ngx_pattern::PatternSet;
 use ready_loop::TimedCore;
 use reply_out::Workspace;
@@ -234,6 +234,20 @@ impl EventCore for Hub {
             Some(held) => held.ask(node),
             None => None,
         }
+    }
+
+    #[inline(always)]
+    fn read_done<F: Files>(
+        &mut self,
+        conn: u32,
+        node: u32,
+        files: &mut F,
+    ) -> Result<StepAnswer, FileFault> {
+        let answer = self
+            .table
+            .read(&self.space, self.moment, conn, node, files)?;
+        count(&mut self.refused, answer);
+        Ok(answer)
     }
 
     fn refused(&self) -> u64 {

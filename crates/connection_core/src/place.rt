@@ -1,14 +1,26 @@
 // One connection among those that are held.
-ghost use Rattle.std.specs.Prelude.{◌≡◌, ◌+◌, ◌-◌, ◌^◌, ◌≤◌, ◌<◌, true, length, vec_len, vec_capacity, insert, remove, MatchResult, get_or};
+ghost use Rattle.std.specs.Prelude.{◌≡◌, ℕ, ◌+◌, ◌-◌, ◌^◌, ◌≤◌, ◌<◌, true, false, List, ◌++◌, ◌∷◌, length, vec_len, vec_capacity, insert, remove, Some, MatchResult, IfOk, OnErr, IsErrOf, get_or};
 ghost use Rattle.std.specs.List.Sorted.{IsStrictlyIncreasing};
 ghost use Rattle.http_connection.specs.Conn.{StepsConn, TimesConn, due_at};
 ghost use Rattle.http_connection.specs.Times.{soonest};
+ghost use Rattle.file_tree.specs.declared.job.Ask.TheVariants.{Read as AskRead};
+ghost use Rattle.ngx_outside.specs.Causes.{HasCause};
+ghost use Rattle.ngx_outside.specs.Outside.{Grow};
+ghost use Rattle.ngx_outside.specs.Records.{Adds, Failed as NotRead};
+ghost use Rattle.ngx_outside.specs.Stepped.{IsReading};
+ghost use Rattle.ngx_outside.specs.Views.{ask_in};
+ghost use Rattle.ngx_outside.specs.declared.files.FileFault.TheVariants.{Failed as ReadFailed};
+ghost use Rattle.response_flow.specs.Flights.{jobs_of};
+ghost use Rattle.http_connection.specs.Reads.{AsksWithin, BroughtConn};
+ghost use Rattle.http_connection.specs.declared.conn.Conn.{Conn as ConnView};
 ghost use Rattle.connection_core.specs.Table.{serves_with, is_own, StandsAt, BelongsAt, Placed, Replaced, AllTicked, AllLater};
 
+use file_tree::Ask;
 use http_connection::Conn;
-use ngx_outside::{Event, StepAnswer};
+use ngx_outside::{Event, FileFault, Files, StepAnswer};
 use reply_out::Workspace;
 use served_site::ServedSite;
+use std::alloc::Global;
 
 /// The place of a number, or the place where it belongs.
 pub(crate) fn place(ids: &[u32], conn: u32) -> Result<usize, usize>
@@ -151,4 +163,68 @@ pub(crate) fn happen_at(
     ensures patterns { space.new.patterns ≡ space.old.patterns }
 {
     happen(&mut conns[at], space, served, moment, tree, event)
+}
+
+/// Whether the job of a node of a connection asks for a block of a file.
+#[inline(always)]
+fn is_reading(conn: &Conn, node: u32) -> bool
+    ensures reads { result ≡ true → IsReading (ask_in (jobs_of conn.now.flight) node) }
+    ensures others { result ≡ false → IsReading (ask_in (jobs_of conn.now.flight) node) → ⊥ }
+{
+    match conn.ask(node) {
+        Some(
+            Ask::Read {
+                path: _,
+                start: _,
+                count: _,
+                of: _,
+            },
+        ) => true,
+        Some(Ask::Stat { path: _, of: _ }) => false,
+        None => false,
+    }
+}
+
+/// Has the files answer the job of a node of the connection at a place, where it asks for a block of a file.
+#[inline(always)]
+pub(crate) fn read_at<F: Files>(
+    conns: &mut Vec<Conn>,
+    at: usize,
+    alloc: Global,
+    moment: u64,
+    node: u32,
+    files: &mut F,
+) -> Result<StepAnswer, FileFault>
+    requires placed { Placed at conns.old.items }
+    requires known { (p : Placed at conns.old.items) →
+        AsksWithin (F.seen files.old).newest (ask_in (jobs_of p.here.flight) node) }
+    ensures done { (p : Placed at conns.old.items) (path : List ℕ) (start count of : ℕ) →
+        ask_in (jobs_of p.here.flight) node ≡ Some (AskRead path start count of) →
+        IfOk result (λ answer. Replaced at conns.old.items
+        (λ old new. BroughtConn (F.seen files.old).tells ((F.seen files.old).trees of) path start
+        count node (F.seen files.old).answers (F.seen files.new).answers moment old new answer)
+        p conns.new.items) }
+    ensures stays { (p : Placed at conns.old.items) →
+        (there : ConnView) × (conns.new.items ≡ p.front ++ there ∷ p.back) }
+    ensures same { OnErr result (conns.new.items ≡ conns.old.items) }
+    ensures skips { (p : Placed at conns.old.items) →
+        (IsReading (ask_in (jobs_of p.here.flight) node) → ⊥) →
+        conns.new.items ≡ conns.old.items }
+    ensures skipped { (p : Placed at conns.old.items) →
+        (IsReading (ask_in (jobs_of p.here.flight) node) → ⊥) →
+        IfOk result (λ answer. answer ≡ StepAnswer.Skipped) }
+    ensures len { vec_len conns.new ≡ vec_len conns.old }
+    ensures failed { IsErrOf result ReadFailed → Adds NotRead (F.seen files.old).answers
+        (F.seen files.new).answers }
+    ensures tells { (F.seen files.new).tells ≡ (F.seen files.old).tells }
+    ensures versions { (F.seen files.new).versions ≡ (F.seen files.old).versions }
+    ensures grow { Grow (F.seen files.old).newest (F.seen files.new).newest
+        (F.seen files.old).trees (F.seen files.new).trees }
+    ensures cause { HasCause (F.seen files.old).faults (F.seen files.new).faults result ReadFailed }
+{
+    let conn = &mut conns[at];
+    if !is_reading(conn, node) {
+        return Ok(StepAnswer::Skipped);
+    }
+    conn.read_done(alloc, moment, node, files)
 }

@@ -4,11 +4,11 @@ ghost use Rattle.std.specs.List.Sorted.{IsStrictlyIncreasing};
 ghost use Rattle.std.proofs.Props.{props};
 ghost use Rattle.connection_core.specs.Table.{AllLater};
 
-use crate::place::{earlier, happen_at, place, place_near, put_at, take_out, tick_all};
+use crate::place::{earlier, happen_at, place, place_near, put_at, read_at, take_out, tick_all};
 use byte_text::OutOfMemory;
 use http_connection::Conn;
 use http_types::Addr;
-use ngx_outside::{Event, StepAnswer};
+use ngx_outside::{Event, FileFault, Files, StepAnswer};
 use reply_out::Workspace;
 use served_site::ServedSite;
 use std::alloc::Global;
@@ -38,6 +38,15 @@ impl Table {
     ghost use Rattle.http_connection.specs.Conn.{view_of, fresh_course, left_of, weight, asked_of, ended_by};
     ghost use Rattle.http_connection.specs.Rests.{Serves, TellsRaceless};
     ghost use Rattle.ngx_pattern.specs.Pattern.{Pattern as SetPattern};
+    ghost use Rattle.std.specs.Prelude.{OnErr, IsErrOf};
+    ghost use Rattle.file_tree.specs.declared.job.Ask.TheVariants.{Read as AskRead};
+    ghost use Rattle.ngx_outside.specs.Causes.{HasCause};
+    ghost use Rattle.ngx_outside.specs.Outside.{Grow};
+    ghost use Rattle.ngx_outside.specs.Records.{Adds, Failed as NotRead};
+    ghost use Rattle.ngx_outside.specs.Stepped.{IsReading};
+    ghost use Rattle.ngx_outside.specs.Views.{ask_in};
+    ghost use Rattle.ngx_outside.specs.declared.files.FileFault.TheVariants.{Failed as ReadFailed};
+    ghost use Rattle.connection_core.specs.Brought.{BroughtIn};
     ghost use Rattle.connection_core.specs.Table.{is_own, serves_with, listens_there, view_in, journal_in, left_in, price_each, opens_in, AllKnown, AllReached, AllTicked, BelongsAt};
 
     /// No connection is held.
@@ -220,6 +229,60 @@ impl Table {
                 answer
             }
             Err(_) => StepAnswer::Skipped,
+        }
+    }
+
+    /// Has the files answer the job of a node of a connection, where it asks for a block of a file. Where they fail nothing changes, and
+    /// neither where there is no such job.
+    #[inline(always)]
+    pub(crate) fn read<F: Files>(
+        &mut self,
+        space: &Workspace,
+        moment: u64,
+        conn: u32,
+        node: u32,
+        files: &mut F,
+    ) -> Result<StepAnswer, FileFault>
+        requires known { AllKnown (F.seen files.old).newest self.old.conns.items }
+        ensures done { (path : List ℕ) (start count of : ℕ) →
+            ask_in (view_in (serves_with space.now.patterns self.old.served) self.old.ids.items
+            self.old.conns.items conn).jobs node ≡ Some (AskRead path start count of) →
+            IfOk result (BroughtIn (F.seen files.old).tells ((F.seen files.old).trees of) path
+            start count conn node (F.seen files.old).answers (F.seen files.new).answers
+            (serves_with space.now.patterns self.old.served)
+            (serves_with space.now.patterns self.new.served)
+            self.old.ids.items self.new.ids.items self.old.conns.items self.new.conns.items) }
+        ensures same { OnErr result (self.new.conns.items ≡ self.old.conns.items) }
+        ensures skips { (IsReading (ask_in (view_in (serves_with space.now.patterns
+            self.old.served) self.old.ids.items self.old.conns.items conn).jobs node) → ⊥) →
+            self.new.conns.items ≡ self.old.conns.items }
+        ensures skipped { (IsReading (ask_in (view_in (serves_with space.now.patterns
+            self.old.served) self.old.ids.items self.old.conns.items conn).jobs node) → ⊥) →
+            IfOk result (λ answer. answer ≡ StepAnswer.Skipped) }
+        ensures known { (tree : ℕ) → AllKnown tree self.old.conns.items →
+            AllKnown tree self.new.conns.items }
+        ensures reached { AllReached (serves_with space.now.patterns self.old.served)
+            self.old.conns.items → AllReached (serves_with space.now.patterns self.old.served)
+            self.new.conns.items }
+        ensures ids { self.new.ids.items ≡ self.old.ids.items }
+        ensures served { self.new.served ≡ self.old.served }
+        ensures failed { IsErrOf result ReadFailed → Adds NotRead (F.seen files.old).answers
+            (F.seen files.new).answers }
+        ensures tells { (F.seen files.new).tells ≡ (F.seen files.old).tells }
+        ensures versions { (F.seen files.new).versions ≡ (F.seen files.old).versions }
+        ensures grow { Grow (F.seen files.old).newest (F.seen files.new).newest
+            (F.seen files.old).trees (F.seen files.new).trees }
+        ensures cause { HasCause (F.seen files.old).faults (F.seen files.new).faults result
+            ReadFailed }
+    {
+        match place_near(self.ids.as_slice(), self.near, conn) {
+            Ok(at) => {
+                self.near = at;
+                let answer = read_at(&mut self.conns, at, space.alloc, moment, node, files)?;
+                self.soon = earlier(self.soon, &self.conns[at]);
+                Ok(answer)
+            }
+            Err(_) => Ok(StepAnswer::Skipped),
         }
     }
 

@@ -288,6 +288,12 @@ fn texts_grow_and_queues_keep_their_order(rt: HostRuntime) -> Result<(), Fail> {
     queue.used(4);
     queue.append(b"gh")?;
     assert_eq!(rt; queue.front(), b"efgh".as_slice());
+    let is_filled = queue.append_with(2, |room| {
+        room.fill(b'i');
+        true
+    })?;
+    assert!(rt; is_filled);
+    assert_eq!(rt; queue.front(), b"efghii".as_slice());
     queue.clear();
     assert!(rt; queue.is_empty());
     Ok(())

@@ -5,3 +5,4 @@ pub mod Conn
 pub mod Times
 pub mod Wants
 pub mod Tails
+pub mod Reads

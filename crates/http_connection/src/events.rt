@@ -8,16 +8,19 @@ use crate::conn::Conn;
 use crate::input::{first_bytes, last_bytes, take_in};
 use crate::journal::finish;
 use crate::open::Meeting;
+use crate::reading::{add_block, count_asked, lend_block};
 use crate::sending::{filled, mark_after_write, sending_if};
 use crate::slot::{put, take};
 use crate::start::{Setting, run_one};
 use crate::times::{AT_REST, Sending, marked, paced_on};
 use byte_text::OutOfMemory;
 use file_tree::{JobAnswer, is_fitting};
-use ngx_outside::{StepAnswer, StopCause};
+use ngx_outside::{FileFault, Files, StepAnswer, StopCause};
 use reply_out::{OutRoom, Workspace};
 use req_head::{HeadRoom, head_stays, refusal_stays, size_fits};
-use response_flow::{Passed, Ran, answered, length_of, run_in_place, server_of, written};
+use response_flow::{
+    Passed, Ran, answered, ask, came, length_of, reads_alone, run_in_place, server_of, written,
+};
 use served_site::ServedSite;
 use std::alloc::Global;
 
@@ -33,6 +36,16 @@ impl Conn {
     ghost use Rattle.http_connection.specs.Rests.{Serves};
     ghost use Rattle.http_connection.specs.Times.{mark_by};
     ghost use Rattle.http_connection.specs.Conn.{TimesConn};
+    ghost use Rattle.std.specs.Prelude.{◌≤◌, List, IfOk, OnErr, IsErrOf};
+    ghost use Rattle.file_tree.specs.declared.job.Ask.TheVariants.{Read as AskRead};
+    ghost use Rattle.ngx_outside.specs.Causes.{HasCause};
+    ghost use Rattle.ngx_outside.specs.Outside.{Grow};
+    ghost use Rattle.ngx_outside.specs.Records.{Adds, Failed as NotRead};
+    ghost use Rattle.ngx_outside.specs.Stepped.{IsReading};
+    ghost use Rattle.ngx_outside.specs.Views.{ask_in};
+    ghost use Rattle.ngx_outside.specs.declared.files.FileFault.TheVariants.{Failed as ReadFailed};
+    ghost use Rattle.response_flow.specs.Flights.{jobs_of, reads_alone_in};
+    ghost use Rattle.http_connection.specs.Reads.{AsksWithin, BroughtConn};
 
     /// Bytes arrived: it takes as many as there is room for. A head that is whole then is read into the room of one that is over.
     #[inline(always)]
@@ -145,6 +158,60 @@ impl Conn {
                 StepAnswer::OutOfMemory
             }
         }
+    }
+
+    // Whether the block that a job asks for may be added to the bytes for the peer, for which there is room then.
+    fn makes_room(&mut self, node: u32) -> bool
+        ensures same { self.new ≡ self.old }
+        ensures alone { result ≡ true → reads_alone_in self.old.flight ≡ true }
+    {
+        let count = count_asked(self.ask(node));
+        reads_alone(&self.flight) && self.out.reserve(count).is_ok()
+    }
+
+    /// The job of a node, which asks for a block of a file, is answered by the files. The block of a request that has no subrequest is
+    /// added to the bytes for the peer as it is read; any other is lent by the files, and copied.
+    ///
+    /// # Errors
+    /// What the files failed by; nothing has changed then.
+    pub fn read_done<F: Files>(
+        &mut self,
+        alloc: Global,
+        moment: u64,
+        node: u32,
+        files: &mut F,
+    ) -> Result<StepAnswer, FileFault>
+        requires reads { IsReading (ask_in (jobs_of self.old.flight) node) }
+        requires known { AsksWithin (F.seen files.old).newest
+            (ask_in (jobs_of self.old.flight) node) }
+        ensures done { (path : List ℕ) (start count of : ℕ) →
+            ask_in (jobs_of self.old.flight) node ≡ Some (AskRead path start count of) →
+            IfOk result (BroughtConn (F.seen files.old).tells ((F.seen files.old).trees of) path
+            start count node (F.seen files.old).answers (F.seen files.new).answers moment self.old
+            self.new) }
+        ensures same { OnErr result (self.new ≡ self.old) }
+        ensures failed { IsErrOf result ReadFailed → Adds NotRead (F.seen files.old).answers
+            (F.seen files.new).answers }
+        ensures tells { (F.seen files.new).tells ≡ (F.seen files.old).tells }
+        ensures versions { (F.seen files.new).versions ≡ (F.seen files.old).versions }
+        ensures grow { Grow (F.seen files.old).newest (F.seen files.new).newest
+            (F.seen files.old).trees (F.seen files.new).trees }
+        ensures cause { HasCause (F.seen files.old).faults (F.seen files.new).faults result
+            ReadFailed }
+    {
+        if !self.makes_room(node) {
+            lend_block(self.ask(node), files)?;
+            let answer = JobAnswer::Read(files.block());
+            return Ok(self.file_done(alloc, moment, node, answer));
+        }
+        let matters = self.times.mark != moment;
+        let before = sending_if(matters, &self.flight, &self.out, self.tail);
+        let placed = self.out.len();
+        add_block(ask(&self.flight, node), files, &mut self.out)?;
+        came(&mut self.flight, node, placed);
+        let after = sending_if(matters, &self.flight, &self.out, self.tail);
+        self.times.mark = marked(self.times.mark, moment, before, after);
+        Ok(StepAnswer::Done { taken: 0 })
     }
 
     /// A node's job failed.

@@ -8,6 +8,7 @@ mod input;
 mod journal;
 mod law;
 mod open;
+mod reading;
 mod sending;
 mod slot;
 mod start;

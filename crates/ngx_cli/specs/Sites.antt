@@ -3,7 +3,7 @@ use Rattle.std.specs.Prelude.{◌≡◌, ℕ, List, [], ◌∷◌, ◌++◌, map
 use Rattle.file_tree.specs.Tree.{Tree}
 use Rattle.ngx_outside.specs.Causes.{Rose}
 use Rattle.ngx_outside.specs.Seen.{FilesSeen}
-use Rattle.ready_loop.specs.Seen.{Grown}
+use Rattle.link_service.specs.Seen.{Grown}
 use Rattle.conf_text.specs.declared.directive.Directive.{Directive}
 use Rattle.conf_text.specs.declared.fault.ConfFault.{ConfFault}
 use Rattle.conf_text.specs.declared.fault.FaultKind.TheVariants.{ReadFault, PatternTooBig}

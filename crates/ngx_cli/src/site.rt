@@ -1,7 +1,7 @@
 // The site of a configuration.
 ghost use Rattle.std.specs.Prelude.{◌≡◌, true, slice_index_or, [], IfOk, IfErr};
 ghost use Rattle.ngx_outside.specs.Records.{Adds};
-ghost use Rattle.ready_loop.specs.Seen.{Grown};
+ghost use Rattle.link_service.specs.Seen.{Grown};
 ghost use Rattle.conf_include.specs.Listings.{Names, IsNaming};
 ghost use Rattle.conf_include.specs.Asked.{IsAskedAt};
 ghost use Rattle.ngx_cli.specs.declared.site.SiteError.TheVariants.{OutOfMemory as NoMemory};

@@ -6,3 +6,4 @@ pub mod Outside
 pub mod Linked
 pub mod Records
 pub mod Seen
+pub mod Stepped

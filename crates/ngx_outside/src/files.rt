@@ -1,14 +1,14 @@
 // What reads files.
-ghost use Rattle.std.specs.Prelude.{◌≡◌, ◌≤◌};
+ghost use Rattle.std.specs.Prelude.{◌≡◌, ◌≤◌, OnOk, IsErrOf};
 ghost use Rattle.ngx_outside.specs.Causes.{HasCause};
-ghost use Rattle.ngx_outside.specs.Records.{Adds, ReadTold, block_answer, stat_answer};
+ghost use Rattle.ngx_outside.specs.Records.{Adds, ReadTold, Failed as NotRead, block_answer, stat_answer};
 ghost use Rattle.ngx_outside.specs.Outside.{Grow, Stats, Lends, Reads, Lists};
 ghost use Rattle.ngx_outside.specs.Seen.{FilesSeen};
 ghost use Rattle.ngx_outside.specs.declared.sink.Failed.{Failed};
 ghost use Rattle.ngx_outside.specs.declared.files.FileFault.TheVariants.{OutOfMemory as NoMemory, Failed as ReadFailed};
 
 use crate::Failed;
-use byte_text::{ByteText, ByteTexts, OutOfMemory};
+use byte_text::{ByteQueue, ByteText, ByteTexts, OutOfMemory};
 use file_tree::Node;
 
 /// Why files gave no bytes or names.
@@ -115,6 +115,34 @@ pub trait Files {
     {
         self.read_block(path, start, count, of)?;
         out.extend(self.block())?;
+        Ok(())
+    }
+
+    /// Adds exactly `count` bytes of a file, from `start` on, in the tree of a number, to a queue. A file that doesn't hold
+    /// them is a failure. After a failure nothing is added. What the block is after it isn't said.
+    fn read_to(
+        &mut self,
+        path: &[u8],
+        start: u64,
+        count: u64,
+        of: u64,
+        out: &mut ByteQueue,
+    ) -> Result<(), FileFault>
+        requires { of ≤ (seen self.old).newest }
+        ensures bytes { Reads (seen self.old).tells
+            ((seen self.old).trees of) path.now start count out.old out.new result }
+        ensures told { OnOk result (ReadTold out.old out.new result (seen self.old).answers
+            (seen self.new).answers) }
+        ensures failed { IsErrOf result ReadFailed → Adds NotRead (seen self.old).answers
+            (seen self.new).answers }
+        ensures tells { (seen self.new).tells ≡ (seen self.old).tells }
+        ensures versions { (seen self.new).versions ≡ (seen self.old).versions }
+        ensures grow { Grow (seen self.old).newest (seen self.new).newest (seen self.old).trees
+            (seen self.new).trees }
+        ensures cause { HasCause (seen self.old).faults (seen self.new).faults result ReadFailed }
+    {
+        self.read_block(path, start, count, of)?;
+        out.append(self.block())?;
         Ok(())
     }
 

@@ -1,6 +1,6 @@
 ghost use Rattle.std.specs.Prelude.{◌≤◌};
 
-use byte_text::{ByteText, ByteTexts};
+use byte_text::{ByteQueue, ByteText, ByteTexts};
 use file_tree::Node;
 use ngx_outside::{FileFault, Files, Listing, Sink};
 use std::fs;
@@ -82,6 +82,30 @@ fn blocks_of_two_files_are_lent_in_turn(rt: HostRuntime) -> Result<(), Fail> {
     files.read_block(b"std_outside_blocks/a".as_slice(), 4, 2, first)?;
     assert_eq!(rt; files.block(), b"ef".as_slice());
     fs::remove_dir_all(&rt, folder)?;
+    Ok(())
+}
+
+// Blocks of any size are added after what waits in a queue; one that the file doesn't have isn't.
+#[test]
+fn blocks_are_added_to_a_queue(rt: HostRuntime) -> Result<(), Fail> {
+    let alloc = rt.alloc();
+    let path = b"std_outside_queue".as_slice();
+    let mut bytes = Vec::new(alloc);
+    bytes.resize(9000, b'a')?;
+    fs::write(&rt, "std_outside_queue", bytes.as_slice())?;
+    let mut files = HostFiles::new(rt.clone()?)?;
+    let (of, _) = look(&mut files, "std_outside_queue");
+    let mut queue = ByteQueue::new(alloc);
+    queue.append(b"ab")?;
+    files.read_to(path, 0, 5000, of, &mut queue)?;
+    queue.used(1);
+    files.read_to(path, 5000, 4000, of, &mut queue)?;
+    assert_eq!(rt; queue.len(), 9001);
+    assert!(rt; queue.front().starts_with(b"baaa"));
+    assert!(rt; files.read_to(path, 4000, 5001, of, &mut queue).is_err());
+    assert!(rt; files.read_to(path, 8999, 2, of, &mut queue).is_err());
+    assert_eq!(rt; queue.len(), 9001);
+    fs::remove_file(&rt, "std_outside_queue")?;
     Ok(())
 }
 

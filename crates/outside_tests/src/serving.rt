@@ -4,7 +4,7 @@ ghost use Rattle.memory_links.specs.Told.{open_of, answers_of};
 ghost use Rattle.memory_outside.specs.Stored.{newest_of};
 ghost use Rattle.ngx_outside.specs.Records.{Given, LinkAnswer, beside_link, of_clock};
 ghost use Rattle.plain_core.specs.Core.{view_at, now_at};
-ghost use Rattle.ready_loop.specs.Tellings.{Beside, alone, moments_told, of_link};
+ghost use Rattle.link_service.specs.Tellings.{Beside, alone, moments_told, of_link};
 
 use byte_text::{ByteText, OutOfMemory};
 use http_types::Addr;

@@ -1,14 +1,14 @@
 -- What the account of a connection comes to.
 use Rattle.std.proofs.Common.{◌≡◌, Bool, true, false, ◌&&◌, List, [], ◌∷◌, ◌++◌, None, refl, sym, ap, ◌∙◌, subst}
 use Rattle.std.proofs.Common.{arith}
-use Rattle.ready_loop.specs.Standing.{Unused}
+use Rattle.link_service.specs.Standing.{Unused}
 use Rattle.std.specs.Prelude.{is_none}
 use Rattle.std.specs.List.{All, Contains}
 use Rattle.std.proofs.lemmas.List.{append-nil}
 use Rattle.std.proofs.lemmas.List.Elements.{All-nil, All-push, All-weaker, Contains-append_left, Contains-append_right, Contains-push}
 use Rattle.ngx_outside.specs.Views.{ConnView, Start, IsSound, is_live}
 use Rattle.ngx_outside.proofs.Tracks.{all_is_sent_when_shut}
-use Rattle.ready_loop.specs.Seen.{Tick, Dated, Begun, Later, Started, start_at}
+use Rattle.link_service.specs.Seen.{Tick, Dated, Begun, Later, Started, start_at}
 use Rattle.ready_loop.specs.Laws.{ClosedUnendedSentAll, ClosedUnstoppedSentAll, KeptBegins, StartsWereTold}
 
 pub begins : KeptBegins

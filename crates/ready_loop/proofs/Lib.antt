@@ -1,10 +1,5 @@
-pub mod EventLemmas
-pub mod AccountLemmas
-pub mod KeptLemmas
-pub mod JobLemmas
-pub mod WantLemmas
+pub mod TurnLemmas
 pub mod RestLemmas
-pub mod BesideLemmas
 pub mod LawProofs
 pub mod ThroughLemmas
 pub mod EndLemmas

@@ -13,9 +13,10 @@ use Rattle.ngx_outside.specs.declared.event.Want.{Want}
 use Rattle.ngx_outside.specs.declared.event.Want.TheVariants as want
 use Rattle.ready_loop.specs.Ids.{has}
 use Rattle.ready_loop.specs.declared.ids.Ids.{Ids}
-use Rattle.ready_loop.specs.Turns.{AtRest, IsRested, IsHeard, IsHeardBut, IsQuiet, AllRest, RestsBut, ChangedAs}
-use Rattle.ready_loop.specs.Seen.{Elsewhere}
-use Rattle.ready_loop.specs.Standing.{IsMatched}
+use Rattle.link_service.specs.Rests.{IsRested}
+use Rattle.ready_loop.specs.Turns.{AtRest, IsHeard, IsHeardBut, IsQuiet, AllRest, RestsBut, ChangedAs}
+use Rattle.link_service.specs.Seen.{Elsewhere}
+use Rattle.link_service.specs.Standing.{IsMatched}
 use Rattle.ready_loop.specs.declared.hear.Heard.{Heard}
 use Rattle.ready_loop.specs.declared.hear.Heard.TheVariants as heard
 

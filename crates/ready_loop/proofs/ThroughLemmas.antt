@@ -6,9 +6,10 @@ use Rattle.ngx_outside.specs.Linked.{LinkView, Same, Unchanged}
 use Rattle.ngx_outside.specs.Records.{Adds}
 use Rattle.ngx_outside.specs.Seen.{CoreSeen, LinksSeen, FilesSeen, ClockSeen}
 use Rattle.ngx_outside.specs.Views.{Course}
-use Rattle.ready_loop.specs.Seen.{Tick, AreTold}
-use Rattle.ready_loop.specs.Standing.{Marks, Kept, Keeps, KeptThrough}
-use Rattle.ready_loop.proofs.KeptLemmas.{kept_same, kept_refused, grown_same}
+use Rattle.link_service.specs.Seen.{Tick, AreTold}
+use Rattle.link_service.specs.Standing.{Marks, Kept, Keeps, KeptThrough}
+use Rattle.link_service.proofs.KeptLemmas.{kept_same, grown_same}
+use Rattle.ready_loop.proofs.TurnLemmas.{kept_refused}
 
 moments_of : List Tick → List ℕ
 moments_of ticks = map (λ (t : Tick). t.moment) ticks

@@ -5,8 +5,8 @@ use Rattle.file_tree.specs.Tree.{Trees}
 use Rattle.ngx_outside.specs.Seen.{CoreSeen, LinksSeen, FilesSeen}
 use Rattle.ngx_outside.specs.Views.{ConnView, Course, Start, IsSound}
 use Rattle.ngx_outside.specs.Runs.{Agree}
-use Rattle.ready_loop.specs.Seen.{Tick, IsDated, start_at, last_start}
-use Rattle.ready_loop.specs.Standing.{Account, Marks, Kept}
+use Rattle.link_service.specs.Seen.{Tick, IsDated, start_at, last_start}
+use Rattle.link_service.specs.Standing.{Account, Marks, Kept}
 
 -- what is so at the beginning
 abbrev pub marks_of : CoreSeen → LinksSeen → FilesSeen → Marks

@@ -1,39 +1,16 @@
--- What is left to do on a connection, and at the end of a turn.
-use Rattle.std.specs.Prelude.{◌≡◌, ◌≢◌, ◌⊎◌, ℕ, ◌+◌, ◌*◌, ◌-◌, ◌^◌, min, ◌<◌, ◌≤◌, Bool, true, false, List, [], if◌then◌else◌, Option, Some, None}
-use Rattle.std.specs.List.{All, Contains}
-use Rattle.file_tree.specs.Tree.{Trees, node_of, HoldsBytes}
-use Rattle.file_tree.specs.declared.job.Ask.{Ask}
-use Rattle.file_tree.specs.declared.job.Ask.TheVariants.{Stat as AskStat, Read as AskRead}
+-- What is known of all connections, and what is left to do, at the end of a turn.
+use Rattle.std.specs.Prelude.{◌≡◌, ◌≢◌, ◌⊎◌, ℕ, ◌+◌, ◌-◌, ◌^◌, min, ◌<◌, ◌≤◌, Bool, true, false, [], Option, Some, None}
 use Rattle.ngx_outside.specs.Linked.{LinkView}
-use Rattle.ngx_outside.specs.Views.{ConnView, ask_in, no_bytes}
-use Rattle.ngx_outside.specs.Wants.{wants_at, doable}
-use Rattle.ngx_outside.specs.declared.event.Want.{Want}
-use Rattle.ngx_outside.specs.declared.event.Want.TheVariants.{Read, Run, Job, Write, Close}
-use Rattle.std.specs.Prelude.{length}
+use Rattle.ngx_outside.specs.Views.{ConnView}
 use Rattle.ready_loop.specs.Ids.{has}
 use Rattle.ngx_outside.specs.Causes.{next_count}
-use Rattle.ready_loop.specs.Seen.{Elsewhere, Tick}
+use Rattle.link_service.specs.Seen.{Elsewhere, Tick}
 use Rattle.ready_loop.specs.declared.hear.Heard.{Heard}
 use Rattle.ready_loop.specs.declared.hear.Heard.TheVariants as heard
 use Rattle.ready_loop.specs.declared.ticks.Told.{Told}
 use Rattle.ready_loop.specs.declared.service.Ending.{Ending}
 use Rattle.ready_loop.specs.declared.service.Ending.TheVariants as ending
 use Rattle.ready_loop.specs.declared.ids.Ids.{Ids}
-use Rattle.ready_loop.specs.declared.jobs.JobResult.{JobResult}
-use Rattle.ready_loop.specs.declared.jobs.JobResult.TheVariants as found
-
--- the measure of what is left: a read may raise what the core has left by so much at most
-abbrev pub work : ℕ → ℕ → Bool → Bool → ℕ → ℕ
-work price size due full left = left + (if due then price * size + 1 else 0) +
-    (if full then 0 else 1)
-
--- what a want says of its connection
-abbrev pub IsWanted : ConnView → ℕ → Want → Type 0
-IsWanted v c (Read conn room) = (conn ≡ c) × (v.room ≡ Some room)
-IsWanted v c (Run conn node) = (conn ≡ c) × Contains v.ready node
-IsWanted v c (Job conn node) = (conn ≡ c) × (ask_in v.jobs node ≢ None)
-IsWanted v c (Write conn) = (conn ≡ c) × (no_bytes v.pending ≡ false)
-IsWanted v c (Close conn) = (conn ≡ c) × (v.shut ≡ true)
 
 -- A connection has nothing left to do: no node can run, no job waits, and its link isn't to be
 -- closed; where it reads, its link isn't due; and where bytes are pending, its link is full. What
@@ -95,23 +72,6 @@ ChangedAs (heard.At conn due) old new = Elsewhere conn old new
 ChangedAs heard.Nothing old new = (c : ℕ) → new c ≡ old c
 ChangedAs heard.Ended old new = (c : ℕ) → new c ≡ old c
 ChangedAs heard.Failed old new = (c : ℕ) → new c ≡ old c
-
--- what files gave a job: what is at its path, or these bytes of it
-abbrev pub Gives : Bool → Trees → Ask → JobResult → List ℕ → Type 0
-Gives tells trees (AskStat path of) (found.Node node) block = tells ≡ true →
-    node ≡ node_of (trees of path)
-Gives tells trees (AskRead path start count of) found.Block block = (length block ≡ count) ×
-    (tells ≡ true → HoldsBytes (trees of path) start count block)
-Gives tells trees (AskStat path of) found.Block block = ⊥
-Gives tells trees (AskRead path start count of) (found.Node node) block = ⊥
-
--- A connection rests: none of its wants can be served, by what is remembered of its link; it is
--- remembered as full only where it is, as far as the links tell.
-pub record IsRested (tells : Type 0) (due : Bool) (c : ℕ) (v : ConnView)
-    (l : LinkView) : Type 0 where
-  pub full : Bool
-  pub told : tells → full ≡ true → l.full ≡ true
-  pub none : All (λ w. doable due full w ≡ false) (wants_at c v)
 
 -- how serving ends where this was heard, if it does
 abbrev pub ending_of : Heard → Option Ending

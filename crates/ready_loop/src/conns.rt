@@ -1,14 +1,14 @@
 // Serves connections one after another, and remembers which links are still to be read.
 ghost use Rattle.std.specs.Prelude.{◌≡◌, ◌≢◌, ◌≤◌, ◌⊎◌, ◌||◌, ℕ, [], true, List, All, OnOk, Option};
 ghost use Rattle.ready_loop.specs.Ids.{has};
-ghost use Rattle.ready_loop.specs.Seen.{Elsewhere};
-ghost use Rattle.ready_loop.specs.Standing.{Keeps, IsMatched};
+ghost use Rattle.link_service.specs.Seen.{Elsewhere};
+ghost use Rattle.link_service.specs.Standing.{Keeps, IsMatched};
 ghost use Rattle.ready_loop.specs.Turns.{AtRest, IsHeard, IsHeardBut};
-ghost use Rattle.ready_loop.specs.Tellings.{StandBeside};
+ghost use Rattle.link_service.specs.Tellings.{StandBeside};
 
-use crate::drain::drain;
 use crate::ids::Ids;
 use byte_text::OutOfMemory;
+use link_service::drain;
 use ngx_outside::{EventCore, Files, Links};
 
 /// What lives as long as the loop: room for what is read of a link, and which links may be due though their connections don't

@@ -6,14 +6,14 @@ ghost use Rattle.ngx_outside.specs.Linked.{Unchanged};
 ghost use Rattle.ngx_outside.specs.Views.{Course};
 ghost use Rattle.ready_loop.specs.declared.ids.Ids.{Ids};
 ghost use Rattle.ngx_outside.specs.Seen.{LinksSeen, FilesSeen};
-ghost use Rattle.ready_loop.specs.Seen.{Elsewhere, Tick, HasTicked, OpenedAt};
-ghost use Rattle.ready_loop.specs.Standing.{Marks, Kept, KeepsTicked, IsMatched};
+ghost use Rattle.link_service.specs.Seen.{Elsewhere, Tick, HasTicked, OpenedAt};
+ghost use Rattle.link_service.specs.Standing.{Marks, Kept, KeepsTicked, IsMatched};
 ghost use Rattle.ready_loop.specs.Turns.{ChangedAs, HeardAs, HeardCounts, IsHeard};
 ghost use Rattle.ngx_outside.specs.Records.{Adds, FileAnswer, Opened as OpenedGiven};
-ghost use Rattle.ready_loop.specs.Tellings.{StandBeside};
+ghost use Rattle.link_service.specs.Tellings.{StandBeside};
 
-use crate::events::opened;
 use http_types::Addr;
+use link_service::opened;
 use ngx_outside::{EventCore, Links, Notice};
 
 /// What was heard: something of a connection, and whether its link is to be read; or nothing; or that no notice will come

@@ -2,13 +2,9 @@
 #![tactic(auto)]
 
 mod conns;
-mod drain;
-mod events;
 mod hear;
 mod ids;
-mod jobs;
 mod laws;
-mod links;
 mod service;
 mod ticks;
 mod timed;

@@ -2,9 +2,9 @@
 ghost use Rattle.std.specs.Prelude.{◌≡◌, ◌≢◌, ◌<◌, ◌≤◌, ◌+◌, ◌-◌, ◌^◌, ◌++◌, ◌∷◌, ℕ, [], true, false, Bool, List, length, OnOk, IfOk, Ok};
 ghost use Rattle.ngx_outside.specs.Causes.{Rose};
 ghost use Rattle.ngx_outside.specs.Linked.{Same, Unchanged};
-ghost use Rattle.ready_loop.specs.Standing.{KeptThrough, IsMatched};
+ghost use Rattle.link_service.specs.Standing.{KeptThrough, IsMatched};
 ghost use Rattle.ready_loop.specs.Turns.{AtRest, IsHeard, TurnsTaken, ending_of};
-ghost use Rattle.ready_loop.specs.Tellings.{StandBeside, moments_told};
+ghost use Rattle.link_service.specs.Tellings.{StandBeside, moments_told};
 
 use crate::conns::{Memory, remember_all, serve_all};
 use crate::hear::Heard;

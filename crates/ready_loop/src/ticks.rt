@@ -3,14 +3,14 @@ ghost use Rattle.std.specs.Prelude.{◌≡◌, ◌≤◌, ◌++◌, ◌∷◌, �
 ghost use Rattle.http_types.specs.declared.words.Addr.{Addr as End};
 ghost use Rattle.ngx_outside.specs.Views.{Course, Ticked, kept_moment};
 ghost use Rattle.ngx_outside.specs.Seen.{LinksSeen};
-ghost use Rattle.ready_loop.specs.Seen.{Grown, Tick};
-ghost use Rattle.ready_loop.specs.Standing.{Kept, Marks};
+ghost use Rattle.link_service.specs.Seen.{Grown, Tick};
+ghost use Rattle.link_service.specs.Standing.{Kept, Marks};
 ghost use Rattle.ready_loop.specs.Turns.{tick_at};
 ghost use Rattle.ready_loop.specs.declared.ticks.Told.{Told};
 ghost use Rattle.ngx_outside.specs.Records.{Adds, FileAnswer, LinkAnswer};
-ghost use Rattle.ready_loop.specs.Tellings.{StandBeside, moments_told};
+ghost use Rattle.link_service.specs.Tellings.{StandBeside, moments_told};
 
-use crate::events::{ticked, tree_told};
+use link_service::{ticked, tree_told};
 use ngx_outside::{Clock, EventCore, Files};
 
 // Tells the core the number of the newest tree, where it was told another before.

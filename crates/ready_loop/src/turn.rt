@@ -4,10 +4,10 @@ ghost use Rattle.ngx_outside.specs.Records.{Adds};
 ghost use Rattle.http_types.specs.declared.words.Addr.{Addr as End};
 ghost use Rattle.ngx_outside.specs.Causes.{Rose};
 ghost use Rattle.ngx_outside.specs.Views.{Course};
-ghost use Rattle.ready_loop.specs.Seen.{Tick};
-ghost use Rattle.ready_loop.specs.Standing.{IsMatched, Keeps, Kept, Marks};
+ghost use Rattle.link_service.specs.Seen.{Tick};
+ghost use Rattle.link_service.specs.Standing.{IsMatched, Keeps, Kept, Marks};
 ghost use Rattle.ready_loop.specs.Turns.{AllRest, HeardAs, HeardCounts, IsHeard, RestsBut, tick_at};
-ghost use Rattle.ready_loop.specs.Tellings.{StandBeside, moments_told};
+ghost use Rattle.link_service.specs.Tellings.{StandBeside, moments_told};
 
 use crate::conns::{Memory, serve_all, serve_one};
 use crate::hear::{Heard, hear};

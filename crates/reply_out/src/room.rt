@@ -5,7 +5,7 @@ use byte_text::ByteQueue;
 use std::alloc::Global;
 use std::mem;
 
-/// A response for which this much room is made is large, and so is one of which this many bytes went out at last.
+/// This much room is large.
 const MUCH: usize = 4096;
 
 /// The room of a response that went out whole, where that was large: the next large one takes it, on whichever connection, in place of
@@ -36,12 +36,12 @@ impl OutRoom {
         }
     }
 
-    /// Drops the first bytes of a queue. Where these were many, and all that waited, its room is kept.
+    /// Drops the first bytes of a queue. Where these were all that waited, its room is kept if it is large.
     pub fn used(&mut self, out: &mut ByteQueue, count: usize)
         requires { count ≤ length out.old }
         ensures { out.new ≡ drop count out.old }
     {
-        if self.is_large || count < MUCH || count < out.len() {
+        if self.is_large || count < out.len() || out.room() < MUCH {
             out.used(count);
             return;
         }

@@ -20,7 +20,8 @@ use Rattle.request_flow.specs.declared.flow.Stage.TheVariants.{Asked, Told, Read
 use Rattle.request_flow.specs.declared.flow.Flow.{Flow}
 use Rattle.request_flow.specs.Padded.{padded}
 use Rattle.request_flow.specs.Rests.{Rest, no_rest, closes_after, Follows}
-use Rattle.request_flow.specs.Flows.{told_item, file_rest, told_rest, one_rest, item_asked, stage_fits, is_block, placed_most, block_most, file_length}
+use Rattle.ngx_outside.specs.Stepped.{IsReading}
+use Rattle.request_flow.specs.Flows.{count_asked, told_item, file_rest, told_rest, one_rest, item_asked, stage_fits, is_block, placed_most, block_most, file_length}
 use Rattle.request_flow.proofs.Padding.{padded_length, padded_split, padded_within, padded_whole, padded_none}
 
 abbrev flow_at : Ask → Stage → Flow
@@ -167,3 +168,8 @@ reading_follows w patterns site trees (ask.Read path start count of) stage sendi
       subs = refl;
     })
 reading_follows w patterns site trees (ask.Stat path of) stage sending left placed size bytes given out out' closing es eg eo fits fitting from = absurd (subst (λ a. IsFrom trees (ask.Stat path of) a) eg from)
+
+-- a block of as many bytes as are asked fits
+pub fits_block : (job : Ask) (block : Bor (List ℕ)) → IsReading (Some job) → length block.now ≡ count_asked job → is_fitting job (answer.Read block) ≡ true
+fits_block (ask.Stat path of) block reads long = absurd reads
+fits_block (ask.Read path start count of) block reads long = grind (arith, nat_tests, long)

@@ -145,6 +145,11 @@ is_block len left (ask.Stat path of) = false
 is_block len left (ask.Read path start count of) =
     (start == len - left) && (count == min left block_most)
 
+-- how many bytes a job asks for
+abbrev pub count_asked : Ask → ℕ
+count_asked (ask.Stat path of) = 0
+count_asked (ask.Read path start count of) = count
+
 -- how far a request is fits its job and the bytes for its peer, of which there are this many
 abbrev pub stage_fits : Ask → Stage → (size : ℕ) → Bool
 stage_fits job (Asked request wait) size = is_stat job && (size == 0)

@@ -12,5 +12,5 @@ mod steps;
 pub use blocks::Sending;
 pub use flow::{Flow, Onward, Stage, length_of, may_run, server_of, shown_by, waits, wrote};
 pub use page::{AccessStart, PageHead, PageStart, Went};
-pub use run::{answered, is_sending, run_on, sends_on};
+pub use run::{answered, came, is_sending, run_on, sends_on};
 pub use steps::{FileAt, Known, Replied, admits, start};

@@ -1,12 +1,15 @@
 // A request runs on, and its jobs are answered.
-ghost use Rattle.std.specs.Prelude.{◌≡◌, ◌≤◌, ◌<◌, ◌+◌, ◌*◌, not, [], List, ℕ, Bool, true, length, is_some, IfOk, OnOk, Some, None};
+ghost use Rattle.std.specs.Prelude.{◌≡◌, ◌≤◌, ◌<◌, ◌+◌, ◌*◌, not, [], ◌++◌, List, ℕ, Bool, true, length, is_some, IfOk, OnOk, Some, None};
+ghost use Rattle.std.specs.Borrow.{Bor};
 ghost use Rattle.file_tree.specs.Tree.{Trees, IsFrom, tree_of, is_fitting as fits_job};
+ghost use Rattle.file_tree.specs.declared.job.JobAnswer.TheVariants.{Read as BlockRead};
+ghost use Rattle.ngx_outside.specs.Stepped.{IsReading};
 ghost use Rattle.ngx_pattern.specs.Pattern.{Pattern as SetPattern};
 ghost use Rattle.site_model.specs.declared.site.Site.{Site as SiteRow};
 ghost use Rattle.request_meaning.specs.Laws.{shipped};
 ghost use Rattle.request_meaning.specs.Serving.{World};
 ghost use Rattle.request_phases.specs.Rounds.{IsGround, world_in};
-ghost use Rattle.request_flow.specs.Flows.{waits as waits_for, may_run as can_run, is_sending as sends, going_on, one_rest, flow_rest, flow_fits, flow_left, flow_most, tree_asked, heard_flow, file_length, stage_server, stage_length, stage_opened, HasOpened, IsServedBy};
+ghost use Rattle.request_flow.specs.Flows.{waits as waits_for, may_run as can_run, is_sending as sends, going_on, one_rest, flow_rest, flow_fits, flow_left, flow_most, tree_asked, heard_flow, file_length, stage_server, stage_length, stage_opened, HasOpened, IsServedBy, count_asked};
 ghost use Rattle.request_flow.specs.Rests.{Follows};
 ghost use Rattle.request_flow.specs.Pages.{GoesTo, IfAsks, IfOn, IfPage, AreOpened, IsServed, IsTold, closing_of, tree_of_went};
 ghost use Rattle.request_flow.specs.Reached.{FlowReached, OneReached, WentReached};
@@ -322,6 +325,60 @@ fn take_stage(stage: &mut Stage) -> Stage
             left: 0,
         },
     )
+}
+
+/// How many bytes the job of a request asks for; none where it asks what is at a path.
+fn count_of(ask: &Ask) -> u64
+    ensures { result ≡ count_asked ask.now }
+{
+    match ask {
+        Ask::Read {
+            path: _,
+            start: _,
+            count,
+            of: _,
+        } => *count,
+        Ask::Stat { path: _, of: _ } => 0,
+    }
+}
+
+/// The block that its job asks for was added to the bytes for the peer, of which there were `placed`.
+#[tactic(auto, unfolding(crate::specs::Flows::placed_most, crate::specs::Flows::block_most, crate::specs::Flows::kept_most))]
+pub fn came(flow: &mut Box<Flow>, placed: usize)
+    requires fits { flow_fits (Some flow.old) placed ≡ true }
+    requires waits { waits_for flow.old.value.stage ≡ true }
+    requires reads { IsReading (Some flow.old.value.ask) }
+    ensures goes { (w : World) (patterns : List SetPattern) (site : SiteRow) (trees : Trees)
+        (closing : Bool) (block : Bor (List ℕ)) (from to : List ℕ) → length from ≡ placed →
+        to ≡ from ++ block.now → length block.now ≡ count_asked flow.old.value.ask →
+        IsFrom trees flow.old.value.ask (BlockRead block) →
+        Follows site (flow_rest w patterns site (Some flow.old) trees)
+        (flow_rest w patterns site (Some flow.new) trees) from to closing closing None None }
+    ensures fits { flow_fits (Some flow.new) (placed + count_asked flow.old.value.ask) ≡ true }
+    ensures lowers { placed + count_asked flow.old.value.ask + flow_left (Some flow.new)
+        (placed + count_asked flow.old.value.ask) < placed + flow_left (Some flow.old) placed }
+    ensures by { IsServedBy (stage_server flow.old.value.stage)
+        (stage_length flow.old.value.stage) (Some flow.new) }
+    ensures opened { HasOpened (stage_opened flow.old.value.stage) (Some flow.new) }
+    ensures asked { tree_of flow.new.value.ask ≡ tree_of flow.old.value.ask }
+    ensures reached { (w : World) (patterns : List SetPattern) (site : SiteRow) →
+        FlowReached w patterns site (Some flow.old)
+        → FlowReached w patterns site (Some flow.new) }
+{
+    let flow = &mut **flow;
+    let Stage::Reading { sending, left } = &flow.stage else {
+        unreachable!();
+    };
+    let (sending, left) = (*sending, *left);
+    let left = left - count_of(&flow.ask);
+    put(
+        &mut flow.stage,
+        Stage::Came {
+            sending,
+            left,
+            placed,
+        },
+    );
 }
 
 /// Its job is answered, in its place: what is at its path is told, or a block of its file is put

@@ -96,6 +96,13 @@ access_asked f at job e = by (waits f.stage) refl e
     by true w h = record { waits = w; own = named (f.request.value.opened == at) h }
     by false w h = cc
 
+pub alone_waits : (flow : Box Flow) (at : ℕ) (job : Ask) → ask_in (jobs_of (Some flow)) at ≡ Some job → flow_waits flow.value.stage ≡ true
+alone_waits flow at job e = by (flow_waits flow.value.stage) refl e
+  where
+    by : (b : Bool) → flow_waits flow.value.stage ≡ b → ask_in (cond b (record { node = 0; ask = flow.value.ask } ∷ []) []) at ≡ Some job → flow_waits flow.value.stage ≡ true
+    by true w h = w
+    by false w h = cc
+
 pub alone_ask : (flow : Box Flow) (at : ℕ) (job : Ask) → ask_in (jobs_of (Some flow)) at ≡ Some job → flow.value.ask ≡ job
 alone_ask flow at job e = by (flow_waits flow.value.stage) e
   where

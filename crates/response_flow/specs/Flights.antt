@@ -17,6 +17,8 @@ use Rattle.page_response.specs.Pages.{EndsIn, IsReached, bytes_left, nodes_asked
 use Rattle.page_response.specs.declared.pages.Pages.{Pages}
 use Rattle.request_flow.specs.Flows.{IsServedBy, flow_fits, flow_left, flow_rest, is_sending, may_run, shown_by, shown_most, stage_length, stage_opened, stage_server, tree_asked, jobs_of as flow_jobs}
 use Rattle.request_flow.specs.declared.flow.Flow.{Flow}
+use Rattle.file_tree.specs.declared.job.Ask.{Ask}
+use Rattle.file_tree.specs.declared.job.Ask.TheVariants as ask
 use Rattle.std.specs.Global.{Box}
 use Rattle.access_flow.specs.Flows.{IsOfTree, access_left, is_inner, steps_left, waits}
 use Rattle.access_flow.specs.Reached.{AccessReached}
@@ -257,3 +259,14 @@ IsServed server length (Page p) = (p.server ≡ server) × (p.length ≡ length)
 abbrev pub FlightServedBy : (server length : ℕ) → Option Flight → Type 0
 FlightServedBy server length None = Unit {0}
 FlightServedBy server length (Some flight) = IsServed server length flight
+
+-- a request alone asks for a block of its file
+abbrev pub is_read : Ask → Bool
+is_read (ask.Stat path of) = false
+is_read (ask.Read path start count of) = true
+
+abbrev pub reads_alone_in : Option Flight → Bool
+reads_alone_in None = false
+reads_alone_in (Some (Page p)) = false
+reads_alone_in (Some (Asking f)) = false
+reads_alone_in (Some (Alone f)) = is_read f.value.ask

@@ -10,7 +10,7 @@ mod run;
 mod slot;
 mod wants;
 
-pub use answer::answered;
+pub use answer::{answered, came, reads_alone};
 pub use flight::{Flight, Onward, PageFlow, Passed, Ran, length_of, server_of};
 pub use law::{shown_are_most, shown_end_whole};
 pub use run::{run_in_place, run_on, start};

@@ -8,10 +8,10 @@ use Rattle.ngx_outside.specs.Runs.{AllIsSentWhenIdle, ShutIsExact}
 use Rattle.ngx_outside.specs.declared.event.StopCause.{StopCause}
 use Rattle.ngx_outside.specs.declared.event.StopCause.TheVariants as stop
 use Rattle.ngx_outside.specs.Seen.{FilesSeen, Terms}
-use Rattle.ready_loop.specs.Seen.{Tick}
-use Rattle.ready_loop.specs.Passing.{Behind}
+use Rattle.link_service.specs.Seen.{Tick}
+use Rattle.link_service.specs.Passing.{Behind}
 use Rattle.ready_loop.specs.Laws.{ClosedUnendedSentAll, ClosedUnstoppedSentAll}
-use Rattle.ready_loop.specs.Standing.{Account, Reason, NobodyAnswers, NoPlaceLeft, NoMemory, Stands, Unused, TurnedAway, Open, Closed}
+use Rattle.link_service.specs.Standing.{Account, Reason, NobodyAnswers, NoPlaceLeft, NoMemory, Stands, Unused, TurnedAway, Open, Closed}
 use Rattle.ready_loop.specs.Turns.{AtRest}
 use Rattle.http_types.specs.declared.words.Addr.{Addr}
 use Rattle.site_model.specs.declared.site.Server.{Server}

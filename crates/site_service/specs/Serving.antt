@@ -7,9 +7,9 @@ use Rattle.ngx_outside.specs.Seen.{LinksSeen, FilesSeen, ClockSeen}
 use Rattle.ngx_outside.specs.Views.{ConnView, Course, Start, IsSound}
 use Rattle.ngx_outside.specs.Runs.{IsPrefixOf, Agree}
 use Rattle.ngx_outside.specs.declared.event.StopCause.{StopCause}
-use Rattle.ready_loop.specs.Seen.{Tick, AreTold, IsDated}
-use Rattle.ready_loop.specs.Passing.{Behind}
-use Rattle.ready_loop.specs.Standing.{Reason}
+use Rattle.link_service.specs.Seen.{Tick, AreTold, IsDated}
+use Rattle.link_service.specs.Passing.{Behind}
+use Rattle.link_service.specs.Standing.{Reason}
 use Rattle.ready_loop.specs.Turns.{AtRest, TurnsTaken}
 use Rattle.ready_loop.specs.declared.service.Ending.{Ending}
 use Rattle.ready_loop.specs.declared.service.Ending.TheVariants as ending

@@ -5,8 +5,8 @@ ghost use Rattle.ngx_outside.specs.declared.files.Listing.TheVariants.{Missing};
 
 use crate::kept::{Identity, KeptFile, KeptFiles, MOST, Slot, Sought};
 use crate::looks::Looks;
-use crate::room::Room;
-use byte_text::{ByteText, ByteTexts, OutOfMemory};
+use crate::room::{Room, read_into};
+use byte_text::{ByteQueue, ByteText, ByteTexts, OutOfMemory};
 use file_tree::Node;
 use libc::types::rlimit;
 use ngx_outside::{Failed, FileFault, Files, Listing};
@@ -26,6 +26,18 @@ const ENFILE: i32 = 23;
 const FEW: usize = 16;
 
 const DESCRIPTORS_BESIDE: u64 = 8;
+
+// No more bytes than these are read into the room, from which they are copied: a small file keeps its bytes.
+const FEW_BYTES: u64 = 4096;
+
+// Bytes of a file: its path, from where on and how many, and the number of the tree.
+#[derive(Clone, Copy)]
+struct Block<'a> {
+    path: &'a [u8],
+    start: u64,
+    count: u64,
+    of: u64,
+}
 
 // What an error of the host says of a path. Of what isn't said here the job fails.
 fn node_missed(kind: ErrorKind) -> Result<Node, Failed> {
@@ -203,12 +215,54 @@ fn read_file<F: FileExt + AsRawFd + OpenFile + Drop>(
             if file.lacks_bytes(start, count) {
                 keep_bytes(looks, kept, place, room.block());
             }
-            kept.show(place, of);
             kept.read(place, start, count, of);
             Ok(())
         }
         Err(fault) => Err(fault),
     }
+}
+
+// Adds bytes of the file that the tree of a number showed at a path to a queue: those that are kept, those of the room where it has
+// them or they are few, and else such as are read to their place in the queue. Where they aren't all of the file, it fails if the file was
+// written since it was opened.
+fn read_file_to<F: FileExt + AsRawFd + OpenFile + Drop>(
+    looks: &mut Looks,
+    kept: &mut KeptFiles<F>,
+    room: &mut Room,
+    job: Block<'_>,
+    out: &mut ByteQueue,
+) -> Result<(), FileFault>
+    ensures ok { OnOk result ((added : List ℕ) × (length added ≡ job.entry.count)
+        × (out.new ≡ out.old ++ added)) }
+    ensures err { OnErr result (out.new ≡ out.old) }
+{
+    let Block {
+        path,
+        start,
+        count,
+        of,
+    } = job;
+    if count <= FEW_BYTES {
+        read_file(looks, kept, room, path, start, count, of)?;
+        out.append(room.block())?;
+        return Ok(());
+    }
+    let Some((place, file)) = kept.find(path, Sought::ShownIn(of)) else {
+        return Err(FileFault::Failed);
+    };
+    let is_read = out.append_with(count as usize, |into| {
+        read_into(&file.file, into, start)
+            && (file.is_whole(start, count) || has_same_bytes(looks, &file.file, &file.identity))
+    })?;
+    if !is_read {
+        return Err(FileFault::Failed);
+    }
+    if file.is_inner(start, count) {
+        kept.read_on(place);
+    } else {
+        kept.read(place, start, count, of);
+    }
+    Ok(())
 }
 
 // How many files may be kept open: half of the descriptors that the process may have, so that the others are left to links.
@@ -355,6 +409,31 @@ where
     ) -> Result<(), FileFault> {
         let (looks, kept) = (&mut self.looks, &mut self.kept);
         match read_file(looks, kept, &mut self.room, path, start, count, of) {
+            Ok(()) => Ok(()),
+            Err(FileFault::Failed) => {
+                self.count_fault();
+                Err(FileFault::Failed)
+            }
+            Err(FileFault::OutOfMemory) => Err(FileFault::OutOfMemory),
+        }
+    }
+
+    fn read_to(
+        &mut self,
+        path: &[u8],
+        start: u64,
+        count: u64,
+        of: u64,
+        out: &mut ByteQueue,
+    ) -> Result<(), FileFault> {
+        let job = Block {
+            path,
+            start,
+            count,
+            of,
+        };
+        let (looks, kept) = (&mut self.looks, &mut self.kept);
+        match read_file_to(looks, kept, &mut self.room, job, out) {
             Ok(()) => Ok(()),
             Err(FileFault::Failed) => {
                 self.count_fault();

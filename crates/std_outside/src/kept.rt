@@ -177,6 +177,12 @@ impl<F: Drop> KeptFile<F> {
         start == 0 && count == self.identity.len
     }
 
+    /// Whether `count` bytes from `start` on are neither its first nor its last ones.
+    #[inline(always)]
+    pub fn is_inner(&self, start: u64, count: u64) -> bool {
+        start > 0 && start.saturating_add(count) < self.identity.len
+    }
+
     fn is_at(&self, path: &[u8]) -> bool
         ensures { result ≡ true → string_bytes self.now.path ≡ path.now }
     {
@@ -188,6 +194,27 @@ impl<F: Drop> KeptFile<F> {
         ensures { result ≡ true → (self.now.first ≤ of) × (of ≤ self.now.last) }
     {
         self.first <= of && of <= self.last
+    }
+
+    // It is used now, as this is counted, for the tree of a number.
+    #[inline(always)]
+    fn show(&mut self, uses: u64, of: u64) {
+        self.used = uses;
+        self.last = self.last.max(of);
+    }
+
+    // This many of its bytes were read, from `start` on, for the tree of a number. Whether nobody may need it open any more.
+    #[inline(always)]
+    fn read(&mut self, start: u64, count: u64, of: u64) -> bool {
+        if start == 0 {
+            self.readers = self.readers.saturating_add(1);
+        }
+        if start.saturating_add(count) < self.identity.len {
+            return false;
+        }
+        self.readers = self.readers.saturating_sub(1);
+        let is_large = self.identity.len > LARGE && of == self.last;
+        self.readers == 0 && (self.past || is_large)
     }
 
     // Whether it is the file of a path that is sought.
@@ -227,7 +254,7 @@ fn mixed(hash: u64, word: u64) -> u64 {
     (hash ^ word).wrapping_mul(SPREAD).rotate_left(23)
 }
 
-/// The bucket of a path, whose bytes are hashed eight at a time.
+/// The bucket of a path, whose bytes are hashed eight at a time. The last step has each of them reach the bits that say it.
 fn bucket_of(path: &[u8]) -> usize {
     let (words, rest) = path.as_chunks::<8>();
     let mut hash = path.len() as u64;
@@ -237,7 +264,7 @@ fn bucket_of(path: &[u8]) -> usize {
     for byte in rest {
         hash = mixed(hash, *byte as u64);
     }
-    (hash >> 32) as usize % BUCKETS
+    (hash.wrapping_mul(SPREAD) >> 32) as usize % BUCKETS
 }
 
 fn empty_buckets<F: Drop>(alloc: Global) -> Result<Vec<Vec<KeptFile<F>>>, AllocError> {
@@ -316,6 +343,16 @@ impl<F: Drop> KeptFiles<F> {
                 return Some((self.near, kept));
             }
         }
+        self.find_far(path, sought)
+    }
+
+    // The same, in its bucket.
+    #[inline(never)]
+    fn find_far(&self, path: &[u8], sought: Sought) -> Option<(Slot, &KeptFile<F>)>
+        ensures path { IfSome result (λ found. string_bytes found.1.now.path ≡ path.now) }
+        ensures tree { IfSome result (λ found. (of : ℕ) → sought ≡ ShownIn of →
+            (found.1.now.first ≤ of) × (of ≤ found.1.now.last)) }
+    {
         let bucket = bucket_of(path);
         for (at, kept) in self.buckets.get(bucket)?.iter().enumerate() {
             if kept.is_sought(path, sought) {
@@ -335,11 +372,8 @@ impl<F: Drop> KeptFiles<F> {
         self.uses = self.uses.saturating_add(1);
         self.near = place;
         let uses = self.uses;
-        if let Some(bucket) = self.buckets.get_mut(place.bucket) {
-            if let Some(kept) = bucket.get_mut(place.at) {
-                kept.used = uses;
-                kept.last = kept.last.max(of);
-            }
+        if let Some(kept) = self.file_mut(place) {
+            kept.show(uses, of);
         }
     }
 
@@ -367,23 +401,26 @@ impl<F: Drop> KeptFiles<F> {
         }
     }
 
+    /// The file of a place is read on: it is looked at first where one is sought next.
+    #[inline(always)]
+    pub fn read_on(&mut self, place: Slot) {
+        self.near = place;
+    }
+
     /// This many bytes were read of the file of a place, from `start` on, for the tree of a number. Who began at the start
     /// reads it until its end was read. Then nobody may need it open any more.
+    #[inline(always)]
     pub fn read(&mut self, place: Slot, start: u64, count: u64, of: u64) {
-        let mut is_done = false;
-        if let Some(bucket) = self.buckets.get_mut(place.bucket) {
-            if let Some(kept) = bucket.get_mut(place.at) {
-                let len = kept.identity.len;
-                if start == 0 {
-                    kept.readers = kept.readers.saturating_add(1);
-                }
-                if start.saturating_add(count) >= len {
-                    kept.readers = kept.readers.saturating_sub(1);
-                    let is_large = len > LARGE && of == kept.last;
-                    is_done = kept.readers == 0 && (kept.past || is_large);
-                }
+        self.uses = self.uses.saturating_add(1);
+        self.near = place;
+        let uses = self.uses;
+        let is_done = match self.file_mut(place) {
+            Some(kept) => {
+                kept.show(uses, of);
+                kept.read(start, count, of)
             }
-        }
+            None => false,
+        };
         if is_done {
             self.close(place);
         }

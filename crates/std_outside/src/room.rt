@@ -15,10 +15,24 @@ use std::os::unix::fs::FileExt;
 /// is asked once for several parts, which are then of one state.
 const MOST: u64 = 65536;
 
+// Fills a slice with the bytes that a file has from a place on, by several calls.
+#[inline(never)]
+fn read_in_parts<F: FileExt>(file: &F, into: &mut [u8], start: u64) -> bool {
+    file.read_exact_at(into, start).is_ok()
+}
+
+// Fills a slice with the bytes that a file has from a place on; false where they can't be read. Mostly the system has them all at once
+// (pread(2)).
+#[inline(always)]
+pub(crate) fn read_into<F: FileExt + AsRawFd>(file: &F, into: &mut [u8], start: u64) -> bool {
+    let got = libc::pread(file.as_raw_fd(), into, start.cast_signed());
+    got == into.len().cast_signed() || read_in_parts(file, into, start)
+}
+
 // Reads this many bytes that a file has from a place on into the front of a room. One that is too small grows, and none is cleared
 // again, so that a server which reads on clears nothing.
 #[inline(always)]
-fn read_front<F: FileExt + OpenFile + Drop>(
+fn read_front<F: FileExt + AsRawFd + OpenFile + Drop>(
     kept: &KeptFile<F>,
     start: u64,
     count: usize,
@@ -32,9 +46,9 @@ fn read_front<F: FileExt + OpenFile + Drop>(
             return Err(FileFault::OutOfMemory);
         };
     }
-    let Ok(()) = kept.file.read_exact_at(&mut room[..count], start) else {
+    if !read_into(&kept.file, &mut room[..count], start) {
         return Err(FileFault::Failed);
-    };
+    }
     Ok(())
 }
 

@@ -1,8 +1,8 @@
 use Rattle.telling_core.specs.Core.{events_of}
 use Rattle.memory_links.specs.Told.{answers_of}
 use Rattle.ngx_outside.specs.Records.{beside_link}
-use Rattle.ready_loop.specs.Tellings.{of_link}
-use Rattle.ready_loop.proofs.BesideLemmas.{beside_from_start, moments_from_start}
+use Rattle.link_service.specs.Tellings.{of_link}
+use Rattle.link_service.proofs.BesideLemmas.{beside_from_start, moments_from_start}
 use Rattle.outside_tests.proofs.serving.serve_from_start.Goals as goal
 
 pub returns-clause-links : goal.returns-clause-links

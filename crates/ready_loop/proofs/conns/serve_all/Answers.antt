@@ -5,7 +5,7 @@ use Rattle.std.proofs.lemmas.List.{take_all}
 use Rattle.ngx_outside.specs.Views.{Start}
 use Rattle.ready_loop.specs.Turns.{IsHeard, IsHeardBut}
 use Rattle.ready_loop.proofs.RestLemmas.{rest_served, rest_listed, apart_at, heard_all}
-use Rattle.ready_loop.proofs.BesideLemmas.{stand_then}
+use Rattle.link_service.proofs.BesideLemmas.{stand_then}
 use Rattle.ready_loop.proofs.conns.serve_all.Goals as goal
 
 pub loop-conn-preserved : goal.loop-conn-preserved

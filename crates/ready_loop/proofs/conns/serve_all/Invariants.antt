@@ -1,9 +1,9 @@
 use Rattle.std.proofs.Common.{List, Option, ◌≡◌, ◌≤◌, ℕ, true, false, take}
 use Rattle.std.specs.Prelude.{nat_eq}
 use Rattle.std.specs.List.{list_any}
-use Rattle.ready_loop.specs.Standing.{Keeps, IsMatched}
+use Rattle.link_service.specs.Standing.{Keeps, IsMatched}
 use Rattle.ready_loop.specs.Turns.{AtRest, IsHeard}
-use Rattle.ready_loop.specs.Tellings.{StandBeside}
+use Rattle.link_service.specs.Tellings.{StandBeside}
 use Rattle.ready_loop.proofs.conns.serve_all.Given as goal
 
 abbrev pub invariant-loop-conn : goal.invariant-loop-conn

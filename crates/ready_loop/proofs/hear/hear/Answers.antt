@@ -1,9 +1,9 @@
 use Rattle.std.proofs.Common.{◌∙◌, refl, sym, ap, inl}
 use Rattle.ngx_outside.specs.Linked.{LinkView}
-use Rattle.ready_loop.proofs.KeptLemmas.{kept_same, grown_same}
+use Rattle.link_service.proofs.KeptLemmas.{kept_same, grown_same}
 use Rattle.ngx_outside.specs.Records.{Noticed}
 use Rattle.ngx_outside.specs.declared.links.Notice.TheVariants as notice
-use Rattle.ready_loop.proofs.BesideLemmas.{stand_answered}
+use Rattle.link_service.proofs.BesideLemmas.{stand_answered}
 use Rattle.ready_loop.proofs.hear.hear.Goals as goal
 
 pub returns-in-Opened-clause-kept : goal.returns-in-Opened-clause-kept

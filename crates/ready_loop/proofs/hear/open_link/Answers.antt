@@ -1,6 +1,7 @@
 use Rattle.std.proofs.Common.{◌≡◌, ◌+◌, ◌∙◌, ap}
 use Rattle.ngx_outside.specs.Views.{ConnView}
-use Rattle.ready_loop.proofs.KeptLemmas.{kept_opened, kept_turned_away, closes_open}
+use Rattle.link_service.proofs.KeptLemmas.{closes_open}
+use Rattle.ready_loop.proofs.TurnLemmas.{kept_opened, kept_turned_away}
 use Rattle.ready_loop.proofs.hear.open_link.Goals as goal
 
 pub returns-then-not-opened-clause-kept : goal.returns-then-not-opened-clause-kept

@@ -1,8 +1,8 @@
 use Rattle.std.proofs.Common.{refl, sym, subst}
 use Rattle.ready_loop.proofs.ThroughLemmas.{through_none, through_told, keeps_listening}
 use Rattle.ngx_outside.specs.Seen.{LinksSeen}
-use Rattle.ready_loop.specs.Tellings.{StandBeside, moments_told}
-use Rattle.ready_loop.proofs.BesideLemmas.{stand_same, stand_then}
+use Rattle.link_service.specs.Tellings.{StandBeside, moments_told}
+use Rattle.link_service.proofs.BesideLemmas.{stand_same, stand_then}
 use Rattle.ready_loop.proofs.service.serve.Goals as goal
 
 pub returns-then-not-listen_all-clause-kept : goal.returns-then-not-listen_all-clause-kept

@@ -3,8 +3,8 @@ use Rattle.std.specs.List.{All}
 use Rattle.ready_loop.specs.Ids.{has}
 use Rattle.ready_loop.specs.Turns.{IsHeard}
 use Rattle.ready_loop.proofs.RestLemmas.{rest_same, heard_at_start}
-use Rattle.ready_loop.specs.Tellings.{moments_told}
-use Rattle.ready_loop.proofs.BesideLemmas.{stand_then}
+use Rattle.link_service.specs.Tellings.{moments_told}
+use Rattle.link_service.proofs.BesideLemmas.{stand_then}
 use Rattle.ready_loop.proofs.ThroughLemmas.{through_between}
 use Rattle.ready_loop.proofs.service.serve_turns.Goals as goal
 

@@ -1,9 +1,9 @@
 use Rattle.std.proofs.Common.{◌≡◌, ◌∙◌, ℕ, ◌+◌, ◌-◌, ◌^◌, refl, sym, ap, arith, rules}
 use Rattle.std.specs.Prelude.{min}
-use Rattle.ready_loop.specs.Tellings.{moments_told}
-use Rattle.ready_loop.proofs.BesideLemmas.{stand_none, stand_then}
+use Rattle.link_service.specs.Tellings.{moments_told}
+use Rattle.link_service.proofs.BesideLemmas.{stand_none, stand_then}
 use Rattle.ready_loop.specs.Turns.{tick_at}
-use Rattle.ready_loop.proofs.KeptLemmas.{rose_after}
+use Rattle.link_service.proofs.KeptLemmas.{rose_after}
 use Rattle.ready_loop.proofs.ThroughLemmas.{through_turn, through_none}
 use Rattle.ready_loop.proofs.EndLemmas.{ended_turns, never_listened, is_ended, is_failed, counted_one, ok_is}
 use Rattle.ready_loop.proofs.service.take_turns.Goals as goal

@@ -1,8 +1,8 @@
 use Rattle.std.proofs.Common.{◌≡◌, ◌≤◌, ◌+◌, ◌-◌, ◌^◌, true}
 use Rattle.std.specs.Prelude.{IfSome, min}
-use Rattle.ready_loop.specs.Standing.{KeptThrough, IsMatched}
+use Rattle.link_service.specs.Standing.{KeptThrough, IsMatched}
 use Rattle.ready_loop.specs.Turns.{IsHeard}
-use Rattle.ready_loop.specs.Tellings.{StandBeside, moments_told}
+use Rattle.link_service.specs.Tellings.{StandBeside, moments_told}
 use Rattle.ready_loop.proofs.service.take_turns.Given as goal
 
 abbrev pub invariant-loop-turn : goal.invariant-loop-turn

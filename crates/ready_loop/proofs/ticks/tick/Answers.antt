@@ -1,9 +1,9 @@
 use Rattle.std.proofs.Common.{[], ◌∷◌, ◌++◌, sym, ap, subst, ◌∙◌}
 use Rattle.ngx_outside.specs.Views.{ConnView, Ticked, kept_moment}
-use Rattle.ready_loop.proofs.KeptLemmas.{kept_ticked, kept_version, now_is}
-use Rattle.ready_loop.specs.Seen.{Tick}
-use Rattle.ready_loop.specs.Tellings.{StandBeside, moments_told}
-use Rattle.ready_loop.proofs.BesideLemmas.{stand_ticked, stand_then}
+use Rattle.ready_loop.proofs.TurnLemmas.{kept_ticked, kept_version, now_is}
+use Rattle.link_service.specs.Seen.{Tick}
+use Rattle.link_service.specs.Tellings.{StandBeside, moments_told}
+use Rattle.link_service.proofs.BesideLemmas.{stand_ticked, stand_then}
 use Rattle.ready_loop.proofs.ticks.tick.Goals as goal
 
 pub returns-clause-kept : goal.returns-clause-kept

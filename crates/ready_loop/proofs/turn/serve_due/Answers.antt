@@ -1,7 +1,7 @@
 use Rattle.std.proofs.Common.{◌≡◌, true}
 use Rattle.ready_loop.specs.Turns.{IsHeard}
 use Rattle.ready_loop.proofs.RestLemmas.{rests_all}
-use Rattle.ready_loop.proofs.BesideLemmas.{stand_none}
+use Rattle.link_service.proofs.BesideLemmas.{stand_none}
 use Rattle.ready_loop.proofs.turn.serve_due.Goals as goal
 
 pub returns-in_ok-serve_all-clause-rests : goal.returns-in_ok-serve_all-clause-rests

@@ -1,7 +1,7 @@
 use Rattle.std.proofs.Common.{◌≡◌, true, subst}
 use Rattle.ready_loop.specs.Turns.{IsHeardBut, HeardAs, RestsBut}
 use Rattle.ready_loop.proofs.RestLemmas.{rests_one}
-use Rattle.ready_loop.proofs.BesideLemmas.{stand_none}
+use Rattle.link_service.proofs.BesideLemmas.{stand_none}
 use Rattle.ready_loop.proofs.turn.serve_heard.Goals as goal
 
 pub returns-in_ok-serve_one-in-At-clause-rests : goal.returns-in_ok-serve_one-in-At-clause-rests

@@ -1,8 +1,8 @@
 use Rattle.std.proofs.Common.{◌≡◌, ◌∙◌, [], ◌∷◌, ◌++◌, true, refl, sym}
 use Rattle.ready_loop.specs.Turns.{tick_at}
 use Rattle.ready_loop.proofs.RestLemmas.{rests_ticked, rests_heard, rests_told, before_all}
-use Rattle.ready_loop.specs.Tellings.{moments_told}
-use Rattle.ready_loop.proofs.BesideLemmas.{stand_then}
+use Rattle.link_service.specs.Tellings.{moments_told}
+use Rattle.link_service.proofs.BesideLemmas.{stand_then}
 use Rattle.ready_loop.proofs.turn.take_turn.Goals as goal
 
 pub returns-clause-kept : goal.returns-clause-kept

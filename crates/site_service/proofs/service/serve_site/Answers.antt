@@ -2,8 +2,8 @@ use Rattle.std.proofs.Common.{◌≡◌, ◌≢◌, ℕ, true, false, [], ◌++�
 use Rattle.ngx_outside.specs.Causes.{Rose}
 use Rattle.ngx_outside.specs.Seen.{Terms, CoreSeen, LinksSeen, FilesSeen}
 use Rattle.ngx_outside.specs.Views.{ConnView, Start}
-use Rattle.ready_loop.specs.Seen.{last_start}
-use Rattle.ready_loop.specs.Standing.{Kept, Stands}
+use Rattle.link_service.specs.Seen.{last_start}
+use Rattle.link_service.specs.Standing.{Kept, Stands}
 use Rattle.ready_loop.specs.Laws.{marks_of}
 use Rattle.ready_loop.specs.declared.service.Ending.TheVariants as ending
 use Rattle.site_model.specs.declared.site.Site.{Site}

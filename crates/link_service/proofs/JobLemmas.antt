@@ -1,0 +1,19 @@
+-- What the files gave is an answer from all trees that agree with what they tell.
+use Rattle.std.proofs.Common.{◌≡◌, ℕ, ◌≤◌, List, sym, ap, ◌∙◌, subst}
+use Rattle.std.specs.Borrow.{Bor}
+use Rattle.file_tree.specs.Tree.{Trees, Item, node_of, HoldsBytes, IsFrom}
+use Rattle.file_tree.specs.declared.job.Node.{Node}
+use Rattle.file_tree.specs.declared.job.Ask.TheVariants as ask
+use Rattle.file_tree.specs.declared.job.JobAnswer.TheVariants as answer
+use Rattle.ngx_outside.specs.Runs.{Agree}
+use Rattle.ngx_outside.specs.Seen.{FilesSeen}
+use Rattle.link_service.specs.Seen.{Grown}
+use Rattle.link_service.proofs.AccountLemmas.{agree_narrow}
+
+pub node_from : (files files' : FilesSeen) (trees : Trees) (path : List ℕ) (of : ℕ) (node : Node) → Grown files files' → Agree files'.trees files'.newest trees → of ≤ files.newest → node ≡ node_of (files.trees of path) → IsFrom trees (ask.Stat path of) (answer.Stat node)
+node_from files files' trees path of node g a within h = h ∙ sym (ap node_of ((agree_narrow files files' g trees a).same of within path))
+
+pub block_from : (files files' : FilesSeen) (trees : Trees) (path : List ℕ) (start count of : ℕ) (block : Bor (List ℕ)) → Grown files files' → Agree files'.trees files'.newest trees → of ≤ files.newest → HoldsBytes (files.trees of path) start count block.now →
+    IsFrom trees (ask.Read path start count of) (answer.Read block)
+block_from files files' trees path start count of block g a within h =
+    subst (λ (i : Item). HoldsBytes i start count block.now) (sym ((agree_narrow files files' g trees a).same of within path)) h

@@ -1,0 +1,28 @@
+use Rattle.ngx_outside.specs.Views.{nobody}
+use Rattle.link_service.proofs.EventLemmas.{failed_stopped, link_failed_own}
+use Rattle.link_service.proofs.events.link_failed.Goals as goal
+
+pub returns-clause-passed : goal.returns-clause-passed
+returns-clause-passed g c =
+    let d = link_failed_own nobody.course (g.E.EventCore.seen c.args.core.now).now c.args.conn c.step.result ((g.E.EventCore.seen c.args.core.now).view c.args.conn) ((g.E.EventCore.seen c.step.new.self).view c.args.conn)
+    (g.E.EventCore.seen c.args.core.now).terms.price (g.E.EventCore.seen c.args.core.now).left (g.E.EventCore.seen c.step.new.self).left (g.E.EventCore.seen c.args.core.now).refused (g.E.EventCore.seen c.step.new.self).refused
+    c.requires.live c.step.ensures.left c.step.ensures.refused c.step.ensures.steps.own in
+    d.does
+
+pub returns-clause-left : goal.returns-clause-left
+returns-clause-left g c =
+    let d = link_failed_own nobody.course (g.E.EventCore.seen c.args.core.now).now c.args.conn c.step.result ((g.E.EventCore.seen c.args.core.now).view c.args.conn) ((g.E.EventCore.seen c.step.new.self).view c.args.conn)
+    (g.E.EventCore.seen c.args.core.now).terms.price (g.E.EventCore.seen c.args.core.now).left (g.E.EventCore.seen c.step.new.self).left (g.E.EventCore.seen c.args.core.now).refused (g.E.EventCore.seen c.step.new.self).refused
+    c.requires.live c.step.ensures.left c.step.ensures.refused c.step.ensures.steps.own in
+    d.left
+
+pub returns-clause-counts : goal.returns-clause-counts
+returns-clause-counts g c =
+    let d = link_failed_own nobody.course (g.E.EventCore.seen c.args.core.now).now c.args.conn c.step.result ((g.E.EventCore.seen c.args.core.now).view c.args.conn) ((g.E.EventCore.seen c.step.new.self).view c.args.conn)
+    (g.E.EventCore.seen c.args.core.now).terms.price (g.E.EventCore.seen c.args.core.now).left (g.E.EventCore.seen c.step.new.self).left (g.E.EventCore.seen c.args.core.now).refused (g.E.EventCore.seen c.step.new.self).refused
+    c.requires.live c.step.ensures.left c.step.ensures.refused c.step.ensures.steps.own in
+    d.counts
+
+pub returns-clause-stopped : goal.returns-clause-stopped
+returns-clause-stopped g c =
+    failed_stopped nobody.course (g.E.EventCore.seen c.args.core.now).now c.args.conn c.step.result ((g.E.EventCore.seen c.args.core.now).view c.args.conn) ((g.E.EventCore.seen c.step.new.self).view c.args.conn) c.requires.live c.step.ensures.steps.own
