@@ -1,5 +1,5 @@
 -- Laws of what holds in a level.
-use Rattle.std.proofs.Common.{◌≡◌, Bool, true, false, cond, List, [], ◌∷◌, ◌++◌, Option, Some, unwrap_or, refl, ap, ◌∙◌}
+use Rattle.std.proofs.Common.{◌≡◌, Bool, true, false, cond, ◌||◌, List, [], ◌∷◌, ◌++◌, Option, Some, unwrap_or, refl, ap, ◌∙◌}
 use Rattle.conf_text.specs.declared.directive.Directive.{Directive}
 use Rattle.conf_values.specs.declared.settings.Settings.{Settings}
 use Rattle.conf_block.specs.Forest.{Forest, End, Branch, roots}
@@ -33,6 +33,7 @@ stated-holds own outer = record {
   before = λ path e. stated-first own.before path outer.before e;
   after = λ path e. stated-first own.after path outer.after e;
   visible = λ names e. ap (λ o. either o outer.visible) e;
+  internal = λ e. ap (λ t. t || outer.internal) e;
 }
 
 pub last-holds : (ds : List Directive) (d : Directive) (s : Settings) → settings_in (ds ++ d ∷ []) s ≡ with_directive d (settings_in ds s)

@@ -14,13 +14,13 @@ use Rattle.conf_inherit.specs.declared.site.Built.{Built}
 use Rattle.conf_inherit.specs.declared.level.Inherited.{Inherited}
 use Rattle.conf_inherit.specs.declared.shelf.Shelf.{Shelf}
 use Rattle.conf_inherit.specs.Programs.{program_of, leads, own_blocks, blocks_in, AllAt}
-use Rattle.conf_inherit.specs.Values.{Values, stated, over, values_in, values_within, server_level, level_of, internal_in, tries_in}
+use Rattle.conf_inherit.specs.Values.{Values, stated, over, values_in, values_within, server_level, level_of, tries_in}
 use Rattle.conf_inherit.specs.Pools.{Keeps, KeepsAll, Holds, Fits, BlocksAdded, values_by, level_by, patterns_in, level_built, values_built}
 use Rattle.conf_inherit.proofs.SiteLaws.{keeps-then, all-here, all-then, holds-before, level-shown, values-shown}
 use Rattle.conf_inherit.proofs.ProgramLaws.{at-append, at-none, at-one, length-append, length-map, patterns-there, blocks-count, steps-shown}
 
 module _ (known : List ℕ → Bool) (b : Built) (levels : List Level) (shelf : Shelf) (v : Inherited) (n : ℕ) (body : Forest) (level : Level) (program : List RewriteStep) (old patterns : List SetPattern)
-    (h : Holds levels shelf b) (l : slice_get levels n ≡ Some level) (e : level ≡ level_by (values_by v) v.types v.lists (internal_in body) level.tries program)
+    (h : Holds levels shelf b) (l : slice_get levels n ≡ Some level) (e : level ≡ level_by (values_by v) v.types v.lists level.tries program)
     (r : option_map tries_seen level.tries ≡ tries_in body) (f : Fits shelf v) (ps : patterns ≡ old ++ flat_map patterns_at (parts_of known body)) (k : Keeps patterns shelf.patterns) where
   kept : Keeps (old ++ flat_map patterns_at (parts_of known body)) b.patterns
   kept = keeps-then _ _ _ (subst (λ xs. Keeps xs shelf.patterns) ps k) h.1.patterns
@@ -66,7 +66,7 @@ blocks-then v a b c sa sb sc xs ys f g = record {
 -- the level of one block
 pub block-added : (v : Values) (inner : Inherited) (old levels new : List Level) (old_shelf shelf new_shelf : Shelf) (n : ℕ) (body : Forest) (level : Level)
     → values_by inner ≡ over (stated (Some []) body) v → levels ≡ old → KeepsAll old_shelf shelf → Fits shelf inner
-    → level ≡ level_by (values_by inner) inner.types inner.lists (internal_in body) level.tries [] → option_map tries_seen level.tries ≡ tries_in body
+    → level ≡ level_by (values_by inner) inner.types inner.lists level.tries [] → option_map tries_seen level.tries ≡ tries_in body
     → slice_get new n ≡ Some level → Keeps levels new → n ≡ length levels → length new ≡ length levels + 1 → new_shelf ≡ shelf → Fits new_shelf inner
     → BlocksAdded v old new old_shelf new_shelf (body ∷ [])
 block-added v inner old levels new old_shelf shelf new_shelf n body level is same kept fits made tries there k number count shelved fitted = record {

@@ -1,5 +1,5 @@
 -- Lists that levels state, and those that they share.
-use Rattle.std.proofs.Common.{◌≡◌, ℕ, Bool, List, [], Option, Some, None, option_map, unwrap_or, sym, ap, subst, ◌∙◌}
+use Rattle.std.proofs.Common.{◌≡◌, ◌||◌, ℕ, Bool, List, [], Option, Some, None, option_map, unwrap_or, sym, ap, subst, ◌∙◌}
 use Rattle.std.specs.List.{slice_get}
 use Rattle.conf_text.specs.declared.directive.Directive.{Directive}
 use Rattle.conf_lists.specs.Lists.{Lists}
@@ -17,7 +17,7 @@ use Rattle.conf_block.specs.Forest.{Forest, roots}
 use Rattle.conf_lists.specs.Lists.{stated_lists}
 use Rattle.conf_lists.specs.Words.{variables_in}
 use Rattle.conf_inherit.specs.declared.level.Inherited.{Inherited}
-use Rattle.conf_inherit.specs.Values.{own_or, has_items, has_types, lists_over, place_in, entries_in, word_in, settings_in, auth_by, added_by, either, visible_in, stated, over}
+use Rattle.conf_inherit.specs.Values.{own_or, has_items, has_types, lists_over, place_in, entries_in, word_in, settings_in, auth_by, added_by, either, visible_in, internal_in, stated, over}
 use Rattle.conf_inherit.specs.Pools.{place_by, entries_by, values_by, Keeps, KeepsAll, Stands, FitsLists, Says, IsPlaced, listed_by, listed_in, lists_at, lists_by, number_of, index_names, page_rules, rules_in, sets_in}
 use Rattle.conf_inherit.proofs.InheritLaws.{own-none, own-some}
 use Rattle.conf_inherit.proofs.SiteLaws.{keeps-same, keeps-then, stands-later}
@@ -57,9 +57,10 @@ pub stated-shown : (prefix : Option (List ℕ)) (level : Forest) (v outer : Inhe
     → option_map (λ w. w.now) v.before ≡ unwrap_or (option_map added_by (word_in (codes "add_before_body") level)) (option_map (λ w. w.now) outer.before)
     → option_map (λ w. w.now) v.after ≡ unwrap_or (option_map added_by (word_in (codes "add_after_body") level)) (option_map (λ w. w.now) outer.after)
     → option_map (λ ws. variables_in ws.now) v.visible ≡ either (visible_in level) (option_map (λ ws. variables_in ws.now) outer.visible)
+    → v.internal ≡ (internal_in level || outer.internal)
     → values_by v ≡ over (stated prefix level) (values_by outer)
 unfolding stated
-stated-shown prefix level v outer p e d s l a b f x = λ i. record {
+stated-shown prefix level v outer p e d s l a b f x n = λ i. record {
   place = p i;
   types = record { entries = e i; default_type = d i };
   settings = s i;
@@ -68,6 +69,7 @@ stated-shown prefix level v outer p e d s l a b f x = λ i. record {
   before = b i;
   after = f i;
   visible = x i;
+  internal = n i;
 }
 
 -- ---- all lists of a level

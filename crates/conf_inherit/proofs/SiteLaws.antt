@@ -22,7 +22,7 @@ use Rattle.conf_text.specs.declared.directive.Directive.{Directive}
 use Rattle.conf_block.specs.Forest.{Forest, End, Branch}
 use Rattle.conf_block.specs.Locations.{text_in, is_found}
 use Rattle.conf_block.specs.Blocks.{block_of, blocks_of, from_first}
-use Rattle.conf_inherit.specs.Values.{Values, all_values, all_entries, entries_in, first_word, word_in, stated, over, values_in, level_of, internal_in, tries_in}
+use Rattle.conf_inherit.specs.Values.{Values, all_values, all_entries, entries_in, first_word, word_in, stated, over, values_in, level_of, tries_in}
 use Rattle.conf_inherit.specs.declared.level.Inherited.{Inherited}
 use Rattle.conf_inherit.specs.declared.level.Listed.{Listed}
 use Rattle.conf_inherit.specs.declared.level.Shared.{Shared}
@@ -138,10 +138,10 @@ types-there site n types h = ap (λ o. unwrap_or o site.plain) h
 
 -- the numbers of a level's lists stand for these lists on the site
 module _ (b : Built) (shelf : Shelf) (v : Inherited) (fits : FitsLists shelf v.lists) (on : KeepsAll shelf (shelf_of b)) where
-  values-by : (number : ℕ) (internal : Bool) (tries : Option CodeTries) (program : List RewriteStep) → types_at b.site number ≡ (values_by v).types
-      → values_seen b.site (level_by (values_by v) number v.lists internal tries program) ≡ all_values (values_by v) internal (option_map tries_seen tries)
+  values-by : (number : ℕ) (tries : Option CodeTries) (program : List RewriteStep) → types_at b.site number ≡ (values_by v).types
+      → values_seen b.site (level_by (values_by v) number v.lists tries program) ≡ all_values (values_by v) (option_map tries_seen tries)
   unfolding values_seen
-  values-by number internal tries program t = λ i. all_values (record (values_by v) {
+  values-by number tries program t = λ i. all_values (record (values_by v) {
     types = t i;
     lists = record {
       index = fits.index b.site.indexes.items on.indexes i;
@@ -151,20 +151,20 @@ module _ (b : Built) (shelf : Shelf) (v : Inherited) (fits : FitsLists shelf v.l
       ssi_types = fits.ssi_types b.site.media.items on.media i;
       addition_types = fits.addition_types b.site.media.items on.media i;
     };
-  }) internal (option_map tries_seen tries)
+  }) (option_map tries_seen tries)
 
 -- a level that is kept under a number has these values
 module _ (b : Built) (levels : List Level) (shelf : Shelf) (v : Inherited) (n : ℕ) (body : Forest) (level : Level) (program : List RewriteStep)
-    (h : Holds levels shelf b) (l : slice_get levels n ≡ Some level) (e : level ≡ level_by (values_by v) v.types v.lists (internal_in body) level.tries program)
+    (h : Holds levels shelf b) (l : slice_get levels n ≡ Some level) (e : level ≡ level_by (values_by v) v.types v.lists level.tries program)
     (r : option_map tries_seen level.tries ≡ tries_in body) (f : Fits shelf v) where
-  kept-level : raw_level b.site n ≡ level_by (values_by v) v.types v.lists (internal_in body) level.tries program
+  kept-level : raw_level b.site n ≡ level_by (values_by v) v.types v.lists level.tries program
   kept-level = raw-there b.site n level (h.0 n level l) ∙ e
 
   pub values-shown : values_built b n ≡ values_in (values_by v) body
   values-shown =
       ap (values_seen b.site) kept-level
-      ∙ values-by b shelf v f.lists h.1 v.types (internal_in body) level.tries program (types-there b.site v.types (values_by v).types (h.1.types v.types (values_by v).types f.types))
-      ∙ ap (all_values (values_by v) (internal_in body)) r
+      ∙ values-by b shelf v f.lists h.1 v.types level.tries program (types-there b.site v.types (values_by v).types (h.1.types v.types (values_by v).types f.types))
+      ∙ ap (all_values (values_by v)) r
 
   pub level-shown : (meant : Program) → map (step_seen (patterns_in b) b.site) program ≡ meant → level_built b n ≡ record { values = values_in (values_by v) body; program = meant }
   unfolding level_whole

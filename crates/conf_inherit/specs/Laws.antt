@@ -1,5 +1,5 @@
 -- Laws of what holds in a level.
-use Rattle.std.specs.Prelude.{◌≡◌, ℕ, true, List, [], ◌∷◌, ◌++◌, Option, None, Some}
+use Rattle.std.specs.Prelude.{◌≡◌, ℕ, true, false, List, [], ◌∷◌, ◌++◌, Option, None, Some}
 use Rattle.file_type.specs.declared.types.TypeEntry.{TypeEntry}
 use Rattle.ngx_variables.specs.declared.request.FileRoot.{FileRoot}
 use Rattle.conf_text.specs.declared.directive.Directive.{Directive}
@@ -30,6 +30,7 @@ pub record StatedHolds (own : Stated) (outer : Values) : Type 0 where
   pub after : (path : Option (List ℕ)) → own.after ≡ Some path → (over own outer).after ≡ path
   pub visible : (names : List (List ℕ)) → own.visible ≡ Some names →
       (over own outer).visible ≡ Some names
+  pub internal : own.internal ≡ true → (over own outer).internal ≡ true
 
 abbrev pub WhatIsStatedHolds : Type 0
 WhatIsStatedHolds = (own : Stated) (outer : Values) → StatedHolds own outer
@@ -52,6 +53,7 @@ nothing = record {
   before = None;
   after = None;
   visible = None;
+  internal = false;
 }
 
 -- In a block that states nothing what is around it holds.

@@ -81,6 +81,7 @@ values_by v = record {
   before = option_map (λ w. w.now) v.before;
   after = option_map (λ w. w.now) v.after;
   visible = option_map (λ ws. variables_in ws.now) v.visible;
+  internal = v.internal;
 }
 
 -- no list is stated
@@ -98,16 +99,15 @@ abbrev pub number_of : Option Listed → Option ℕ
 number_of s = option_map (λ (s : Listed). s.number) s
 
 -- a level with these values, whose media types and lists have these numbers
-abbrev pub level_by : Values → (types : ℕ) → Shared → (internal : Bool) → Option Tries
-    → List RewriteStep → Level
-level_by v types lists internal tries program = record {
+abbrev pub level_by : Values → (types : ℕ) → Shared → Option Tries → List RewriteStep → Level
+level_by v types lists tries program = record {
   place = v.place;
   types = types;
   requests = v.settings.requests;
   idle = v.settings.idle;
   index = number_of lists.index;
   tries = tries;
-  internal = internal;
+  internal = v.internal;
   pages = number_of lists.pages;
   recursive = v.settings.recursive;
   body_most = v.settings.body_most;

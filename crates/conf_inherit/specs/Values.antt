@@ -42,6 +42,8 @@ pub record Values : Type 0 where
   pub after : Option (List ℕ)
   -- the variables that documents see
   pub visible : Option (List (List ℕ))
+  -- it is asked from inside alone
+  pub internal : Bool
 
 -- what a block states: each of these, or not; and what its directives make of the settings around it
 pub record Stated : Type 0 where
@@ -54,6 +56,7 @@ pub record Stated : Type 0 where
   pub before : Option (Option (List ℕ))
   pub after : Option (Option (List ℕ))
   pub visible : Option (List (List ℕ))
+  pub internal : Bool
 
 abbrev pub entry_with : (media_type extension : List ℕ) → TypeEntry
 entry_with media_type extension = record { extension = extension; media_type = media_type }
@@ -117,6 +120,10 @@ abbrev pub visible_in : Forest → Option (List (List ℕ))
 visible_in level =
     option_map (λ b. variables_in b.head.args) (block_of (codes "ssi_visible") level)
 
+-- a level states that it is asked from inside alone
+abbrev pub internal_in : Forest → Bool
+internal_in level = is_some (block_of (codes "internal") level)
+
 -- the values that a block states whose `alias` takes this prefix off, if any
 unfoldable pub stated : (prefix : Option (List ℕ)) → Forest → Stated
 stated prefix level = record {
@@ -129,6 +136,7 @@ stated prefix level = record {
   before = option_map added_by (word_in (codes "add_before_body") level);
   after = option_map added_by (word_in (codes "add_after_body") level);
   visible = visible_in level;
+  internal = internal_in level;
 }
 
 -- a list that has values, or else the one around it, as a whole
@@ -166,6 +174,7 @@ over s outer = record {
   before = unwrap_or s.before outer.before;
   after = unwrap_or s.after outer.after;
   visible = either s.visible outer.visible;
+  internal = s.internal || outer.internal;
 }
 
 abbrev pub default_entries : List TypeEntry
@@ -195,24 +204,21 @@ defaults = record {
   before = None;
   after = None;
   visible = None;
+  internal = false;
 }
-
--- a level is asked from inside alone
-abbrev pub internal_in : Forest → Bool
-internal_in level = is_some (block_of (codes "internal") level)
 
 -- the names that a level tries
 abbrev pub tries_in : Forest → Option Tries
 tries_in level = option_and_then (λ b. tries_of b.head.args) (block_of (codes "try_files") level)
 
 -- a level with these values, and with what it alone states
-abbrev pub all_values : Values → (internal : Bool) → Option Tries → AllValues
-all_values v internal tries = record {
+abbrev pub all_values : Values → Option Tries → AllValues
+all_values v tries = record {
   place = v.place;
   types = v.types;
   index = v.lists.index;
   tries = tries;
-  internal = internal;
+  internal = v.internal;
   pages = v.lists.pages;
   recursive = v.settings.recursive;
   body_most = v.settings.body_most;
@@ -239,7 +245,7 @@ all_values v internal tries = record {
 
 -- the values of a level with this block
 abbrev pub values_in : Values → Forest → AllValues
-values_in v block = all_values v (internal_in block) (tries_in block)
+values_in v block = all_values v (tries_in block)
 
 -- those of the block of an `if` in a location with these values
 abbrev pub values_within : Values → Forest → AllValues

@@ -1,5 +1,5 @@
 // The values that hold in a level.
-ghost use Rattle.std.specs.Prelude.{◌≡◌, codes, option_map, unwrap_or, IfOk};
+ghost use Rattle.std.specs.Prelude.{◌≡◌, ◌||◌, codes, option_map, unwrap_or, IfOk};
 ghost use Rattle.site_whole.specs.Whole.{tries_seen};
 ghost use Rattle.conf_block.specs.Forest.{forest_of, roots};
 ghost use Rattle.conf_lists.specs.Words.{variables_in};
@@ -73,6 +73,8 @@ pub struct Inherited<'a> {
     pub after: Option<&'a [u8]>,
     /// The words of the `ssi_visible` that holds.
     pub visible: Option<&'a [ByteText]>,
+    /// The level is asked from inside alone.
+    pub internal: bool,
 }
 
 /// No list is stated.
@@ -106,6 +108,7 @@ pub fn defaults() -> Inherited<'static>
         before: None,
         after: None,
         visible: None,
+        internal: false,
     }
 }
 
@@ -248,6 +251,13 @@ fn visible_over<'a>(level: &'a [Directive], outer: Option<&'a [ByteText]>) -> Op
     }
 }
 
+/// Whether a level is asked from inside alone: where it states so, or one around it does.
+fn internal_over(level: &[Directive], outer: bool) -> bool
+    ensures { result ≡ (internal_in (forest_of level.now) || outer) }
+{
+    has_named(level, b"internal") || outer
+}
+
 /// What a block states whose `alias` takes this prefix off, if any, with these lists, over the values around it. The number of
 /// the media types is that of those around it.
 pub fn stated_over<'a>(
@@ -272,6 +282,7 @@ pub fn stated_over<'a>(
     let before = added_over(level, b"add_before_body", outer.before);
     let after = added_over(level, b"add_after_body", outer.after);
     let visible = visible_over(level, outer.visible);
+    let internal = internal_over(level, outer.internal);
     Inherited {
         place,
         entries,
@@ -283,6 +294,7 @@ pub fn stated_over<'a>(
         before,
         after,
         visible,
+        internal,
     }
 }
 
@@ -339,8 +351,7 @@ pub fn level_of(
     program: Program,
 ) -> Result<Level, OutOfMemory>
     ensures values { IfOk result (λ l. l ≡ level_by
-        (values_by values.entry) values.entry.types values.entry.lists
-        (internal_in (forest_of level.now)) l.tries program) }
+        (values_by values.entry) values.entry.types values.entry.lists l.tries program) }
     ensures tries { IfOk result (λ l. option_map tries_seen l.tries ≡ tries_in
         (forest_of level.now)) }
 {
@@ -353,7 +364,7 @@ pub fn level_of(
         idle: settings.idle,
         index: number_of(lists.index),
         tries: tries_in(alloc, level)?,
-        internal: has_named(level, b"internal"),
+        internal: values.internal,
         pages: number_of(lists.pages),
         recursive: settings.recursive,
         body_most: settings.body_most,

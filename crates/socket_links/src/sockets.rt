@@ -37,6 +37,15 @@ const ACCEPTS: u32 = 4;
 // takes all that it is sent lets none wait for long.
 const SHARE: usize = 262144;
 
+// A write of no more bytes than these goes out first, up to as many beyond the share: so the last bytes of a response go out with those
+// before them.
+const FEW: usize = 4096;
+
+// Whether the other links come before a write of `count` bytes, where `written` bytes went out since the last notice.
+fn is_put_off(written: usize, count: usize) -> bool {
+    written >= SHARE && (count > FEW || written >= SHARE + FEW)
+}
+
 /// Why an address isn't listened on.
 #[derive(Clone, Copy)]
 pub struct ListenFault {
@@ -434,7 +443,8 @@ impl<'a, R: Net + Ticks> SocketLinks<'a, R> {
         ensures same { (self.new.listening.items ≡ self.old.listening.items)
             × (self.new.link_faults ≡ self.old.link_faults) }
     {
-        self.notices = 0;
+        // Links that were served count on: so peers that connect come first now and then, however often the poll is asked.
+        self.notices %= ACCEPTS;
         let seconds = if self.again.is_empty()
             && ready_listener(self.listeners.as_slice()).is_none()
         {
@@ -447,8 +457,9 @@ impl<'a, R: Net + Ticks> SocketLinks<'a, R> {
             Ok(()) => {
                 collect(&self.events, &mut self.batch, self.listeners.as_mut_slice());
                 retry(self.listeners.as_mut_slice());
-                match self.batch.pop() {
-                    Some(ready) => self.take_event(ready),
+                // A link that was put off goes on now, where nothing new has come.
+                match self.reported() {
+                    Some(notice) => notice,
                     None => Notice::Nothing,
                 }
             }
@@ -538,10 +549,10 @@ impl<R: Net + Ticks> Links for SocketLinks<'_, R> {
     }
 
     fn write(&mut self, id: u32, bytes: &[u8]) -> Output {
-        if self.written >= SHARE && self.again.reserve(1).is_ok() {
+        if is_put_off(self.written, bytes.len()) && self.again.reserve(1).is_ok() {
             pause(self.marks.as_mut_slice(), &mut self.again, id);
             // The poll is asked before any link goes on.
-            self.notices = NOTICES;
+            self.notices = self.notices.saturating_add(NOTICES);
             return Output::NotYet;
         }
         match write_at(self.links.as_slice(), id, bytes) {

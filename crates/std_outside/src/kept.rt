@@ -177,10 +177,10 @@ impl<F: Drop> KeptFile<F> {
         start == 0 && count == self.identity.len
     }
 
-    /// Whether `count` bytes from `start` on are neither its first nor its last ones.
+    /// Whether `count` bytes from `start` on, which it has, are neither its first nor its last ones.
     #[inline(always)]
     pub fn is_inner(&self, start: u64, count: u64) -> bool {
-        start > 0 && start.saturating_add(count) < self.identity.len
+        start > 0 && start.wrapping_add(count) < self.identity.len
     }
 
     fn is_at(&self, path: &[u8]) -> bool

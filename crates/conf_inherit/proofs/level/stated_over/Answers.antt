@@ -17,7 +17,8 @@ returns-clause-values c =
       before = c.added_over-before.result;
       after = c.added_over-after.result;
       visible = c.visible_over-visible.result;
+      internal = c.internal_over-internal.result;
     } in
     stated-shown (option_map (λ t. t.now) c.args.prefix) (forest_of c.args.level.now) inner c.args.outer
     c.place_over-place.ensures c.entries_over-entries.ensures c.default_over-default_type.ensures c.settings_in-settings.ensures c.requires
-    c.auth_over-auth.ensures c.added_over-before.ensures c.added_over-after.ensures c.visible_over-visible.ensures
+    c.auth_over-auth.ensures c.added_over-before.ensures c.added_over-after.ensures c.visible_over-visible.ensures c.internal_over-internal.ensures
