@@ -457,11 +457,16 @@ impl<'a, R: Net + Ticks> SocketLinks<'a, R> {
             Ok(()) => {
                 collect(&self.events, &mut self.batch, self.listeners.as_mut_slice());
                 retry(self.listeners.as_mut_slice());
-                // A link that was put off goes on now, where nothing new has come.
-                match self.reported() {
-                    Some(notice) => notice,
-                    None => Notice::Nothing,
+                if let Some(ready) = self.batch.pop() {
+                    return self.take_event(ready);
                 }
+                // A link that was put off goes on now, where nothing new has come.
+                if ready_listener(self.listeners.as_slice()).is_none() {
+                    if let Some(id) = self.again.pop_front() {
+                        return again_of(self.links.as_slice(), self.marks.as_mut_slice(), id);
+                    }
+                }
+                Notice::Nothing
             }
             Err(_) => {
                 self.faults = self.faults.saturating_add(1);
