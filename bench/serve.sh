@@ -2,12 +2,15 @@
 # Measures `ngx serve` and Debian's nginx (one worker, no access log) in turn on this machine, for `return 200 hi`, a file, or a
 # page with ten includes of 100 bytes each: wrk with one thread over 1, 16 and 256 connections. Prints, as medians over the
 # rounds, requests a second and microseconds of processor time a request of both, and how many times nginx's ours are.
-# usage: bench/serve.sh [seconds of a measurement, 3] [rounds, 3] [hi, page, or the bytes of the file, hi]
+# usage: bench/serve.sh [seconds of a measurement, 3] [rounds, 3] [hi, page, or the bytes of the file, hi] [close]
+# With `close` each request has a connection of its own, which it asks to be closed.
 set -eu
 top=$(cd "$(dirname "$0")/.." && pwd)
 seconds=${1:-3}
 rounds=${2:-3}
 what=${3:-hi}
+asks=()
+[ "${4:-}" = close ] && asks=(-H 'Connection: close')
 work=$(mktemp -d)
 chmod 755 "$work"
 case $what in
@@ -58,7 +61,7 @@ measure() { # server, connections: requests a second, and microseconds a request
     local before after text requests
     kill -0 "$server" || { echo "$1 has ended: is port $port free?" >&2; exit 1; }
     before=$(ticks)
-    text=$(taskset -c 2 wrk -t1 -c"$2" -d"${seconds}s" "http://127.0.0.1:$port/$what")
+    text=$(taskset -c 2 wrk -t1 -c"$2" -d"${seconds}s" "${asks[@]}" "http://127.0.0.1:$port/$what")
     after=$(ticks)
     requests=$(awk '/requests in/ { print $1 }' <<<"$text")
     grep -E 'Non-2xx|Socket errors' <<<"$text" >&2 || true

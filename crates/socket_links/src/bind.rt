@@ -1,10 +1,10 @@
-// Sockets that listen.
+// Sockets that listen, and the peers that they accept.
 use http_types::Addr;
 use libc::net as c;
-use mio::net::TcpListener;
+use mio::net::{TcpListener, TcpStream};
 use os::FromRawFd;
 use std::io;
-use std::net::{IpAddr, Ipv6Addr, Net, SocketAddr};
+use std::net::{IpAddr, Ipv4Addr, Ipv6Addr, Net, SocketAddr};
 use std::os::fd::{AsRawFd, OwnedFd};
 
 // As many connections wait to be accepted as the system allows.
@@ -60,12 +60,60 @@ fn listen_v6(ip: Ipv6Addr, port: u16) -> io::Result<TcpListener> {
     Ok(TcpListener::from(socket))
 }
 
-/// A socket that listens on an address.
+/// A socket that listens on an address. What is written to a peer that it accepts is sent at once, since the system gives each of them
+/// the options of the socket (`tcp_nodelay`, <https://nginx.org/en/docs/http/ngx_http_core_module.html#tcp_nodelay>).
 pub fn listen_on<R: Net>(net: &R, addr: Addr) -> io::Result<TcpListener> {
-    match addr.ip {
-        IpAddr::V4(_) => TcpListener::bind(net, SocketAddr::new(addr.ip, addr.port)),
-        IpAddr::V6(ip) => listen_v6(ip, addr.port),
+    let socket = match addr.ip {
+        IpAddr::V4(_) => TcpListener::bind(net, SocketAddr::new(addr.ip, addr.port))?,
+        IpAddr::V6(ip) => listen_v6(ip, addr.port)?,
+    };
+    let (fd, on) = (socket.as_raw_fd(), switched_on());
+    check(unsafe { c::setsockopt(fd, c::IPPROTO_TCP, c::TCP_NODELAY, &on, 4) })?;
+    Ok(socket)
+}
+
+// The address that C has put there (ip(7), ipv6(7)); none of another family.
+fn addr_in(raw: &[u8; c::_SS_SIZE]) -> Option<Addr> {
+    let port = u16::from_be_bytes([raw[2], raw[3]]);
+    let ip = match i32::from(u16::from_ne_bytes([raw[0], raw[1]])) {
+        c::AF_INET => IpAddr::V4(Ipv4Addr::new(raw[4], raw[5], raw[6], raw[7])),
+        c::AF_INET6 => {
+            let mut octets = [0u8; 16];
+            octets.copy_from_slice(&raw[8..24]);
+            IpAddr::V6(Ipv6Addr::from(octets))
+        }
+        _ => return None,
+    };
+    Some(Addr { ip, port })
+}
+
+/// The next peer of a socket that listens, by a call that makes the peer's socket one that never waits too.
+pub fn accept_on(socket: &TcpListener) -> io::Result<(TcpStream, Addr)> {
+    let mut raw = [0u8; c::_SS_SIZE];
+    let mut len = c::_SS_SIZE as u32;
+    let kind = c::SOCK_NONBLOCK | c::SOCK_CLOEXEC;
+    let fd = unsafe { c::accept4(socket.as_raw_fd(), &mut raw, &mut len, kind) };
+    if fd < 0 {
+        return Err(last_error());
     }
+    let stream = TcpStream::from(unsafe { OwnedFd::from_raw_fd(fd) });
+    match addr_in(&raw) {
+        Some(peer) => Ok((stream, peer)),
+        None => Err(io::Error::from(io::ErrorKind::Unsupported)),
+    }
+}
+
+/// Where the peer of a link connected, which one that listens on this address has accepted. The system is asked only where that may be
+/// one of several addresses.
+pub fn local_end(addr: Addr, stream: &TcpStream) -> io::Result<Addr> {
+    if !addr.ip.is_unspecified() && addr.port != 0 {
+        return Ok(addr);
+    }
+    let local = stream.local_addr()?;
+    Ok(Addr {
+        ip: local.ip(),
+        port: local.port(),
+    })
 }
 
 fn is_same_family(a: IpAddr, b: IpAddr) -> bool {

@@ -73,13 +73,14 @@ impl ClosingLinks {
         }
     }
 
-    /// A link that is written no more: it is closed as soon as its peer is done.
-    pub fn add(&mut self, link: Link, now: Instant) {
+    /// A link that is written no more: it is closed as soon as its peer is done. Where all that came was read, and what comes next is
+    /// an event of its own, it isn't read before that.
+    pub fn add(&mut self, link: Link, now: Instant, is_drained: bool) {
         let mut left = BYTES;
         if link.stream.shutdown(Shutdown::Write).is_err() {
             return;
         }
-        if !drop_input(&link.stream, self.piece.as_mut_slice(), &mut left) {
+        if !is_drained && !drop_input(&link.stream, self.piece.as_mut_slice(), &mut left) {
             return;
         }
         if self.links.len() >= MOST {
@@ -110,9 +111,14 @@ impl ClosingLinks {
         }
     }
 
-    /// Closes those that have been here for long enough.
+    /// Closes those that have been here for long enough: the first ones are here for the longest time.
     pub fn expire(&mut self, now: Instant) {
         let most = Duration::from_secs(SECONDS);
+        if let Some(closing) = self.links.first() {
+            if now.duration_since(closing.since) < most {
+                return;
+            }
+        }
         self.links
             .retain(|closing| now.duration_since(closing.since) < most);
     }

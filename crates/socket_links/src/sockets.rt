@@ -5,7 +5,7 @@ ghost use Rattle.ngx_outside.specs.Causes.{Rose};
 ghost use Rattle.ngx_outside.specs.declared.links.Notice.TheVariants.{Failed as NextFailed};
 ghost use Rattle.socket_links.specs.Slots.{GoesOn, OpensIn, open_in, untold, used_in};
 
-use crate::bind::{is_covered, listen_on};
+use crate::bind::{accept_on, is_covered, listen_on, local_end};
 use crate::closing::ClosingLinks;
 use crate::notices::{
     Listener, Mark, Ready, UNMARKED, again_of, collect, end_input, mark_of, notice_of, pause,
@@ -16,13 +16,12 @@ use crate::slots::{
 };
 use byte_text::OutOfMemory;
 use http_types::Addr;
-use mio::net::TcpListener;
 use mio::{Events, Interest, Poll, Token};
 use ngx_outside::{Failed, Input, Links, Notice, Output};
 use std::alloc::{AllocError, Global};
 use std::collections::VecDeque;
 use std::io;
-use std::net::{Net, SocketAddr};
+use std::net::Net;
 use std::time::{Clock as Ticks, Duration, Instant};
 
 // How many events one call of the poll gives at most.
@@ -87,13 +86,6 @@ pub struct SocketLinks<'a, R> {
     refused: u64,
 }
 
-fn addr_of(addr: SocketAddr) -> Addr {
-    Addr {
-        ip: addr.ip(),
-        port: addr.port(),
-    }
-}
-
 // No slot has had a link.
 fn no_counts(alloc: Global) -> Result<Vec<u32>, AllocError>
     ensures { IfOk result (λ counts. (id : ℕ) → used_in counts.items id ≡ false) }
@@ -131,15 +123,14 @@ fn accept(
     counts: &mut [u32],
     links: &mut [Option<Link>],
     slot: u32,
-    socket: &TcpListener,
+    listener: &Listener,
 ) -> io::Result<Notice>
     ensures opens { IfOk result (λ n. OpensIn n counts.old counts.new links.old links.new) }
     ensures goes { IfOk result GoesOn }
     ensures same { OnErr result ((counts.new ≡ counts.old) × (links.new ≡ links.old)) }
 {
-    let (mut stream, peer) = socket.accept()?;
-    let local = stream.local_addr()?;
-    stream.set_nodelay(true)?;
+    let (mut stream, peer) = accept_on(&listener.socket)?;
+    let local = local_end(listener.addr, &stream)?;
     let Some(id) = next_id(counts, links, slot) else {
         return Ok(Notice::Nothing);
     };
@@ -149,11 +140,7 @@ fn accept(
         Interest::READABLE | Interest::WRITABLE,
     )?;
     open_at(counts, links, id, stream);
-    Ok(Notice::Opened {
-        id,
-        local: addr_of(local),
-        peer: addr_of(peer),
-    })
+    Ok(Notice::Opened { id, local, peer })
 }
 
 // The last free slot; a slot that isn't there where none is free.
@@ -358,7 +345,7 @@ impl<'a, R: Net + Ticks> SocketLinks<'a, R> {
             self.counts.as_mut_slice(),
             self.links.as_mut_slice(),
             slot,
-            &self.listeners[at].socket,
+            &self.listeners[at],
         );
         match accepted {
             Ok(notice) => {
@@ -578,7 +565,7 @@ impl<R: Net + Ticks> Links for SocketLinks<'_, R> {
     }
 
     fn close(&mut self, id: u32) {
-        let has_ended = mark_of(self.marks.as_slice(), id).ended;
+        let mark = mark_of(self.marks.as_slice(), id);
         let Some(link) = take_at(self.links.as_mut_slice(), id) else {
             return;
         };
@@ -588,9 +575,9 @@ impl<R: Net + Ticks> Links for SocketLinks<'_, R> {
             // There is room for all slots.
             let _kept = self.free.push(slot as u32);
         }
-        if !has_ended {
+        if !mark.ended {
             if let Ok(now) = Instant::now(self.rt) {
-                self.closing.add(link, now);
+                self.closing.add(link, now, mark.drained);
             }
         }
     }

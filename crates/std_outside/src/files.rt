@@ -5,7 +5,7 @@ ghost use Rattle.ngx_outside.specs.declared.files.Listing.TheVariants.{Missing};
 
 use crate::kept::{Identity, KeptFile, KeptFiles, MOST, Slot, Sought};
 use crate::looks::Looks;
-use crate::room::{Room, read_into};
+use crate::room::{Room, is_for_room, read_into};
 use byte_text::{ByteQueue, ByteText, ByteTexts, OutOfMemory};
 use file_tree::Node;
 use libc::types::rlimit;
@@ -26,9 +26,6 @@ const ENFILE: i32 = 23;
 const FEW: usize = 16;
 
 const DESCRIPTORS_BESIDE: u64 = 8;
-
-// No more bytes than these are read into the room, from which they are copied: a small file keeps its bytes.
-const FEW_BYTES: u64 = 4096;
 
 // Bytes of a file: its path, from where on and how many, and the number of the tree.
 #[derive(Clone, Copy)]
@@ -194,20 +191,39 @@ fn keep_bytes<F: AsRawFd + Drop>(
     }
 }
 
-// Reads bytes of the file that the tree of a number showed at a path, which are lent. One that isn't kept any more can't be
-// read: another may be there.
-fn read_file<F: FileExt + AsRawFd + OpenFile + Drop>(
+// How many bytes are copied at once: as many as the C library copies by vectors, which a processor does as fast as by one instruction for
+// all.
+const PIECE: usize = 2048;
+
+// Copies bytes in place of as many others; false where these aren't as many.
+#[inline(always)]
+fn copy_pieces(bytes: &[u8], into: &mut [u8]) -> bool {
+    if bytes.len() != into.len() {
+        return false;
+    }
+    let (pieces, rest) = bytes.as_chunks::<PIECE>();
+    let (places, last) = into.as_chunks_mut::<PIECE>();
+    for (place, piece) in places.iter_mut().zip(pieces) {
+        place.copy_from_slice(piece);
+    }
+    last.copy_from_slice(rest);
+    true
+}
+
+// Reads bytes of the kept file of a place, which are lent.
+#[inline(always)]
+fn read_kept<F: FileExt + AsRawFd + OpenFile + Drop>(
     looks: &mut Looks,
     kept: &mut KeptFiles<F>,
     room: &mut Room,
-    path: &[u8],
+    place: Slot,
     start: u64,
     count: u64,
     of: u64,
 ) -> Result<(), FileFault>
     ensures { OnOk result (length room.new ≡ count) }
 {
-    let Some((place, file)) = kept.find(path, Sought::ShownIn(of)) else {
+    let Some(file) = kept.file_at(place) else {
         return Err(FileFault::Failed);
     };
     match room.read(looks, file, start, count, of) {
@@ -222,9 +238,27 @@ fn read_file<F: FileExt + AsRawFd + OpenFile + Drop>(
     }
 }
 
-// Adds bytes of the file that the tree of a number showed at a path to a queue: those that are kept, those of the room where it has
-// them or they are few, and else such as are read to their place in the queue. Where they aren't all of the file, it fails if the file was
-// written since it was opened.
+// Reads bytes of the file that the tree of a number showed at a path, which are lent. One that isn't kept any more can't be
+// read: another may be there.
+fn read_file<F: FileExt + AsRawFd + OpenFile + Drop>(
+    looks: &mut Looks,
+    kept: &mut KeptFiles<F>,
+    room: &mut Room,
+    path: &[u8],
+    start: u64,
+    count: u64,
+    of: u64,
+) -> Result<(), FileFault>
+    ensures { OnOk result (length room.new ≡ count) }
+{
+    let Some((place, _)) = kept.find(path, Sought::ShownIn(of)) else {
+        return Err(FileFault::Failed);
+    };
+    read_kept(looks, kept, room, place, start, count, of)
+}
+
+// Adds bytes of the file that the tree of a number showed at a path to a queue: from the room those that are read into it, and else such
+// as are read to their place in the queue. Where they aren't all of the file, it fails if the file was written since it was opened.
 fn read_file_to<F: FileExt + AsRawFd + OpenFile + Drop>(
     looks: &mut Looks,
     kept: &mut KeptFiles<F>,
@@ -242,14 +276,17 @@ fn read_file_to<F: FileExt + AsRawFd + OpenFile + Drop>(
         count,
         of,
     } = job;
-    if count <= FEW_BYTES {
-        read_file(looks, kept, room, path, start, count, of)?;
-        out.append(room.block())?;
-        return Ok(());
-    }
     let Some((place, file)) = kept.find(path, Sought::ShownIn(of)) else {
         return Err(FileFault::Failed);
     };
+    if is_for_room(file, start, count) {
+        read_kept(looks, kept, room, place, start, count, of)?;
+        let block = room.block();
+        if !out.append_with(block.len(), |into| copy_pieces(block, into))? {
+            return Err(FileFault::Failed);
+        }
+        return Ok(());
+    }
     let is_read = out.append_with(count as usize, |into| {
         read_into(&file.file, into, start)
             && (file.is_whole(start, count) || has_same_bytes(looks, &file.file, &file.identity))

@@ -324,7 +324,8 @@ impl<F: Drop> KeptFiles<F> {
         })
     }
 
-    fn file_at(&self, place: Slot) -> Option<&KeptFile<F>> {
+    /// The file of a place.
+    pub fn file_at(&self, place: Slot) -> Option<&KeptFile<F>> {
         match self.buckets.get(place.bucket) {
             Some(bucket) => bucket.get(place.at),
             None => None,
@@ -362,7 +363,7 @@ impl<F: Drop> KeptFiles<F> {
         None
     }
 
-    /// The file of a place.
+    /// The same, to be changed.
     pub fn file_mut(&mut self, place: Slot) -> Option<&mut KeptFile<F>> {
         self.buckets.get_mut(place.bucket)?.get_mut(place.at)
     }

@@ -15,6 +15,16 @@ use std::os::unix::fs::FileExt;
 /// is asked once for several parts, which are then of one state.
 const MOST: u64 = 65536;
 
+/// So few bytes of a file that is read at once are read into the room also where they are all: such a small file keeps its bytes.
+const FEW_BYTES: u64 = 4096;
+
+/// Whether these bytes of a file are read into the room, from which they are copied: those of one that is read at once, for several
+/// parts of it or since it is small. Others are read to their place.
+#[inline(always)]
+pub(crate) fn is_for_room<F: Drop>(kept: &KeptFile<F>, start: u64, count: u64) -> bool {
+    kept.len() <= MOST && (count <= FEW_BYTES || !kept.is_whole(start, count))
+}
+
 // Fills a slice with the bytes that a file has from a place on, by several calls.
 #[inline(never)]
 fn read_in_parts<F: FileExt>(file: &F, into: &mut [u8], start: u64) -> bool {
