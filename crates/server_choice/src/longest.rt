@@ -23,6 +23,9 @@ pub fn longest_ending(endings: &NameMap, dotted: bool, host: &[u8]) -> Option<u3
     requires dotted { dotted ≡ true → AreAll begins_with_dot (number_of endings.now) }
     ensures { IsLongestOf (is_ending host.now) (number_of endings.now) result }
 {
+    if endings.is_empty() {
+        return None;
+    }
     for at in 1..=host.len() {
         if let Some(number) = ending_at(endings, dotted, host, at) {
             return Some(number);
@@ -49,6 +52,9 @@ pub fn longest_beginning(beginnings: &NameMap, dotted: bool, host: &[u8]) -> Opt
     requires dotted { dotted ≡ true → AreAll ends_with_dot (number_of beginnings.now) }
     ensures { IsLongestOf (is_beginning host.now) (number_of beginnings.now) result }
 {
+    if beginnings.is_empty() {
+        return None;
+    }
     let mut at = host.len();
     while at > 0 {
         at -= 1;

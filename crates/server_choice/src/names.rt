@@ -41,7 +41,7 @@ fn put_number(
 }
 
 impl NameMap {
-    ghost use Rattle.std.specs.Prelude.{◌≡◌, ℕ, List, None, OnOk, OnErr};
+    ghost use Rattle.std.specs.Prelude.{◌≡◌, ℕ, List, None, OnOk, OnErr, true};
     ghost use Rattle.server_choice.specs.Names.{number_of, GetsNumber, HasSameNumbers};
 
     /// No text has a number, which takes no memory.
@@ -53,6 +53,14 @@ impl NameMap {
             longest: 0,
             alloc,
         }
+    }
+
+    /// Whether no text has a number.
+    #[inline(always)]
+    pub fn is_empty(&self) -> bool
+        ensures { result ≡ true → (text : List ℕ) → number_of self.now text ≡ None }
+    {
+        self.numbers.is_empty()
     }
 
     /// The number of a text, if it has one.

@@ -191,9 +191,9 @@ fn keep_bytes<F: AsRawFd + Drop>(
     }
 }
 
-// How many bytes are copied at once: as many as the C library copies by vectors, which a processor does as fast as by one instruction for
-// all.
-const PIECE: usize = 2048;
+// How many bytes are copied at once, some 64 vectors. The C library copies more by one instruction for all, which is no faster where
+// they are in a cache.
+const PIECE: usize = 4032;
 
 // Copies bytes in place of as many others; false where these aren't as many.
 #[inline(always)]
