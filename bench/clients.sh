@@ -131,4 +131,6 @@ wait $server 2>/dev/null
 server=$!
 for _ in $(seq 50); do curl -s -o /dev/null $url && break; sleep 0.1; done
 expect "again on the same port" "hi" "$(curl -s $url)"
+NGX=${NGX:-$top/crates/ngx/out/ngx} python3 "$top/bench/memory.py"
+expect "what a connection at rest has allocated, one that asked often, and what is left of bursts (bench/memory.py)" 0 $?
 exit $failed

@@ -1,7 +1,10 @@
 #!/usr/bin/env python3
 """Shows what `ngx serve` has allocated for a connection that rests after one request, and what it still has after a burst: 400
-connections ask for the same and rest; then all are closed; then 200 ask for a file of 4 MB and read nothing of it before they close.
-Bytes that are allocated, by a library that counts them (bench/pattern/live.c).
+connections ask for the same and rest; then all are closed; then one asks 4,000 times more; then 200 ask for a file of 4 MB and read
+nothing of it before they close. Bytes that are allocated, by a library that counts them (bench/pattern/live.c).
+
+The status is 1 where a connection that rests has more than 2,048, or one that asked 4,000 times more has 1,024 more, or 65,536 are
+left after a burst.
 
 usage: bench/memory.py, or NGX=PROGRAM bench/memory.py
 """
@@ -33,7 +36,7 @@ class Server:
     def __init__(self, work):
         conf = f'{work}/conf'
         with open(conf, 'w', encoding='utf-8') as out:
-            out.write('http { default_type text/plain; server { listen 127.0.0.1:%d; root %s; location /hi { return 200 hi; } } }\n' % (PORT, work))
+            out.write('http { default_type text/plain; keepalive_requests 100000; server { listen 127.0.0.1:%d; root %s; location /hi { return 200 hi; } } }\n' % (PORT, work))
         subprocess.run(['gcc', '-O2', '-shared', '-fPIC', '-o', f'{work}/live.so', f'{TOP}/bench/pattern/live.c', '-ldl'], check=True)
         program = os.environ.get('NGX', f'{TOP}/crates/ngx/out/ngx')
         self.process = subprocess.Popen([program, 'serve', conf], env={**os.environ, 'LD_PRELOAD': f'{work}/live.so'}, stderr=subprocess.PIPE, text=True)
@@ -76,6 +79,7 @@ def close(links):
 
 
 def main():
+    good = True
     with tempfile.TemporaryDirectory() as work:
         os.chmod(work, 0o755)
         for name, size in FILES.items():
@@ -95,16 +99,31 @@ def main():
                     ask(link, fields, path)
                 rests = server.live()
                 close(links)
-                print(f'{what:26} a connection: open {(opened - before) // 400:6}, at rest {(rests - before) // 400:6}; all closed {server.live() - before:7}', flush=True)
+                rest, left = (rests - before) // 400, server.live() - before
+                good = good and rest <= 2048 and left <= 65536
+                print(f'{what:26} a connection: open {(opened - before) // 400:6}, at rest {rest:6}; all closed {left:7}', flush=True)
+            link = connect()
+            for _ in range(100):
+                ask(link, BARE, '/hi')
+            few = server.live()
+            for _ in range(4000):
+                ask(link, BARE, '/hi')
+            more = server.live() - few
+            good = good and more <= 1024
+            print(f'one that asked 4,000 times more has {more} more', flush=True)
+            close([link])
             links = [connect() for _ in range(200)]
             for link in links:
                 link.sendall(head(BARE, '/huge.txt').encode())
             most = server.live()
             close(links)
-            print(f'200 that read nothing      a connection: at most {(most - before) // 200:6}; all closed {server.live() - before:7}')
+            left = server.live() - before
+            good = good and left <= 65536
+            print(f'200 that read nothing      a connection: at most {(most - before) // 200:6}; all closed {left:7}')
         finally:
             server.end()
+    return 0 if good else 1
 
 
 if __name__ == '__main__':
-    main()
+    sys.exit(main())
