@@ -106,25 +106,30 @@ reached_by x tells trees node answers answers' moment at conns conns' answer p d
         own_reached x at conns conns' now (FileDone 0 node (Read r.does.block)) answer p (record { there = r.there; does = r.does.steps x now 0; whole = r.whole }) led
 
 -- what a core shows, by its parts
-abbrev pub seen_of : List SetPattern → ServedSite → (ids : List ℕ) → List Conn → (moment tree refused : ℕ) → CoreSeen
-seen_of patterns served ids conns moment tree refused = record {
+abbrev pub seen_of : List SetPattern → ServedSite → (keeps : Bool) → (ids : List ℕ) → List Conn → (moment tree refused : ℕ) → CoreSeen
+seen_of patterns served keeps ids conns moment tree refused = record {
   view = view_in (serves_with patterns served) ids conns;
   conns = ids;
-  terms = site_terms served.raceless patterns served.site;
+  terms = site_terms served.raceless keeps patterns served.site;
   now = record { moment = moment; tree = tree };
   left = left_in conns;
   refused = refused;
   events = None;
 }
 
+-- what it keeps to
+pub terms_still : (patterns : List SetPattern) (served served' : ServedSite) (keeps keeps' : Bool) → served' ≡ served → keeps' ≡ keeps → site_terms served'.raceless keeps' patterns served'.site ≡ site_terms served.raceless keeps patterns served.site
+terms_still patterns served served' keeps keeps' same_served same_keeps =
+    ap (λ (s : ServedSite). site_terms s.raceless keeps' patterns s.site) same_served ∙ ap (λ k. site_terms served.raceless k patterns served.site) same_keeps
+
 -- what the core shows of it
-pub brought_as : (tells : Bool) (tree : Tree) (path : List ℕ) (start count c node : ℕ) (answers answers' : Option (List FileAnswer)) (patterns : List SetPattern) (served served' : ServedSite) (ids ids' : List ℕ) (conns conns' : List Conn) (moment newest refused refused' : ℕ) (answer : StepAnswer) →
-    served' ≡ served → ids' ≡ ids → TellsRaceless (serves_with patterns served) → AllReached (serves_with patterns served) conns → Counted answer refused refused' →
+pub brought_as : (tells : Bool) (tree : Tree) (path : List ℕ) (start count c node : ℕ) (answers answers' : Option (List FileAnswer)) (patterns : List SetPattern) (served served' : ServedSite) (keeps keeps' : Bool) (ids ids' : List ℕ) (conns conns' : List Conn) (moment newest refused refused' : ℕ) (answer : StepAnswer) →
+    served' ≡ served → keeps' ≡ keeps → ids' ≡ ids → TellsRaceless (serves_with patterns served) → AllReached (serves_with patterns served) conns → Counted answer refused refused' →
     BroughtIn tells tree path start count c node answers answers' (serves_with patterns served) (serves_with patterns served') ids ids' conns conns' answer →
-    Brought tells tree path start count c node answers answers' (seen_of patterns served ids conns moment newest refused) (seen_of patterns served' ids' conns' moment newest refused') answer
-brought_as tells tree path start count c node answers answers' patterns served served' ids ids' conns conns' moment newest refused refused' answer same_served same_ids told led counted b =
-    let old = seen_of patterns served ids conns moment newest refused in
-    let new = seen_of patterns served' ids' conns' moment newest refused' in
+    Brought tells tree path start count c node answers answers' (seen_of patterns served keeps ids conns moment newest refused) (seen_of patterns served' keeps' ids' conns' moment newest refused') answer
+brought_as tells tree path start count c node answers answers' patterns served served' keeps keeps' ids ids' conns conns' moment newest refused refused' answer same_served same_keeps same_ids told led counted b =
+    let old = seen_of patterns served keeps ids conns moment newest refused in
+    let new = seen_of patterns served' keeps' ids' conns' moment newest refused' in
     let now : Start = record { moment = moment; tree = newest } in
     let event : Event = FileDone c node (Read b.block) in
     let steps = b.steps now told led in
@@ -143,6 +148,6 @@ brought_as tells tree path start count c node answers answers' patterns served s
         left = b.left;
         refused = refused_own event answer refused refused' refl counted;
         events = λ later none. cc;
-        steady = ap (λ (s : ServedSite). site_terms s.raceless patterns s.site) same_served;
+        steady = terms_still patterns served served' keeps keeps' same_served same_keeps;
       };
     }

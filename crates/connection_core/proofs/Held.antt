@@ -200,14 +200,14 @@ left_same (ev.Gone conn) n = refl
 
 -- the requests that were started on it
 journal_there : (front : List ℕ) (before : List Conn) (c : ℕ) (conn : Conn) (back : List ℕ) (after : List Conn) → length before ≡ length front → Below c front →
-    journal_in (front ++ c ∷ back) (before ++ conn ∷ after) c ≡ conn.journal.items
-journal_there [] [] c conn back after e b = ap (λ t. cond t conn.journal.items (journal_in back after c)) (let h : eqb c c ≡ true = grind (arith, nat_tests) in h)
+    journal_in (front ++ c ∷ back) (before ++ conn ∷ after) c ≡ conn.journal.past.entries
+journal_there [] [] c conn back after e b = ap (λ t. cond t conn.journal.past.entries (journal_in back after c)) (let h : eqb c c ≡ true = grind (arith, nat_tests) in h)
 journal_there [] (x ∷ before) c conn back after e b = absurd (omega (arith, e))
 journal_there (f ∷ front) [] c conn back after e b = absurd (omega (arith, e))
 journal_there (f ∷ front) (x ∷ before) c conn back after e b =
     let n = b.0 in
     let h : eqb f c ≡ false = grind (arith, nat_tests) in
-    ap (λ t. cond t x.journal.items (journal_in (front ++ c ∷ back) (before ++ conn ∷ after) c)) h ∙ journal_there front before c conn back after (omega (arith, e)) b.1
+    ap (λ t. cond t x.journal.past.entries (journal_in (front ++ c ∷ back) (before ++ conn ∷ after) c)) h ∙ journal_there front before c conn back after (omega (arith, e)) b.1
 
 journal_nowhere : (ids : List ℕ) (conns : List Conn) (c : ℕ) → AllByRecursion (λ id. id ≢ c) ids → journal_in ids conns c ≡ []
 journal_nowhere [] conns c a = refl
@@ -215,9 +215,9 @@ journal_nowhere (id ∷ ids) [] c a = refl
 journal_nowhere (id ∷ ids) (conn ∷ conns) c a =
     let n = a.0 in
     let h : eqb id c ≡ false = grind (arith, nat_tests) in
-    ap (λ t. cond t conn.journal.items (journal_in ids conns c)) h ∙ journal_nowhere ids conns c a.1
+    ap (λ t. cond t conn.journal.past.entries (journal_in ids conns c)) h ∙ journal_nowhere ids conns c a.1
 
-pub journal_seen : (c at : ℕ) (ids : List ℕ) (conns : List Conn) (s : Seat c at ids conns) → journal_in ids conns c ≡ s.placed.here.journal.items
+pub journal_seen : (c at : ℕ) (ids : List ℕ) (conns : List Conn) (s : Seat c at ids conns) → journal_in ids conns c ≡ s.placed.here.journal.past.entries
 journal_seen c at ids conns s =
     let p = s.placed in
     let t = s.stands in

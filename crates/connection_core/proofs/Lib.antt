@@ -7,6 +7,7 @@ pub mod Steps
 pub mod Shown
 pub mod Ticks
 pub mod Reached
+pub mod Keeping
 pub mod Told
 pub mod Asked
 pub mod Blocks

@@ -49,13 +49,13 @@ pub started_in : (serves : Serves) (ids : List ℕ) (conns : List Conn) (c : ℕ
 started_in serves [] conns c = refl
 started_in serves (id ∷ ids) [] c = refl
 started_in serves (id ∷ ids) (conn ∷ conns) c =
-    elim (eqb id c) as (λ t. map start_of (cond t conn.journal.items (journal_in ids conns c)) ≡ (cond t (view_of serves conn) (view_in serves ids conns c)).starts) [ true ↦ refl | false ↦ started_in serves ids conns c ]
+    elim (eqb id c) as (λ t. map start_of (cond t conn.journal.past.entries (journal_in ids conns c)) ≡ (cond t (view_of serves conn) (view_in serves ids conns c)).starts) [ true ↦ refl | false ↦ started_in serves ids conns c ]
 
 pub logged_in : (serves : Serves) (ids : List ℕ) (conns : List Conn) (c : ℕ) → map log_of (journal_in ids conns c) ≡ (view_in serves ids conns c).logs
 logged_in serves [] conns c = refl
 logged_in serves (id ∷ ids) [] c = refl
 logged_in serves (id ∷ ids) (conn ∷ conns) c =
-    elim (eqb id c) as (λ t. map log_of (cond t conn.journal.items (journal_in ids conns c)) ≡ (cond t (view_of serves conn) (view_in serves ids conns c)).logs) [ true ↦ refl | false ↦ logged_in serves ids conns c ]
+    elim (eqb id c) as (λ t. map log_of (cond t conn.journal.past.entries (journal_in ids conns c)) ≡ (cond t (view_of serves conn) (view_in serves ids conns c)).logs) [ true ↦ refl | false ↦ logged_in serves ids conns c ]
 
 pub raceless_in : (serves : Serves) (ids : List ℕ) (conns : List Conn) (c : ℕ) → serves.served.raceless ≡ true → (view_in serves ids conns c).raceless ≡ true
 raceless_in serves [] conns c h = refl

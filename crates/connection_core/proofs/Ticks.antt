@@ -26,6 +26,7 @@ waits_one now soon x lt le = record {
   asked = omega arith;
   ended = refl;
   flight = inl refl;
+  keeps = refl;
 }
 
 -- none is given up before the first moment of one

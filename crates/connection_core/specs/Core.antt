@@ -50,18 +50,21 @@ refused_at h = h.refused
 
 -- What a core of a site with these patterns keeps to: each connection is served by the site at its
 -- two ends, where one of the site's servers listens at its local end; at most 512 are held at once.
--- `raceless` says that the race check named no variable of the site.
-abbrev pub site_terms : (raceless : Bool) → List SetPattern → Site → Terms
-site_terms raceless patterns site = record {
+-- `raceless` says that the race check named no variable of the site, and `keeps` that the requests of
+-- each connection are kept, to be told.
+abbrev pub site_terms : (raceless keeps : Bool) → List SetPattern → Site → Terms
+site_terms raceless keeps patterns site = record {
   fresh = fresh_course raceless patterns site;
   serves = listens_there patterns site;
   limit = most_held;
   price = price_each;
+  keeps = keeps;
 }
 
 -- what it keeps to
 abbrev pub terms_at : Hub → Terms
-terms_at h = site_terms h.table.served.raceless h.space.patterns h.table.served.site
+terms_at h =
+    site_terms h.table.served.raceless h.table.keeps h.space.patterns h.table.served.site
 
 -- the race check names no variable of any server of a site with these patterns
 abbrev pub IsRacelessSite : List SetPattern → Site → Type 0

@@ -36,7 +36,7 @@ abbrev pub journal_in : List ℕ → List Conn → ℕ → List Entry
 journal_in [] conns c = []
 journal_in (id ∷ ids) [] c = []
 journal_in (id ∷ ids)
-    (conn ∷ conns) c = if id == c then conn.journal.items else journal_in ids conns c
+    (conn ∷ conns) c = if id == c then conn.journal.past.entries else journal_in ids conns c
 
 -- the work that is left on all, with one for each that is to be closed some time
 abbrev pub left_in : List Conn → ℕ
@@ -50,6 +50,10 @@ AllKnown tree conns = AllByRecursion (λ conn. asked_of conn ≤ tree) conns
 abbrev pub AllReached : Serves → List Conn → Type 0
 AllReached x conns = AllByRecursion (λ (conn : Conn). IsReachedIn x conn.flight) conns
 
+-- each of them keeps its requests, to be told, or none does
+abbrev pub AllKeep : Bool → List Conn → Type 0
+AllKeep keeps conns = AllByRecursion (λ (conn : Conn). conn.journal.keeps ≡ keeps) conns
+
 -- none of them is given up before this moment
 abbrev pub AllLater : ℕ → List Conn → Type 0
 AllLater soon conns = AllByRecursion (λ conn. soon ≤ soonest (due_at conn)) conns
@@ -62,6 +66,7 @@ pub record TickedOne (now : ℕ) (old new : Conn) : Type 0 where
   pub asked : asked_of new ≤ asked_of old
   pub ended : new.ended ≡ old.ended
   pub flight : (new.flight ≡ old.flight) ⊎ (new.flight ≡ None)
+  pub keeps : new.journal.keeps ≡ old.journal.keeps
 
 abbrev pub AllTicked : ℕ → List Conn → List Conn → Type 0
 AllTicked now [] [] = Unit {0}

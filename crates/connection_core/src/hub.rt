@@ -46,7 +46,7 @@ pub struct Hub {
 }
 
 impl Hub {
-    ghost use Rattle.std.specs.Prelude.{◌≡◌, ◌↔◌, ◌≤◌, ℕ, Bool, [], true, IfSome, MatchOption, Contains};
+    ghost use Rattle.std.specs.Prelude.{◌≡◌, ◌↔◌, ◌≤◌, ℕ, Bool, [], true, is_some, IfSome, MatchOption, Contains};
     ghost use Rattle.std.specs.List.Sorted.{IsStrictlyIncreasing};
     ghost use Rattle.http_types.specs.declared.words.Addr.{Addr as End};
     ghost use Rattle.ngx_outside.specs.Views.{Steps, OpensIf, LeftBy, CountsRefused, TakesNone, Course, now_after, ended_after, nobody, is_idle as idle_in};
@@ -55,19 +55,20 @@ impl Hub {
     ghost use Rattle.connection_core.specs.Core.{serves_at, view_at, journal_at, conns_held, terms_at, site_terms, now_at, left_at, refused_at, IsRacelessSite};
 
     /// A core that holds no connection, at moment 0 and tree 0, of a site with these patterns. The site says that the race check
-    /// named no variable of it only where none is named.
-    pub fn new(alloc: Global, served: ServedSite, patterns: PatternSet) -> Self
+    /// named no variable of it only where none is named. Where `keeps` is true the requests of each connection are kept, to be told;
+    /// else they are only counted, so that they take no room.
+    pub fn new(alloc: Global, served: ServedSite, patterns: PatternSet, keeps: bool) -> Self
         requires quiet { served.raceless ≡ true → IsRacelessSite patterns served.site }
         ensures empty { (c : ℕ) → view_at result c ≡ nobody }
         ensures none { conns_held result ≡ [] }
-        ensures terms { terms_at result ≡ site_terms served.raceless patterns served.site }
+        ensures terms { terms_at result ≡ site_terms served.raceless keeps patterns served.site }
         ensures now { now_at result ≡ record { moment = 0; tree = 0 } }
         ensures left { left_at result ≡ 0 }
         ensures refused { refused_at result ≡ 0 }
     {
         Hub {
             space: Workspace::new(alloc, patterns),
-            table: Table::new(alloc, served),
+            table: Table::new(alloc, served, keeps),
             moment: 0,
             tree: 0,
             refused: 0,
@@ -81,7 +82,8 @@ impl Hub {
             (λ c. view_at self.now conn ≡ view_of (serves_at self.now) c.now) }
         ensures known { IfSome result (λ c. asked_of c.now ≤ self.now.tree) }
         ensures journal { MatchOption result (journal_at self.now conn ≡ [])
-            (λ c. journal_at self.now conn ≡ c.now.journal.items) }
+            (λ c. journal_at self.now conn ≡ c.now.journal.past.entries) }
+        ensures keeps { IfSome result (λ c. c.now.journal.keeps ≡ self.now.table.keeps) }
     {
         self.table.get(conn)
     }
@@ -116,13 +118,15 @@ impl Hub {
         }
     }
 
-    /// The requests that were started on a connection, each with what was logged of it; none where it isn't held.
-    pub fn journal(&self, conn: u32) -> &[Entry]
-        ensures { result.now ≡ journal_at self.now conn }
+    /// The requests that were started on a connection, each with what was logged of it, where they are kept; none where it isn't
+    /// held.
+    pub fn journal(&self, conn: u32) -> Option<&[Entry]>
+        ensures entries { IfSome result (λ entries. entries.now ≡ journal_at self.now conn) }
+        ensures told { (terms_at self.now).keeps ≡ true → is_some result ≡ true }
     {
         match self.get(conn) {
             Some(held) => held.journal(),
-            None => &[],
+            None => Some(&[]),
         }
     }
 
@@ -152,6 +156,7 @@ impl Hub {
         ensures refused { CountsRefused event.now result (refused_at self.old)
             (refused_at self.new) }
         ensures served { self.new.table.served ≡ self.old.table.served }
+        ensures keeps { self.new.table.keeps ≡ self.old.table.keeps }
         ensures patterns { self.new.space.patterns ≡ self.old.space.patterns }
         ensures ids { self.new.table.ids.items ≡ self.old.table.ids.items }
     {

@@ -205,7 +205,8 @@ pub(crate) fn read_at<F: Files>(
         count node (F.seen files.old).answers (F.seen files.new).answers moment old new answer)
         p conns.new.items) }
     ensures stays { (p : Placed at conns.old.items) →
-        (there : ConnView) × (conns.new.items ≡ p.front ++ there ∷ p.back) }
+        (there : ConnView) × (conns.new.items ≡ p.front ++ there ∷ p.back) ×
+        (there.journal.keeps ≡ p.here.journal.keeps) }
     ensures same { OnErr result (conns.new.items ≡ conns.old.items) }
     ensures skips { (p : Placed at conns.old.items) →
         (IsReading (ask_in (jobs_of p.here.flight) node) → ⊥) →

@@ -2,7 +2,7 @@
 ghost use Rattle.std.specs.Prelude.{◌≡◌, vec_len};
 ghost use Rattle.std.specs.List.Sorted.{IsStrictlyIncreasing};
 ghost use Rattle.std.proofs.Props.{props};
-ghost use Rattle.connection_core.specs.Table.{AllLater};
+ghost use Rattle.connection_core.specs.Table.{AllKeep, AllLater};
 
 use crate::place::{earlier, happen_at, place, place_near, put_at, read_at, take_out, tick_all};
 use byte_text::OutOfMemory;
@@ -16,8 +16,8 @@ use std::alloc::Global;
 /// How many connections are held at most (nginx's `worker_connections`).
 const MOST: usize = 512;
 
-/// The connections that are held for a site, each under its number, the place of the one that had the last event, and a moment
-/// before which none of them is given up.
+/// The connections that are held for a site, each under its number, the place of the one that had the last event, a moment before
+/// which none of them is given up, and whether their requests are kept, to be told.
 #[derive(Drop)]
 pub(crate) struct Table {
     pub(crate) served: ServedSite,
@@ -25,9 +25,11 @@ pub(crate) struct Table {
     pub(crate) conns: Vec<Conn>,
     near: usize,
     soon: u64,
+    pub(crate) keeps: bool,
     ghost rising: { IsStrictlyIncreasing ids.items },
     ghost paired: { vec_len conns ≡ vec_len ids },
     ghost later: { AllLater soon conns.items } by { Prim.hlevel props },
+    ghost keeping: { AllKeep keeps conns.items } by { Prim.hlevel props },
 }
 
 impl Table {
@@ -49,9 +51,10 @@ impl Table {
     ghost use Rattle.connection_core.specs.Brought.{BroughtIn};
     ghost use Rattle.connection_core.specs.Table.{is_own, serves_with, listens_there, view_in, journal_in, left_in, price_each, opens_in, AllKnown, AllReached, AllTicked, BelongsAt};
 
-    /// No connection is held.
-    pub(crate) fn new(alloc: Global, served: ServedSite) -> Self
-        ensures { (result.served ≡ served) × (result.ids.items ≡ []) × (result.conns.items ≡ []) }
+    /// No connection is held. The requests of those that will be are kept, or only counted.
+    pub(crate) fn new(alloc: Global, served: ServedSite, keeps: bool) -> Self
+        ensures { (result.served ≡ served) × (result.ids.items ≡ []) × (result.conns.items ≡ [])
+            × (result.keeps ≡ keeps) }
     {
         Table {
             served,
@@ -59,6 +62,7 @@ impl Table {
             conns: Vec::new(alloc),
             near: 0,
             soon: u64::MAX,
+            keeps,
         }
     }
 
@@ -72,7 +76,8 @@ impl Table {
             IfSome result (λ c. asked_of c.now ≤ tree) }
         ensures journal { MatchOption result (journal_in self.now.ids.items self.now.conns.items
             conn ≡ []) (λ c. journal_in self.now.ids.items self.now.conns.items
-            conn ≡ c.now.journal.items) }
+            conn ≡ c.now.journal.past.entries) }
+        ensures keeps { IfSome result (λ c. c.now.journal.keeps ≡ self.now.keeps) }
     {
         match place_near(self.ids.as_slice(), self.near, conn) {
             Ok(at) => Some(&self.conns[at]),
@@ -101,6 +106,7 @@ impl Table {
     ) -> Result<Conn, OutOfMemory>
         requires { vec_len self.old.ids < 512 }
         ensures served { self.new.served ≡ self.old.served }
+        ensures keeps { self.new.keeps ≡ self.old.keeps }
         ensures ids { self.new.ids.items ≡ self.old.ids.items }
         ensures conns { self.new.conns.items ≡ self.old.conns.items }
         ensures ids_room { OnOk result (vec_len self.new.ids < vec_capacity self.new.ids) }
@@ -111,10 +117,11 @@ impl Table {
         ensures left { IfOk result (λ c. left_of c ≡ 1 + weight) }
         ensures asked { IfOk result (λ c. asked_of c ≡ 0) }
         ensures flight { IfOk result (λ c. c.flight ≡ None) }
+        ensures fresh_keeps { IfOk result (λ c. c.journal.keeps ≡ self.old.keeps) }
     {
         self.ids.reserve(1)?;
         self.conns.reserve(1)?;
-        let conn = Conn::new(alloc, &self.served, local, peer, moment)?;
+        let conn = Conn::new(alloc, &self.served, local, peer, moment, self.keeps)?;
         Ok(conn)
     }
 
@@ -123,9 +130,11 @@ impl Table {
         requires belongs { BelongsAt conn self.old.ids.items at }
         requires ids_room { vec_len self.old.ids < vec_capacity self.old.ids }
         requires conns_room { vec_len self.old.conns < vec_capacity self.old.conns }
+        requires keeps { fresh.journal.keeps ≡ self.old.keeps }
         ensures ids { self.new.ids.items ≡ insert self.old.ids.items at conn }
         ensures conns { self.new.conns.items ≡ insert self.old.conns.items at fresh }
         ensures served { self.new.served ≡ self.old.served }
+        ensures keeps { self.new.keeps ≡ self.old.keeps }
     {
         self.near = at;
         self.soon = earlier(self.soon, &fresh);
@@ -162,6 +171,7 @@ impl Table {
         ensures left { LeftBy price_each (Opened conn local peer) result
             (left_in self.old.conns.items) (left_in self.new.conns.items) }
         ensures served { self.new.served ≡ self.old.served }
+        ensures keeps { self.new.keeps ≡ self.old.keeps }
     {
         if self.ids.len() >= MOST || !self.is_listening(local) {
             return StepAnswer::Skipped;
@@ -211,6 +221,7 @@ impl Table {
             self.new.conns.items }
         ensures ids { self.new.ids.items ≡ self.old.ids.items }
         ensures served { self.new.served ≡ self.old.served }
+        ensures keeps { self.new.keeps ≡ self.old.keeps }
         ensures patterns { space.new.patterns ≡ space.old.patterns }
     {
         match place_near(self.ids.as_slice(), self.near, conn) {
@@ -266,6 +277,7 @@ impl Table {
             self.new.conns.items }
         ensures ids { self.new.ids.items ≡ self.old.ids.items }
         ensures served { self.new.served ≡ self.old.served }
+        ensures keeps { self.new.keeps ≡ self.old.keeps }
         ensures failed { IsErrOf result ReadFailed → Adds NotRead (F.seen files.old).answers
             (F.seen files.new).answers }
         ensures tells { (F.seen files.new).tells ≡ (F.seen files.old).tells }
@@ -292,6 +304,7 @@ impl Table {
         ensures ticked { AllTicked now self.old.conns.items self.new.conns.items }
         ensures ids { self.new.ids.items ≡ self.old.ids.items }
         ensures served { self.new.served ≡ self.old.served }
+        ensures keeps { self.new.keeps ≡ self.old.keeps }
     {
         if self.soon <= now {
             self.soon = tick_all(self.conns.as_mut_slice(), now);
@@ -325,6 +338,7 @@ impl Table {
         ensures left { LeftBy price_each (Gone conn) result (left_in self.old.conns.items)
             (left_in self.new.conns.items) }
         ensures served { self.new.served ≡ self.old.served }
+        ensures keeps { self.new.keeps ≡ self.old.keeps }
     {
         match place(self.ids.as_slice(), conn) {
             Ok(at) => {

@@ -14,7 +14,7 @@ ghost use Rattle.node_turn.specs.declared.node.Stage.TheVariants.{Reads as Reads
 
 use byte_text::{ByteText, OutOfMemory};
 use file_tree::{Ask, JobAnswer, Node as FileNode};
-use node_turn::{Body, Node, Stage, put, take};
+use node_turn::{Body, Node, Stage, fill, take};
 use request_phases::Wait;
 use ssi_values::Table;
 use std::alloc::Global;
@@ -122,7 +122,7 @@ fn sum(a: u64, b: u64) -> Option<u64>
 fn put_told(node: &mut Node, wait: Wait, file: FileNode, ssi: Table)
     ensures { node.new ≡ record node.old { stage = ToldView wait file ssi; start = 0 } }
 {
-    put(&mut node.stage, Stage::Told { wait, file, ssi });
+    fill(&mut node.stage, Stage::Told { wait, file, ssi });
     node.start = 0;
 }
 
@@ -151,7 +151,7 @@ fn put_block(
         return Err(OutOfMemory);
     };
     node.start = start;
-    put(&mut node.stage, came(alloc, body, bytes)?);
+    fill(&mut node.stage, came(alloc, body, bytes)?);
     Ok(())
 }
 

@@ -181,6 +181,7 @@ pub fn path_under(
 /// # Errors
 /// `TooLong` where the text of `root` or `alias` has more than 16384 bytes; `out` is then as it was. After
 /// `OutOfMemory` `out` is fit to be dropped alone.
+#[inline(always)]
 pub fn path_of(
     alloc: Global,
     place: &FileRoot,

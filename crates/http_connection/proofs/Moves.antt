@@ -23,6 +23,7 @@ use Rattle.answers_meaning.specs.Asking.{Service}
 use Rattle.answers_meaning.specs.Answers.{Response, Answer, Sends, then_closes, responses, first_response, response_at, refusal, bytes_in, logs_in, close_in, heavy_in, any_over, after_body}
 use Rattle.request_flow.specs.Flows.{asking_most, flow_most}
 use Rattle.request_flow.specs.Rests.{Rest, closes_after, logged_by}
+use Rattle.request_journal.specs.Noted.{last_logged, logged_if}
 use Rattle.response_flow.specs.declared.flight.Flight.{Flight}
 use Rattle.response_flow.specs.declared.flight.Onward.{Onward}
 use Rattle.response_flow.specs.declared.flight.Ran.{Ran as FlightRan}
@@ -102,10 +103,6 @@ unfolding logged_in
 entered_logs [] entry = append-nil (logged_by (log_of entry))
 entered_logs (e ∷ journal) entry = ap (λ x. logged_by (log_of e) ++ x) (entered_logs journal entry) ∙ sym (append_assoc (logged_by (log_of e)) (logged_in journal) (logged_by (log_of entry)))
 
-set_last : (front : List Entry) (last new : Entry) → set (front ++ last ∷ []) (length front) new ≡ front ++ new ∷ []
-set_last [] last new = refl
-set_last (x ∷ front) last new = ap (λ r. x ∷ r) (set_last front last new)
-
 not_twice : (b : Bool) → b ≡ not (not b)
 not_twice true = refl
 not_twice false = refl
@@ -131,13 +128,18 @@ pub stopped_left : (why : StopCause) (cause : Option StopCause) (flow flow' : Op
 stopped_left why None flow flow' out out' closing closing' buffered buffered' live = omega arith
 stopped_left why (Some cause) flow flow' out out' closing closing' buffered buffered' live = cc
 
-finished_at : (xs : List Entry) (n : ℕ) (new default : Entry) → start_of new ≡ start_of (get_or xs n default) → map start_of (set xs n new) ≡ map start_of xs
-finished_at [] n new default e = refl
-finished_at (x ∷ xs) zero new default e = ap (λ s. s ∷ map start_of xs) e
-finished_at (x ∷ xs) (suc n) new default e = ap (λ r. start_of x ∷ r) (finished_at xs n new default e)
+-- what its journal says of when requests started stays, and how many they are
+pub finished_starts : (journal : List Entry) (log : Option Log) → map start_of (logged_if journal log) ≡ map start_of journal
+finished_starts journal None = refl
+finished_starts [] (Some log) = refl
+finished_starts (e ∷ []) (Some log) = refl
+finished_starts (e ∷ f ∷ journal) (Some log) = ap (λ r. start_of e ∷ r) (finished_starts (f ∷ journal) (Some log))
 
-pub finished : (xs : List Entry) (n : ℕ) (entry new : Entry) → entry ≡ get_or xs n entry → start_of new ≡ start_of entry → map start_of (set xs n new) ≡ map start_of xs
-finished xs n entry new is e = finished_at xs n new entry (e ∙ ap start_of is)
+pub finished_count : (journal : List Entry) (log : Option Log) → length (logged_if journal log) ≡ length journal
+finished_count journal None = refl
+finished_count [] (Some log) = refl
+finished_count (e ∷ []) (Some log) = refl
+finished_count (e ∷ f ∷ journal) (Some log) = ap suc (finished_count (f ∷ journal) (Some log))
 
 -- what is logged of its requests are the logs of its responses
 logged_shown : (in_flight : Bool) (logs : List (Option Log)) (over later : List Log) → logs ≡ map (λ l. Some l) over ++ cond in_flight (None ∷ []) [] → Logged logs (over ++ later)
@@ -237,20 +239,25 @@ front_logged : (journal : List Entry) → (o : Open journal (logged_in journal))
 front_logged journal o = o.logged ∙ ap (map (λ l. Some l)) (open_logs journal o) ∙ sym (append-nil (map (λ l. Some l) (logged_in o.front)))
 
 -- it is logged where its request is over
-finished_as : (journal : List Entry) (n : ℕ) (new : Entry) → n ≡ length journal - 1 → (o : Open journal (logged_in journal)) → set journal n new ≡ o.front ++ new ∷ []
-finished_as journal n new e o =
-    let size : n ≡ length o.front = (let a = ap length o.whole in let b = length-append o.front (o.last ∷ []) in omega (arith, e, a, b)) in
-    ap (λ k. set journal k new) size ∙ ap (λ j. set j (length o.front) new) o.whole ∙ set_last o.front o.last new
+logged_last : (front : List Entry) (last : Entry) (log : Log) → last_logged (front ++ last ∷ []) log ≡ front ++ record last { log = Some log } ∷ []
+logged_last [] last log = refl
+logged_last (x ∷ []) last log = refl
+logged_last (x ∷ y ∷ front) last log = ap (λ r. x ∷ r) (logged_last (y ∷ front) last log)
 
-pub finished_logged : (journal : List Entry) (n : ℕ) (new : Entry) → n ≡ length journal - 1 → IsLogged true journal → IsLogged (not (is_some (log_of new))) (set journal n new)
-finished_logged journal n new e told =
-    let o = open_of journal (logged_in journal) told in
-    subst (IsLogged (not (is_some (log_of new)))) (sym (finished_as journal n new e o)) (entered_logged (not (is_some (log_of new))) o.front new (log_of new) refl (front_logged journal o) (not_twice (is_some (log_of new))))
+finished_as : (journal : List Entry) (log : Log) → (o : Open journal (logged_in journal)) → last_logged journal log ≡ o.front ++ record o.last { log = Some log } ∷ []
+finished_as journal log o = ap (λ j. last_logged j log) o.whole ∙ logged_last o.front o.last log
 
-pub finished_logs : (journal : List Entry) (n : ℕ) (new : Entry) → n ≡ length journal - 1 → IsLogged true journal → logged_in (set journal n new) ≡ logged_in journal ++ logged_by (log_of new)
-finished_logs journal n new e told =
+pub finished_logged : (journal : List Entry) (log : Option Log) → IsLogged true journal → IsLogged (not (is_some log)) (logged_if journal log)
+finished_logged journal None told = told
+finished_logged journal (Some log) told =
     let o = open_of journal (logged_in journal) told in
-    ap logged_in (finished_as journal n new e o) ∙ entered_logs o.front new ∙ ap (λ x. x ++ logged_by (log_of new)) (sym (open_logs journal o))
+    subst (IsLogged false) (sym (finished_as journal log o)) (entered_logged false o.front (record o.last { log = Some log }) (Some log) refl (front_logged journal o) refl)
+
+pub finished_logs : (journal : List Entry) (log : Option Log) → IsLogged true journal → logged_in (logged_if journal log) ≡ logged_in journal ++ logged_by log
+finished_logs journal None told = sym (append-nil (logged_in journal))
+finished_logs journal (Some log) told =
+    let o = open_of journal (logged_in journal) told in
+    ap logged_in (finished_as journal log o) ∙ entered_logs o.front (record o.last { log = Some log }) ∙ ap (λ x. x ++ logged_by (Some log)) (sym (open_logs journal o))
 
 -- where a request is in flight the connection is live
 pub waits_live : (cause : Option StopCause) (flow : Option Flight) (f : Flight) → (is_some cause ≡ true → flow ≡ None) → flow ≡ Some f → is_some cause ≡ false

@@ -17,7 +17,7 @@ use Rattle.http_connection.specs.Times.{awaited_by, due_of, soonest, mark_by}
 use Rattle.http_connection.specs.Rests.{Serves, service_in}
 
 abbrev pub view_of_parts : Serves → Conn → ConnView
-view_of_parts site s = view_at site (service_in site s.local s.peer) s.cause s.flight s.out s.tail s.journal.items s.closing s.ended s.body s.buffered s.next
+view_of_parts site s = view_at site (service_in site s.local s.peer) s.cause s.flight s.out s.tail s.journal.past.entries s.closing s.ended s.body s.buffered s.next
 
 pub went_until : (due due' : Option ℕ) (ground : Ground) (old new : ConnView) (came went : List ℕ) (started : List Start) → Went ground old new came went started → Went ground (until due old) (until due' new) came went started
 went_until due due' ground old new came went started w = record {
@@ -87,7 +87,7 @@ dead_waits s h = by s.cause refl h
     by None e h = cc
     by (Some cause) e h =
         ap
-        (λ (c : Option StopCause). due_of (awaited_by (shut_at (is_some c) s.flight s.closing s.ended s.out s.body s.next) (not (no_bytes (pending_at s.flight s.out s.tail))) (is_some s.flight || starts s.body s.next) (no_entries s.journal.items) (not (no_bytes s.buffered))) s.times)
+        (λ (c : Option StopCause). due_of (awaited_by (shut_at (is_some c) s.flight s.closing s.ended s.out s.body s.next) (not (no_bytes (pending_at s.flight s.out s.tail))) (is_some s.flight || starts s.body s.next) (no_entries s.journal.past.entries) (not (no_bytes s.buffered))) s.times)
         e
 
 -- the bytes and the entries that are there
@@ -117,20 +117,20 @@ alive s due e = by (is_none s.cause) refl
     by true h = refl
     by false h = absurd (let f : None ≡ Some due = sym (dead_waits s h) ∙ e in cc)
 
-given_up : (site : Serves) (s n : Conn) (due now : ℕ) → due_at s ≡ Some due → due ≤ now → n.cause ≡ Some (stop.Deadline due now) → n.flight ≡ None → n.out ≡ [] → n.journal.items ≡ s.journal.items → Ticked now (view_of site s) (view_of site n)
+given_up : (site : Serves) (s n : Conn) (due now : ℕ) → due_at s ≡ Some due → due ≤ now → n.cause ≡ Some (stop.Deadline due now) → n.flight ≡ None → n.out ≡ [] → n.journal.past.entries ≡ s.journal.past.entries → Ticked now (view_of site s) (view_of site n)
 given_up site s n due now e le cause flow out journal = GivesUp due refl e le (record {
   before = alive s due e;
   held = refl;
   why = cause;
   pending = unsent n.flight n.out n.tail flow out;
-  starts = ap (map start_of) journal ∙ sym (append-nil (map start_of s.journal.items));
-  logs = ap (map log_of) journal ∙ sym (append-nil (map log_of s.journal.items));
+  starts = ap (map start_of) journal ∙ sym (append-nil (map start_of s.journal.past.entries));
+  logs = ap (map log_of) journal ∙ sym (append-nil (map log_of s.journal.past.entries));
   logged = λ all l. subst (λ x. Logged x all) (sym (ap (map log_of) journal)) l;
   raceless = refl;
 })
 
 -- the clock tells a moment that is no earlier than its own
-pub gives_up : (site : Serves) (s n : Conn) (r now : ℕ) → r ≡ soonest (due_at s) → r ≤ now → now < 2 ^ 64 - 1 → n.cause ≡ Some (stop.Deadline r now) → n.flight ≡ None → n.out ≡ [] → n.journal.items ≡ s.journal.items → Ticked now (view_of site s) (view_of site n)
+pub gives_up : (site : Serves) (s n : Conn) (r now : ℕ) → r ≡ soonest (due_at s) → r ≤ now → now < 2 ^ 64 - 1 → n.cause ≡ Some (stop.Deadline r now) → n.flight ≡ None → n.out ≡ [] → n.journal.past.entries ≡ s.journal.past.entries → Ticked now (view_of site s) (view_of site n)
 gives_up site s n r now e le lt cause flow out journal = given_up site s n r now (due_now (due_at s) r now e le lt) le cause flow out journal
 
 -- or an earlier one

@@ -152,7 +152,7 @@ awaited_at conn = awaited_by
     (shut_at (is_some conn.cause) conn.flight conn.closing conn.ended conn.out conn.body conn.next)
     (not (no_bytes (pending_at conn.flight conn.out conn.tail)))
     (is_some conn.flight || starts conn.body conn.next)
-    (no_entries conn.journal.items)
+    (no_entries conn.journal.past.entries)
     (not (no_bytes conn.buffered))
 
 -- the moment at which it is given up
@@ -166,7 +166,7 @@ until due v = record v { deadline = due }
 abbrev pub view_of : Serves → Conn → ConnView
 view_of x conn = until (due_at conn)
     (view_at x
-    (service_in x conn.local conn.peer) conn.cause conn.flight conn.out conn.tail conn.journal.items
+    (service_in x conn.local conn.peer) conn.cause conn.flight conn.out conn.tail conn.journal.past.entries
     conn.closing conn.ended conn.body conn.buffered conn.next)
 
 -- Each byte that is buffered may begin a head, whose request adds less than this to the bytes for its peer and to what is left to do
@@ -212,6 +212,7 @@ pub record StepsConn (x : Serves) (now : Start) (e : Event) (a : StepAnswer)
   pub taken : TakesNone e a
   pub asked : asked_of new ≤ asked_of old ⊎ asked_of new ≤ now.tree
   pub tail : TailAfter e a old new
+  pub keeps : new.journal.keeps ≡ old.journal.keeps
 
 -- a request is in flight: it isn't over, or some of its response is unsent
 abbrev pub in_flight : Option Flight → List ℕ → Bool

@@ -19,6 +19,7 @@ use file_tree::Ask;
 use http_types::Addr;
 use ngx_outside::{Entry, StopCause};
 use req_head::{HeadStep, read_head};
+use request_journal::Journal;
 use response_flow::{Flight, ask, first_job, first_ready, is_ready, pending};
 use served_site::ServedSite;
 use std::alloc::Global;
@@ -34,7 +35,7 @@ pub struct Conn {
     pub(crate) flight: Option<Flight>,
     pub(crate) out: ByteQueue,
     pub(crate) tail: usize,
-    pub(crate) journal: Vec<Entry>,
+    pub(crate) journal: Journal,
     pub(crate) next: HeadStep,
     pub(crate) body: Option<BodyState>,
     pub(crate) closing: bool,
@@ -50,12 +51,12 @@ pub struct Conn {
     ghost few: { length buffered ≤ 8192 },
     ghost drained: { is_some body ≡ true → buffered ≡ [] },
     ghost unended: { is_some body ≡ true → rest_of body [] ≡ Short },
-    ghost logged: { is_some cause ≡ false → IsLogged (is_some flight) journal.items },
+    ghost logged: { is_some cause ≡ false → IsLogged (is_some flight) journal.past.entries },
     ghost brief: { NoneShorter times.head times.pace least },
 }
 
 impl Conn {
-    ghost use Rattle.std.specs.Prelude.{◌≡◌, ◌⊎◌, List, true, false, [], length, is_some, IfOk, Option, Some, None, option_copied};
+    ghost use Rattle.std.specs.Prelude.{◌≡◌, ◌⊎◌, List, true, false, [], length, is_some, IfOk, IfSome, Option, Some, None, option_copied};
     ghost use Rattle.ngx_outside.specs.Views.{Fresh, ask_in, is_idle as idle_in};
     ghost use Rattle.http_connection.specs.Conn.{view_of, left_of, fresh_course, room_at, starts_at, ready_at, idle_at, shut_at, pending_at, weight, asked_of};
     ghost use Rattle.response_flow.specs.Flights.{jobs_of};
@@ -69,7 +70,8 @@ impl Conn {
     ghost use Rattle.pattern_search.specs.Found.{patterns_seen};
     ghost use Rattle.site_whole.specs.Whole.{whole};
 
-    /// A connection with these two ends, on which nothing has come and gone. Its waiting begins now.
+    /// A connection with these two ends, on which nothing has come and gone. Its waiting begins now. Its requests are kept, to be
+    /// told, or only counted.
     #[tactic(auto, unfolding(crate::specs::Steps::logged_in))]
     pub fn new(
         alloc: Global,
@@ -77,6 +79,7 @@ impl Conn {
         local: Addr,
         peer: Addr,
         moment: u64,
+        keeps: bool,
     ) -> Result<Self, OutOfMemory>
         ensures fresh { IfOk result (λ c. (x : Serves) →
             Fresh (fresh_course x.served.raceless x.patterns x.served.site local peer)
@@ -89,6 +92,7 @@ impl Conn {
         ensures left { IfOk result (λ c. left_of c ≡ 1 + weight) }
         ensures asked { IfOk result (λ c. asked_of c ≡ 0) }
         ensures flight { IfOk result (λ c. c.flight ≡ None) }
+        ensures keeps { IfOk result (λ c. c.journal.keeps ≡ keeps) }
     {
         let buffered = ByteQueue::new(alloc);
         let next = read_head(alloc, buffered.front())?;
@@ -99,7 +103,7 @@ impl Conn {
             flight: None,
             out: ByteQueue::new(alloc),
             tail: 0,
-            journal: Vec::new(alloc),
+            journal: Journal::new(alloc, keeps),
             next,
             body: None,
             closing: false,
@@ -138,11 +142,13 @@ impl Conn {
         first_job(&self.flight)
     }
 
-    /// The requests that were started, each with what was logged of it.
-    pub fn journal(&self) -> &[Entry]
-        ensures { result.now ≡ self.now.journal.items }
+    /// The requests that were started, each with what was logged of it, where they are kept.
+    pub fn journal(&self) -> Option<&[Entry]>
+        ensures entries { IfSome result
+            (λ entries. entries.now ≡ self.now.journal.past.entries) }
+        ensures told { is_some result ≡ self.now.journal.keeps }
     {
-        self.journal.as_slice()
+        self.journal.entries()
     }
 
     /// Why it was stopped, if it was.
@@ -276,6 +282,7 @@ impl Conn {
         ensures ended { self.new.ended ≡ self.old.ended }
         ensures times { self.new.times ≡ self.old.times }
         ensures flight { (self.new.flight ≡ self.old.flight) ⊎ (self.new.flight ≡ None) }
+        ensures keeps { self.new.journal.keeps ≡ self.old.journal.keeps }
     {
         let due = self.due();
         if due > now {
@@ -289,7 +296,8 @@ impl Conn {
         ensures cause { self.new.cause ≡ Some cause }
         ensures flight { self.new.flight ≡ None }
         ensures out { self.new.out ≡ [] }
-        ensures journal { self.new.journal.items ≡ self.old.journal.items }
+        ensures journal { self.new.journal.past.entries ≡ self.old.journal.past.entries }
+        ensures keeps { self.new.journal.keeps ≡ self.old.journal.keeps }
         ensures ended { self.new.ended ≡ self.old.ended }
         ensures times { self.new.times ≡ self.old.times }
         ensures tail { self.new.tail ≡ self.old.tail }

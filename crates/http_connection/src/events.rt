@@ -133,6 +133,7 @@ impl Conn {
             StepsConn x now (FileDone conn node answer.entry) result self.old self.new }
         ensures times { (x : Serves) (now : Start) (conn : ℕ) → now.moment ≡ moment →
             TimesConn x now (FileDone conn node answer.entry) result self.old self.new }
+        ensures keeps { self.new.journal.keeps ≡ self.old.journal.keeps }
     {
         match self.ask(node) {
             Some(ask) => {
@@ -189,6 +190,7 @@ impl Conn {
             IfOk result (BroughtConn (F.seen files.old).tells ((F.seen files.old).trees of) path
             start count node (F.seen files.old).answers (F.seen files.new).answers moment self.old
             self.new) }
+        ensures keeps { self.new.journal.keeps ≡ self.old.journal.keeps }
         ensures same { OnErr result (self.new ≡ self.old) }
         ensures failed { IsErrOf result ReadFailed → Adds NotRead (F.seen files.old).answers
             (F.seen files.new).answers }

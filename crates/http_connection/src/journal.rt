@@ -1,51 +1,35 @@
 // The journal of the requests of a connection.
-ghost use Rattle.std.specs.Prelude.{◌≡◌, ◌<◌, ◌+◌, ◌-◌, ◌++◌, ◌∷◌, ◌||◌, true, not, [], is_some, OnOk, vec_len, vec_capacity, map};
+ghost use Rattle.std.specs.Prelude.{◌≡◌, ◌++◌, ◌∷◌, true, not, [], length, is_some, map};
 ghost use Rattle.ngx_outside.specs.Views.{start_of, log_of};
 ghost use Rattle.ngx_outside.specs.declared.event.Entry.{Entry as Logged};
 ghost use Rattle.request_flow.specs.Rests.{logged_by};
-ghost use Rattle.http_connection.specs.Steps.{starts, logged_in, IsLogged};
+ghost use Rattle.request_journal.specs.Journals.{HasRoom};
+ghost use Rattle.http_connection.specs.Steps.{logged_in, IsLogged};
 
-use byte_text::OutOfMemory;
 use ngx_outside::Entry;
-
-// Room for one request more in the journal.
-pub(crate) fn make_room(journal: &mut Vec<Entry>) -> Result<(), OutOfMemory>
-    ensures items { journal.new.items ≡ journal.old.items }
-    ensures count { vec_len journal.new ≡ vec_len journal.old }
-    ensures room { OnOk result (vec_len journal.new < vec_capacity journal.new) }
-{
-    journal.reserve(1)?;
-    Ok(())
-}
+use request_journal::Journal;
 
 // A request is written into the journal, which has room for it.
-pub(crate) fn enter(journal: &mut Vec<Entry>, moment: u64, tree: u64, log: Option<(u16, u64)>)
-    requires { vec_len journal.old < vec_capacity journal.old }
-    ensures { (entry : Logged) × (start_of entry ≡ record { moment = moment; tree = tree }) ×
-        (log_of entry ≡ log) × (journal.new.items ≡ journal.old.items ++ entry ∷ []) }
+pub(crate) fn enter(journal: &mut Journal, moment: u64, tree: u64, log: Option<(u16, u64)>)
+    requires { HasRoom journal.old }
+    ensures entry { (entry : Logged) × (start_of entry ≡ record { moment = moment; tree = tree }) ×
+        (log_of entry ≡ log) ×
+        (journal.new.past.entries ≡ journal.old.past.entries ++ entry ∷ []) }
+    ensures keeps { journal.new.keeps ≡ journal.old.keeps }
 {
-    match journal.push(Entry { moment, tree, log }) {
-        Ok(()) => {}
-        Err(_) => unreachable!(),
-    }
+    journal.enter(Entry { moment, tree, log });
 }
 
 // The last request that was started, which is in flight, is logged where it is over.
-pub(crate) fn finish(journal: &mut Vec<Entry>, log: Option<(u16, u64)>)
-    requires { IsLogged true journal.old.items }
-    ensures starts { map start_of journal.new.items ≡ map start_of journal.old.items }
-    ensures count { vec_len journal.new ≡ vec_len journal.old }
-    ensures logged { IsLogged (not (is_some log)) journal.new.items }
-    ensures log { logged_in journal.new.items ≡ logged_in journal.old.items ++ logged_by log }
+pub(crate) fn finish(journal: &mut Journal, log: Option<(u16, u64)>)
+    requires { IsLogged true journal.old.past.entries }
+    ensures starts { map start_of journal.new.past.entries ≡
+        map start_of journal.old.past.entries }
+    ensures count { length journal.new.past.entries ≡ length journal.old.past.entries }
+    ensures logged { IsLogged (not (is_some log)) journal.new.past.entries }
+    ensures log { logged_in journal.new.past.entries ≡
+        logged_in journal.old.past.entries ++ logged_by log }
+    ensures keeps { journal.new.keeps ≡ journal.old.keeps }
 {
-    if log.is_none() || journal.is_empty() {
-        return;
-    }
-    let last = journal.len() - 1;
-    let entry = journal[last];
-    journal[last] = Entry {
-        moment: entry.moment,
-        tree: entry.tree,
-        log,
-    };
+    journal.finish(log);
 }

@@ -5,7 +5,7 @@ ghost use Rattle.http_connection.specs.Conn.{pending_at, in_flight, filled_by, m
 
 use crate::times::{AT_REST, Sending};
 use byte_text::ByteQueue;
-use ngx_outside::Entry;
+use request_journal::Journal;
 use response_flow::{Flight, pending};
 
 // The moment since which bytes are buffered: this one where none was before.
@@ -27,8 +27,8 @@ pub(crate) fn is_pending(flight: &Option<Flight>, out: &ByteQueue, tail: usize) 
 }
 
 // Whether no request was started.
-pub(crate) fn is_fresh(journal: &Vec<Entry>) -> bool
-    ensures { result ≡ no_entries journal.now.items }
+pub(crate) fn is_fresh(journal: &Journal) -> bool
+    ensures { result ≡ no_entries journal.now.past.entries }
 {
     journal.is_empty()
 }

@@ -1,5 +1,5 @@
 // A request starts.
-ghost use Rattle.std.specs.Prelude.{◌≡◌, ◌≤◌, ◌<◌, ◌+◌, ◌-◌, ◌++◌, ◌∷◌, ◌||◌, true, not, [], ℕ, length, take, is_some, OnErr, OnOk, IfOk, vec_len, None};
+ghost use Rattle.std.specs.Prelude.{◌≡◌, ◌≤◌, ◌<◌, ◌+◌, ◌-◌, ◌++◌, ◌∷◌, ◌||◌, true, not, [], ℕ, length, take, is_some, OnErr, OnOk, IfOk, None};
 ghost use Rattle.ngx_outside.specs.Views.{start_of, log_of};
 ghost use Rattle.req_head.specs.Step.{head_step};
 ghost use Rattle.ngx_outside.specs.declared.event.Entry.{Entry as Logged};
@@ -14,15 +14,15 @@ ghost use Rattle.http_connection.specs.Times.{LevelFor};
 
 use crate::body::drop_body;
 use crate::input::{begins, behind};
-use crate::journal::{enter, make_room};
+use crate::journal::enter;
 use crate::open::{Meeting, open, refuse};
 use crate::slot::{put, take};
 use crate::times::own_level;
 use body_frame::BodyState;
 use byte_text::{ByteQueue, OutOfMemory};
-use ngx_outside::Entry;
 use reply_out::Workspace;
 use req_head::{Head, HeadRoom, HeadStep, awaits_first, read_head_in, size_fits};
+use request_journal::Journal;
 use response_flow::{Onward, Ran};
 use served_site::ServedSite;
 
@@ -81,7 +81,7 @@ pub(crate) fn run_one(
     next: &mut HeadStep,
     body: &mut Option<BodyState>,
     out: &mut ByteQueue,
-    journal: &mut Vec<Entry>,
+    journal: &mut Journal,
 ) -> Result<Ran, OutOfMemory>
     requires looked { next.old ≡ head_step buffered.old }
     requires begins { head_begins next.old ≡ true }
@@ -91,7 +91,8 @@ pub(crate) fn run_one(
       served = setting.entry.served.now;
     } in
         IfOk result (λ ran. RanTo x (service_in x m.local m.peer) (start_in m)
-        (vec_len journal.old) next.old buffered.old buffered.new body.new out.old out.new ran) }
+        (length journal.old.past.entries) next.old buffered.old buffered.new body.new out.old
+        out.new ran) }
     ensures level { let m = setting.entry.meeting in let x : Serves = record {
       patterns = space.old.patterns;
       served = setting.entry.served.now;
@@ -107,8 +108,10 @@ pub(crate) fn run_one(
     ensures looked { IfOk result (λ ran. IfOn ran (λ o. next.new ≡ head_step buffered.new)) }
     ensures journal { IfOk result (λ ran. (entry : Logged) ×
         (start_of entry ≡ start_in setting.entry.meeting) ×
-        (log_of entry ≡ log_ran ran) × (journal.new.items ≡ journal.old.items ++ entry ∷ [])) }
-    ensures kept { OnErr result (journal.new.items ≡ journal.old.items) }
+        (log_of entry ≡ log_ran ran) ×
+        (journal.new.past.entries ≡ journal.old.past.entries ++ entry ∷ [])) }
+    ensures kept { OnErr result (journal.new.past.entries ≡ journal.old.past.entries) }
+    ensures keeps { journal.new.keeps ≡ journal.old.keeps }
     ensures over { IfOk result (λ ran. IfOn ran (λ o. is_some o.log ≡ not (is_some o.flight))) }
     ensures fits { IfOk result (λ ran. IfOn ran (λ o. FlightFits o.flight (length out.new))) }
     ensures lowers { IfOk result (λ ran. IfOn ran (λ o. length out.new + flight_left o.flight
@@ -122,12 +125,12 @@ pub(crate) fn run_one(
     match next {
         HeadStep::Head { head, size } => {
             size_fits();
-            make_room(journal)?;
+            journal.make_room()?;
             let dropped = drop_body(BodyState::new(head.body), behind(buffered, *size));
             let size = *size + dropped.used;
             let head = take_head(next);
             look_on(&mut space.head_room, behind(buffered, size), next)?;
-            match open(space, served, out, head, journal.len() as u64, meeting) {
+            match open(space, served, out, head, journal.len(), meeting) {
                 Ok(Ran::TooMany) => {
                     enter(journal, meeting.moment, meeting.tree, None);
                     Ok(Ran::TooMany)
@@ -143,7 +146,7 @@ pub(crate) fn run_one(
             }
         }
         HeadStep::Bad { code, no_body } => {
-            make_room(journal)?;
+            journal.make_room()?;
             let level = own_level(served, meeting.local);
             let onward = refuse(space, out, *code, meeting.moment, *no_body, level)?;
             enter(journal, meeting.moment, meeting.tree, onward.log);

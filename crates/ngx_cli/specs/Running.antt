@@ -143,7 +143,7 @@ pub record Ran (raceless : Bool) (site : Built) (tree : List TreeLine) (events :
   pub skipped : ℕ
   pub refused : ℕ
   pub begins : IsNew first
-  pub plays : Plays (site_terms raceless site.patterns site.site) events (told_first tree) first 0 0
+  pub plays : Plays (site_terms raceless true site.patterns site.site) events (told_first tree) first 0 0
       last skipped refused
   pub conns : List ℕ
   pub held : AreHeld conns last.view

@@ -2,7 +2,7 @@
 ghost use Rattle.std.specs.Prelude.{◌≡◌, true, [], ◌++◌, ℕ, List, Ok, Err, IfOk, IfErr, OnOk, map, is_some, if◌then◌else◌};
 ghost use Rattle.report_text.specs.declared.report.ConnState.TheVariants.{Stopped, Idle, Busy};
 ghost use Rattle.replay_run.specs.Scene.{stage, AreHeld};
-ghost use Rattle.connection_core.specs.Core.{view_at, now_at, journal_at, conns_held};
+ghost use Rattle.connection_core.specs.Core.{view_at, now_at, journal_at, conns_held, terms_at};
 ghost use Rattle.report_text.specs.Report.{run_text, report_of};
 ghost use Rattle.report_text.specs.Lines.{ended};
 ghost use Rattle.report_text.specs.Faults.{conf_fault_line};
@@ -17,7 +17,7 @@ use conf_include::PlacedFault;
 use conf_inherit::Built;
 use connection_core::{Hub, cores_are_sound};
 use ngx_outside::{
-    StopCause, all_is_logged_when_idle, all_is_sent_when_idle, all_is_sent_when_shut,
+    Entry, StopCause, all_is_logged_when_idle, all_is_sent_when_idle, all_is_sent_when_shut,
     shut_is_exact, tracks_begin,
 };
 use ngx_pattern::PatternMaker;
@@ -84,8 +84,20 @@ fn state_of(cause: Option<StopCause>, idle: bool) -> ConnState
     }
 }
 
+// The journal of a connection, where the core keeps it.
+fn journal_of(hub: &Hub, conn: u32) -> &[Entry]
+    requires { (terms_at hub.now).keeps ≡ true }
+    ensures { result.now ≡ journal_at hub.now conn }
+{
+    match hub.journal(conn) {
+        Some(entries) => entries,
+        None => unreachable!(),
+    }
+}
+
 // What is reported of a connection.
 fn report<'a>(hub: &'a Hub, player: &'a Player, conn: u32) -> ConnReport<'a>
+    requires { (terms_at hub.now).keeps ≡ true }
     ensures { report_of result ≡ report_in
         (stage (view_at hub.now) (now_at hub.now) player.now.lanes.items)
         (journal_at hub.now) conn }
@@ -96,7 +108,7 @@ fn report<'a>(hub: &'a Hub, player: &'a Player, conn: u32) -> ConnReport<'a>
         state: state_of(cause, hub.is_idle(conn)),
         closes: hub.is_shut(conn),
         cause,
-        journal: hub.journal(conn),
+        journal: journal_of(hub, conn),
         sent: player.emitted(conn),
     }
 }
@@ -109,6 +121,7 @@ fn put_run(
     counts: Counts,
     out: &mut ByteText,
 ) -> Result<(), OutOfMemory>
+    requires { (terms_at hub.now).keeps ≡ true }
     ensures held { AreHeld (conns_held hub.now) (view_at hub.now) }
     ensures text { OnOk result (out.new ≡ out.old ++ run_text
         (map (report_in (stage (view_at hub.now) (now_at hub.now) player.now.lanes.items)
@@ -143,7 +156,7 @@ fn run(
     cores_are_sound();
     let Built { site, patterns } = built;
     let served = ServedSite::new(alloc, site, raceless)?;
-    let mut hub = Hub::new(alloc, served, patterns);
+    let mut hub = Hub::new(alloc, served, patterns, true);
     let mut player = Player::new(alloc);
     let mut files = files_of(alloc, tree)?;
     let counts = run_lines(&mut player, &mut hub, &mut files, events)?;

@@ -7,13 +7,15 @@ use Rattle.ngx_outside.specs.Records.{Given, LinkAnswer, FileAnswer}
 use Rattle.ngx_outside.specs.Views.{ConnView, Course, Start}
 
 -- What a core keeps to: what is to come on a connection that is opened, by its local end and its
--- peer; whether anyone answers at a local end; how many connections are held at most; and how much
--- an opening and each byte that arrives may add to the work that is left.
+-- peer; whether anyone answers at a local end; how many connections are held at most; how much an
+-- opening and each byte that arrives may add to the work that is left; and whether it keeps the
+-- requests of its connections, to be told.
 pub record Terms : Type 0 where
   pub fresh : Addr → Addr → Course
   pub serves : Addr → Bool
   pub limit : ℕ
   pub price : ℕ
+  pub keeps : Bool
 
 -- A core: what it shows of each connection, by its number; the numbers of those that are held, in
 -- their order; what it keeps to; when a request starts that is started now; the work that is left;

@@ -2,3 +2,4 @@ mod Phased
 mod Paged
 mod Serving
 mod Placing
+pub mod Walks

@@ -3,3 +3,4 @@ pub mod Stages
 pub mod Turns
 pub mod Served
 pub mod Taken
+pub mod Said

@@ -67,14 +67,14 @@ answer_seen site p a =
       main = p.main;
       request = p.at.request;
       values = (standing_seen site p.at).values;
-      kind = a.kind;
-      length = a.length;
-      known = a.known;
-      modified = a.modified;
-      location = a.location;
-      closes = a.closes;
-      gone = a.gone;
-      read = a.read;
+      kind = a.said.kind;
+      length = a.said.length;
+      known = a.said.known;
+      modified = a.said.modified;
+      location = a.said.location;
+      closes = a.said.closes;
+      gone = a.said.gone;
+      read = a.said.read;
     }
 
 -- ---- files

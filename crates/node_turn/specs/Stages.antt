@@ -72,6 +72,17 @@ hand_at (Reads b) = []
 hand_at (Captures c) = []
 hand_at (Ends b) = []
 
+-- a block of its file may be asked next
+abbrev pub may_fetch : Stage → Bool
+may_fetch (Begins ssi) = false
+may_fetch (Asks wait ssi) = false
+may_fetch (Told wait file ssi) = false
+may_fetch (Places b) = b.value.from == length b.value.bytes
+may_fetch (Serves b) = true
+may_fetch (Reads b) = false
+may_fetch (Captures c) = false
+may_fetch (Ends b) = false
+
 -- the next part of its page is taken up next
 abbrev pub is_serving : Stage → Bool
 is_serving (Begins ssi) = false

@@ -9,6 +9,7 @@ mod lending;
 mod node;
 mod page;
 mod phase;
+mod said;
 mod slot;
 mod turn;
 
@@ -16,5 +17,8 @@ pub use answered::Answered;
 pub use lending::lend;
 pub use node::{Body, Capture, Node, Place, Source, Stage};
 pub use phase::answering;
-pub use slot::{put, take};
-pub use turn::{MOST_WITHHELD, Placed, Turn, places, takes, turns, withhold, withholds};
+pub use said::Said;
+pub use slot::{fill, put, take};
+pub use turn::{
+    MOST_WITHHELD, Placed, Turn, fetches, needs_block, places, takes, turns, withhold, withholds,
+};

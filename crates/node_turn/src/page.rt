@@ -1,5 +1,5 @@
 // The body of a node, part by part.
-ghost use Rattle.std.specs.Prelude.{◌≡◌, ℕ, ◌++◌, true, false, List, [], IfOk, None, Some};
+ghost use Rattle.std.specs.Prelude.{◌≡◌, ℕ, ◌++◌, true, false, List, [], IfOk, OnOk, None, Some};
 ghost use Rattle.acts.specs.Vars.{Vars};
 ghost use Rattle.ngx_pattern.specs.Pattern.{Pattern as SetPattern};
 ghost use Rattle.request_meaning.specs.Laws.{shipped};
@@ -10,12 +10,12 @@ ghost use Rattle.request_phases.specs.declared.state.Phases.{Phases as PhasesVie
 ghost use Rattle.ssi_exec.specs.declared.document.Scene.{Scene as SceneView};
 ghost use Rattle.acts.specs.Act.{Done};
 ghost use Rattle.page_body.specs.Pages.{Does, page_rest, stop_of, waits};
-ghost use Rattle.node_turn.specs.Nodes.{answer_seen, captured_act, captured_at, hand, later, page_at, served_act};
+ghost use Rattle.node_turn.specs.Nodes.{answer_seen, captured_act, captured_at, from_source, hand, later, page_at, served_act};
 ghost use Rattle.node_turn.specs.Served.{ServesTo, WaitsAt, is_spent as source_spent};
 ghost use Rattle.node_turn.specs.Turns.{IsSceneOf};
 
 use crate::node::{Body, Capture, Source, Stage};
-use crate::slot::{put, take};
+use crate::slot::{fill, put, take};
 use byte_text::{ByteText, OutOfMemory};
 use ngx_variables::VarTable;
 use page_body::{Doing, Page};
@@ -61,16 +61,6 @@ fn apart(body: Box<Body>) -> (Box<Body>, Option<Box<Page>>)
     (body, page)
 }
 
-/// A body whose source has no text any more.
-fn without_text(alloc: Global, body: Box<Body>) -> Box<Body>
-    ensures answered { result.value.answered ≡ body.value.answered }
-    ensures source { result.value.source ≡ record body.value.source { text = [] } }
-{
-    let mut body = body;
-    body.source.text = ByteText::new(alloc);
-    body
-}
-
 /// Whether nothing more comes.
 fn is_spent(source: &Source) -> bool
     ensures { result ≡ source_spent source.now }
@@ -78,66 +68,27 @@ fn is_spent(source: &Source) -> bool
     source.text.is_empty() && source.left == 0 && !source.unread
 }
 
-/// A page that takes the text of its source.
-fn fed(alloc: Global, page: Box<Page>, text: &[u8]) -> Result<Box<Page>, OutOfMemory>
-    requires { waits page.value ≡ false }
-    ensures { IfOk result (λ fed. (scene : SceneView) (w : World) (answer : Answer)
-        (bytes : List ℕ) → w.members ≡ shipped → page_rest w answer scene page.value
-        (text.now ++ bytes) ≡ page_rest w answer scene fed.value bytes) }
+/// A page takes up more of what it is made of, where none of its parts waits: the text of its source; else, where that is
+/// spent, it comes to its end. Whether a block of its file is to be asked first.
+fn supplies(alloc: Global, source: &mut Source, page: &mut Page) -> Result<bool, OutOfMemory>
+    ensures { OnOk result ((scene : SceneView) (w : World) (answer : Answer) (file : List ℕ)
+        → w.members ≡ shipped
+        → page_rest w answer scene page.old (from_source source.old file)
+        ≡ page_rest w answer scene page.new (from_source source.new file)) }
 {
-    let mut page = page;
-    page.feed(alloc, text)?;
-    Ok(page)
-}
-
-/// A page that comes to its end.
-fn finished(alloc: Global, page: Box<Page>) -> Result<Box<Page>, OutOfMemory>
-    requires { waits page.value ≡ false }
-    ensures { IfOk result (λ done. (scene : SceneView) (w : World) (answer : Answer)
-        → w.members ≡ shipped → page_rest w answer scene page.value []
-        ≡ page_rest w answer scene done.value []) }
-{
-    let mut page = page;
+    if page.waits() || page.is_finished() {
+        return Ok(false);
+    }
+    if !source.text.is_empty() {
+        page.feed(alloc, source.text.as_slice())?;
+        put(&mut source.text, ByteText::new(alloc));
+        return Ok(false);
+    }
+    if !is_spent(source) {
+        return Ok(true);
+    }
     page.finish(alloc)?;
-    Ok(page)
-}
-
-/// More of what a page is made of: its text; else a block of its file is to be asked; else it has
-/// come to its end. It is rare, and isn't inlined: its values are large.
-#[inline(never)]
-fn more(
-    alloc: Global,
-    scene: &Scene<'_>,
-    stage: &mut Stage,
-    body: Box<Body>,
-    page: Box<Page>,
-) -> Result<Served, OutOfMemory>
-    requires { waits page.value ≡ false }
-    ensures acts { IfOk result (λ served. (g : GroundView) (p : PhasesView) (levels : ℕ)
-        (patterns : List SetPattern) (path file : List ℕ) (vars : Vars)
-        → IsSceneOf g p levels scene.now
-        → ServesTo g p levels patterns path file vars
-        (page_at (world_in patterns g shipped) g.site.now p levels
-        (answer_seen g.site.now p body.value.answered) page.value
-        (later body.value file)) stage.new served) }
-    ensures waits { IfOk result (λ served. WaitsAt served stage.new) }
-{
-    let none = ByteText::new(alloc);
-    if !body.source.text.is_empty() {
-        let page = fed(alloc, page, body.source.text.as_slice())?;
-        let body = with_bytes(without_text(alloc, body), none, Some(page));
-        put(stage, Stage::Serves(body));
-        return Ok(Served::On);
-    }
-    if !is_spent(&body.source) {
-        let body = with_bytes(body, none, Some(page));
-        put(stage, Stage::Serves(body));
-        return Ok(Served::Wants);
-    }
-    let page = finished(alloc, page)?;
-    let body = with_bytes(body, none, Some(page));
-    put(stage, Stage::Serves(body));
-    Ok(Served::On)
+    Ok(false)
 }
 
 /// What is done for the next part of a page.
@@ -149,7 +100,6 @@ fn done(
     page: Box<Page>,
     doing: Doing,
 ) -> Result<Served, OutOfMemory>
-    requires { stop_of doing ≡ Some false → waits page.value ≡ false }
     ensures acts { IfOk result (λ served. (g : GroundView) (p : PhasesView) (levels : ℕ)
         (patterns : List SetPattern) (path file : List ℕ) (vars : Vars) (old : Serving Answer)
         → IsSceneOf g p levels scene.now
@@ -165,17 +115,17 @@ fn done(
     match doing {
         Doing::Nothing => {
             let body = with_bytes(body, ByteText::new(alloc), Some(page));
-            put(stage, Stage::Serves(body));
+            fill(stage, Stage::Serves(body));
             Ok(Served::On)
         }
         Doing::Writes(text) => {
             let body = with_bytes(body, text, Some(page));
-            put(stage, Stage::Places(body));
+            fill(stage, Stage::Places(body));
             Ok(Served::On)
         }
         Doing::Includes(child) => {
             let body = with_bytes(body, ByteText::new(alloc), Some(page));
-            put(stage, Stage::Serves(body));
+            fill(stage, Stage::Serves(body));
             Ok(Served::Opens(child))
         }
         Doing::Captures { name, child } => {
@@ -186,15 +136,19 @@ fn done(
                 name,
                 text: none,
             };
-            put(stage, Stage::Captures(capture));
+            fill(stage, Stage::Captures(capture));
             Ok(Served::Asks(child))
         }
-        Doing::NeedsMore => Ok(more(alloc, scene, stage, body, page)?),
+        Doing::NeedsMore => {
+            let body = with_bytes(body, ByteText::new(alloc), Some(page));
+            fill(stage, Stage::Serves(body));
+            Ok(Served::On)
+        }
         Doing::Over => {
             if !is_spent(&body.source) {
                 return Err(OutOfMemory);
             }
-            put(stage, Stage::Ends(body));
+            fill(stage, Stage::Ends(body));
             Ok(Served::On)
         }
     }
@@ -217,7 +171,13 @@ fn page_serves(
         (later body.value file)) stage.new served) }
     ensures waits { IfOk result (λ served. WaitsAt served stage.new) }
 {
+    let mut body = body;
     let mut page = page;
+    if supplies(alloc, &mut body.source, &mut page)? {
+        let body = with_bytes(body, ByteText::new(alloc), Some(page));
+        fill(stage, Stage::Serves(body));
+        return Ok(Served::Wants);
+    }
     let doing = page.next(alloc, scene, vars)?;
     Ok(done(alloc, scene, stage, body, page, doing)?)
 }
@@ -243,10 +203,10 @@ pub(crate) fn serves(
         Some(page) => Ok(page_serves(alloc, scene, vars, stage, body, page)?),
         None => {
             if is_spent(&body.source) {
-                put(stage, Stage::Ends(body));
+                fill(stage, Stage::Ends(body));
                 return Ok(Served::On);
             }
-            put(stage, Stage::Serves(body));
+            fill(stage, Stage::Serves(body));
             Ok(Served::Wants)
         }
     }
@@ -276,12 +236,12 @@ pub(crate) fn hears(
     match page.captured(alloc, scene, name.as_slice(), text)? {
         Some(text) => {
             let body = with_bytes(body, text, Some(page));
-            put(stage, Stage::Places(body));
+            fill(stage, Stage::Places(body));
             Ok(Served::On)
         }
         None => {
             let body = with_bytes(body, ByteText::new(alloc), Some(page));
-            put(stage, Stage::Serves(body));
+            fill(stage, Stage::Serves(body));
             Ok(Served::On)
         }
     }

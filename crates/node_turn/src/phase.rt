@@ -221,7 +221,7 @@ pub fn answering(
         answered,
         facts,
         body,
-    } = apart(alloc, reply)?;
+    } = apart(reply);
     let scene = scene_of(ground, &phases.main, phases, left);
     match body {
         ReplyBody::Nothing => Ok(bare(alloc, answered)?),

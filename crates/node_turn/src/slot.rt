@@ -28,3 +28,12 @@ pub fn put<T: Drop>(slot: &mut T, value: T)
 {
     *slot = value;
 }
+
+/// Puts a value in the place of one that holds no memory, as `take` leaves it where a stage is taken out: so that isn't
+/// let go, which would cost a look at its kind.
+#[inline(always)]
+pub fn fill<T: Drop>(slot: &mut T, value: T)
+    ensures put { slot.new ≡ value }
+{
+    mem::forget(mem::replace(slot, value));
+}

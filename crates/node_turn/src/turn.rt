@@ -1,5 +1,5 @@
 // A node goes on by itself.
-ghost use Rattle.std.specs.Prelude.{◌≡◌, ◌≤◌, ◌+◌, ◌==◌, ℕ, List, IfOk, OnOk, true, false, take, length};
+ghost use Rattle.std.specs.Prelude.{◌≡◌, ◌≤◌, ◌+◌, ◌==◌, ℕ, List, IfOk, OnOk, true, false, drop, take, length};
 ghost use Rattle.acts.specs.Act.{settled};
 ghost use Rattle.acts.specs.Vars.{Vars};
 ghost use Rattle.file_tree.specs.Tree.{Trees, tree_of};
@@ -12,7 +12,7 @@ ghost use Rattle.request_phases.specs.Rounds.{IsGround, world_in};
 ghost use Rattle.request_phases.specs.declared.ground.Ground.{Ground as GroundView};
 ghost use Rattle.request_phases.specs.declared.state.Phases.{Phases as PhasesView};
 ghost use Rattle.site_model.specs.declared.site.Site.{Site as SiteRow};
-ghost use Rattle.node_turn.specs.Stages.{IsSameNode, ask_or, block_of, hand_at, withheld_more, is_asking, is_placing, is_serving, is_turning, item_asked, main_of, node_act, node_heard, start_or, can_run};
+ghost use Rattle.node_turn.specs.Stages.{IsSameNode, ask_or, block_of, hand_at, withheld_more, is_asking, is_placing, is_reading, is_serving, is_turning, item_asked, may_fetch, main_of, node_act, node_heard, start_or, can_run};
 ghost use Rattle.node_turn.specs.Nodes.{answer_seen, asked_path, captured_act, hand, later, lent, placed_act, served_act, stage_act, with_main};
 ghost use Rattle.node_turn.specs.Served.{ServesTo, WaitsAt};
 ghost use Rattle.node_turn.specs.Taken.{TakesTo, WaitsBy};
@@ -23,7 +23,7 @@ use crate::lending::lend_method;
 use crate::node::{Body, Capture, Node, Place, Stage};
 use crate::page::{Served, hears, serves};
 use crate::phase::{Footing, Told, Turned, begins, resumes, scene_of};
-use crate::slot::{put, take};
+use crate::slot::{fill, put, take};
 use byte_text::{ByteText, OutOfMemory};
 use file_tree::Ask;
 use ngx_pattern::PatternSet;
@@ -43,7 +43,7 @@ fn put_turned(node: &mut Node, turned: Turned, of: u64)
     } }
 {
     let Turned { stage, path } = turned;
-    put(&mut node.stage, stage);
+    fill(&mut node.stage, stage);
     if let Some(path) = path {
         put(&mut node.ask, Ask::Stat { path, of });
         node.start = 0;
@@ -149,12 +149,39 @@ fn is_all(body: &Body) -> bool
     }
 }
 
-/// Whether a body needs a block of its file first: one that is sent as it is, or one whose page has
-/// none yet. A page begins with its file's first block, what is added before it too.
-fn needs_block(body: &Body) -> bool {
+/// Whether a body of which no byte is at hand needs a block of its file first: one that is sent as it is, or one whose page
+/// has none yet. A page begins with its file's first block, what is added before it too.
+fn wants_block(body: &Body) -> bool {
     match &body.page {
         Some(_) => body.source.unread,
         None => !is_all(body),
+    }
+}
+
+/// Whether all bytes of a body were placed that were at hand.
+fn is_placed(body: &Body) -> bool
+    ensures { result ≡ (body.now.from == length body.now.bytes) }
+{
+    body.from == body.bytes.len()
+}
+
+/// Whether the next that a node does is to ask for a block of its file.
+pub fn needs_block(stage: &Stage) -> bool
+    ensures { result ≡ true → may_fetch stage.now ≡ true }
+{
+    match stage {
+        Stage::Begins(_) => false,
+        Stage::Asks { wait: _, ssi: _ } => false,
+        Stage::Told {
+            wait: _,
+            file: _,
+            ssi: _,
+        } => false,
+        Stage::Places(body) => is_placed(body) && wants_block(body),
+        Stage::Serves(body) => wants_block(body),
+        Stage::Reads(_) => false,
+        Stage::Captures(_) => false,
+        Stage::Ends(_) => false,
     }
 }
 
@@ -175,6 +202,38 @@ fn stage_after(body: Box<Body>) -> Stage
         return Stage::Serves(body);
     }
     Stage::Places(body)
+}
+
+/// The bytes of a body that are at hand are placed, as many as its node's buffer has room for: how many. They aren't copied
+/// where the node had none that wait.
+#[inline(always)]
+fn place_bytes(
+    alloc: Global,
+    order: &mut Order,
+    id: u32,
+    body: Box<Body>,
+) -> Result<(Box<Body>, usize), OutOfMemory>
+    ensures row { IfOk result (λ placed. order.new
+        ≡ appended id (take placed.1 (hand body.value)) order.old) }
+    ensures opened { OnOk result ((j : ℕ) →
+        is_open j order.new.pieces ≡ is_open j order.old.pieces) }
+    ensures hand { IfOk result (λ placed. hand placed.0.value
+        ≡ drop placed.1 (hand body.value)) }
+    ensures others { IfOk result (λ placed. (placed.0.value.answered ≡ body.value.answered)
+        × (placed.0.value.source ≡ body.value.source)
+        × (placed.0.value.page ≡ body.value.page)) }
+{
+    let mut body = body;
+    if body.from == 0 {
+        let text = take(&mut body.bytes, ByteText::new(alloc));
+        let count = text.len();
+        match order.take_over(id, text) {
+            None => return Ok((body, count)),
+            Some(text) => put(&mut body.bytes, text),
+        }
+    }
+    let count = order.append(id, &body.bytes.as_slice()[body.from..])?;
+    Ok((advanced(body, count), count))
 }
 
 /// Bytes of a node are placed, as many as its buffer has room for: how many, and whether all were
@@ -208,10 +267,9 @@ pub fn places(
 {
     match stage_of(alloc, node) {
         Stage::Places(body) => {
-            let count = order.append(id, &body.bytes.as_slice()[body.from..])?;
-            let body = advanced(body, count);
+            let (body, count) = place_bytes(alloc, order, id, body)?;
             let all = body.from == body.bytes.len();
-            put(&mut node.stage, stage_after(body));
+            fill(&mut node.stage, stage_after(body));
             Ok(Placed { count, all })
         }
         _ => unreachable!(),
@@ -275,7 +333,7 @@ pub fn withholds(alloc: Global, node: &mut Node) -> Result<(), OutOfMemory>
             let count = body.bytes.len() - body.from;
             withhold(&mut node.place, &body.bytes.as_slice()[body.from..])?;
             let body = advanced(body, count);
-            put(&mut node.stage, stage_after(body));
+            fill(&mut node.stage, stage_after(body));
             Ok(())
         }
         _ => unreachable!(),
@@ -337,7 +395,7 @@ fn put_block(alloc: Global, node: &mut Node, body: Box<Body>)
     };
     let ask = next_block(take(&mut node.ask, none), node.start, body.source.left);
     put(&mut node.ask, ask);
-    put(&mut node.stage, Stage::Reads(body));
+    fill(&mut node.stage, Stage::Reads(body));
 }
 
 /// The next part of the page of a request in its phases, whose main request is this one.
@@ -411,6 +469,38 @@ fn asks_block(alloc: Global, node: &mut Node) -> Result<(), OutOfMemory>
     }
 }
 
+/// A node asks for the next block of its file, which it needs before anything else.
+///
+/// # Errors
+/// `OutOfMemory`, where it needs none; the node is then not to go on.
+pub fn fetches(alloc: Global, node: &mut Node) -> Result<(), OutOfMemory>
+    ensures acts { OnOk result ((w : World) (patterns : List SetPattern) (site : SiteRow)
+        (main : MainView) (text : List ℕ) (vars : Vars) → Works vars
+        (node_act w patterns site main node.old text)
+        (node_act w patterns site main node.new text)) }
+    ensures node { OnOk result (IsSameNode node.old node.new) }
+    ensures place { OnOk result (node.new.place ≡ node.old.place) }
+    ensures start { OnOk result (node.new.start ≡ node.old.start) }
+    ensures file { OnOk result ((trees : Trees) →
+        item_asked trees node.new.ask ≡ item_asked trees node.old.ask) }
+    ensures reads { OnOk result (is_reading node.new.stage ≡ true) }
+{
+    match stage_of(alloc, node) {
+        Stage::Serves(body) => {
+            put_block(alloc, node, body);
+            Ok(())
+        }
+        Stage::Places(body) => {
+            if !is_placed(&body) {
+                return Err(OutOfMemory);
+            }
+            put_block(alloc, node, body);
+            Ok(())
+        }
+        _ => Err(OutOfMemory),
+    }
+}
+
 /// What a node comes to by the next part of its page, at whose stage it is.
 #[inline(always)]
 fn turn_of(alloc: Global, node: &mut Node, served: Served) -> Result<Turn, OutOfMemory>
@@ -470,10 +560,6 @@ pub fn takes(
 {
     match stage_of(alloc, node) {
         Stage::Serves(body) => {
-            if needs_block(&body) {
-                put_block(alloc, node, body);
-                return Ok(Turn::On);
-            }
             let footing = Footing {
                 ground,
                 left: node.left,

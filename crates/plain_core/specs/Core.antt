@@ -34,7 +34,7 @@ refused_at core = refused_of core.state
 -- it answers at each local end, and holds one connection at most
 abbrev pub terms_at : PlainCore → Terms
 terms_at core = record
-    { fresh = fresh_at core; serves = λ local. true; limit = 1; price = price_now core }
+    { fresh = fresh_at core; serves = λ local. true; limit = 1; price = price_now core; keeps = true }
 
 -- all that it shows; it doesn't tell the events that it was given
 abbrev pub seen_at : PlainCore → CoreSeen

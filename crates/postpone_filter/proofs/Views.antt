@@ -1,5 +1,5 @@
 -- What the calls do to the row that contracts see.
-use Rattle.std.proofs.Common.{◌≡◌, ℕ, zero, suc, ◌+◌, ◌<◌, true, false, ◌&&◌, ◌==◌, List, [], ◌∷◌, ◌++◌, length, get_or, take, set, refl, sym, ap, subst, ◌∙◌, arith, not, if◌then◌else◌}
+use Rattle.std.proofs.Common.{◌≡◌, ℕ, zero, suc, ◌+◌, ◌<◌, true, false, ◌&&◌, ◌==◌, List, [], ◌∷◌, ◌++◌, length, get_or, take, set, Option, Some, None, IfSome, refl, sym, ap, subst, ◌∙◌, arith, not, if◌then◌else◌}
 use Rattle.std.proofs.lemmas.List.{set-get_or}
 use Rattle.std.proofs.lemmas.Bool.{eqb-true, eq-eqb, ne_eqb}
 use Rattle.postpone_filter.specs.declared.part.Part.{Part}
@@ -70,6 +70,15 @@ closed-end id old parts buffers v s e =
 pub sound-append : (id : ℕ) (more : List ℕ) (parts mid : List Part) (buffers seen left : List Buffer) → IsSound parts buffers → seen ≡ buffers → AreTied mid left → pieces_of mid left ≡ at_place id (λ p. longer more p ∷ []) (pieces_of parts seen) → IsSound mid left
 sound-append id more parts mid buffers seen left s same w e =
     (w, subst (λ z. starts_over z ≡ false) (sym (e ∙ ap (λ z. at_place id (λ p. longer more p ∷ []) (pieces_of parts z)) same)) (append-starts id more (pieces_of parts buffers) s.1))
+
+-- the same of a text that is given back where it isn't taken over
+pub sound-taken : {A : Type 0} (P : A → Type 0) (id : ℕ) (more : List ℕ) (given : Option A) (parts mid : List Part) (buffers seen left : List Buffer)
+    → IsSound parts buffers → seen ≡ buffers → AreTied mid left
+    → (given ≡ None → pieces_of mid left ≡ at_place id (λ p. longer more p ∷ []) (pieces_of parts seen))
+    → IfSome given (λ text. P text × ((mid ≡ parts) × (left ≡ seen))) → IsSound mid left
+sound-taken P id more None parts mid buffers seen left s same w taken given = sound-append id more parts mid buffers seen left s same w (taken refl)
+sound-taken P id more (Some text) parts mid buffers seen left s same w taken given =
+    (w, ap (λ (x : List Part). starts_over (pieces_of x left)) given.1.0 ∙ (ap (λ (x : List Buffer). starts_over (pieces_of parts x)) (given.1.1 ∙ same) ∙ s.1))
 
 pub row-lawful : (old : Row) (parts : List Part) (buffers : List Buffer) → row_of parts buffers ≡ old → IsSound parts buffers → IsLawful old.nodes old.pieces
 row-lawful old parts buffers v s = subst (λ (z : Row). IsLawful z.nodes z.pieces) v s.0.lawful

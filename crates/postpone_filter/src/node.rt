@@ -1,9 +1,9 @@
 // A node's buffer.
-ghost use Rattle.std.specs.Prelude.{◌≡◌, ℕ, ◌+◌, ◌-◌, ◌<◌, ◌≤◌, ◌==◌, true, false, Bool, List, [], ◌++◌, length, take, drop, min, max, vec_len, vec_capacity, IfOk, OnOk, OnErr, if◌then◌else◌};
+ghost use Rattle.std.specs.Prelude.{◌≡◌, ℕ, ◌+◌, ◌-◌, ◌<◌, ◌≤◌, ◌==◌, true, false, Bool, List, [], ◌++◌, length, take, drop, min, max, vec_len, vec_capacity, IfOk, IfSome, None, OnOk, OnErr, if◌then◌else◌};
 ghost use Rattle.postpone_filter.specs.Row.{most};
 ghost use Rattle.postpone_filter.specs.Buffers.{Buffer, is_kept};
 
-use byte_text::OutOfMemory;
+use byte_text::{ByteText, OutOfMemory};
 use std::alloc::Global;
 use std::marker::Model;
 
@@ -143,7 +143,9 @@ impl Node {
 
     /// Whether the node has a buffer: only where it has not ended or bytes of it wait.
     pub fn has_buffer(&self) -> bool
-        ensures { is_kept self.now.goes_on (length self.now.waiting) ≡ false → result ≡ false }
+        ensures kept { is_kept self.now.goes_on (length self.now.waiting) ≡ false
+            → result ≡ false }
+        ensures none { result ≡ false → self.now.waiting ≡ [] }
     {
         self.bytes.capacity() > 0
     }
@@ -171,6 +173,23 @@ impl Node {
         // It takes no memory and can't fail: there is room.
         self.bytes.extend_from_slice(&more[..count]).unwrap();
         Ok(count)
+    }
+
+    /// Takes these bytes over, with no copy, where the node has no buffer yet and all of them may wait; else gives them
+    /// back.
+    pub fn take_over(&mut self, more: ByteText) -> Option<ByteText>
+        ensures goes_on { self.new.goes_on ≡ self.old.goes_on }
+        ensures taken { result ≡ None → (self.old.goes_on ≡ true)
+            × (self.new.waiting ≡ self.old.waiting ++ more) }
+        ensures bounded { length self.new.waiting ≤ most }
+        ensures back { IfSome result (λ text. (text ≡ more) × (self.new ≡ self.old)) }
+    {
+        if !self.opened || self.has_buffer() || more.len() > MOST {
+            return Some(more);
+        }
+        self.bytes = more.into_vec();
+        self.start = 0;
+        None
     }
 
     /// Drops the first bytes.

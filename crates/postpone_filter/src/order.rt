@@ -1,5 +1,5 @@
 // The order of a response.
-ghost use Rattle.std.specs.Prelude.{◌≡◌, ℕ, ◌+◌, ◌-◌, ◌<◌, ◌≤◌, true, false, List, [], ◌∷◌, ◌++◌, ◌==◌, length, min, take, if◌then◌else◌, IfOk, OnOk, OnErr};
+ghost use Rattle.std.specs.Prelude.{◌≡◌, ℕ, ◌+◌, ◌-◌, ◌<◌, ◌≤◌, true, false, List, [], ◌∷◌, ◌++◌, ◌==◌, length, min, take, if◌then◌else◌, IfOk, IfSome, None, OnOk, OnErr};
 ghost use Rattle.postpone_filter.specs.Row.{Row, begun, room, is_open, appended, with_child, reopened, ended, used, front_of, is_first, FirstGives, bytes_of, most};
 ghost use Rattle.postpone_filter.specs.Runs.{filled, giving};
 ghost use Rattle.postpone_filter.specs.Buffers.{IsLawful, is_kept};
@@ -7,9 +7,9 @@ ghost use Rattle.postpone_filter.specs.Buffers.{IsLawful, is_kept};
 use crate::node::Node;
 use crate::part::{
     Part, clean_front, close, first_is, front_bytes, is_named_from, place_of, put_again, put_bytes,
-    put_child, use_front,
+    put_child, put_text, use_front,
 };
-use byte_text::OutOfMemory;
+use byte_text::{ByteText, OutOfMemory};
 use std::alloc::Global;
 use std::collections::VecDeque;
 use std::marker::Model;
@@ -87,6 +87,20 @@ impl Order {
         match place_of(&self.parts, self.passed, &mut self.nodes, id) {
             Some(at) => Ok(put_bytes(&mut self.parts, &mut self.nodes, at, id, bytes)?),
             None => Ok(0),
+        }
+    }
+
+    /// Puts this text where the node has come to, with no copy, where nothing of the node has waited yet and all of it may
+    /// wait; else gives it back, and all is as before.
+    #[inline(always)]
+    pub fn take_over(&mut self, id: u32, text: ByteText) -> Option<ByteText>
+        ensures row { result ≡ None → self.new ≡ appended id text self.old }
+        ensures opened { (j : ℕ) → is_open j self.new.pieces ≡ is_open j self.old.pieces }
+        ensures back { IfSome result (λ back. (back ≡ text) × (self.new ≡ self.old)) }
+    {
+        match place_of(&self.parts, self.passed, &mut self.nodes, id) {
+            Some(at) => Some(put_text(&mut self.parts, &mut self.nodes, at, id, text)?),
+            None => Some(text),
         }
     }
 

@@ -6,7 +6,7 @@ ghost use Rattle.postpone_filter.specs.Row.{Piece, most, is_open, bytes_of, room
 ghost use Rattle.postpone_filter.specs.Buffers.{Buffer, AreTied, pieces_of, is_part_place, waiting_at, part_of, has_place, is_named, first_part_is, clean_parts, parts_start_over, is_part_over, starts_over};
 
 use crate::node::Node;
-use byte_text::OutOfMemory;
+use byte_text::{ByteText, OutOfMemory};
 use std::collections::VecDeque;
 
 /// How many bytes of a node come next, and whether the node goes on right after them.
@@ -90,6 +90,36 @@ pub fn put_bytes(
     let part = &mut parts[at];
     part.len += count;
     Ok(count)
+}
+
+/// Puts a text right before a place, with no copy, where its node has no buffer yet and all of it may wait; else gives it back.
+pub fn put_text(
+    parts: &mut VecDeque<Part>,
+    nodes: &mut Vec<Node>,
+    at: usize,
+    id: u32,
+    text: ByteText,
+) -> Option<ByteText>
+    requires tied { AreTied parts.old.items nodes.old.items }
+    requires within { at < deque_len parts.old }
+    requires place { (d : Part) → is_part_place id (slice_index_or parts.old.items at d) ≡ true }
+    ensures tied { AreTied parts.new.items nodes.new.items }
+    ensures nodes { length nodes.new.items ≡ length nodes.old.items }
+    ensures pieces { result ≡ None → pieces_of parts.new.items nodes.new.items
+        ≡ at_place id (λ p. longer text p ∷ []) (pieces_of parts.old.items nodes.old.items) }
+    ensures back { IfSome result (λ back. (back ≡ text) × ((parts.new.items ≡ parts.old.items)
+        × (nodes.new.items ≡ nodes.old.items))) }
+{
+    let count = text.len();
+    let node = &mut nodes[id as usize];
+    match node.take_over(text) {
+        Some(text) => Some(text),
+        None => {
+            let part = &mut parts[at];
+            part.len += count;
+            None
+        }
+    }
 }
 
 /// Puts a part in where there is room for it.

@@ -163,6 +163,7 @@ pub fn run_lines<E: EventCore>(
         AllStanding (E.seen core.old).terms.fresh (told_in lines.now (told_of files.old))
         (stage (E.seen core.new).view (E.seen core.new).now player.new.lanes.items)
         (λ c. sent c ++ sent_in lines.now c)) }
+    ensures steady { OnOk result ((E.seen core.new).terms ≡ (E.seen core.old).terms) }
 {
     let mut counts = Counts {
         skipped: 0,

@@ -9,4 +9,5 @@ pub mod NamedLemmas
 pub mod Taken
 pub mod CodeLemmas
 pub mod MadeLemmas
+pub mod HostLemmas
 pub mod KnownLemmas

@@ -25,6 +25,12 @@ AreValues values Nothing = values ≡ []
 AreValues values (One first) = (v : FieldValue) × (values ≡ v ∷ []) × (first.now ≡ v.bytes)
 AreValues values (Many first) = (v : FieldValue) × (w : FieldValue) × (vs : List FieldValue) × (values ≡ v ∷ w ∷ vs) × (first.now ≡ v.bytes)
 
+-- the bytes of the first, or no bytes
+abbrev pub first_of : Values → List ℕ
+first_of Nothing = []
+first_of (One first) = first.now
+first_of (Many first) = first.now
+
 -- it is so of these fields
 pub record IsKnown (fields : Entries FieldValue) (known : Known) : Type 0 where
   pub host : AreValues (get_all fields (codes "host")) known.host

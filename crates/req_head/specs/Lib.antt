@@ -7,6 +7,7 @@ pub mod Host
 pub mod Rules
 pub mod Heads
 pub mod Known
+pub mod HostBytes
 pub mod Scans
 pub mod Step
 pub mod Laws

@@ -8,6 +8,7 @@ ghost use Rattle.req_head.specs.Reading.{Whole, Wrong, Short, read_request};
 use crate::fields::HeadFields;
 use crate::find::{Scan, find_head_of_64};
 use crate::host::host_of;
+use crate::host_bytes::{HostBytes, host_bytes};
 use crate::known::{Known, known_of};
 use crate::lines::{LIMIT, asks_head, have_too_many, seen_of, whole_lines_of};
 use crate::room::{HeadRoom, SpareTexts};
@@ -53,7 +54,8 @@ pub enum HeadStep {
 }
 
 ghost use Rattle.req_head.specs.Heads.{fault_with, head_with};
-ghost use Rattle.req_head.specs.Known.{IsKnown};
+ghost use Rattle.req_head.specs.HostBytes.{IsLookedAt};
+ghost use Rattle.req_head.specs.Known.{IsKnown, first_of};
 ghost use Rattle.req_head.specs.Step.{head_step, looked, step_of};
 
 /// The head with these parts.
@@ -64,13 +66,15 @@ fn make_head(
     target: &[u8],
     minor: u8,
     known: Known<'_>,
+    bytes: HostBytes,
     fields: HeadFields,
 ) -> Result<Head, OutOfMemory>
     requires known { IsKnown fields known }
+    requires bytes { IsLookedAt (first_of known.host) bytes }
     requires passes { fault_with minor target.now fields ≡ None }
     ensures { IfOk result (λ head. head ≡ head_with method.now target.now minor fields) }
 {
-    let host = host_of(texts, target, known.host)?;
+    let host = host_of(texts, target, known.host, bytes)?;
     Ok(Head {
         method: method_of(texts.alloc, method)?,
         version: version_of(minor),
@@ -122,7 +126,8 @@ fn test_head(
     let target = spans.path.of(text);
     let shown = &slots[..spans.headers];
     let known = known_of(text, shown);
-    match find_fault(spans.version, target, known) {
+    let bytes = host_bytes(known.host);
+    match find_fault(spans.version, target, known, bytes) {
         Some(code) => Ok(HeadStep::Bad {
             code,
             no_body: asks_head(seen),
@@ -130,7 +135,7 @@ fn test_head(
         None => {
             let method = spans.method.of(text);
             let fields = HeadFields::of_spans(texts.fields(), &text[..spans.len], shown)?;
-            let head = make_head(texts, method, target, spans.version, known, fields)?;
+            let head = make_head(texts, method, target, spans.version, known, bytes, fields)?;
             Ok(HeadStep::Head {
                 head,
                 size: spans.len,

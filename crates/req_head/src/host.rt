@@ -2,10 +2,11 @@
 ghost use Rattle.std.specs.Prelude.{◌≡◌, ℕ, ◌≤◌, List, length, take, IfOk};
 ghost use Rattle.http_header.specs.Token.{lowercase};
 ghost use Rattle.http_header.specs.FieldValue.{FieldValue};
-ghost use Rattle.req_head.specs.Host.{without_port, named_host, host_of, first_value};
-ghost use Rattle.req_head.specs.Known.{AreValues};
-ghost use Rattle.uri_text.specs.Target.{absolute_of};
+ghost use Rattle.req_head.specs.Host.{without_port, host_of};
+ghost use Rattle.req_head.specs.HostBytes.{IsLookedAt};
+ghost use Rattle.req_head.specs.Known.{AreValues, first_of};
 
+use crate::host_bytes::{HostBytes, host_field};
 use crate::known::Values;
 use crate::room::SpareTexts;
 use byte_text::{ByteText, OutOfMemory};
@@ -29,29 +30,6 @@ fn name_end(host: &[u8]) -> usize
     host.len()
 }
 
-/// The value of the field Host.
-fn host_field(host: Values<'_>) -> &[u8]
-    ensures { (values : List FieldValue) → AreValues values host.entry
-        → result.now ≡ first_value values }
-{
-    match host {
-        Values::Nothing => &[],
-        Values::One(first) => first,
-        Values::Many(first) => first,
-    }
-}
-
-/// The host that the target or the field names, with its port.
-fn named_host<'a>(target: &'a [u8], host: Values<'a>) -> &'a [u8]
-    ensures { (values : List FieldValue) → AreValues values host.entry
-        → result.now ≡ named_host (absolute_of target.now) values }
-{
-    match absolute_form(target) {
-        Some(form) => form.host,
-        None => host_field(host),
-    }
-}
-
 /// The bytes in lower case.
 fn lower(texts: &mut SpareTexts, bytes: &[u8]) -> Result<ByteText, OutOfMemory>
     ensures { IfOk result (λ t. t ≡ lowercase bytes.now) }
@@ -61,15 +39,43 @@ fn lower(texts: &mut SpareTexts, bytes: &[u8]) -> Result<ByteText, OutOfMemory>
     Ok(ByteText::from_vec(copy))
 }
 
+/// A host in lower case, without the port.
+fn lower_name(texts: &mut SpareTexts, host: &[u8]) -> Result<ByteText, OutOfMemory>
+    ensures { IfOk result (λ t. t ≡ lowercase (without_port host.now)) }
+{
+    lower(texts, &host[..name_end(host)])
+}
+
+/// The same, where it is known what the bytes are.
+#[inline(always)]
+fn field_name(
+    texts: &mut SpareTexts,
+    host: &[u8],
+    bytes: HostBytes,
+) -> Result<ByteText, OutOfMemory>
+    requires { IsLookedAt host.now bytes }
+    ensures { IfOk result (λ t. t ≡ lowercase (without_port host.now)) }
+{
+    if bytes.plain {
+        texts.host(host)
+    } else {
+        lower_name(texts, host)
+    }
+}
+
 /// The host in lower case, without the port.
 pub(crate) fn host_of(
     texts: &mut SpareTexts,
     target: &[u8],
     host: Values<'_>,
+    bytes: HostBytes,
 ) -> Result<ByteText, OutOfMemory>
+    requires { IsLookedAt (first_of host) bytes }
     ensures { IfOk result (λ t. (values : List FieldValue) → AreValues values host.entry
         → t ≡ host_of target.now values) }
 {
-    let name = named_host(target, host);
-    lower(texts, &name[..name_end(name)])
+    match absolute_form(target) {
+        Some(form) => lower_name(texts, form.host),
+        None => field_name(texts, host_field(host), bytes),
+    }
 }

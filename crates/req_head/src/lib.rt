@@ -5,6 +5,7 @@ mod fields;
 mod find;
 mod head;
 mod host;
+mod host_bytes;
 mod known;
 mod laws;
 mod lines;

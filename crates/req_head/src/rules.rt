@@ -4,22 +4,18 @@ ghost use Rattle.std.specs.List.{list_all};
 ghost use Rattle.std.specs.Str.Parse.{digits_value};
 ghost use Rattle.http_header.specs.FieldValue.{FieldValue};
 ghost use Rattle.http_header.specs.HeaderMap.{Entries, get_all};
-ghost use Rattle.req_head.specs.Rules.{is_host_byte, is_digit, is_length, host_is_bad, coding_is_other, length_is_bad, is_there, first_fault};
+ghost use Rattle.req_head.specs.Rules.{is_digit, is_length, host_is_bad, coding_is_other, length_is_bad, is_there, first_fault};
 ghost use Rattle.req_head.specs.Heads.{method_of, version_of, sized, body_by_length, body_of, keeps, fault_with};
-ghost use Rattle.req_head.specs.Known.{AreValues, IsKnown};
+ghost use Rattle.req_head.specs.HostBytes.{IsLookedAt};
+ghost use Rattle.req_head.specs.Known.{AreValues, IsKnown, first_of};
 
+use crate::host_bytes::HostBytes;
 use crate::known::{Known, Values};
 use crate::options::is_same_word;
 use byte_text::{ByteText, OutOfMemory};
 use http_types::{BodyKind, Method, Version};
 use std::alloc::Global;
 use uri_text::is_target;
-
-fn is_host(bytes: &[u8]) -> bool
-    ensures { result ≡ list_all is_host_byte bytes.now }
-{
-    bytes.iter().all(|b| *b > b' ' && *b < 0x7F && *b != b'/')
-}
 
 fn are_digits(bytes: &[u8]) -> bool
     ensures { result ≡ list_all is_digit bytes.now }
@@ -33,13 +29,14 @@ fn is_length(bytes: &[u8]) -> bool
     are_digits(bytes) && !bytes.is_empty() && bytes.len() <= 19
 }
 
-fn is_bad_host(host: Values<'_>, minor: u8) -> bool
+fn is_bad_host(host: Values<'_>, bytes: HostBytes, minor: u8) -> bool
+    requires { IsLookedAt (first_of host) bytes }
     ensures { (values : List FieldValue) → AreValues values host.entry
         → result ≡ host_is_bad minor values }
 {
     match host {
         Values::Nothing => minor == 1,
-        Values::One(host) => !is_host(host),
+        Values::One(_) => bytes.bad,
         Values::Many(_) => true,
     }
 }
@@ -105,11 +102,17 @@ fn first_fault(host: bool, mixed: bool, coding: bool, length: bool, target: bool
 }
 
 /// The code of the first test that a head with these parts fails.
-pub(crate) fn find_fault(minor: u8, target: &[u8], known: Known<'_>) -> Option<u16>
+pub(crate) fn find_fault(
+    minor: u8,
+    target: &[u8],
+    known: Known<'_>,
+    bytes: HostBytes,
+) -> Option<u16>
+    requires { IsLookedAt (first_of known.host) bytes }
     ensures { (fields : Entries FieldValue) → IsKnown fields known.entry
         → result ≡ fault_with minor target.now fields }
 {
-    let host = is_bad_host(known.host, minor);
+    let host = is_bad_host(known.host, bytes, minor);
     let mixed = is_mixed(minor, known.coding, known.length);
     let coding = is_other_coding(known.coding);
     let length = is_bad_length(known.length);

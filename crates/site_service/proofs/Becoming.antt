@@ -77,10 +77,10 @@ reason_since terms l r (NoMemory h) = NoMemory (r h)
 
 pub became : AllIsSentWhenIdle → ShutIsExact → ClosedUnstoppedSentAll → ClosedUnendedSentAll → (raceless : Bool) (patterns : List SetPattern) (site : Site) (o : Outside) (rests : Type 0) (ticks : List Tick) (before id : ℕ) (v : ConnView) → IsSound v →
     (rests → v.held ≡ true → AtRest (Unit {0}) (Unit {0}) v (o.links'.link id)) → o.links'.used id ≡ true →
-    Stands (Rose (o.links.link_faults id) (o.links'.link_faults id)) (Rose o.files.faults o.files'.faults) (Rose before o.links'.refused) (site_terms raceless patterns site) (fresh_course raceless patterns site) o.files' ticks v (o.links'.link id) (o.links'.used id) (o.links'.is_open id) →
+    Stands (Rose (o.links.link_faults id) (o.links'.link_faults id)) (Rose o.files.faults o.files'.faults) (Rose before o.links'.refused) (site_terms raceless false patterns site) (fresh_course raceless patterns site) o.files' ticks v (o.links'.link id) (o.links'.used id) (o.links'.is_open id) →
     Became raceless patterns site o rests ticks id
 became idle_sent shut_exact closed_sent unended_sent raceless patterns site o rests ticks before id v sound at used (Unused held shut unused) = never (o.links'.used id) used unused
-became idle_sent shut_exact closed_sent unended_sent raceless patterns site o rests ticks before id v sound at used (TurnedAway held shut taken sent why) = WasTurnedAway shut taken sent (reason_since (site_terms raceless patterns site) (o.links'.link id) (rose_since 0 before o.links'.refused (omega arith)) why)
+became idle_sent shut_exact closed_sent unended_sent raceless patterns site o rests ticks before id v sound at used (TurnedAway held shut taken sent why) = WasTurnedAway shut taken sent (reason_since (site_terms raceless false patterns site) (o.links'.link id) (rose_since 0 before o.links'.refused (omega arith)) why)
 became idle_sent shut_exact closed_sent unended_sent raceless patterns site o rests ticks before id v sound at used (Open held is a) = Served (record {
   last = v;
   sound = sound;

@@ -152,7 +152,7 @@ pub data Became (raceless : Bool) (patterns : List SetPattern) (site : Site) (o 
     (rests : Type 0) (ticks : List Tick) (id : ℕ) : Type 0 where
   TurnedAway : o.links'.is_open id ≡ false → (o.links'.link id).taken ≡ [] →
       (o.links'.link id).sent ≡ [] →
-      Reason (Rose 0 o.links'.refused) (site_terms raceless patterns site) (o.links'.link id) →
+      Reason (Rose 0 o.links'.refused) (site_terms raceless false patterns site) (o.links'.link id) →
       Became raceless patterns site o rests ticks id
   Served : LinkServed raceless patterns site o rests ticks id →
       Became raceless patterns site o rests ticks id

@@ -64,7 +64,7 @@ pub fn serve_site<F: Files, L: Links, C: Clock>(
     } = checked;
     let addrs = addresses(alloc, site.servers.as_slice())?;
     let served = ServedSite::new(alloc, site, raceless)?;
-    let mut hub = Hub::new(alloc, served, patterns);
+    let mut hub = Hub::new(alloc, served, patterns, false);
     let ending = serve(
         alloc,
         &mut hub,

@@ -16,7 +16,7 @@ use Rattle.request_phases.specs.declared.ground.Ground.{Ground}
 use Rattle.family_order.specs.Acts.{IsOver}
 use Rattle.family_order.specs.Items.Stance.{Going}
 use Rattle.family_order.specs.Laws.{ShowsTheSame}
-use Rattle.node_turn.specs.Stages.{is_ending, is_in_row, is_placing, is_serving, is_turning, node_act, can_place}
+use Rattle.node_turn.specs.Stages.{is_ending, is_in_row, is_placing, is_reading, is_serving, is_turning, node_act, can_place}
 use Rattle.subrequests.specs.Families.{AreDone, IsSound, captured_at, goes_on_at, in_row_at, over_node}
 use Rattle.node_seats.specs.Seats.{doing_by, is_captured, most_levels, seen}
 use Rattle.node_seats.proofs.Seated.{in_row_is}
@@ -229,6 +229,27 @@ over_rests row at (Some n) e =
     none_runs : (b : Bool) → (b && false) ≡ false
     none_runs true = refl
     none_runs false = refl
+
+-- nor does what asks for a block of its file
+pub reads_rest : (row : Row) (at : ℕ) (n : Node) → is_reading n.stage ≡ true → runs_at row at (Some n) ≡ false
+reads_rest row at n e = stage_rests row at n n.stage e
+  where
+    none_runs : (a b : Bool) → (a && ((b && false) || (b && false))) ≡ false
+    none_runs true true = refl
+    none_runs true false = refl
+    none_runs false b = refl
+
+    stage_rests : (row : Row) (at : ℕ) (n : Node) (s : Stage) → is_reading s ≡ true →
+        (is_none n.asks && ((not n.over && ((is_turning s || (is_serving s && is_none n.waits)) || (is_placing s && can_place (room at row.pieces) s)))
+        || (not n.over && (is_ending s && (n.children == 0 && not (at == 0)))))) ≡ false
+    stage_rests row at n (stages.Begins ssi) e = cc
+    stage_rests row at n (stages.Asks wait ssi) e = cc
+    stage_rests row at n (stages.Told wait file ssi) e = cc
+    stage_rests row at n (stages.Places b) e = cc
+    stage_rests row at n (stages.Serves b) e = cc
+    stage_rests row at n (stages.Reads b) e = none_runs (is_none n.asks) (not n.over)
+    stage_rests row at n (stages.Captures c) e = cc
+    stage_rests row at n (stages.Ends b) e = cc
 
 -- steps before one subrequest too many
 pub then_overruns : (patterns : List SetPattern) (g : Ground) (old mid : Family) → Steps patterns g old mid → OverrunsBy patterns g mid → OverrunsBy patterns g old

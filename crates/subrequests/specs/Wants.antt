@@ -2,13 +2,13 @@
 use Rattle.std.specs.Prelude.{◌≡◌, ◌≢◌, ℕ, suc, ◌==◌, Bool, true, false, List, [], ◌∷◌, Option, None, Some, slice_get, if◌then◌else◌}
 use Rattle.ngx_outside.specs.Views.{Job}
 use Rattle.postpone_filter.specs.Row.{Row}
-use Rattle.node_turn.specs.Stages.{is_ending, is_placing, is_serving, is_turning}
+use Rattle.node_turn.specs.Stages.{is_ending, is_placing, is_serving, is_turning, may_fetch}
 use Rattle.subrequests.specs.Families.{captured_at, gathers_at, in_row_at, stub_at}
 use Rattle.subrequests.specs.Moved.{is_at}
 use Rattle.family_nodes.specs.Runs.{can_go, is_waiting, runs_at}
 use Rattle.subrequests.specs.declared.family.Family.{Family}
 use Rattle.subrequests.specs.declared.next_step.Next.{Next}
-use Rattle.subrequests.specs.declared.next_step.Next.TheVariants.{Turns, Places, Comes, Takes, Gathers, Ends, Decides, Returns, Frees, Waits}
+use Rattle.subrequests.specs.declared.next_step.Next.TheVariants.{Turns, Fetches, Places, Comes, Takes, Gathers, Ends, Decides, Returns, Frees, Waits}
 use Rattle.node_turn.specs.declared.node.Node.{Node}
 
 -- the jobs of nodes, of which the first has this number
@@ -41,6 +41,7 @@ ready_of f = ready_from f.order 0 f.nodes
 -- what a node with this number does next
 abbrev pub StandsAt : Option Node → (at : ℕ) → Next → Type 0
 StandsAt n at Turns = is_at is_turning n ≡ true
+StandsAt n at Fetches = is_at may_fetch n ≡ true
 StandsAt n at Places = (is_at is_placing n ≡ true) × (in_row_at n ≡ true)
 StandsAt n at Comes = (is_at is_placing n ≡ true) × (in_row_at n ≡ false)
 StandsAt n at Takes = is_at is_serving n ≡ true

@@ -7,7 +7,7 @@ ghost use Rattle.request_meaning.specs.Serving.{World};
 ghost use Rattle.request_phases.specs.Rounds.{IsGround};
 ghost use Rattle.request_phases.specs.declared.ground.Ground.{Ground as GroundView};
 ghost use Rattle.site_model.specs.declared.site.Site.{Site as SiteRow};
-ghost use Rattle.node_turn.specs.Stages.{is_ending, is_in_row as in_row, is_placing, is_serving, is_turning, item_asked};
+ghost use Rattle.node_turn.specs.Stages.{is_ending, is_in_row as in_row, is_placing, is_serving, is_turning, item_asked, may_fetch};
 ghost use Rattle.subrequests.specs.Families.{AreDone, goes_on_at, in_row_at, over_node};
 ghost use Rattle.node_seats.specs.Seats.{is_seated as has_seat};
 ghost use Rattle.std.specs.List.{list_all};
@@ -30,7 +30,7 @@ use ngx_pattern::PatternSet;
 use ngx_variables::{Main, VarTable};
 use node_line::comes;
 use node_seats::is_seated;
-use node_turn::{Node, Place, Stage, Turn, answering, lend, places, takes, turns};
+use node_turn::{Node, Place, Stage, Turn, answering, fetches, lend, places, takes, turns};
 use postpone_filter::Order;
 use request_phases::{Conclusion, Ground, Phases};
 use ssi_values::Table;
@@ -289,6 +289,25 @@ impl Family {
         Ok(())
     }
 
+    /// A node asks for a block of its file.
+    fn fetch_at(&mut self, alloc: Global, at: u32) -> Result<(), OutOfMemory>
+        requires whole { IsWhole self.old }
+        requires there { stands may_fetch self.old at }
+        requires seated { has_seat self.old.nodes at (slice_get self.old.nodes at)
+            ≡ true }
+        ensures steps { OnOk result ((patterns : List SetPattern) (g : GroundView) →
+            Steps patterns g self.old self.new) }
+        ensures whole { OnOk result (IsWhole self.new) }
+        ensures tree { OnOk result (self.new.tree ≡ self.old.tree) }
+        ensures rests { OnOk result (runs_at self.new.order at (slice_get self.new.nodes at)
+            ≡ false) }
+    {
+        shows_the_same();
+        let node = self.nodes.node_mut(at as usize);
+        fetches(alloc, node)?;
+        Ok(())
+    }
+
     /// A node takes up the next part of its page: whether that is no subrequest, or one that may be
     /// opened.
     fn take_at(&mut self, alloc: Global, ground: &Ground<'_>, at: u32) -> Result<bool, OutOfMemory>
@@ -416,6 +435,10 @@ impl Family {
             Next::Turns => {
                 self.turn_at(alloc, ground, patterns, at)?;
                 Ok(Stepped::On)
+            }
+            Next::Fetches => {
+                self.fetch_at(alloc, at)?;
+                Ok(Stepped::Rests)
             }
             Next::Places => Ok(on_or_rests(self.place_at(alloc, at)?)),
             Next::Takes => {

@@ -6,13 +6,15 @@ ghost use Rattle.subrequests.specs.Families.{has_stub};
 ghost use Rattle.subrequests.specs.Wants.{StandsAt};
 ghost use Rattle.subrequests.specs.declared.next_step.Next.TheVariants.{Ends as EndsNext, Decides as DecidesNext, Frees as FreesNext, Returns as ReturnsNext};
 
-use node_turn::{Node, Place, Stage};
+use node_turn::{Node, Place, Stage, needs_block};
 
 /// What a node does next.
 #[derive(Clone, Copy)]
 pub(crate) enum Next {
     /// Its phases go on.
     Turns,
+    /// A block of its file is asked.
+    Fetches,
     /// Bytes of its body are placed.
     Places,
     /// Bytes of its body are placed or withheld: it has a stub.
@@ -90,10 +92,13 @@ pub(crate) fn next_of(nodes: &[Node], at: u32) -> Next
             ssi: _,
         } => Next::Turns,
         Stage::Places(_) => {
-            if is_in_row(&node.place) {
-                return Next::Places;
+            if !is_in_row(&node.place) {
+                return Next::Comes;
             }
-            Next::Comes
+            if needs_block(&node.stage) {
+                return Next::Fetches;
+            }
+            Next::Places
         }
         Stage::Serves(_) => {
             if node.waits.is_some() {
@@ -101,6 +106,9 @@ pub(crate) fn next_of(nodes: &[Node], at: u32) -> Next
             }
             if is_stub(&node.place) {
                 return Next::Gathers;
+            }
+            if needs_block(&node.stage) {
+                return Next::Fetches;
             }
             Next::Takes
         }

@@ -6,7 +6,7 @@ ghost use Rattle.node_seats.specs.Joining.{joined_place};
 ghost use Rattle.node_seats.specs.Seats.{takes_up, withheld_text};
 
 use byte_text::{ByteText, OutOfMemory};
-use node_turn::{Capture, MOST_WITHHELD, Node, Place, Stage, put, take};
+use node_turn::{Capture, MOST_WITHHELD, Node, Place, Stage, fill, put, take};
 use ssi_values::Table;
 use std::alloc::Global;
 
@@ -78,7 +78,7 @@ pub(crate) fn put_reply(alloc: Global, node: &mut Node, body: ByteText) -> Resul
                 name,
                 text: body,
             };
-            put(&mut node.stage, Stage::Captures(capture));
+            fill(&mut node.stage, Stage::Captures(capture));
             node.asks = None;
             Ok(())
         }

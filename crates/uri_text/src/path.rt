@@ -88,6 +88,7 @@ fn finish(path: &mut ByteText, start: usize, merge: bool) -> Result<(), UriFault
 }
 
 /// Writes the path that the text after the root's slash names.
+#[inline(always)]
 pub fn write_path(text: &[u8], merge: bool, path: &mut ByteText) -> Result<(), UriFault>
     ensures ok { OnOk result (path_of merge text.now ≡ Ok path.new) }
     ensures err { IfErr result (λ f. f ≢ UriFault.OutOfMemory → path_of merge text.now ≡ Err f) }

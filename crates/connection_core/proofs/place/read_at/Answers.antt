@@ -29,7 +29,17 @@ returns-clause-same g c =
     on_err_weaker c.read_done.result (unchanged_at c.args.at c.args.conns.now.items c.requires.placed c.index_mut-conn.result.now c.read_done.new.self c.index_mut-conn.ensures.value) c.read_done.ensures.same
 
 pub returns-clause-stays : goal.returns-clause-stays
-returns-clause-stays g c = λ p. (c.read_done.new.self, set_at c.args.at c.args.conns.now.items p c.read_done.new.self)
+returns-clause-stays g c = λ p.
+    let here = here_is c.args.at c.args.conns.now.items p c.index_mut-conn.result.now c.index_mut-conn.ensures.value in (
+      c.read_done.new.self,
+      set_at c.args.at c.args.conns.now.items p c.read_done.new.self,
+      c.read_done.ensures.keeps ∙ ap (λ (x : Conn). x.journal.keeps) here,
+    )
 
 pub returns-then-not-is_reading-clause-stays : goal.returns-then-not-is_reading-clause-stays
-returns-then-not-is_reading-clause-stays g c = λ p. (c.index_mut-conn.result.now, set_at c.args.at c.args.conns.now.items p c.index_mut-conn.result.now)
+returns-then-not-is_reading-clause-stays g c = λ p.
+    let here = here_is c.args.at c.args.conns.now.items p c.index_mut-conn.result.now c.index_mut-conn.ensures.value in (
+      c.index_mut-conn.result.now,
+      set_at c.args.at c.args.conns.now.items p c.index_mut-conn.result.now,
+      ap (λ (x : Conn). x.journal.keeps) here,
+    )

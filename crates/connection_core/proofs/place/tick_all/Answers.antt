@@ -10,7 +10,7 @@ loop-conn-preserved c =
     let l = c.loop-conn in
     let lt : l.conn-index < length l.conns = omega (arith, c.loop-conn-test.true) in
     part_goes c.args.now l.soon c.earlier-soon.result l.conn-index c.args.conns.now l.conns (get_or l.conns l.conn-index c.conn-item.result) c.ticks.new.self c.conn-item.result l.invariant lt refl
-    (record { ticked = c.ticks.ensures.ticked; left = c.ticks.ensures.left; asked = c.ticks.ensures.asked; ended = c.ticks.ensures.ended; flight = c.ticks.ensures.flight }) c.earlier-soon.ensures.0 c.earlier-soon.ensures.1
+    (record { ticked = c.ticks.ensures.ticked; left = c.ticks.ensures.left; asked = c.ticks.ensures.asked; ended = c.ticks.ensures.ended; flight = c.ticks.ensures.flight; keeps = c.ticks.ensures.keeps }) c.earlier-soon.ensures.0 c.earlier-soon.ensures.1
 
 pub returns-clause-ticked : goal.returns-clause-ticked
 returns-clause-ticked c =

@@ -1,18 +1,19 @@
-use Rattle.std.proofs.Common.{◌≡◌, ◌-◌, refl, length, arith}
-use Rattle.http_connection.proofs.Moves.{finished, finished_logged, finished_logs}
+use Rattle.std.proofs.Common.{ap, ◌∙◌, length, map, sym, subst, ◌++◌}
+use Rattle.std.specs.Prelude.{not, is_some}
+use Rattle.ngx_outside.specs.Views.{start_of}
+use Rattle.request_flow.specs.Rests.{logged_by}
+use Rattle.http_connection.specs.Steps.{logged_in, IsLogged}
+use Rattle.http_connection.proofs.Moves.{finished_starts, finished_count, finished_logged, finished_logs}
 use Rattle.http_connection.proofs.journal.finish.Goals as goal
 
 pub returns-clause-starts : goal.returns-clause-starts
-returns-clause-starts c = finished c.args.journal.now.items _ c.index-entry.result.now _ c.index-entry.ensures refl
+returns-clause-starts c = ap (map start_of) c.finish.ensures.past ∙ finished_starts c.args.journal.now.past.entries c.args.log
+
+pub returns-clause-count : goal.returns-clause-count
+returns-clause-count c = ap length c.finish.ensures.past ∙ finished_count c.args.journal.now.past.entries c.args.log
 
 pub returns-clause-logged : goal.returns-clause-logged
-returns-clause-logged c =
-    let j = c.args.journal.now.items in
-    finished_logged j (c.len-last.result - 1) (record { moment = c.index-entry.result.now.moment; tree = c.index-entry.result.now.tree; log = c.args.log })
-    (let e : c.len-last.result - 1 ≡ length j - 1 = omega (arith, c.len-last.ensures) in e) c.requires
+returns-clause-logged c = subst (IsLogged (not (is_some c.args.log))) (sym c.finish.ensures.past) (finished_logged c.args.journal.now.past.entries c.args.log c.requires)
 
 pub returns-clause-log : goal.returns-clause-log
-returns-clause-log c =
-    let j = c.args.journal.now.items in
-    finished_logs j (c.len-last.result - 1) (record { moment = c.index-entry.result.now.moment; tree = c.index-entry.result.now.tree; log = c.args.log })
-    (let e : c.len-last.result - 1 ≡ length j - 1 = omega (arith, c.len-last.ensures) in e) c.requires
+returns-clause-log c = ap logged_in c.finish.ensures.past ∙ finished_logs c.args.journal.now.past.entries c.args.log c.requires

@@ -1,4 +1,4 @@
-use Rattle.std.proofs.Common.{None, refl, sym, subst, ap, ◌∙◌, vec_len, arith}
+use Rattle.std.proofs.Common.{None, refl, sym, subst, ap, ◌∙◌, length, arith}
 use Rattle.std.specs.Prelude.{is_some, not, ◌||◌}
 use Rattle.response_flow.specs.Flights.{TailFits, flight_tree}
 use Rattle.response_flow.specs.declared.flight.Onward.{Onward}
@@ -19,8 +19,8 @@ returns-in-Ok-On-clause-ran c =
     let service = service_in x m.local m.peer in
     let d = c.drop_body-dropped.result in
     let o = c.in-Ok-On.opened in
-    subst (λ (o : Onward). RanOne x service (start_in m) (vec_len c.args.journal.now) c.args.next.now c.args.buffered.now c.used.new.self d.body o.flight c.args.out.now c.open.new.out o.closing o.log) (sym c.with_broken-onward.ensures)
-    (subst (λ k. RanOne x service (start_in m) k c.args.next.now c.args.buffered.now c.used.new.self d.body o.flight c.args.out.now c.open.new.out (o.closing || d.broken) o.log) (c.len.ensures ∙ c.make_room.ensures.count)
+    subst (λ (o : Onward). RanOne x service (start_in m) (length c.args.journal.now.past.entries) c.args.next.now c.args.buffered.now c.used.new.self d.body o.flight c.args.out.now c.open.new.out o.closing o.log) (sym c.with_broken-onward.ensures)
+    (subst (λ k. RanOne x service (start_in m) k c.args.next.now c.args.buffered.now c.used.new.self d.body o.flight c.args.out.now c.open.new.out (o.closing || d.broken) o.log) (c.len.ensures ∙ ap length c.make_room.ensures.past)
     (ran_head x m c.len.result c.in-Head.head c.in-Head.size c.args.next.now c.args.buffered.now c.used.new.self d.body o.flight c.args.out.now c.open.new.out o.closing d.broken o.log o.level c.in-Head.is
     (λ raceless trees. subst (λ h. Opened x trees m c.len.result h o.flight c.args.out.now c.open.new.out o.closing o.log o.level) (c.take_head-head.ensures.head c.in-Head.head c.in-Head.size refl) (opened_on x m c.len.result c.take_head-head.result c.args.out.now c.open.new.out c.in-Ok-On.field-0 o c.in-Ok-On.field-0-is c.in-Ok-On.ensures.opens raceless trees)) (on_by _ c.in-Ok-On.field-0 o c.in-Ok-On.field-0-is c.in-Ok-On.ensures.over)
     (head_drops c.in-Head.head.body c.new.result c.behind.result.now c.args.buffered.now c.used.new.self c.in-Head.size d.used d.body d.broken c.new.ensures c.behind.ensures c.used.ensures c.drop_body-dropped.ensures.drops)))
@@ -30,7 +30,7 @@ returns-in-Ok-TooMany-clause-ran c =
     let x : Serves = record { patterns = c.args.space.now.patterns; served = c.args.setting.served.now } in
     let m = c.args.setting.meeting in
     let service = service_in x m.local m.peer in
-    subst (λ k. RanOver x service (start_in m) k c.args.next.now) (c.len.ensures ∙ c.make_room.ensures.count)
+    subst (λ k. RanOver x service (start_in m) k c.args.next.now) (c.len.ensures ∙ ap length c.make_room.ensures.past)
     (ran_over_head x m c.len.result c.in-Head.head c.in-Head.size c.args.next.now c.in-Head.is
     (λ raceless trees. ap (λ h. is_heavy (response_at service trees c.len.result (start_in m) h)) (sym (c.take_head-head.ensures.head c.in-Head.head c.in-Head.size refl)) ∙ opened_over x m c.len.result c.take_head-head.result c.args.out.now c.open.new.out c.in-Ok-TooMany.field-0 c.in-Ok-TooMany.field-0-is c.in-Ok-TooMany.ensures.opens raceless trees))
 
@@ -48,7 +48,7 @@ returns-in_ok-onward-in-Bad-clause-ran c =
     let x : Serves = record { patterns = c.args.space.now.patterns; served = c.args.setting.served.now } in
     let m = c.args.setting.meeting in
     let o = c.in_ok-onward-in-Bad.onward in
-    ran_bad x (service_in x m.local m.peer) (start_in m) (vec_len c.args.journal.now) c.in-Bad.code c.in-Bad.no_body c.args.next.now c.args.buffered.now o.flight c.args.out.now c.refuse.new.out o.closing o.log
+    ran_bad x (service_in x m.local m.peer) (start_in m) (length c.args.journal.now.past.entries) c.in-Bad.code c.in-Bad.no_body c.args.next.now c.args.buffered.now o.flight c.args.out.now c.refuse.new.out o.closing o.log
     c.in-Bad.is (c.in_ok-onward-in-Bad.ensures.refuses (start_in m) refl)
 
 pub returns-in_ok-onward-in-Bad-clause-level : goal.returns-in_ok-onward-in-Bad-clause-level

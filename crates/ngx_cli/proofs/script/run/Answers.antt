@@ -20,8 +20,8 @@ returns c =
     let raceless = c.args.raceless in
     let events = c.args.events.now in
     let hub = c.new-hub.result in
-    let terms : terms_at hub ≡ site_terms raceless site.patterns site.site =
-    c.new-hub.ensures.terms ∙ ap (λ r. site_terms r site.patterns c.in_ok-served.served.site) c.in_ok-served.ensures.raceless ∙ ap (site_terms raceless site.patterns) c.in_ok-served.ensures.site in
+    let terms : terms_at hub ≡ site_terms raceless true site.patterns site.site =
+    c.new-hub.ensures.terms ∙ ap (λ r. site_terms r true site.patterns c.in_ok-served.served.site) c.in_ok-served.ensures.raceless ∙ ap (site_terms raceless true site.patterns) c.in_ok-served.ensures.site in
     let files = c.in_ok-files.files in
     let told : told_of files ≡ told_first c.args.tree.now = c.in_ok-files.ensures.told in
     let end = c.run_lines.new.core in
@@ -37,7 +37,7 @@ returns c =
         skipped = counts.skipped;
         refused = counts.refused;
         begins = new;
-        plays = subst (λ t. Plays (site_terms raceless site.patterns site.site) events t first 0 0 last counts.skipped counts.refused) told
+        plays = subst (λ t. Plays (site_terms raceless true site.patterns site.site) events t first 0 0 last counts.skipped counts.refused) told
             (subst (λ (m : Terms). Plays m events (told_of files) first 0 0 last counts.skipped counts.refused) terms c.in_ok-counts.ensures.plays);
         conns = conns_held end;
         held = c.put_run.ensures.held;
@@ -62,3 +62,11 @@ new-hub-requires c = record {
 
 pub run_lines-requires-clause-newest : goal.run_lines-requires-clause-newest
 run_lines-requires-clause-newest c = ap (λ (t : Told). t.newest) c.in_ok-files.ensures.told ∙ sym (ap (λ (s : Start). s.tree) c.new-hub.ensures.now)
+
+-- the core of a replay keeps the requests
+pub put_run-requires : goal.put_run-requires
+put_run-requires c =
+    let site = c.args.built in
+    let terms : terms_at c.new-hub.result ≡ site_terms c.args.raceless true site.patterns site.site =
+    c.new-hub.ensures.terms ∙ ap (λ r. site_terms r true site.patterns c.in_ok-served.served.site) c.in_ok-served.ensures.raceless ∙ ap (site_terms c.args.raceless true site.patterns) c.in_ok-served.ensures.site in
+    ap (λ (m : Terms). m.keeps) (c.in_ok-counts.ensures.steady ∙ terms)

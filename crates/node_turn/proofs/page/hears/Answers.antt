@@ -25,7 +25,7 @@ returns-in-Some-2-clause-acts c = λ g p levels patterns path file vars is.
     let same = c.deref_mut.ensures.value in
     let text = c.in-Some-2.text in
     let placed = c.with_bytes-body.ensures.others in
-    subst (λ (s : Stage). Works vars (captured_act w site p levels answer b.page bytes capture.name capture.text) (stage_act w patterns site p levels path s file)) (sym c.put.ensures.put)
+    subst (λ (s : Stage). Works vars (captured_act w site p levels answer b.page bytes capture.name capture.text) (stage_act w patterns site p levels path s file)) (sym c.fill.ensures.put)
     (serving.same_work
     (ap (λ x. captured_act w site p levels answer x bytes capture.name capture.text) (sym c.apart-body.ensures.page ∙ c.in-Some.is)
     ∙ (sym (ap (λ k. k capture.name capture.text) (paged.captured_is g p levels scene is w answer page.value bytes))
@@ -49,7 +49,7 @@ returns-clause-acts c = λ g p levels patterns path file vars is.
     let now = c.captured.new.self in
     let same = c.deref_mut.ensures.value in
     let placed = c.with_bytes-body-in-None.ensures.others in
-    subst (λ (s : Stage). Works vars (captured_act w site p levels answer b.page bytes capture.name capture.text) (stage_act w patterns site p levels path s file)) (sym c.put-in-None.ensures.put)
+    subst (λ (s : Stage). Works vars (captured_act w site p levels answer b.page bytes capture.name capture.text) (stage_act w patterns site p levels path s file)) (sym c.fill-in-None.ensures.put)
     (serving.same_work
     (ap (λ x. captured_act w site p levels answer x bytes capture.name capture.text) (sym c.apart-body.ensures.page ∙ c.in-Some.is)
     ∙ (sym (ap (λ k. k capture.name capture.text) (paged.captured_is g p levels scene is w answer page.value bytes))

@@ -22,7 +22,7 @@ returns-then-is_spent-clause-acts c = λ g p levels patterns path file is.
     let none = sym c.apart-body.ensures.page ∙ c.in-None.is in
     let spent = ap is_spent (sym c.apart-body.ensures.source) ∙ ap (λ (x : Body). is_spent x.source) (sym c.deref.ensures) ∙ sym c.is_spent.ensures ∙ c.if-is_spent.true in
     let same = sym c.apart-body.ensures.answered in
-    subst (λ (s : Stage). Works c.args.vars.now (served_act w site p levels answer b.page (later b file)) (stage_act w patterns site p levels path s file)) (sym c.put.ensures.put)
+    subst (λ (s : Stage). Works c.args.vars.now (served_act w site p levels answer b.page (later b file)) (stage_act w patterns site p levels path s file)) (sym c.fill.ensures.put)
     (serving.both (serving.same_work (ap (λ x. served_act w site p levels answer x (later b file)) none ∙ ap (λ t. Write t (Done answer)) (serving.spent b.source file spent)))
     (Placed (serving.same_work (ap (λ (a : Answered). Done (answer_seen site p a)) same))))
 
@@ -48,7 +48,7 @@ returns-else-is_spent-clause-acts c = λ g p levels patterns path file is.
     let rest = c.apart-body.result.0.value in
     let none = sym c.apart-body.ensures.page ∙ c.in-None.is in
     let act = λ (a : Answered) (x : _) (s : Source). served_act w site p levels (answer_seen site p a) x (from_source s file) in
-    subst (λ (s : Stage). Works c.args.vars.now (served_act w site p levels (answer_seen site p b.answered) b.page (later b file)) (stage_act w patterns site p levels path s file)) (sym c.put-in-None.ensures.put)
+    subst (λ (s : Stage). Works c.args.vars.now (served_act w site p levels (answer_seen site p b.answered) b.page (later b file)) (stage_act w patterns site p levels path s file)) (sym c.fill-in-None.ensures.put)
     (serving.same_work (ap (λ x. act b.answered x b.source) (none ∙ sym c.apart-body.ensures.left)
     ∙ (ap (λ (a : Answered). act a rest.page b.source) (sym c.apart-body.ensures.answered)
     ∙ ap (λ (s : Source). act rest.answered rest.page s) (sym c.apart-body.ensures.source))))

@@ -18,9 +18,9 @@ returns-in_ok-bare-in-Nothing-clause-acts c = λ patterns path text vars.
     let o = c.args.outcome in
     let bytes = bytes_for o text in
     let made = prepared_as w (asked_in p) (standing_seen site p.at) bytes o in
-    let parts = c.in_ok-answered.ensures site p bytes made (phased.is_for w site p bytes o) (phased.reply_so w site p text c.in_ok-reply.reply o c.args.outcome refl refl c.in_ok-reply.ensures) in
-    phased.answers_so w c.args.left c.args.ssi made (answer_seen site p c.in_ok-answered.field-0.answered) bytes c.in_ok-answered.field-0.facts c.in_ok-answered.field-0.body _ vars parts.0 parts.1 c.in-Nothing.is
-    ∙ (phased.bare_so w c.args.left c.args.ssi (answer_seen site p c.in_ok-answered.field-0.answered) vars
+    let parts = c.apart-answered.ensures site p bytes made (phased.is_for w site p bytes o) (phased.reply_so w site p text c.in_ok-reply.reply o c.args.outcome refl refl c.in_ok-reply.ensures) in
+    phased.answers_so w c.args.left c.args.ssi made (answer_seen site p c.apart-answered.result.answered) bytes c.apart-answered.result.facts c.apart-answered.result.body _ vars parts.0 parts.1 c.in-Nothing.is
+    ∙ (phased.bare_so w c.args.left c.args.ssi (answer_seen site p c.apart-answered.result.answered) vars
     ∙ ap (λ m. (m, vars)) (sym (c.in_ok-bare-in-Nothing.ensures.acts g p c.args.left patterns path text)))
 
 pub returns-in_ok-plain-in-Page-clause-acts : goal.returns-in_ok-plain-in-Page-clause-acts
@@ -32,9 +32,9 @@ returns-in_ok-plain-in-Page-clause-acts c = λ patterns path text vars.
     let o = c.args.outcome in
     let bytes = bytes_for o text in
     let made = prepared_as w (asked_in p) (standing_seen site p.at) bytes o in
-    let answer = answer_seen site p c.in_ok-answered.field-0.answered in
-    let parts = c.in_ok-answered.ensures site p bytes made (phased.is_for w site p bytes o) (phased.reply_so w site p text c.in_ok-reply.reply o c.args.outcome refl refl c.in_ok-reply.ensures) in
-    phased.answers_so w c.args.left c.args.ssi made answer bytes c.in_ok-answered.field-0.facts c.in_ok-answered.field-0.body _ vars parts.0 parts.1 c.in-Page.is
+    let answer = answer_seen site p c.apart-answered.result.answered in
+    let parts = c.apart-answered.ensures site p bytes made (phased.is_for w site p bytes o) (phased.reply_so w site p text c.in_ok-reply.reply o c.args.outcome refl refl c.in_ok-reply.ensures) in
+    phased.answers_so w c.args.left c.args.ssi made answer bytes c.apart-answered.result.facts c.apart-answered.result.body _ vars parts.0 parts.1 c.in-Page.is
     ∙ (phased.plain_so w c.args.left c.args.ssi answer (page_of c.in-Page.code) vars
     ∙ ap (λ m. (m, vars)) (ap (λ b. Write b (Done answer)) (sym (phased.none_behind c.page_text.new.out text ∙ (c.in_ok-page_text-in-Page.ensures ∙ ap (λ b. b ++ page_of c.in-Page.code) c.new-bytes.ensures)))
     ∙ sym (c.in_ok-plain-in-Page.ensures.acts g p c.args.left patterns path text)))
@@ -48,10 +48,10 @@ returns-in_ok-sent-in-Text-clause-acts c = λ patterns path text vars.
     let o = c.args.outcome in
     let bytes = bytes_for o text in
     let made = prepared_as w (asked_in p) (standing_seen site p.at) bytes o in
-    let answer = answer_seen site p c.in_ok-answered.field-0.answered in
-    let facts = c.in_ok-answered.field-0.facts in
-    let parts = c.in_ok-answered.ensures site p bytes made (phased.is_for w site p bytes o) (phased.reply_so w site p text c.in_ok-reply.reply o c.args.outcome refl refl c.in_ok-reply.ensures) in
-    phased.answers_so w c.args.left c.args.ssi made answer bytes facts c.in_ok-answered.field-0.body _ vars parts.0 parts.1 c.in-Text.is
+    let answer = answer_seen site p c.apart-answered.result.answered in
+    let facts = c.apart-answered.result.facts in
+    let parts = c.apart-answered.ensures site p bytes made (phased.is_for w site p bytes o) (phased.reply_so w site p text c.in_ok-reply.reply o c.args.outcome refl refl c.in_ok-reply.ensures) in
+    phased.answers_so w c.args.left c.args.ssi made answer bytes facts c.apart-answered.result.body _ vars parts.0 parts.1 c.in-Text.is
     ∙ (ap (λ b. settled (body_then w c.args.left c.args.ssi answer (sent_as facts b)) vars) (sym (phased.none_behind c.in-Text.text text))
     ∙ c.in_ok-sent-in-Text.ensures.acts g p c.args.left patterns path text vars c.scene_of-scene.ensures)
 
@@ -64,11 +64,11 @@ returns-in_ok-sent-in-File-clause-acts c = λ patterns path text vars.
     let o = c.args.outcome in
     let bytes = bytes_for o text in
     let made = prepared_as w (asked_in p) (standing_seen site p.at) bytes o in
-    let answer = answer_seen site p c.in_ok-answered.field-0.answered in
-    let facts = c.in_ok-answered.field-0.facts in
+    let answer = answer_seen site p c.apart-answered.result.answered in
+    let facts = c.apart-answered.result.facts in
     let len = c.file_len-len.result in
-    let parts = c.in_ok-answered.ensures site p bytes made (phased.is_for w site p bytes o) (phased.reply_so w site p text c.in_ok-reply.reply o c.args.outcome refl refl c.in_ok-reply.ensures) in
-    phased.answers_so w c.args.left c.args.ssi made answer bytes facts c.in_ok-answered.field-0.body _ vars parts.0 parts.1 c.in-File.is
+    let parts = c.apart-answered.ensures site p bytes made (phased.is_for w site p bytes o) (phased.reply_so w site p text c.in_ok-reply.reply o c.args.outcome refl refl c.in_ok-reply.ensures) in
+    phased.answers_so w c.args.left c.args.ssi made answer bytes facts c.apart-answered.result.body _ vars parts.0 parts.1 c.in-File.is
     ∙ (ap (λ b. settled (body_then w c.args.left c.args.ssi answer (sent_as facts b)) vars)
     (sym (ap (λ (x : List ℕ). x ++ padded len text) c.new.ensures ∙ c.file_len-len.ensures text))
     ∙ c.in_ok-sent-in-File.ensures.acts g p c.args.left patterns path text vars c.scene_of-scene.ensures)

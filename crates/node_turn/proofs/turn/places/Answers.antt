@@ -1,6 +1,6 @@
-use Rattle.std.proofs.Common.{◌+◌, List, ℕ, take, drop, ap, ◌∙◌, sym, subst}
+use Rattle.std.proofs.Common.{◌≡◌, ◌+◌, arith, List, ℕ, take, drop, ap, ◌∙◌, sym, subst}
 use Rattle.node_turn.specs.Stages.{hand_at, node_act}
-use Rattle.node_turn.specs.Nodes.{answer_seen, asked_path, from_source, later, lent, placed_act, stage_act}
+use Rattle.node_turn.specs.Nodes.{answer_seen, asked_path, from_source, hand, later, lent, placed_act, stage_act}
 use Rattle.node_turn.specs.Turns.{PlacesAs}
 use Rattle.node_turn.specs.declared.answered.Answered.{Answered}
 use Rattle.node_turn.specs.declared.node.Node.{Node}
@@ -15,22 +15,25 @@ returns-clause-acts c = λ w patterns site main text.
     let b = c.in-Places.body.value in
     let p = lent main n.phases in
     let path = asked_path n.ask in
-    let count = c.in_ok-count-in-Places.count in
-    let next = c.advanced-body.result.value in
+    let placed = c.in_ok-body-in-Places.ensures in
+    let count = c.in_ok-body-in-Places.count in
+    let next = c.in_ok-body-in-Places.body.value in
     let after = c.stage_after.result in
+    let left = drop count (hand b) in
     let act = λ (a : Answered) (page : _) (bytes : List ℕ) (s : Source). placed_act w site p n.left (answer_seen site p a) page bytes (from_source s text) in
-    let mid = placing.placed_so w site p n.left (answer_seen site p b.answered) b.page b.bytes b.from count (later b text) in
-    let moved = ap (λ (a : Answered). act a b.page (drop (b.from + count) b.bytes) b.source) (sym c.advanced-body.ensures.others.0)
-    ∙ (ap (λ s. act next.answered b.page (drop (b.from + count) b.bytes) s) (sym c.advanced-body.ensures.others.1)
-    ∙ (ap (λ x. act next.answered x (drop (b.from + count) b.bytes) next.source) (sym c.advanced-body.ensures.others.2)
-    ∙ (ap (λ bytes. act next.answered next.page (drop (b.from + count) bytes) next.source) (sym c.advanced-body.ensures.bytes)
-    ∙ ap (λ from. act next.answered next.page (drop from next.bytes) next.source) (sym c.advanced-body.ensures.from)))) in
+    let shown = λ (k : ℕ). placed_act w site p n.left (answer_seen site p b.answered) b.page (drop k (hand b)) (later b text) in
+    let none : 0 + count ≡ count = omega arith in
+    let mid = subst (λ k. PlacesAs (take count (hand b)) (shown 0) (shown k)) none (placing.placed_so w site p n.left (answer_seen site p b.answered) b.page (hand b) 0 count (later b text)) in
+    let moved = ap (λ (a : Answered). act a b.page left b.source) (sym placed.others.0)
+    ∙ (ap (λ s. act next.answered b.page left s) (sym placed.others.1)
+    ∙ (ap (λ x. act next.answered x left next.source) (sym placed.others.2)
+    ∙ ap (λ bytes. act next.answered next.page bytes next.source) (sym placed.hand))) in
     let is = sym c.stage_of.ensures.stage ∙ c.in-Places.is in
-    let there = placing.then_works (take count (drop b.from b.bytes)) _ _ (stage_act w patterns site p n.left path after text)
-    (subst (PlacesAs (take count (drop b.from b.bytes)) (placed_act w site p n.left (answer_seen site p b.answered) b.page (drop b.from b.bytes) (later b text))) moved mid)
+    let there = placing.then_works (take count (hand b)) _ _ (stage_act w patterns site p n.left path after text)
+    (subst (PlacesAs (take count (hand b)) (placed_act w site p n.left (answer_seen site p b.answered) b.page (hand b) (later b text))) moved mid)
     (λ vars. c.stage_after.ensures.works w patterns site p n.left path text vars) in
-    subst (λ (x : Node). PlacesAs (take count (hand_at n.stage)) (node_act w patterns site main n text) (stage_act w patterns site (lent main x.phases) x.left (asked_path x.ask) c.put.new.slot text)) (sym c.stage_of.ensures.node)
-    (subst (λ (s : Stage). PlacesAs (take count (hand_at n.stage)) (node_act w patterns site main n text) (stage_act w patterns site p n.left path s text)) (sym c.put.ensures.put)
+    subst (λ (x : Node). PlacesAs (take count (hand_at n.stage)) (node_act w patterns site main n text) (stage_act w patterns site (lent main x.phases) x.left (asked_path x.ask) c.fill.new.slot text)) (sym c.stage_of.ensures.node)
+    (subst (λ (s : Stage). PlacesAs (take count (hand_at n.stage)) (node_act w patterns site main n text) (stage_act w patterns site p n.left path s text)) (sym c.fill.ensures.put)
     (subst (λ (s : Stage). PlacesAs (take count (hand_at s)) (stage_act w patterns site p n.left path s text) (stage_act w patterns site p n.left path after text)) (sym is) there))
 
 pub returns-clause-node : goal.returns-clause-node

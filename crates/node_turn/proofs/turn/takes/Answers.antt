@@ -1,4 +1,4 @@
-use Rattle.std.proofs.Common.{◌≡◌, sym, ap, ◌∙◌, subst}
+use Rattle.std.proofs.Common.{◌≡◌, sym, ◌∙◌, subst}
 use Rattle.request_meaning.specs.Laws.{shipped}
 use Rattle.request_phases.specs.Rounds.{world_in}
 use Rattle.request_phases.specs.declared.state.Phases.{Phases}
@@ -7,9 +7,7 @@ use Rattle.node_turn.specs.Nodes.{answer_seen, asked_path, captured_act, later, 
 use Rattle.node_turn.specs.Served.{ServesTo}
 use Rattle.node_turn.specs.Taken.{TakesTo}
 use Rattle.node_turn.specs.declared.node.Node.{Node}
-use Rattle.node_turn.specs.declared.node.Stage.TheVariants.{Reads}
 use Rattle.node_turn.proofs.Phased as phased
-use Rattle.node_turn.proofs.Serving as serving
 use Rattle.node_turn.proofs.turn.takes.Goals as goal
 
 pub returns-in_ok-turn_of-in-Serves-clause-acts : goal.returns-in_ok-turn_of-in-Serves-clause-acts
@@ -71,15 +69,3 @@ returns-in_ok-turn_of-in-Captures-clause-acts c = λ patterns text.
     (subst (λ (m : Node). TakesTo (lent main m.phases).main vars (captured_act w site (lent main m.phases) m.left (answer_seen site (lent main m.phases) b.answered) b.page (later b text) c.in-Captures.capture.name c.in-Captures.capture.text) new heard result) c.stage_of.ensures.node
     (subst (λ (p : Phases). TakesTo p.main vars (acts p) new heard result) same
     (subst (λ (p : Phases). TakesTo p.main vars (acts given) new heard result) returned taken)))
-
-pub returns-then-needs_block-clause-acts : goal.returns-then-needs_block-clause-acts
-returns-then-needs_block-clause-acts c = λ patterns text.
-    let g = c.args.ground.now in
-    let site = g.site.now in
-    let w = world_in patterns g shipped in
-    let main = c.args.main.now in
-    let n = c.args.node.now in
-    let is = sym c.stage_of.ensures.stage ∙ c.in-Serves.is in
-    serving.same_work (ap (λ s. stage_act w patterns site (lent main n.phases) n.left (asked_path n.ask) s text) is
-    ∙ (ap (λ (x : Node). stage_act w patterns site (lent main x.phases) x.left (asked_path n.ask) (Reads c.in-Serves.body) text) (sym c.stage_of.ensures.node)
-    ∙ sym (ap (λ (x : Node). node_act w patterns site main x text) c.put_block.ensures)))

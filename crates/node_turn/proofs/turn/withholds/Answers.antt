@@ -28,8 +28,8 @@ returns-clause-acts c = λ w patterns site main text.
     let there = placing.then_works (drop b.from b.bytes) _ _ (stage_act w patterns site p n.left path after text)
     (subst (PlacesAs (drop b.from b.bytes) (placed_act w site p n.left (answer_seen site p b.answered) b.page (drop b.from b.bytes) (later b text))) moved mid)
     (λ vars. c.stage_after.ensures.works w patterns site p n.left path text vars) in
-    subst (λ (x : Node). PlacesAs (hand_at n.stage) (node_act w patterns site main n text) (stage_act w patterns site (lent main x.phases) x.left (asked_path x.ask) c.put.new.slot text)) (sym c.stage_of.ensures.node)
-    (subst (λ (s : Stage). PlacesAs (hand_at n.stage) (node_act w patterns site main n text) (stage_act w patterns site p n.left path s text)) (sym c.put.ensures.put)
+    subst (λ (x : Node). PlacesAs (hand_at n.stage) (node_act w patterns site main n text) (stage_act w patterns site (lent main x.phases) x.left (asked_path x.ask) c.fill.new.slot text)) (sym c.stage_of.ensures.node)
+    (subst (λ (s : Stage). PlacesAs (hand_at n.stage) (node_act w patterns site main n text) (stage_act w patterns site p n.left path s text)) (sym c.fill.ensures.put)
     (subst (λ (s : Stage). PlacesAs (hand_at s) (stage_act w patterns site p n.left path s text) (stage_act w patterns site p n.left path after text)) (sym is) there))
 
 pub returns-clause-node : goal.returns-clause-node

@@ -43,3 +43,9 @@ returns-in_ok-head-in-None c =
     passed_is c.args.seen.now c.args.text.now c.args.slots.now c.args.spans.now c.of-method.result.now c.of-target.result.now fields c.find_fault.result c.in_ok-head-in-None.head
     c.requires.within c.requires.few c.of-method.ensures c.of-target.ensures (fields_within c.args.text.now c.args.spans.now.len shown fields all c.in_ok-fields-in-None.ensures)
     (c.find_fault.ensures fields known) c.in-None.is c.in_ok-head-in-None.ensures
+
+pub find_fault-requires : goal.find_fault-requires
+find_fault-requires c = c.host_bytes-bytes.ensures
+
+pub make_head-requires-clause-bytes : goal.make_head-requires-clause-bytes
+make_head-requires-clause-bytes c = c.host_bytes-bytes.ensures

@@ -51,7 +51,7 @@ returns-clause-serving g c =
     let o : Outside = record { files = files; files' = files'; links = links; links' = links'; clock = t.seen c.args.clock.now; clock' = t.seen c.serve.new.clock } in
     let none : (id : ℕ) → (view_at hub id).held ≡ false = λ id. ap (λ (v : ConnView). v.held) (c.new-hub.ensures.empty id) in
     let served = c.in_ok-served.served in
-    let terms : core.terms ≡ site_terms raceless patterns site = c.new-hub.ensures.terms ∙ ap (λ r. site_terms r patterns served.site) c.in_ok-served.ensures.raceless ∙ ap (site_terms raceless patterns) c.in_ok-served.ensures.site in
+    let terms : core.terms ≡ site_terms raceless false patterns site = c.new-hub.ensures.terms ∙ ap (λ r. site_terms r false patterns served.site) c.in_ok-served.ensures.raceless ∙ ap (site_terms raceless false patterns) c.in_ok-served.ensures.site in
     let few : links.tells ≡ true → length core.conns ≡ links.crowd = λ tl. ap length c.new-hub.ensures.none ∙ sym (c.requires.links.nobody tl) in
     let begins : links.tells ≡ true → Kept (marks_of core links files) (λ id. core.terms.fresh) core links files [] =
     λ tl. c.kept_begins.ensures core links files none c.requires.links.shut c.requires.links.unused (few tl) (begun core.now c.new-hub.ensures.now) in
@@ -64,7 +64,7 @@ returns-clause-serving g c =
           (c.cores_are_sound.ensures end id).sound
           (λ ne held. at_rest (links.tells ≡ true) (links.tells ≡ true) (view_at end id) (links'.link id) tl tl (s.rests ne id held))
           used
-          (subst (λ r. Stands (Rose (links.link_faults id) (links'.link_faults id)) (Rose files.faults files'.faults) (Rose core.refused r) (site_terms raceless patterns site) (site_terms raceless patterns site).fresh files' s.kept.since (view_at end id) (links'.link id) (links'.used id) (links'.is_open id)) (sym s.refused)
+          (subst (λ r. Stands (Rose (links.link_faults id) (links'.link_faults id)) (Rose files.faults files'.faults) (Rose core.refused r) (site_terms raceless false patterns site) (site_terms raceless false patterns site).fresh files' s.kept.since (view_at end id) (links'.link id) (links'.used id) (links'.is_open id)) (sym s.refused)
           (subst (λ (m : Terms). Stands (Rose (links.link_faults id) (links'.link_faults id)) (Rose files.faults files'.faults) (Rose core.refused (seen_at end).refused) m m.fresh files' s.kept.since (view_at end id) (links'.link id) (links'.used id) (links'.is_open id)) terms (kept.all id)));
       listens = λ ne. s.listens ne ∙ ap (λ a. links.listening ++ a) (c.as_slice-2.ensures.value ∙ c.in_ok-addrs.ensures ∙ ap (λ rs. each_once (flat_map (λ r. r.listens) rs)) c.as_slice.ensures.value ∙ listened patterns site);
       notices = s.turns;

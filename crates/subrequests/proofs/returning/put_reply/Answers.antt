@@ -10,5 +10,5 @@ returns-in-Captures c =
     let was = sym c.take.ensures.taken ∙ c.in-Captures.is in
     Hears (ap is_capturing was) (record { parent = refl; left = refl; children = refl; over = refl; asks = refl; before = refl }) refl (refl, refl)
     (λ w patterns site main text.
-    ap (λ s. stage_act w patterns site (lent main n.phases) n.left (asked_path n.ask) s text) c.put.ensures.put
+    ap (λ s. stage_act w patterns site (lent main n.phases) n.left (asked_path n.ask) s text) c.fill.ensures.put
     ∙ ap (λ s. stage_heard w patterns site (lent main n.phases) n.left (asked_path n.ask) s text c.args.body) (sym was))

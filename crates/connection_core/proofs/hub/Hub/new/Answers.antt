@@ -7,8 +7,10 @@ use Rattle.connection_core.proofs.hub.Hub.new.Goals as goal
 
 pub returns-clause-terms : goal.returns-clause-terms
 returns-clause-terms c =
-    ap (λ p. site_terms c.new-2.result.served.raceless p c.new-2.result.served.site) c.new.ensures
-    ∙ ap (λ (s : ServedSite). site_terms s.raceless c.args.patterns s.site) c.new-2.ensures.0
+    let t = c.new-2.result in
+    ap (λ p. site_terms t.served.raceless t.keeps p t.served.site) c.new.ensures
+    ∙ ap (λ (s : ServedSite). site_terms s.raceless t.keeps c.args.patterns s.site) c.new-2.ensures.0
+    ∙ ap (λ k. site_terms c.args.served.raceless k c.args.patterns c.args.served.site) c.new-2.ensures.3
 
 pub invariant_of-result : goal.invariant_of-result
 invariant_of-result c =

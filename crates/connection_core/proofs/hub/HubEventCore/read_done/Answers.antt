@@ -15,8 +15,8 @@ returns-clause-done g c = λ path start count of asks.
     let new = g.F.Files.seen c.read.new.files in
     let h = c.args.self.now in
     let n = c.read.new.self in
-    brought_as old.tells (old.trees of) path start count c.args.conn c.args.node old.answers new.answers h.space.patterns h.table.served n.served h.table.ids.items n.ids.items h.table.conns.items n.conns.items h.moment h.tree h.refused c.count.new.refused _
-    c.read.ensures.served c.read.ensures.ids h.told h.reached c.count.ensures
+    brought_as old.tells (old.trees of) path start count c.args.conn c.args.node old.answers new.answers h.space.patterns h.table.served n.served h.table.keeps n.keeps h.table.ids.items n.ids.items h.table.conns.items n.conns.items h.moment h.tree h.refused c.count.new.refused _
+    c.read.ensures.served c.read.ensures.keeps c.read.ensures.ids h.told h.reached c.count.ensures
     (c.in_ok-answer.ensures.done path start count of asks)
 
 pub invariant_of-self-2 : goal.invariant_of-self-2

@@ -5,6 +5,7 @@ use Rattle.http_connection.specs.Rests.{Serves}
 use Rattle.connection_core.specs.Table.{serves_with}
 use Rattle.connection_core.proofs.Held.{seat_at, seen, unseen, here_is, stands_in, belongs_in}
 use Rattle.connection_core.proofs.Ends.{cut_rising, cut_steps, cut_known, keeps_open}
+use Rattle.connection_core.proofs.Keeping.{cut_keep}
 use Rattle.connection_core.proofs.Ticks.{cut_later}
 use Rattle.connection_core.proofs.Reached.{cut_reached}
 use Rattle.connection_core.proofs.table.Table.close.Goals as goal
@@ -61,6 +62,7 @@ invariant_of-self c =
     let s = seat_at c.args.conn c.in-Ok.at t.ids.items t.conns.items stands even in
     record {
       later = cut_later t.soon c.args.conn c.in-Ok.at t.ids.items t.conns.items c.take_out-in-Ok.new.items.items s c.take_out-in-Ok.ensures.items t.later;
+      keeping = cut_keep t.keeps c.args.conn c.in-Ok.at t.ids.items t.conns.items c.take_out-in-Ok.new.items.items s c.take_out-in-Ok.ensures.items t.keeping;
       rising = cut_rising c.args.conn c.in-Ok.at t.ids.items c.take_out.new.items.items stands c.take_out.ensures.items t.rising;
       paired = omega (arith, t.paired, c.take_out.ensures.len, c.take_out-in-Ok.ensures.len);
     }

@@ -4,6 +4,7 @@ use Rattle.http_connection.specs.Conn.{due_at, ended_by}
 use Rattle.http_connection.specs.Times.{soonest}
 use Rattle.http_connection.specs.Rests.{Serves}
 use Rattle.connection_core.specs.Table.{serves_with, view_in, Placed}
+use Rattle.connection_core.proofs.Keeping.{set_keep}
 use Rattle.connection_core.proofs.Ticks.{set_later}
 use Rattle.connection_core.proofs.Held.{here_is, seat_at, one_steps, one_ended, left_after, none_steps, stands_in, belongs_in}
 use Rattle.connection_core.proofs.Ends.{own_known}
@@ -91,4 +92,5 @@ invariant_of-self c =
       rising = t.rising;
       paired = omega (arith, t.paired, c.happen_at-answer.ensures.len);
       later = set_later t.soon c.earlier-self.result s.placed.front s.placed.back s.placed.here r.there t.conns.items c.happen_at-answer.new.conns.items s.placed.whole r.whole c.earlier-self.ensures.0 (subst (λ x. c.earlier-self.result ≤ soonest (due_at x)) here c.earlier-self.ensures.1) t.later;
+      keeping = set_keep t.keeps s.placed.front s.placed.here r.there s.placed.back t.conns.items c.happen_at-answer.new.conns.items s.placed.whole r.whole r.does.keeps t.keeping;
     }

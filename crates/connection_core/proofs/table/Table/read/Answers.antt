@@ -4,6 +4,7 @@ use Rattle.http_connection.specs.Conn.{due_at}
 use Rattle.http_connection.specs.Times.{soonest}
 use Rattle.http_connection.specs.Rests.{Serves}
 use Rattle.connection_core.specs.Table.{serves_with, Placed}
+use Rattle.connection_core.proofs.Keeping.{set_keep}
 use Rattle.connection_core.proofs.Ticks.{set_later}
 use Rattle.connection_core.proofs.Held.{here_is, seat_at, stands_in, belongs_in}
 use Rattle.connection_core.proofs.Blocks.{within_at, asks_at, asks_none, idle_at, brought_in, known_by, reached_by}
@@ -86,4 +87,5 @@ invariant_of-self-in-Ok g c =
       rising = t.rising;
       paired = omega (arith, t.paired, c.read_at.ensures.len);
       later = set_later t.soon c.earlier-self.result s.placed.front s.placed.back s.placed.here r.0 t.conns.items c.read_at.new.conns.items s.placed.whole r.1 c.earlier-self.ensures.0 (subst (λ x. c.earlier-self.result ≤ soonest (due_at x)) here c.earlier-self.ensures.1) t.later;
+      keeping = set_keep t.keeps s.placed.front s.placed.here r.0 s.placed.back t.conns.items c.read_at.new.conns.items s.placed.whole r.1 r.2 t.keeping;
     }

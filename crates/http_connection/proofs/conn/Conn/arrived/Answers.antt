@@ -35,14 +35,15 @@ returns-in-Ok-clause-steps c = λ site now conn.
     record {
       own = λ tells led course. (
         record { most = c.in-Some.room; has_room = has; takes = c.min-taken.ensures; some = some_taken (length c.args.bytes.now) c.in-Some.room c.min-taken.result c.min-taken.ensures some r.3 },
-        went_until _ _ Always _ _ _ [] [] (subst (λ b. Went Always (view_at site service s.cause s.flight s.out s.tail s.journal.items s.closing s.ended s.body s.buffered s.next) (view_at site service s.cause s.flight s.out s.tail s.journal.items d.broken s.ended d.body n.buffered n.next) b [] []) c.first_bytes-bytes.ensures
-            (arrived_went site service s.cause s.flight s.out s.tail s.journal.items s.closing d.broken s.ended s.body d.body s.buffered n.buffered kept s.next n.next first r.0 r.1 s.drained c.drop_rest-dropped.ensures.none drops buffered (s.logged r.0))),
+        went_until _ _ Always _ _ _ [] [] (subst (λ b. Went Always (view_at site service s.cause s.flight s.out s.tail s.journal.past.entries s.closing s.ended s.body s.buffered s.next) (view_at site service s.cause s.flight s.out s.tail s.journal.past.entries d.broken s.ended d.body n.buffered n.next) b [] []) c.first_bytes-bytes.ensures
+            (arrived_went site service s.cause s.flight s.out s.tail s.journal.past.entries s.closing d.broken s.ended s.body d.body s.buffered n.buffered kept s.next n.next first r.0 r.1 s.drained c.drop_rest-dropped.ensures.none drops buffered (s.logged r.0))),
       );
       reached = λ led. led;
       left = arrived_left s.cause s.flight s.out s.closing d.broken s.buffered n.buffered kept c.args.bytes.now c.min-taken.result r.1 buffered few;
       ended = refl;
       taken = tt;
       asked = inl (omega arith);
+      keeps = refl;
       tail = refl;
     }
 
@@ -54,12 +55,13 @@ returns-in-Err-clause-steps c = λ site now conn.
     let has = sym c.room.ensures ∙ c.in-Some.is in
     let r = room_some (is_some s.cause) s.closing s.ended s.buffered c.in-Some.room has in
     record {
-      own = λ tells led course. refused_until _ _ now _ _ (refused site now service s.cause s.flight c.put.new.slot s.out c.clear.new.self s.tail s.tail s.journal.items s.journal.items s.closing s.closing s.ended s.ended s.body None s.buffered c.clear-in-Err.new.self s.next n.next r.0 c.put.ensures c.clear.ensures refl);
+      own = λ tells led course. refused_until _ _ now _ _ (refused site now service s.cause s.flight c.put.new.slot s.out c.clear.new.self s.tail s.tail s.journal.past.entries s.journal.past.entries s.closing s.closing s.ended s.ended s.body None s.buffered c.clear-in-Err.new.self s.next n.next r.0 c.put.ensures c.clear.ensures refl);
       reached = λ led. ∣ subst (ReachedIn site) (sym c.put.ensures) tt ∣₁;
       left = stopped_left stop.Memory s.cause s.flight c.put.new.slot s.out c.clear.new.self s.closing s.closing s.buffered c.clear-in-Err.new.self r.0;
       ended = refl;
       taken = tt;
       asked = inl (let e = ap flight_tree c.put.ensures in omega (arith, e));
+      keeps = refl;
       tail = refl;
     }
 

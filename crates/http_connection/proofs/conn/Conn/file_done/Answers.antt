@@ -48,7 +48,7 @@ returns-in-Ok-clause-steps c = λ x now conn.
         ask = job;
         waits = asks;
         fits = fits;
-        went = went_until _ _ _ _ _ [] [] [] (goes_went x (Answers job c.args.answer) service s.cause s.flight f' s.out out' s.tail s.tail s.journal.items s.journal.items s.closing s.closing s.ended s.body s.buffered s.next None live refl refl (sym (append-nil (logged_in s.journal.items))) (subst (λ b. IsLogged b s.journal.items) (ap is_some is ∙ ap is_some p) (s.logged live))
+        went = went_until _ _ _ _ _ [] [] [] (goes_went x (Answers job c.args.answer) service s.cause s.flight f' s.out out' s.tail s.tail s.journal.past.entries s.journal.past.entries s.closing s.closing s.ended s.body s.buffered s.next None live refl refl (sym (append-nil (logged_in s.journal.past.entries))) (subst (λ b. IsLogged b s.journal.past.entries) (ap is_some is ∙ ap is_some p) (s.logged live))
             (λ trees from. told_keeps x s.flight flight there.0 f' s.out out' s.closing trees is p by
             (told_in_place x s.flight flight there.0 f' s.out out' s.closing trees is p (told.goes (world_of x flight) x.patterns x.served.site trees s.closing job asks from)) led));
       };
@@ -58,6 +58,7 @@ returns-in-Ok-clause-steps c = λ x now conn.
       ended = refl;
       taken = refl;
       asked = inl (let a = told.asked in omega (arith, a));
+      keeps = refl;
       tail = refl;
     }
 
@@ -68,12 +69,13 @@ returns-in-Err-clause-steps c = λ x now conn.
     let flies = flies_by s.flight c.args.node c.in-Some.ask.now (sym c.ask.ensures ∙ ap option_copied c.in-Some.is) in
     let live = waits_live s.cause s.flight flies.0 s.quit flies.1 in
     record {
-      own = λ tells led course. refused_until _ _ now _ _ (refused x now service s.cause s.flight c.put.new.slot s.out c.clear.new.self s.tail s.tail s.journal.items s.journal.items s.closing s.closing s.ended s.ended s.body s.body s.buffered s.buffered s.next s.next live c.put.ensures c.clear.ensures refl);
+      own = λ tells led course. refused_until _ _ now _ _ (refused x now service s.cause s.flight c.put.new.slot s.out c.clear.new.self s.tail s.tail s.journal.past.entries s.journal.past.entries s.closing s.closing s.ended s.ended s.body s.body s.buffered s.buffered s.next s.next live c.put.ensures c.clear.ensures refl);
       reached = λ led. ∣ subst (ReachedIn x) (sym c.put.ensures) tt ∣₁;
       left = stopped_left stop.Memory s.cause s.flight c.put.new.slot s.out c.clear.new.self s.closing s.closing s.buffered s.buffered live;
       ended = refl;
       taken = tt;
       asked = inl (let e = ap flight_tree c.put.ensures in omega (arith, e));
+      keeps = refl;
       tail = refl;
     }
 
@@ -92,7 +94,7 @@ invariant_of-self c =
       few = s.few;
       drained = s.drained;
       unended = s.unended;
-      logged = λ h. subst (λ b. IsLogged b s.journal.items) (ap is_some is ∙ sym c.in-Ok.ensures.flies) (s.logged h);
+      logged = λ h. subst (λ b. IsLogged b s.journal.past.entries) (ap is_some is ∙ sym c.in-Ok.ensures.flies) (s.logged h);
       brief = s.brief;
       tailed = flying_tail s.flight c.answered.new.flight s.tail s.out c.answered.new.out (ap is_some is) c.in-Ok.ensures.flies s.tailed;
     }

@@ -27,7 +27,7 @@ pub finish-requires : goal.finish-requires
 finish-requires c =
     let s = c.args.self.now in
     let is : s.flight ≡ Some c.in-Some.flight = c.in-Some.is in
-    subst (λ b. IsLogged b s.journal.items) (ap is_some is) (s.logged (waits_live s.cause s.flight c.in-Some.flight s.quit is))
+    subst (λ b. IsLogged b s.journal.past.entries) (ap is_some is) (s.logged (waits_live s.cause s.flight c.in-Some.flight s.quit is))
 
 pub run_in_place-requires-clause-runs : goal.run_in_place-requires-clause-runs
 run_in_place-requires-clause-runs c =
@@ -59,8 +59,8 @@ returns-in-Ok-On-clause-steps c = λ now conn.
     record {
       own = λ tells led course. (
         ready_contains (ready_at (is_some s.cause) s.flight s.closing s.out s.body s.next) c.args.node c.requires.ready,
-        Goes [] (inl refl) (went_until _ _ _ _ _ [] [] [] (goes_went x (Raceless x.served.raceless) service s.cause s.flight f' s.out c.run_in_place.new.out s.tail onward.tail s.journal.items c.finish.new.journal.items s.closing onward.closing s.ended s.body s.buffered s.next onward.log live (same_length s.journal.items c.finish.new.journal.items starts) starts c.finish.ensures.log
-            (subst (λ b. IsLogged b c.finish.new.journal.items) (not_over (is_some onward.log) (is_some onward.flight) over ∙ ap is_some p) c.finish.ensures.logged)
+        Goes [] (inl refl) (went_until _ _ _ _ _ [] [] [] (goes_went x (Raceless x.served.raceless) service s.cause s.flight f' s.out c.run_in_place.new.out s.tail onward.tail s.journal.past.entries c.finish.new.journal.past.entries s.closing onward.closing s.ended s.body s.buffered s.next onward.log live (same_length s.journal.past.entries c.finish.new.journal.past.entries starts) starts c.finish.ensures.log
+            (subst (λ b. IsLogged b c.finish.new.journal.past.entries) (not_over (is_some onward.log) (is_some onward.flight) over ∙ ap is_some p) c.finish.ensures.logged)
             (λ trees told. ran_keeps x g s.flight flight onward f' s.out c.run_in_place.new.out s.closing trees p runs by (λ raceless reached. on_runs _ _ _ _ _ _ _ _ ran onward on (runs_of _ _ _ trees s.flight flight _ _ _ ran is (c.in-Ok-On.ensures.runs trees raceless) reached)) tells led told))),
       );
       reached = λ led. ran_reached x g s.flight flight onward.flight f' p runs by (λ reached. on_by _ ran onward on (c.in-Ok-On.ensures.reached (subst (FlightReached (world_in x.patterns g shipped) x.patterns g.site.now) (sym is) reached))) led;
@@ -68,6 +68,7 @@ returns-in-Ok-On-clause-steps c = λ now conn.
       ended = refl;
       taken = refl;
       asked = inl asked;
+      keeps = c.finish.ensures.keeps;
       tail = λ alive. on_by _ ran onward on c.in-Ok-On.ensures.tail;
     }
 
@@ -88,7 +89,7 @@ returns-in-Ok-TooMany-clause-steps c = λ now conn.
     record {
       own = λ tells led course. ran_until _ _ _ now c.args.node _ _ (
         ready_contains (ready_at (is_some s.cause) s.flight s.closing s.out s.body s.next) c.args.node c.requires.ready,
-        goes_halts x now service 1000 s.cause s.flight f' s.out out' s.tail s.tail s.journal.items s.journal.items s.closing s.closing s.ended s.ended s.body s.body s.buffered s.buffered s.next s.next live c.put.ensures c.clear.ensures refl
+        goes_halts x now service 1000 s.cause s.flight f' s.out out' s.tail s.tail s.journal.past.entries s.journal.past.entries s.closing s.closing s.ended s.ended s.body s.body s.buffered s.buffered s.next s.next live c.put.ensures c.clear.ensures refl
             (λ told trees. ran_over x g s.flight flight trees runs (λ raceless reached. over_runs _ _ _ _ _ _ _ _ ran (ap (ran_in was') c.in-Ok-TooMany.field-0-is) (runs_of _ _ _ trees s.flight flight _ _ _ ran is (c.in-Ok-TooMany.ensures.runs trees raceless) reached)) tells led told),
       );
       reached = λ led. ∣ subst (ReachedIn x) (sym c.put.ensures) tt ∣₁;
@@ -96,6 +97,7 @@ returns-in-Ok-TooMany-clause-steps c = λ now conn.
       ended = refl;
       taken = refl;
       asked = inl (let e = ap flight_tree c.put.ensures in omega (arith, e));
+      keeps = refl;
       tail = λ alive. cc;
     }
 
@@ -107,12 +109,13 @@ returns-in-Err-clause-steps c = λ now conn.
     let is : s.flight ≡ Some c.in-Some.flight = c.in-Some.is in
     let live = waits_live s.cause s.flight c.in-Some.flight s.quit is in
     record {
-      own = λ tells led course. refused_until _ _ now _ _ (refused x now service s.cause s.flight c.put-in-Err.new.slot s.out c.clear-in-Err.new.self s.tail s.tail s.journal.items s.journal.items s.closing s.closing s.ended s.ended s.body s.body s.buffered s.buffered s.next s.next live c.put-in-Err.ensures c.clear-in-Err.ensures refl);
+      own = λ tells led course. refused_until _ _ now _ _ (refused x now service s.cause s.flight c.put-in-Err.new.slot s.out c.clear-in-Err.new.self s.tail s.tail s.journal.past.entries s.journal.past.entries s.closing s.closing s.ended s.ended s.body s.body s.buffered s.buffered s.next s.next live c.put-in-Err.ensures c.clear-in-Err.ensures refl);
       reached = λ led. ∣ subst (ReachedIn x) (sym c.put-in-Err.ensures) tt ∣₁;
       left = stopped_left stop.Memory s.cause s.flight c.put-in-Err.new.slot s.out c.clear-in-Err.new.self s.closing s.closing s.buffered s.buffered live;
       ended = refl;
       taken = tt;
       asked = inl (let e = ap flight_tree c.put-in-Err.ensures in omega (arith, e));
+      keeps = refl;
       tail = refl;
     }
 
@@ -171,7 +174,7 @@ invariant_of-self-in-Ok-On c =
       few = s.few;
       drained = s.drained;
       unended = s.unended;
-      logged = λ h. subst (λ b. IsLogged b c.finish.new.journal.items) (not_over (is_some onward.log) (is_some onward.flight) (on_by _ ran onward on c.in-Ok-On.ensures.over)) c.finish.ensures.logged;
+      logged = λ h. subst (λ b. IsLogged b c.finish.new.journal.past.entries) (not_over (is_some onward.log) (is_some onward.flight) (on_by _ ran onward on c.in-Ok-On.ensures.over)) c.finish.ensures.logged;
       brief = c.paced_on.ensures.least;
       tailed = fits_tail s.flight f' onward.tail c.run_in_place.new.out (on_by _ ran onward on c.in-Ok-On.ensures.tail);
     }

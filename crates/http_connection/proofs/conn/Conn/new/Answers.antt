@@ -33,4 +33,4 @@ fresh_as x local peer next due out buffered journal o b j =
     })))
 
 pub returns-clause-fresh : goal.returns-clause-fresh
-returns-clause-fresh c = λ x. fresh_as x c.args.local c.args.peer c.in_ok-next.next _ c.new.result c.new-buffered.result c.new-2.result.items c.new.ensures c.new-buffered.ensures c.new-2.ensures.items
+returns-clause-fresh c = λ x. fresh_as x c.args.local c.args.peer c.in_ok-next.next _ c.new.result c.new-buffered.result c.new-2.result.past.entries c.new.ensures c.new-buffered.ensures c.new-2.ensures.past

@@ -73,7 +73,7 @@ returns-clause-done g c = λ path start count of asks.
           ask = job;
           waits = asks';
           fits = (let e = added.2 in grind (arith, nat_tests, e));
-          went = went_until _ _ _ _ _ [] [] [] (goes_went x (Answers job (BlockRead block)) (service_in x s.local s.peer) s.cause s.flight f' s.out out' s.tail s.tail s.journal.items s.journal.items s.closing s.closing s.ended s.body s.buffered s.next None live refl refl (sym (append-nil (logged_in s.journal.items))) (subst (λ b. IsLogged b s.journal.items) (ap is_some is ∙ ap is_some p) (s.logged live))
+          went = went_until _ _ _ _ _ [] [] [] (goes_went x (Answers job (BlockRead block)) (service_in x s.local s.peer) s.cause s.flight f' s.out out' s.tail s.tail s.journal.past.entries s.journal.past.entries s.closing s.closing s.ended s.body s.buffered s.next None live refl refl (sym (append-nil (logged_in s.journal.past.entries))) (subst (λ b. IsLogged b s.journal.past.entries) (ap is_some is ∙ ap is_some p) (s.logged live))
               (λ trees from. told_keeps x s.flight flight there.0 f' s.out out' s.closing trees is p by
               (told_in_place x s.flight flight there.0 f' s.out out' s.closing trees is p (λ r. told.goes (world_of x flight) x.patterns x.served.site trees s.closing job block s.out out' asks' (sym c.len-placed.ensures) added.1 added.2 from)) led));
         };
@@ -85,6 +85,7 @@ returns-clause-done g c = λ path start count of asks.
         ended = refl;
         taken = refl;
         asked = (let a = told.asked in let least : flight_tree f' ≤ flight_tree s.flight = omega (arith, a) in inl least);
+        keeps = refl;
         tail = refl;
       });
       times = λ x now conn m. times_from x now (FileDone conn c.args.node (BlockRead block)) s _ _ same (record {
@@ -117,7 +118,7 @@ invariant_of-self-2 g c =
       few = s.few;
       drained = s.drained;
       unended = s.unended;
-      logged = λ h. subst (λ b. IsLogged b s.journal.items) (ap is_some is ∙ sym told.flies) (s.logged h);
+      logged = λ h. subst (λ b. IsLogged b s.journal.past.entries) (ap is_some is ∙ sym told.flies) (s.logged h);
       brief = s.brief;
       tailed = flying_tail s.flight c.came.new.flight s.tail s.out c.add_block.new.out (ap is_some is) told.flies s.tailed;
     }

@@ -23,6 +23,7 @@ returns-then-not-is_ready-clause-steps c = λ conn.
       ended = refl;
       taken = tt;
       asked = inl (omega arith);
+      keeps = refl;
       tail = refl;
     }
 

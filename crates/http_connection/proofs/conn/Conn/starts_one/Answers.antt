@@ -1,4 +1,4 @@
-use Rattle.std.proofs.Common.{◌≡◌, ◌≤◌, ◌<◌, ◌+◌, Bool, true, false, inl, inr, refl, sym, ap, ◌∙◌, subst, length, vec_len, None, Some, arith}
+use Rattle.std.proofs.Common.{◌≡◌, ◌≤◌, ◌<◌, ◌+◌, Bool, true, false, inl, inr, refl, sym, ap, ◌∙◌, subst, length, None, Some, arith}
 use Rattle.std.specs.Prelude.{is_some}
 use Rattle.std.specs.List.{Contains}
 use Rattle.ngx_outside.specs.Views.{Start, Ran}
@@ -37,23 +37,24 @@ returns-in-Ok-On-clause-steps c = λ conn.
     let st = starts_if (is_some s.cause) s.closing s.out s.body s.next c.requires.ready in
     let looked = s.looked st.0 in
     let entry = c.in-Ok-On.ensures.journal in
-    let count : vec_len s.journal ≡ length s.journal.items = omega (arith, s.journal.ok.0) in
-    let ran = subst (λ f. RanOne x site start (length s.journal.items) s.next s.buffered n.buffered n.body f s.out n.out o.closing o.log) p (subst (λ k. RanOne x site start k s.next s.buffered n.buffered n.body o.flight s.out n.out o.closing o.log) count (ran_on_one x site start (vec_len s.journal) s.next s.buffered n.buffered n.body s.out n.out ran' o on c.in-Ok-On.ensures.ran)) in
-    let told : IsLogged (is_some f') n.journal.items =
-    subst (IsLogged (is_some f')) (sym entry.3) (entered_logged (is_some f') s.journal.items entry.0 o.log (entry.2 ∙ ap log_ran on) (subst (λ f. IsLogged (is_some f) s.journal.items) c.requires.none (s.logged st.0))
-    (ran_over x site start (length s.journal.items) s.next s.buffered n.buffered n.body f' s.out n.out o.closing o.log ran)) in
+    let count : length s.journal.past.entries ≡ length s.journal.past.entries = refl in
+    let ran = subst (λ f. RanOne x site start (length s.journal.past.entries) s.next s.buffered n.buffered n.body f s.out n.out o.closing o.log) p (subst (λ k. RanOne x site start k s.next s.buffered n.buffered n.body o.flight s.out n.out o.closing o.log) count (ran_on_one x site start (length s.journal.past.entries) s.next s.buffered n.buffered n.body s.out n.out ran' o on c.in-Ok-On.ensures.ran)) in
+    let told : IsLogged (is_some f') n.journal.past.entries =
+    subst (IsLogged (is_some f')) (sym entry.3) (entered_logged (is_some f') s.journal.past.entries entry.0 o.log (entry.2 ∙ ap log_ran on) (subst (λ f. IsLogged (is_some f) s.journal.past.entries) c.requires.none (s.logged st.0))
+    (ran_over x site start (length s.journal.past.entries) s.next s.buffered n.buffered n.body f' s.out n.out o.closing o.log ran)) in
     record {
       own = λ tells led course. ran_until _ _ _ start 0 _ _ (subst
-          (λ f. Contains (ready_at (is_some s.cause) f s.closing s.out s.body s.next) 0 × Ran start (view_at x site s.cause f s.out s.tail s.journal.items s.closing s.ended s.body s.buffered s.next) (view_at x site s.cause f' n.out o.tail n.journal.items o.closing s.ended n.body n.buffered n.next)) (sym c.requires.none) (
+          (λ f. Contains (ready_at (is_some s.cause) f s.closing s.out s.body s.next) 0 × Ran start (view_at x site s.cause f s.out s.tail s.journal.past.entries s.closing s.ended s.body s.buffered s.next) (view_at x site s.cause f' n.out o.tail n.journal.past.entries o.closing s.ended n.body n.buffered n.next)) (sym c.requires.none) (
             node_ready (starts_at (is_some s.cause) s.closing s.out s.body s.next) c.requires.ready,
-            ran_went x c.head_stays.ensures c.refusal_stays.ensures c.size_fits.ensures site start s.cause f' s.out n.out s.tail o.tail s.journal.items n.journal.items entry.0 s.closing o.closing s.ended s.body n.body s.buffered n.buffered s.next n.next o.log st.0 st.1 st.3 looked entry.1 (entry.2 ∙ ap log_ran on) entry.3 tells ran told,
+            ran_went x c.head_stays.ensures c.refusal_stays.ensures c.size_fits.ensures site start s.cause f' s.out n.out s.tail o.tail s.journal.past.entries n.journal.past.entries entry.0 s.closing o.closing s.ended s.body n.body s.buffered n.buffered s.next n.next o.log st.0 st.1 st.3 looked entry.1 (entry.2 ∙ ap log_ran on) entry.3 tells ran told,
           ));
       reached = λ led. ∣ subst (ReachedIn x) p (on_by _ ran' o on c.in-Ok-On.ensures.reached) ∣₁;
       left = subst (λ f. left_at s.cause f' n.out o.closing n.buffered < left_at s.cause f s.out s.closing s.buffered) (sym c.requires.none)
-          (ran_left x c.size_fits.ensures site start (length s.journal.items) s.cause f' s.out n.out s.closing o.closing n.body s.buffered n.buffered s.next o.log st.0 st.1 looked (lighter f' (length n.out) (subst (λ f. length n.out + flight_left f (length n.out) < page_most + asking_most) p (on_by _ ran' o on c.in-Ok-On.ensures.lowers))) ran);
+          (ran_left x c.size_fits.ensures site start (length s.journal.past.entries) s.cause f' s.out n.out s.closing o.closing n.body s.buffered n.buffered s.next o.log st.0 st.1 looked (lighter f' (length n.out) (subst (λ f. length n.out + flight_left f (length n.out) < page_most + asking_most) p (on_by _ ran' o on c.in-Ok-On.ensures.lowers))) ran);
       ended = refl;
       taken = refl;
       asked = inr (subst (λ f. flight_tree f ≤ c.args.tree) p (on_by _ ran' o on c.in-Ok-On.ensures.asked));
+      keeps = c.run_one.ensures.keeps;
       tail = λ alive. subst (λ f. TailFits f f' o.tail n.out) (sym c.requires.none) (subst (λ f. TailFits None f o.tail n.out) p (on_by _ ran' o on c.in-Ok-On.ensures.tail));
     }
 
@@ -71,20 +72,21 @@ returns-in-Ok-TooMany-clause-steps c = λ conn.
     let f' = c.put.new.slot in
     let out' = c.clear.new.self in
     let buffered' = c.clear-in-Ok-TooMany.new.self in
-    let count : vec_len s.journal ≡ length s.journal.items = omega (arith, s.journal.ok.0) in
-    let ran : RanOver x site start (length s.journal.items) s.next = subst (λ k. RanOver x site start k s.next) count (ran_over_one x site start (vec_len s.journal) s.next s.buffered n.buffered n.body s.out n.out c.in-Ok-TooMany.field-0 over c.in-Ok-TooMany.ensures.ran) in
-    let told : IsLogged false s.journal.items = subst (λ f. IsLogged (is_some f) s.journal.items) c.requires.none (s.logged st.0) in
+    let count : length s.journal.past.entries ≡ length s.journal.past.entries = refl in
+    let ran : RanOver x site start (length s.journal.past.entries) s.next = subst (λ k. RanOver x site start k s.next) count (ran_over_one x site start (length s.journal.past.entries) s.next s.buffered n.buffered n.body s.out n.out c.in-Ok-TooMany.field-0 over c.in-Ok-TooMany.ensures.ran) in
+    let told : IsLogged false s.journal.past.entries = subst (λ f. IsLogged (is_some f) s.journal.past.entries) c.requires.none (s.logged st.0) in
     record {
       own = λ tells led course. ran_until _ _ _ start 0 _ _ (subst
-          (λ f. Contains (ready_at (is_some s.cause) f s.closing s.out s.body s.next) 0 × Ran start (view_at x site s.cause f s.out s.tail s.journal.items s.closing s.ended s.body s.buffered s.next) (view_at x site (Some (stop.SubLimit 1000)) f' out' s.tail n.journal.items s.closing s.ended None buffered' n.next)) (sym c.requires.none) (
+          (λ f. Contains (ready_at (is_some s.cause) f s.closing s.out s.body s.next) 0 × Ran start (view_at x site s.cause f s.out s.tail s.journal.past.entries s.closing s.ended s.body s.buffered s.next) (view_at x site (Some (stop.SubLimit 1000)) f' out' s.tail n.journal.past.entries s.closing s.ended None buffered' n.next)) (sym c.requires.none) (
             node_ready (starts_at (is_some s.cause) s.closing s.out s.body s.next) c.requires.ready,
-            ran_halts x c.head_stays.ensures c.size_fits.ensures site start 1000 s.cause f' s.out out' s.tail s.tail s.journal.items n.journal.items entry.0 s.closing s.closing s.ended s.ended s.body None s.buffered buffered' s.next n.next st.0 st.1 st.3 looked c.put.ensures c.clear.ensures entry.1 (entry.2 ∙ ap log_ran over) entry.3 tells ran told,
+            ran_halts x c.head_stays.ensures c.size_fits.ensures site start 1000 s.cause f' s.out out' s.tail s.tail s.journal.past.entries n.journal.past.entries entry.0 s.closing s.closing s.ended s.ended s.body None s.buffered buffered' s.next n.next st.0 st.1 st.3 looked c.put.ensures c.clear.ensures entry.1 (entry.2 ∙ ap log_ran over) entry.3 tells ran told,
           ));
       reached = λ led. ∣ subst (ReachedIn x) (sym c.put.ensures) tt ∣₁;
       left = stopped_left (stop.SubLimit 1000) s.cause s.flight f' s.out out' s.closing s.closing s.buffered buffered' st.0;
       ended = refl;
       taken = refl;
       asked = inl (let e = ap flight_tree c.put.ensures in omega (arith, e));
+      keeps = c.run_one.ensures.keeps;
       tail = λ alive. cc;
     }
 
@@ -96,12 +98,13 @@ returns-in-Err-clause-steps c = λ conn.
     let start : Start = record { moment = c.args.moment; tree = c.args.tree } in
     let st = starts_if (is_some s.cause) s.closing s.out s.body s.next c.requires.ready in
     record {
-      own = λ tells led course. refused_until _ _ start _ _ (refused x start (service_in x s.local s.peer) s.cause s.flight c.put-in-Err.new.slot s.out c.clear-in-Err.new.self s.tail s.tail s.journal.items n.journal.items s.closing s.closing s.ended s.ended s.body None s.buffered c.clear-in-Err-2.new.self s.next n.next st.0 c.put-in-Err.ensures c.clear-in-Err.ensures c.in-Err.ensures.kept);
+      own = λ tells led course. refused_until _ _ start _ _ (refused x start (service_in x s.local s.peer) s.cause s.flight c.put-in-Err.new.slot s.out c.clear-in-Err.new.self s.tail s.tail s.journal.past.entries n.journal.past.entries s.closing s.closing s.ended s.ended s.body None s.buffered c.clear-in-Err-2.new.self s.next n.next st.0 c.put-in-Err.ensures c.clear-in-Err.ensures c.in-Err.ensures.kept);
       reached = λ led. ∣ subst (ReachedIn x) (sym c.put-in-Err.ensures) tt ∣₁;
       left = stopped_left stop.Memory s.cause s.flight c.put-in-Err.new.slot s.out c.clear-in-Err.new.self s.closing s.closing s.buffered c.clear-in-Err-2.new.self st.0;
       ended = refl;
       taken = tt;
       asked = inl (let e = ap flight_tree c.put-in-Err.ensures in omega (arith, e));
+      keeps = c.run_one.ensures.keeps;
       tail = refl;
     }
 
@@ -118,18 +121,18 @@ invariant_of-self-in-Ok-On c =
     let st = starts_if (is_some s.cause) s.closing s.out s.body s.next c.requires.ready in
     let f' = c.put-in-Ok-On.new.slot in
     let p : o.flight ≡ f' = sym c.put-in-Ok-On.ensures in
-    let ran = subst (λ f. RanOne x site start (vec_len s.journal) s.next s.buffered n.buffered n.body f s.out n.out o.closing o.log) p (ran_on_one x site start (vec_len s.journal) s.next s.buffered n.buffered n.body s.out n.out ran' o on c.in-Ok-On.ensures.ran) in
+    let ran = subst (λ f. RanOne x site start (length s.journal.past.entries) s.next s.buffered n.buffered n.body f s.out n.out o.closing o.log) p (ran_on_one x site start (length s.journal.past.entries) s.next s.buffered n.buffered n.body s.out n.out ran' o on c.in-Ok-On.ensures.ran) in
     let entry = c.in-Ok-On.ensures.journal in
     record {
       looked = λ h. on_by _ ran' o on c.in-Ok-On.ensures.looked;
       dropped = λ h. never (is_some s.cause) st.0 h;
       quit = λ h. never (is_some s.cause) st.0 h;
       flying = subst (λ f. FlightFits f (length n.out)) p (on_by _ ran' o on c.in-Ok-On.ensures.fits);
-      few = ran_few x site start (vec_len s.journal) s.next s.buffered n.buffered n.body f' s.out n.out o.closing o.log s.few ran;
-      drained = ran_drained x site start (vec_len s.journal) s.next s.buffered n.buffered n.body f' s.out n.out o.closing o.log ran;
-      unended = ran_unended x site start (vec_len s.journal) s.next s.buffered n.buffered n.body f' s.out n.out o.closing o.log ran;
-      logged = λ h. subst (IsLogged (is_some f')) (sym entry.3) (entered_logged (is_some f') s.journal.items entry.0 o.log (entry.2 ∙ ap log_ran on) (subst (λ f. IsLogged (is_some f) s.journal.items) c.requires.none (s.logged st.0))
-          (ran_over x site start (vec_len s.journal) s.next s.buffered n.buffered n.body f' s.out n.out o.closing o.log ran));
+      few = ran_few x site start (length s.journal.past.entries) s.next s.buffered n.buffered n.body f' s.out n.out o.closing o.log s.few ran;
+      drained = ran_drained x site start (length s.journal.past.entries) s.next s.buffered n.buffered n.body f' s.out n.out o.closing o.log ran;
+      unended = ran_unended x site start (length s.journal.past.entries) s.next s.buffered n.buffered n.body f' s.out n.out o.closing o.log ran;
+      logged = λ h. subst (IsLogged (is_some f')) (sym entry.3) (entered_logged (is_some f') s.journal.past.entries entry.0 o.log (entry.2 ∙ ap log_ran on) (subst (λ f. IsLogged (is_some f) s.journal.past.entries) c.requires.none (s.logged st.0))
+          (ran_over x site start (length s.journal.past.entries) s.next s.buffered n.buffered n.body f' s.out n.out o.closing o.log ran));
       brief = c.paced_on.ensures.least;
       tailed = subst (λ f. KeepsTail f o.tail n.out) p (fits_tail None o.flight o.tail n.out (on_by _ ran' o on c.in-Ok-On.ensures.tail));
     }

@@ -26,15 +26,16 @@ returns-clause-steps c = λ x now conn.
       own = λ tells led course. (
         some,
         within,
-        went_until _ _ _ _ _ [] _ [] (wrote_went x service s.cause s.flight f' s.out w.new.out s.tail s.journal.items s.closing s.ended s.body s.buffered s.next c.args.count live
+        went_until _ _ _ _ _ [] _ [] (wrote_went x service s.cause s.flight f' s.out w.new.out s.tail s.journal.past.entries s.closing s.ended s.body s.buffered s.next c.args.count live
             (λ trees. wrote_rest x s.flight f' f' s.flight s.out w.new.out s.tail c.args.count trees within refl refl w.ensures.by w.ensures.writes)
-            (subst (λ b. IsLogged b s.journal.items) (sym w.ensures.kind) (s.logged live))),
+            (subst (λ b. IsLogged b s.journal.past.entries) (sym w.ensures.kind) (s.logged live))),
       );
       reached = λ led. wrote_reached x s.flight f' f' s.flight refl refl w.ensures.by w.ensures.reached w.ensures.kind led;
       left = goes_left s.cause s.flight f' s.out w.new.out s.closing s.closing s.buffered live (λ e. e) w.ensures.lowers;
       ended = refl;
       taken = refl;
       asked = inl (let a = w.ensures.tree in omega (arith, a));
+      keeps = refl;
       tail = refl;
     }
 
@@ -53,7 +54,7 @@ invariant_of-self c =
       few = s.few;
       drained = s.drained;
       unended = s.unended;
-      logged = λ h. subst (λ b. IsLogged b s.journal.items) (sym w.ensures.kind) (s.logged h);
+      logged = λ h. subst (λ b. IsLogged b s.journal.past.entries) (sym w.ensures.kind) (s.logged h);
       brief = s.brief;
       tailed = wrote_tail s.flight w.new.flight s.tail c.args.count s.out w.new.out w.ensures.kind w.ensures.used s.tailed;
     }

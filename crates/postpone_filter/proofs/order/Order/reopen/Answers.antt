@@ -1,5 +1,4 @@
-use Rattle.std.proofs.Common.{◌∙◌, ap, arith}
-use Rattle.postpone_filter.specs.Buffers.{pieces_of}
+use Rattle.std.proofs.Common.{arith}
 use Rattle.postpone_filter.proofs.Views.{sound-clean, again-view, row-lawful, order-again, open-again, seen-open}
 use Rattle.postpone_filter.proofs.order.Order.reopen.Goals as goal
 
