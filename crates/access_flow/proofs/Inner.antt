@@ -27,19 +27,19 @@ use Rattle.site_views.specs.Values.{Shown}
 use Rattle.family_meaning.specs.Flight.{Terms}
 use Rattle.family_meaning.specs.Suspended.{heard_verdict, round_rest, rounds_rest}
 use Rattle.family_meaning.proofs.Exacts.{settled_run}
-use Rattle.request_phases.specs.Admitted.{phases_admitted}
-use Rattle.request_phases.specs.Rounds.{IsOfMain, asked_from, asked_in, handled_seen, phases_left, phases_told, prepared_as}
-use Rattle.rewrite_code.specs.Places.{standing_seen}
-use Rattle.request_phases.specs.declared.state.Conclusion.{Conclusion}
-use Rattle.request_phases.specs.declared.state.Conclusion.TheVariants as outcomes
-use Rattle.request_phases.specs.declared.state.Phases.{Phases}
-use Rattle.request_phases.specs.declared.state.Step.TheVariants.{Answers, Asks, Calls}
-use Rattle.request_phases.specs.declared.state.Wait.{Wait}
+use Rattle.node_turn.specs.request_phases.Admitted.{phases_admitted}
+use Rattle.node_turn.specs.request_phases.Rounds.{IsOfMain, asked_from, asked_in, handled_seen, phases_left, phases_told, prepared_as}
+use Rattle.node_turn.specs.rewrite_code.Places.{standing_seen}
+use Rattle.node_turn.specs.request_phases.declared.state.Conclusion.{Conclusion}
+use Rattle.node_turn.specs.request_phases.declared.state.Conclusion.TheVariants as outcomes
+use Rattle.node_turn.specs.request_phases.declared.state.Phases.{Phases}
+use Rattle.node_turn.specs.request_phases.declared.state.Step.TheVariants.{Answers, Asks, Calls}
+use Rattle.node_turn.specs.request_phases.declared.state.Wait.{Wait}
 use Rattle.request_flow.specs.Flows.{item_asked}
 use Rattle.access_flow.proofs.Told.{same_outcome, told_same}
 use Rattle.request_flow.specs.Sents.{step_rest, with_length}
 use Rattle.request_flow.specs.Terms.{terms_seen}
-use Rattle.reply_out.specs.declared.terms.InPhases.{InPhases}
+use Rattle.request_flow.specs.reply_out.declared.terms.InPhases.{InPhases}
 use Rattle.request_flow.specs.Rests.{Rest, act_rest, finished}
 use Rattle.request_flow.proofs.Turns.{subs_settled}
 use Rattle.access_flow.specs.Flows.{IsBare, IsOpened, access_left, by_answer, inner_depth, inner_left, inner_rest, inner_script, outer_of, stage_rest}

@@ -8,7 +8,7 @@ use Rattle.file_tree.specs.declared.job.Ask.TheVariants as ask
 use Rattle.ngx_variables.specs.declared.request.Main.{Main}
 use Rattle.ngx_variables.specs.declared.request.Request.{Request}
 use Rattle.node_turn.specs.Nodes.{lent}
-use Rattle.rewrite_code.specs.Places.{standing_seen}
+use Rattle.node_turn.specs.rewrite_code.Places.{standing_seen}
 use Rattle.postpone_filter.specs.Row.{is_open}
 use Rattle.request_meaning.specs.Bodies.{written}
 use Rattle.request_meaning.specs.Replies.{child_asked, most_changes, most_depth, script}
@@ -20,26 +20,26 @@ use Rattle.family_meaning.specs.Line.Line.{Nil, Gives}
 use Rattle.family_meaning.specs.Moves.Moves.{Quietly, ByTable}
 use Rattle.family_meaning.specs.Moves.Quiet.{Learns}
 use Rattle.family_meaning.specs.Moves.Thinks.{Here}
-use Rattle.family_order.specs.Acts.{Does}
-use Rattle.family_order.specs.Acts.Acts.{Asks, Hears, Thinks, Within}
-use Rattle.family_order.specs.Items.{IsAlike, Stance, alone, doing, row_items, is_shown}
-use Rattle.family_order.specs.Items.Stance.{Going, Waiting}
-use Rattle.family_rest.specs.Reached.{Reached}
-use Rattle.family_rest.specs.Reached.Reached.{Acted, Likened}
+use Rattle.request_flow.specs.family_order.Acts.{Does}
+use Rattle.request_flow.specs.family_order.Acts.Acts.{Asks, Hears, Thinks, Within}
+use Rattle.request_flow.specs.family_order.Items.{IsAlike, Stance, alone, doing, row_items, is_shown}
+use Rattle.request_flow.specs.family_order.Items.Stance.{Going, Waiting}
+use Rattle.request_flow.specs.family_rest.Reached.{Reached}
+use Rattle.request_flow.specs.family_rest.Reached.Reached.{Acted, Likened}
 use Rattle.ngx_pattern.specs.Pattern.{Pattern as SetPattern}
 use Rattle.site_model.specs.declared.site.Site.{Site}
 use Rattle.request_meaning.specs.Access.{auth_child}
 use Rattle.request_meaning.specs.Phases.{rounds}
 use Rattle.family_meaning.specs.Suspended.{heard_verdict, round_rest, rounds_rest}
-use Rattle.request_phases.specs.Admitted.{phases_admitted}
-use Rattle.request_phases.specs.Rounds.{IsOfMain, asked_from, asked_in, phases_left, phases_told, prepared_as}
-use Rattle.request_phases.specs.declared.state.Phases.{Phases}
-use Rattle.request_phases.specs.declared.state.Step.TheVariants.{Answers, Asks, Calls}
-use Rattle.request_phases.specs.declared.state.Conclusion.{Conclusion}
-use Rattle.request_phases.specs.declared.state.Wait.{Wait}
+use Rattle.node_turn.specs.request_phases.Admitted.{phases_admitted}
+use Rattle.node_turn.specs.request_phases.Rounds.{IsOfMain, asked_from, asked_in, phases_left, phases_told, prepared_as}
+use Rattle.node_turn.specs.request_phases.declared.state.Phases.{Phases}
+use Rattle.node_turn.specs.request_phases.declared.state.Step.TheVariants.{Answers, Asks, Calls}
+use Rattle.node_turn.specs.request_phases.declared.state.Conclusion.{Conclusion}
+use Rattle.node_turn.specs.request_phases.declared.state.Wait.{Wait}
 use Rattle.access_flow.proofs.Told.{same_outcome}
 use Rattle.request_flow.specs.Sents.{with_length}
-use Rattle.reply_out.specs.declared.terms.InPhases.{InPhases}
+use Rattle.request_flow.specs.reply_out.declared.terms.InPhases.{InPhases}
 use Rattle.request_flow.specs.Reached.{IsReachedAt, Settles}
 use Rattle.request_flow.specs.Rests.{finished}
 use Rattle.access_flow.specs.Flows.{IsBare, by_answer, inner_depth, inner_script, outer_of}

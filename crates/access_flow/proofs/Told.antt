@@ -8,10 +8,10 @@ use Rattle.file_tree.specs.declared.job.JobAnswer.TheVariants as answer
 use Rattle.file_tree.specs.declared.job.Node.{Node}
 use Rattle.file_tree.specs.declared.job.Node.TheVariants as node
 use Rattle.request_meaning.specs.Serving.{World, Asked, Standing}
-use Rattle.request_phases.specs.Rounds.{prepared_as}
-use Rattle.request_phases.specs.declared.state.Conclusion.{Conclusion}
-use Rattle.request_phases.specs.declared.state.Conclusion.TheVariants as outcomes
-use Rattle.request_reply.specs.Replies.{FitsFile}
+use Rattle.node_turn.specs.request_phases.Rounds.{prepared_as}
+use Rattle.node_turn.specs.request_phases.declared.state.Conclusion.{Conclusion}
+use Rattle.node_turn.specs.request_phases.declared.state.Conclusion.TheVariants as outcomes
+use Rattle.node_turn.specs.request_reply.Replies.{FitsFile}
 use Rattle.request_flow.specs.Flows.{file_length, is_stat, told_item}
 use Rattle.request_flow.specs.Padded.{padded}
 use Rattle.request_flow.specs.Sents.{with_length}

@@ -14,9 +14,9 @@ use Rattle.request_meaning.specs.Serving.Body.{NoBody}
 use Rattle.request_meaning.specs.Serving.From.{Start}
 use Rattle.family_meaning.specs.Flight.{Terms}
 use Rattle.node_turn.specs.Nodes.{lent}
-use Rattle.request_phases.specs.Admitted.{phases_admitted}
-use Rattle.request_phases.specs.Rounds.{asked_from, phases_told}
-use Rattle.request_phases.specs.declared.state.Phases.{Phases}
+use Rattle.node_turn.specs.request_phases.Admitted.{phases_admitted}
+use Rattle.node_turn.specs.request_phases.Rounds.{asked_from, phases_told}
+use Rattle.node_turn.specs.request_phases.declared.state.Phases.{Phases}
 use Rattle.request_flow.specs.Flows.{flow_most, is_stat, item_asked, told_item}
 use Rattle.request_flow.specs.Pages.{GoesTo}
 use Rattle.request_flow.specs.Rests.{Rest, act_rest}

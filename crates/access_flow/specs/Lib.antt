@@ -1,2 +1,3 @@
 pub mod Flows
 pub mod Reached
+pub use Rattle.node_turn.specs as node_turn

@@ -9,11 +9,11 @@ use Rattle.request_meaning.specs.Replies.{most_depth}
 use Rattle.request_meaning.specs.Serving.{World, Serving, Answer, Prepared}
 use Rattle.request_meaning.specs.Serving.From.{Start}
 use Rattle.family_meaning.specs.Line.Line.{Nil, Gives}
-use Rattle.family_order.specs.Items.{alone}
-use Rattle.family_order.specs.Items.Stance.{Waiting}
-use Rattle.family_rest.specs.Reached.{Reached}
-use Rattle.request_phases.specs.Admitted.{phases_admitted}
-use Rattle.request_phases.specs.Rounds.{asked_from, phases_told}
+use Rattle.request_flow.specs.family_order.Items.{alone}
+use Rattle.request_flow.specs.family_order.Items.Stance.{Waiting}
+use Rattle.request_flow.specs.family_rest.Reached.{Reached}
+use Rattle.node_turn.specs.request_phases.Admitted.{phases_admitted}
+use Rattle.node_turn.specs.request_phases.Rounds.{asked_from, phases_told}
 use Rattle.request_flow.specs.Reached.{IsReachedAt, WentReached, path_asked, told_text_item}
 use Rattle.request_flow.specs.Rests.{finished}
 use Rattle.access_flow.specs.declared.flow.AccessFlow.{AccessFlow}

@@ -5,10 +5,10 @@ ghost use Rattle.http_types.specs.declared.words.Method.TheVariants.{Get as GetM
 ghost use Rattle.ngx_pattern.specs.Pattern.{Pattern as SetPattern};
 ghost use Rattle.ngx_variables.specs.declared.request.Role.TheVariants.{Auth as AuthRole};
 ghost use Rattle.request_meaning.specs.Laws.{shipped};
-ghost use Rattle.request_phases.specs.Rounds.{world_in};
+ghost use Rattle.node_turn.specs.request_phases.Rounds.{world_in};
 ghost use Rattle.request_flow.specs.Pages.{access_rest};
 ghost use Rattle.request_flow.specs.Reached.{StepReached};
-ghost use Rattle.request_phases.specs.declared.state.Step.TheVariants.{Calls as ToCall};
+ghost use Rattle.node_turn.specs.request_phases.declared.state.Step.TheVariants.{Calls as ToCall};
 ghost use Rattle.access_flow.specs.Flows.{IsOfTree, IsOpened, access_left, steps_left};
 ghost use Rattle.access_flow.specs.Reached.{AccessReached};
 ghost use Rattle.request_flow.specs.Flows.{flow_most};
@@ -20,10 +20,10 @@ use http_moment::LocalDate;
 use http_types::{Addr, Method, Version};
 use ngx_variables::{Groups, Main, Request, Role};
 use node_turn::lend;
+use node_turn::request_phases::{Ground, Phases};
+use node_turn::rewrite_code::Progress;
 use req_head::HeadFields;
 use request_flow::AccessStart;
-use request_phases::{Ground, Phases};
-use rewrite_code::Progress;
 use std::alloc::Global;
 use std::net::{IpAddr, Ipv4Addr};
 

@@ -3,8 +3,8 @@ ghost use Rattle.std.specs.Prelude.{◌≡◌, not};
 ghost use Rattle.access_flow.specs.Flows.{is_inner as inner_runs, waits as waits_for};
 
 use file_tree::{Ask, Node};
-use reply_out::InPhases;
-use request_phases::{Phases, Wait};
+use node_turn::request_phases::{Phases, Wait};
+use request_flow::reply_out::InPhases;
 
 /// How far the subrequest is.
 #[derive(Drop)]

@@ -9,4 +9,5 @@ mod slot;
 
 pub use begin::asks;
 pub use flow::{AccessFlow, Stage, is_inner, may_run, waits};
+pub use node_turn;
 pub use run::{Ran, answered, run_on};

@@ -1,7 +1,7 @@
 -- The machine puts Before first and After last.
 use Rattle.std.proofs.Common.{◌≡◌, ℕ, Bool, true, false, ◌==◌, List, [], ◌∷◌, ◌++◌, refl, ap, ◌∙◌, arith, if◌then◌else◌}
-use Rattle.ssi_text.specs.declared.part.Part.TheVariants.{Before, After}
-use Rattle.ssi_text.specs.Marks.{Mark, Other}
+use Rattle.filter_api.specs.ssi_text.declared.part.Part.TheVariants.{Before, After}
+use Rattle.filter_api.specs.ssi_text.Marks.{Mark, Other}
 use Rattle.filter_api.specs.declared.facts.Facts.{Facts}
 use Rattle.filter_api.specs.declared.facts.FilterState.{FilterState}
 use Rattle.filter_api.specs.Members.{Machine, IsLawful, feeds, whole, fresh}

@@ -1,12 +1,12 @@
 // The filter.
 ghost use Rattle.std.specs.Prelude.{◌≡◌};
-ghost use Rattle.ssi_text.specs.Marks.{part_marks};
+ghost use Rattle.filter_api.specs.ssi_text.Marks.{part_marks};
 ghost use Rattle.addition_filter.specs.Machine.{addition_member, is_nothing as is_nothing_at};
 ghost use Rattle.addition_filter.specs.Surrounds.{addition_lawful};
 
 use byte_text::OutOfMemory;
+use filter_api::ssi_text::Part;
 use filter_api::{BodyFilter, Facts, FilterState, push_part};
-use ssi_text::Part;
 use std::alloc::Global;
 
 /// The member of kind 2: on for a main request's body with status 200, a type that is one of `addition_types`, and at

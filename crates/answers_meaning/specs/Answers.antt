@@ -13,11 +13,11 @@ use Rattle.req_head.specs.Step.{head_step}
 use Rattle.resp_head.specs.declared.head.ReplyHead.{ReplyHead}
 use Rattle.resp_head.specs.Head.{head_of}
 use Rattle.error_page.specs.Page.{page_of}
-use Rattle.site_views.specs.Views.{ServerView}
-use Rattle.request_meaning.specs.Serving.{Reply, is_head}
-use Rattle.request_meaning.specs.Replies.{main_reply}
-use Rattle.request_meaning.specs.Counts.{subs, most_subs}
-use Rattle.request_meaning.specs.Responses.{response, keeps, log_of}
+use Rattle.family_meaning.specs.site_views.Views.{ServerView}
+use Rattle.family_meaning.specs.request_meaning.Serving.{Reply, is_head}
+use Rattle.family_meaning.specs.request_meaning.Replies.{main_reply}
+use Rattle.family_meaning.specs.request_meaning.Counts.{subs, most_subs}
+use Rattle.family_meaning.specs.request_meaning.Responses.{response, keeps, log_of}
 use Rattle.family_meaning.specs.Flight.{Terms}
 use Rattle.answers_meaning.specs.Asking.{Service, main_of, request_of, world_of, server_for}
 

@@ -6,16 +6,16 @@ use Rattle.http_types.specs.declared.words.Addr.{Addr}
 use Rattle.http_types.specs.declared.words.BodyKind.{BodyKind}
 use Rattle.http_types.specs.declared.words.BodyKind.TheVariants.{Empty, Length, Chunked}
 use Rattle.ngx_outside.specs.Views.{Start}
-use Rattle.ngx_variables.specs.declared.request.Main.{Main}
-use Rattle.ngx_variables.specs.declared.request.Request.{Request}
-use Rattle.ngx_variables.specs.declared.request.Role.TheVariants as role
+use Rattle.family_meaning.specs.ngx_variables.declared.request.Main.{Main}
+use Rattle.family_meaning.specs.ngx_variables.declared.request.Request.{Request}
+use Rattle.family_meaning.specs.ngx_variables.declared.request.Role.TheVariants as role
 use Rattle.req_head.specs.declared.head.Head.{Head}
 use Rattle.uri_text.specs.declared.fault.UriFault.{UriFault}
 use Rattle.uri_text.specs.Target.{normal_of}
-use Rattle.site_views.specs.Pattern.{Finds}
-use Rattle.site_views.specs.Views.{SiteView, ServerView}
-use Rattle.site_views.specs.Choice.{server_of}
-use Rattle.request_meaning.specs.Serving.{World}
+use Rattle.family_meaning.specs.site_views.Pattern.{Finds}
+use Rattle.family_meaning.specs.site_views.Views.{SiteView, ServerView}
+use Rattle.family_meaning.specs.site_views.Choice.{server_of}
+use Rattle.family_meaning.specs.request_meaning.Serving.{World}
 
 -- what a connection is served: a site, what its patterns find, the body filters, and the connection's two ends
 pub record Service : Type 0 where

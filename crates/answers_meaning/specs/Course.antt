@@ -5,7 +5,7 @@ use Rattle.body_frame.specs.Outcome.{BodyOutcome, Whole, Short, Broken}
 use Rattle.body_frame.specs.State.{rest_body}
 use Rattle.body_frame.specs.declared.state.BodyState.{BodyState}
 use Rattle.ngx_outside.specs.Views.{Start, Log, Course}
-use Rattle.request_meaning.specs.Serving.{World}
+use Rattle.family_meaning.specs.request_meaning.Serving.{World}
 use Rattle.family_meaning.specs.Flight.{Flight, Rest, no_rest, flight_rest, is_heavy}
 use Rattle.answers_meaning.specs.Asking.{Service}
 use Rattle.answers_meaning.specs.Answers.{Answer, then_closes, responses, bytes_in, logs_in, close_in, heavy_in}

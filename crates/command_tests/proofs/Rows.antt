@@ -5,10 +5,10 @@ use Rattle.source_lines.specs.declared.line.Line.{Line}
 use Rattle.conf_text.specs.declared.directive.Directive.{Directive}
 use Rattle.conf_block.specs.Forest.{End, forest_of, inside, outside}
 use Rattle.conf_block.specs.Blocks.{blocks_of, block_with}
-use Rattle.conf_races.specs.Origins.{Outer, nowhere, outer_over}
-use Rattle.conf_races.specs.Races.{behind}
-use Rattle.request_flow.specs.declared.flow.Stage.TheVariants.{Reading}
-use Rattle.request_flow.specs.Flows.{block_most, placed_most, stage_fits}
+use Rattle.ngx_cli.specs.conf_races.Origins.{Outer, nowhere, outer_over}
+use Rattle.ngx_cli.specs.conf_races.Races.{behind}
+use Rattle.ngx_cli.specs.request_flow.declared.flow.Stage.TheVariants.{Reading}
+use Rattle.ngx_cli.specs.request_flow.Flows.{block_most, placed_most, stage_fits}
 
 abbrev at_line : ℕ → Line
 at_line line = record { file = 0; line = line }

@@ -8,9 +8,9 @@ use crate::role::role_of;
 use byte_text::OutOfMemory;
 use conf_table::Role;
 use conf_text::Directive;
+use conf_values::site_model::Listens;
 use conf_values::{listened_by, wildcard};
 use http_types::Addr;
-use site_model::Listens;
 use std::alloc::Global;
 
 /// The address that a directive has the server listen on, where it is a `listen`.

@@ -10,5 +10,6 @@ mod shared;
 mod shelf;
 mod site;
 
+pub use conf_check;
 pub use laws::{the_last_holds, what_is_around_holds, what_is_stated_holds};
 pub use site::{Built, build};

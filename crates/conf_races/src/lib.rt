@@ -10,3 +10,4 @@ mod runs;
 mod server;
 
 pub use named::{FoundRaces, races};
+pub use race_places;

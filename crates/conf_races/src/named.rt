@@ -19,7 +19,7 @@ use crate::runs::number_runs;
 use crate::server::server_lines;
 use byte_text::OutOfMemory;
 use conf_block::{http_in, next_named};
-use conf_check::names_in;
+use conf_inherit::conf_check::names_in;
 use conf_text::Directive;
 use conf_values::TextSet;
 use race_check::{FirstLists, first_lists, named_in};

@@ -2,12 +2,12 @@
 use Rattle.std.specs.Prelude.{ℕ, List, [], Bool, true, false, not, ◌&&◌, Result, Ok, Err}
 use Rattle.std.specs.List.{list_all, list_any}
 use Rattle.std.specs.Result.{result_unwrap_or}
-use Rattle.ngx_variables.specs.declared.value.Piece.{Piece}
-use Rattle.ngx_variables.specs.declared.value.Piece.TheVariants.{Builtin, Set}
-use Rattle.ngx_variables.specs.declared.fault.ValueFault.{ValueFault}
-use Rattle.ngx_variables.specs.declared.variable.Variable.{Variable}
-use Rattle.ngx_variables.specs.declared.variable.Variable.TheVariants.{DocumentRoot, RequestFilename}
-use Rattle.ngx_variables.specs.Grammar.{compiled}
+use Rattle.site_model.specs.ngx_variables.declared.value.Piece.{Piece}
+use Rattle.site_model.specs.ngx_variables.declared.value.Piece.TheVariants.{Builtin, Set}
+use Rattle.site_model.specs.ngx_variables.declared.fault.ValueFault.{ValueFault}
+use Rattle.site_model.specs.ngx_variables.declared.variable.Variable.{Variable}
+use Rattle.site_model.specs.ngx_variables.declared.variable.Variable.TheVariants.{DocumentRoot, RequestFilename}
+use Rattle.site_model.specs.ngx_variables.Grammar.{compiled}
 
 -- the pieces of a text; a text that is none has no pieces
 unfoldable pub pieces_of : List ℕ → List Piece

@@ -1,8 +1,8 @@
 -- The name of a variable as a word of a directive (nginx's `set`).
 use Rattle.std.specs.Prelude.{ℕ, List, [], ◌∷◌, Bool, false, ◌&&◌, ◌||◌, ◌==◌, Option, None, Some, if◌then◌else◌}
 use Rattle.std.specs.List.{list_all}
-use Rattle.ngx_variables.specs.Grammar.{is_name_byte, lowercase}
-use Rattle.ngx_variables.specs.Names.{is_builtin}
+use Rattle.site_model.specs.ngx_variables.Grammar.{is_name_byte, lowercase}
+use Rattle.site_model.specs.ngx_variables.Names.{is_builtin}
 
 -- bytes of a name, at least one
 abbrev pub is_name : List ℕ → Bool

@@ -19,6 +19,7 @@ pub use listing::are_listed;
 pub use number::{count_of, time_of};
 pub use returned::{Form, code_of, form_of, is_return, return_by};
 pub use settings::{Settings, are_values};
+pub use site_model;
 pub use source::source_of;
 pub use text::{is_folder_text, is_text, value_of};
 pub use text_set::TextSet;

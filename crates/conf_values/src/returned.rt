@@ -7,8 +7,8 @@ ghost use Rattle.conf_values.specs.Texts.{pieces_of};
 use crate::text::{is_text, value_of};
 use crate::text_set::TextSet;
 use byte_text::{ByteText, OutOfMemory};
-use ngx_variables::Value;
 use site_model::Return;
+use site_model::ngx_variables::Value;
 use std::alloc::Global;
 use text_words::is_decimal;
 

@@ -6,7 +6,7 @@ ghost use Rattle.conf_values.specs.Texts.{pieces_of, is_known, tells_folder, tel
 
 use crate::text_set::TextSet;
 use byte_text::OutOfMemory;
-use ngx_variables::{Piece, Value, ValueFault, Variable};
+use site_model::ngx_variables::{Piece, Value, ValueFault, Variable};
 use std::alloc::Global;
 
 /// A text read; one that isn't of the form of a text with variables is read as the empty text.

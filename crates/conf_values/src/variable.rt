@@ -1,13 +1,13 @@
 // The names of variables as words of directives.
 ghost use Rattle.std.specs.Prelude.{◌≡◌, IfOk};
 ghost use Rattle.std.specs.List.{list_all};
-ghost use Rattle.ngx_variables.specs.Grammar.{is_name_byte as name_byte, lowercase as lowercase_of};
+ghost use Rattle.site_model.specs.ngx_variables.Grammar.{is_name_byte as name_byte, lowercase as lowercase_of};
 ghost use Rattle.conf_values.specs.TextSet.{holds};
 ghost use Rattle.conf_values.specs.Variables.{is_name, variable_in, is_known_name};
 
 use crate::text_set::TextSet;
 use byte_text::{ByteText, OutOfMemory};
-use ngx_variables::is_builtin;
+use site_model::ngx_variables::is_builtin;
 use std::alloc::Global;
 
 fn is_name_byte(byte: u8) -> bool

@@ -6,14 +6,14 @@ use Rattle.std.proofs.lemmas.Bool.Decides.{nat_tests}
 use Rattle.file_tree.specs.Tree.{tree_of}
 use Rattle.file_tree.specs.declared.job.Ask.{Ask}
 use Rattle.ngx_outside.specs.Views.{ask_in}
-use Rattle.node_turn.specs.declared.node.Node.{Node}
-use Rattle.family_nodes.specs.Runs.{is_waiting}
-use Rattle.subrequests.specs.Wants.{jobs_from}
-use Rattle.request_flow.specs.Flows.{waits}
-use Rattle.access_flow.specs.Flows.{waits as access_waits}
-use Rattle.response_flow.specs.declared.flight.Flight.{Flight}
-use Rattle.response_flow.specs.declared.flight.Flight.TheVariants.{Alone, Asking, Page}
-use Rattle.response_flow.specs.Flights.{flight_tree, jobs_of}
+use Rattle.http_connection.specs.node_turn.declared.node.Node.{Node}
+use Rattle.http_connection.specs.family_nodes.Runs.{is_waiting}
+use Rattle.http_connection.specs.subrequests.Wants.{jobs_from}
+use Rattle.http_connection.specs.request_flow.Flows.{waits}
+use Rattle.http_connection.specs.access_flow.Flows.{waits as access_waits}
+use Rattle.http_connection.specs.response_flow.declared.flight.Flight.{Flight}
+use Rattle.http_connection.specs.response_flow.declared.flight.Flight.TheVariants.{Alone, Asking, Page}
+use Rattle.http_connection.specs.response_flow.Flights.{flight_tree, jobs_of}
 
 -- a node's job that waits asks of the page's tree
 same_tree : (t : Bool) (a b : ℕ) → (t && eqb a b) ≡ true → a ≡ b

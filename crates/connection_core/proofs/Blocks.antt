@@ -13,14 +13,14 @@ use Rattle.ngx_outside.specs.Views.{ConnView, Start, ask_in, nobody}
 use Rattle.ngx_outside.specs.declared.event.Event.{Event}
 use Rattle.ngx_outside.specs.declared.event.Event.TheVariants.{FileDone}
 use Rattle.ngx_outside.specs.declared.event.StepAnswer.{StepAnswer}
-use Rattle.response_flow.specs.declared.flight.Flight.{Flight}
-use Rattle.response_flow.specs.Flights.{flight_tree, jobs_of}
+use Rattle.http_connection.specs.response_flow.declared.flight.Flight.{Flight}
+use Rattle.http_connection.specs.response_flow.Flights.{flight_tree, jobs_of}
 use Rattle.http_connection.specs.declared.conn.Conn.{Conn}
 use Rattle.http_connection.specs.Conn.{StepsConn}
 use Rattle.http_connection.specs.Reads.{AsksWithin, BroughtConn}
 use Rattle.http_connection.specs.Rests.{Serves, TellsRaceless}
 use Rattle.ngx_pattern.specs.Pattern.{Pattern as SetPattern}
-use Rattle.served_site.specs.declared.served.ServedSite.{ServedSite}
+use Rattle.http_connection.specs.served_site.declared.served.ServedSite.{ServedSite}
 use Rattle.connection_core.specs.Core.{site_terms}
 use Rattle.connection_core.specs.Table.{serves_with, view_in, left_in, AllKnown, AllReached, BelongsAt, Counted, Placed, Replaced}
 use Rattle.connection_core.specs.Brought.{BroughtIn}

@@ -4,7 +4,7 @@ use Rattle.std.specs.List.{insert, remove}
 use Rattle.ngx_outside.specs.Views.{Start}
 use Rattle.ngx_outside.specs.declared.event.Event.{Event}
 use Rattle.ngx_outside.specs.declared.event.StepAnswer.{StepAnswer}
-use Rattle.response_flow.specs.declared.flight.Flight.{Flight}
+use Rattle.http_connection.specs.response_flow.declared.flight.Flight.{Flight}
 use Rattle.http_connection.specs.declared.conn.Conn.{Conn}
 use Rattle.http_connection.specs.Conn.{StepsConn}
 use Rattle.http_connection.specs.Rests.{Serves, IsReachedIn}

@@ -4,8 +4,8 @@ use Rattle.std.specs.Prelude.{Contains, slice_get, unwrap_or}
 use Rattle.ngx_pattern.specs.Pattern.{Pattern as SetPattern}
 use Rattle.pattern_search.specs.Found.{patterns_seen}
 use Rattle.site_whole.specs.Whole.{whole, server_whole}
-use Rattle.served_site.specs.declared.served.ServedSite.{ServedSite}
-use Rattle.served_site.specs.Served.{raw_server}
+use Rattle.http_connection.specs.served_site.declared.served.ServedSite.{ServedSite}
+use Rattle.http_connection.specs.served_site.Served.{raw_server}
 use Rattle.http_connection.specs.declared.conn.Conn.{Conn}
 use Rattle.http_connection.specs.Rests.{TellsRaceless}
 use Rattle.connection_core.specs.Table.{serves_with, AllReached}

@@ -12,7 +12,7 @@ use Rattle.pattern_search.specs.Found.{patterns_seen}
 use Rattle.site_model.specs.declared.site.Site.{Site}
 use Rattle.site_views.specs.Views.{ServerView}
 use Rattle.site_whole.specs.Whole.{whole}
-use Rattle.race_meaning.specs.Named.{IsRaceless}
+use Rattle.http_connection.specs.race_meaning.Named.{IsRaceless}
 use Rattle.connection_core.specs.declared.hub.Hub.{Hub}
 
 -- what its connections are served: the site, with its patterns

@@ -14,7 +14,7 @@ use Rattle.pattern_search.specs.Found.{patterns_seen}
 use Rattle.site_model.specs.declared.site.Site.{Site}
 use Rattle.site_views.specs.Choice.{default_server}
 use Rattle.site_whole.specs.Whole.{whole}
-use Rattle.served_site.specs.declared.served.ServedSite.{ServedSite}
+use Rattle.http_connection.specs.served_site.declared.served.ServedSite.{ServedSite}
 use Rattle.http_connection.specs.declared.conn.Conn.{Conn}
 use Rattle.http_connection.specs.Conn.{view_of, left_of, asked_of, due_at, price}
 use Rattle.http_connection.specs.Rests.{Serves, IsReachedIn}

@@ -7,13 +7,13 @@ ghost use Rattle.connection_core.specs.Table.{AllKnown, AllReached, Counted, ser
 use crate::law::cores_are_sound;
 use crate::table::Table;
 use file_tree::Ask;
+use http_connection::reply_out::Workspace;
+use http_connection::served_site::ServedSite;
 use http_connection::{Conn, connections_are_sound, next_want};
 use http_types::Addr;
 use ngx_outside::{Entry, Event, EventCore, FileFault, Files, StepAnswer, StopCause, Want};
 use ngx_pattern::PatternSet;
 use ready_loop::TimedCore;
-use reply_out::Workspace;
-use served_site::ServedSite;
 use std::alloc::Global;
 
 /// No moment is later than the last second of the year 9999.

@@ -10,16 +10,16 @@ ghost use Rattle.ngx_outside.specs.Records.{Adds, Failed as NotRead};
 ghost use Rattle.ngx_outside.specs.Stepped.{IsReading};
 ghost use Rattle.ngx_outside.specs.Views.{ask_in};
 ghost use Rattle.ngx_outside.specs.declared.files.FileFault.TheVariants.{Failed as ReadFailed};
-ghost use Rattle.response_flow.specs.Flights.{jobs_of};
+ghost use Rattle.http_connection.specs.response_flow.Flights.{jobs_of};
 ghost use Rattle.http_connection.specs.Reads.{AsksWithin, BroughtConn};
 ghost use Rattle.http_connection.specs.declared.conn.Conn.{Conn as ConnView};
 ghost use Rattle.connection_core.specs.Table.{serves_with, is_own, StandsAt, BelongsAt, Placed, Replaced, AllTicked, AllLater};
 
 use file_tree::Ask;
 use http_connection::Conn;
+use http_connection::reply_out::Workspace;
+use http_connection::served_site::ServedSite;
 use ngx_outside::{Event, FileFault, Files, StepAnswer};
-use reply_out::Workspace;
-use served_site::ServedSite;
 use std::alloc::Global;
 
 /// The place of a number, or the place where it belongs.

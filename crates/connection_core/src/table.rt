@@ -7,10 +7,10 @@ ghost use Rattle.connection_core.specs.Table.{AllKeep, AllLater};
 use crate::place::{earlier, happen_at, place, place_near, put_at, read_at, take_out, tick_all};
 use byte_text::OutOfMemory;
 use http_connection::Conn;
+use http_connection::reply_out::Workspace;
+use http_connection::served_site::ServedSite;
 use http_types::Addr;
 use ngx_outside::{Event, FileFault, Files, StepAnswer};
-use reply_out::Workspace;
-use served_site::ServedSite;
 use std::alloc::Global;
 
 /// How many connections are held at most (nginx's `worker_connections`).

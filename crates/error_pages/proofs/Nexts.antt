@@ -4,12 +4,12 @@ use Rattle.std.proofs.lemmas.Bool.{cond-true, cond-false}
 use Rattle.acts.specs.Vars.{Vars}
 use Rattle.acts.specs.Act.{Done, ◌>>=◌, settled, settled_then}
 use Rattle.acts.proofs.ActLaws.{settles_in_turn}
-use Rattle.ngx_variables.specs.declared.request.Main.{Main}
-use Rattle.ngx_variables.specs.declared.request.Request.{Request}
-use Rattle.ngx_variables.specs.Texts.{value_text, is_too_long}
-use Rattle.site_model.specs.declared.values.Shown.{Shown}
-use Rattle.site_views.specs.Values.{PageRule, Text}
-use Rattle.site_views.specs.Values.PageTarget.{AtPath, AtLocation, AtUrl}
+use Rattle.target_text.specs.ngx_variables.declared.request.Main.{Main}
+use Rattle.target_text.specs.ngx_variables.declared.request.Request.{Request}
+use Rattle.target_text.specs.ngx_variables.Texts.{value_text, is_too_long}
+use Rattle.site_whole.specs.site_model.declared.values.Shown.{Shown}
+use Rattle.site_whole.specs.site_views.Values.{PageRule, Text}
+use Rattle.site_whole.specs.site_views.Values.PageTarget.{AtPath, AtLocation, AtUrl}
 use Rattle.site_whole.specs.Whole.{shown_seen}
 use Rattle.request_meaning.specs.Serving.{Serving, Asked, Standing}
 use Rattle.request_meaning.specs.Cuts.{Target, target, fit_value, or_none}

@@ -2,7 +2,7 @@
 use Rattle.std.proofs.Common.{◌≡◌, ℕ, nat_lt, nat_le, ◌&&◌, ◌||◌, eqb, Bool, true, false, not, cond, List, [], ◌∷◌, Option, None, Some, is_some, refl, sym, ◌∙◌, ap, arith}
 use Rattle.std.proofs.lemmas.Bool.{false≢true}
 use Rattle.std.specs.List.{list_any, find}
-use Rattle.site_views.specs.Values.{PageRule}
+use Rattle.site_whole.specs.site_views.Values.{PageRule}
 use Rattle.request_meaning.specs.Errors.{rule_for}
 use Rattle.error_pages.specs.Pages.{names_code, applies, has_no_page}
 

@@ -2,12 +2,12 @@
 use Rattle.std.specs.Prelude.{◌≡◌, ℕ, ◌==◌, ◌&&◌, ◌||◌, nat_lt, Bool, not, List, Option, None, Some, is_some}
 use Rattle.std.specs.List.{list_any}
 use Rattle.acts.specs.Vars.{Vars}
-use Rattle.ngx_variables.specs.declared.request.Main.{Main}
-use Rattle.ngx_variables.specs.declared.request.Request.{Request}
-use Rattle.ngx_variables.specs.Texts.{value_text}
-use Rattle.site_model.specs.declared.values.Shown.{Shown}
-use Rattle.site_views.specs.Values.{PageRule, PageTarget}
-use Rattle.site_views.specs.Values.PageTarget.{AtPath, AtLocation, AtUrl}
+use Rattle.target_text.specs.ngx_variables.declared.request.Main.{Main}
+use Rattle.target_text.specs.ngx_variables.declared.request.Request.{Request}
+use Rattle.target_text.specs.ngx_variables.Texts.{value_text}
+use Rattle.site_whole.specs.site_model.declared.values.Shown.{Shown}
+use Rattle.site_whole.specs.site_views.Values.{PageRule, PageTarget}
+use Rattle.site_whole.specs.site_views.Values.PageTarget.{AtPath, AtLocation, AtUrl}
 use Rattle.site_whole.specs.Whole.{shown_seen}
 use Rattle.request_meaning.specs.Serving.{Asked, Standing}
 use Rattle.request_meaning.specs.Cuts.{Target, or_none}

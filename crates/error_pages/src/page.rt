@@ -1,7 +1,7 @@
 // Where an error goes.
 ghost use Rattle.std.specs.Prelude.{◌≡◌, ℕ, not, false, map, IfOk, Err, None, Some, is_some, option_map};
 ghost use Rattle.acts.specs.Act.{Done, settled};
-ghost use Rattle.ngx_variables.specs.Texts.{value_text};
+ghost use Rattle.target_text.specs.ngx_variables.Texts.{value_text};
 ghost use Rattle.site_whole.specs.Whole.{page_seen};
 ghost use Rattle.request_meaning.specs.Serving.{Asked, Standing};
 ghost use Rattle.request_meaning.specs.Errors.{by_rule, failed, rule_for};
@@ -10,9 +10,9 @@ ghost use Rattle.error_pages.specs.Pages.{IsErrorOf, IsFor, IsInside, IsAway, pa
 
 use crate::rule::{Handling, may_apply, rule_for, url_code};
 use byte_text::ByteText;
-use ngx_variables::{EvalFault, Main, Request, Value, VarTable};
-use site_model::{PageRule, PageTarget, Shown};
+use site_whole::site_model::{PageRule, PageTarget, Shown};
 use std::alloc::Global;
+use target_text::ngx_variables::{EvalFault, Main, Request, Value, VarTable};
 use target_text::{fit_value_settles, target_of, target_settles};
 
 /// Where an error goes: to a path of the site with its arguments, to a location `@name`, or to another address by a redirect

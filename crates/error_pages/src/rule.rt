@@ -5,7 +5,7 @@ ghost use Rattle.request_meaning.specs.Errors.{rule_for, url_code as code_shown}
 ghost use Rattle.request_meaning.specs.Rewriting.{is_redirect as redirects};
 ghost use Rattle.error_pages.specs.Pages.{names_code, applies};
 
-use site_model::{PageRule, Shown};
+use site_whole::site_model::{PageRule, Shown};
 
 /// How far the errors of a request were handled.
 #[derive(Clone, Copy)]

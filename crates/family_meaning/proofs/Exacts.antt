@@ -11,8 +11,8 @@ use Rattle.family_meaning.specs.Line.Line.{Nil, Bytes, Gives, Waits, Stubs}
 use Rattle.family_meaning.specs.Exact.{Same, FirstIsExact}
 use Rattle.family_meaning.specs.Moves.{KeepsBody, SomeBody, IsGoodLeft}
 use Rattle.family_meaning.specs.Flight.{Terms, flight_rest, begun, whole_rest}
-use Rattle.ngx_variables.specs.declared.request.Main.{Main}
-use Rattle.ngx_variables.specs.declared.request.Request.{Request}
+use Rattle.request_meaning.specs.ngx_variables.declared.request.Main.{Main}
+use Rattle.request_meaning.specs.ngx_variables.declared.request.Request.{Request}
 
 -- what was settled comes to the same
 pub settled_run : {A : Type 0} (tree : Tree) (inner : Child → Vars → Came Answer) (m : Serving A) (vars : Vars) → run tree inner m vars ≡ run tree inner (settled m vars).0 (settled m vars).1

@@ -3,8 +3,8 @@ use Rattle.std.specs.Prelude.{◌≡◌, ℕ, ◌+◌, nat_lt, Bool, true, List,
 use Rattle.file_tree.specs.Tree.{Tree}
 use Rattle.acts.specs.Vars.{Vars}
 use Rattle.http_types.specs.declared.words.Version.{Version}
-use Rattle.ngx_variables.specs.declared.request.Main.{Main}
-use Rattle.ngx_variables.specs.declared.request.Request.{Request}
+use Rattle.request_meaning.specs.ngx_variables.declared.request.Main.{Main}
+use Rattle.request_meaning.specs.ngx_variables.declared.request.Request.{Request}
 use Rattle.request_meaning.specs.Serving.{World, Answer, Reply}
 use Rattle.request_meaning.specs.Replies.{main_script, most_depth, main_reply}
 use Rattle.request_meaning.specs.Counts.{most_subs}

@@ -3,14 +3,14 @@ use Rattle.std.specs.Prelude.{ℕ, zero, suc, Bool, true, false, List, ◌++◌,
 use Rattle.acts.specs.Vars.{Vars}
 use Rattle.acts.specs.Act.{Done, Stat, Call, ◌>>=◌, ◌>>◌}
 use Rattle.file_tree.specs.Tree.{node_of}
-use Rattle.filter_api.specs.Members.{Machine}
-use Rattle.filter_api.specs.Chains.{still}
-use Rattle.filter_api.specs.declared.stage.Stage.{Stage}
-use Rattle.static_content.specs.Content.{content_for}
-use Rattle.ssi_text.specs.Marks.{Mark, Byte}
-use Rattle.site_views.specs.Values.{Values, Text, IndexName, LastTry}
-use Rattle.site_views.specs.Rewrites.{FileTest, Program}
-use Rattle.site_views.specs.Rewrites.FileTest.{IsFolder}
+use Rattle.request_meaning.specs.filter_api.Members.{Machine}
+use Rattle.request_meaning.specs.filter_api.Chains.{still}
+use Rattle.request_meaning.specs.filter_api.declared.stage.Stage.{Stage}
+use Rattle.request_meaning.specs.static_content.Content.{content_for}
+use Rattle.request_meaning.specs.ssi_text.Marks.{Mark, Byte}
+use Rattle.request_meaning.specs.site_views.Values.{Values, Text, IndexName, LastTry}
+use Rattle.request_meaning.specs.site_views.Rewrites.{FileTest, Program}
+use Rattle.request_meaning.specs.site_views.Rewrites.FileTest.{IsFolder}
 use Rattle.request_meaning.specs.Serving.{World, Serving, Child, Reply, Answer, Prepared, Asked, Standing, writes}
 use Rattle.request_meaning.specs.Rewriting.{Passed, on, if_step, says, passes, rewritten}
 use Rattle.request_meaning.specs.Answering.{page}

@@ -12,21 +12,21 @@ use Rattle.file_tree.specs.declared.job.Node.{Node as FileNode}
 use Rattle.site_model.specs.declared.site.Site.{Site}
 use Rattle.ngx_pattern.specs.Pattern.{Pattern as SetPattern}
 use Rattle.ngx_variables.specs.declared.request.Main.{Main}
-use Rattle.request_meaning.specs.Serving.{World, Serving, Answer}
-use Rattle.request_phases.specs.Rounds.{phases_told}
-use Rattle.request_phases.specs.declared.state.Wait.{Wait}
+use Rattle.node_line.specs.request_meaning.Serving.{World, Serving, Answer}
+use Rattle.node_line.specs.request_phases.Rounds.{phases_told}
+use Rattle.node_line.specs.request_phases.declared.state.Wait.{Wait}
 use Rattle.file_tree.specs.declared.job.JobAnswer.{JobAnswer}
-use Rattle.request_phases.specs.declared.state.Phases.{Phases}
+use Rattle.node_line.specs.request_phases.declared.state.Phases.{Phases}
 use Rattle.std.specs.Global.{Box}
-use Rattle.page_body.specs.declared.page.Page.{Page}
-use Rattle.node_turn.specs.Stages.{asks_from, item_asked, node_act, text_in}
-use Rattle.node_turn.specs.Nodes.{answer_seen, asked_path, hand, later, lent, padded, placed_act, served_act, served_as, stage_act, told_item}
-use Rattle.node_turn.specs.declared.answered.Answered.{Answered}
+use Rattle.node_line.specs.page_body.declared.page.Page.{Page}
+use Rattle.node_line.specs.node_turn.Stages.{asks_from, item_asked, node_act, text_in}
+use Rattle.node_line.specs.node_turn.Nodes.{answer_seen, asked_path, hand, later, lent, padded, placed_act, served_act, served_as, stage_act, told_item}
+use Rattle.node_line.specs.node_turn.declared.answered.Answered.{Answered}
 use Rattle.family_nodes.specs.Told.{Hears}
 use Rattle.family_nodes.specs.Told.Hears.{Learned, Came}
-use Rattle.node_turn.specs.declared.node.Body.{Body}
-use Rattle.node_turn.specs.declared.node.Node.{Node}
-use Rattle.node_turn.specs.declared.node.Stage.TheVariants as stages
+use Rattle.node_line.specs.node_turn.declared.node.Body.{Body}
+use Rattle.node_line.specs.node_turn.declared.node.Node.{Node}
+use Rattle.node_line.specs.node_turn.declared.node.Stage.TheVariants as stages
 
 -- ---- a block
 

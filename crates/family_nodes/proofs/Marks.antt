@@ -3,8 +3,8 @@ use Rattle.std.proofs.Common.{◌≡◌, ◌≢◌, ℕ, zero, suc, ◌+◌, ◌
 use Rattle.std.proofs.lemmas.Bool.{eqb-true}
 use Rattle.memchr.specs.Find.{Nowhere, Passes, is_byte, is_byte2}
 use Rattle.postpone_filter.specs.Row.{Row, room}
-use Rattle.node_turn.specs.Stages.{can_place, is_placing, is_serving, is_turning}
-use Rattle.node_turn.specs.declared.node.Node.{Node}
+use Rattle.node_line.specs.node_turn.Stages.{can_place, is_placing, is_serving, is_turning}
+use Rattle.node_line.specs.node_turn.declared.node.Node.{Node}
 use Rattle.family_nodes.specs.Marks.{AreMarked, IsMarked}
 use Rattle.family_nodes.specs.Runs.{can_end, can_go, may_go, runs_at, waits_at}
 use Rattle.family_nodes.proofs.Sets.{get_before, get_none, get_set_other}

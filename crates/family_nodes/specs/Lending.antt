@@ -1,8 +1,8 @@
 -- Nodes that lend one of them.
 use Rattle.std.specs.Prelude.{ℕ, List, slice_set}
 use Rattle.std.specs.Borrow.{Lends, MutBor, Fml}
-use Rattle.node_turn.specs.declared.node.Node.{Node}
-use Rattle.node_turn.specs.contracts.node.Node as node
+use Rattle.node_line.specs.node_turn.declared.node.Node.{Node}
+use Rattle.node_line.specs.node_turn.contracts.node.Node as node
 use Rattle.family_nodes.specs.contracts.nodes.Nodes as nodes
 
 -- The node with a number is lent: what is last written through the reference is at its place, and the others stay.

@@ -2,7 +2,7 @@
 use Rattle.std.specs.Prelude.{◌≡◌, ◌≢◌, ◌<◌, ℕ, false, List, Option, None, Some, slice_get, slice_index_or}
 use Rattle.postpone_filter.specs.Row.{Row}
 use Rattle.family_nodes.specs.Runs.{can_go, is_waiting}
-use Rattle.node_turn.specs.declared.node.Node.{Node}
+use Rattle.node_line.specs.node_turn.declared.node.Node.{Node}
 
 -- 0 says nothing of a node; any other mark that it can't run, whatever the row; and one above 1 that it has no job that waits.
 abbrev pub IsMarked : (mark at : ℕ) → Option Node → Type 0

@@ -3,8 +3,8 @@ use Rattle.std.specs.Prelude.{ℕ, ◌==◌, ◌&&◌, ◌||◌, not, is_none, B
 use Rattle.file_tree.specs.Tree.{tree_of}
 use Rattle.file_tree.specs.declared.job.Ask.{Ask}
 use Rattle.postpone_filter.specs.Row.{Row}
-use Rattle.node_turn.specs.Stages.{can_run, is_asking, is_ending, is_placing, is_reading, is_serving, is_turning}
-use Rattle.node_turn.specs.declared.node.Node.{Node}
+use Rattle.node_line.specs.node_turn.Stages.{can_run, is_asking, is_ending, is_placing, is_reading, is_serving, is_turning}
+use Rattle.node_line.specs.node_turn.declared.node.Node.{Node}
 
 -- its job, which asks the tree with this number, waits for an answer
 abbrev pub is_waiting : (tree : ℕ) → Node → Bool

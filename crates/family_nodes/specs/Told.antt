@@ -4,7 +4,7 @@ use Rattle.acts.specs.Act.{Stat as Asked}
 use Rattle.file_tree.specs.Tree.{IsFrom, Item, Trees, tree_of}
 use Rattle.file_tree.specs.declared.job.Ask.{Ask}
 use Rattle.file_tree.specs.declared.job.JobAnswer.{JobAnswer}
-use Rattle.request_meaning.specs.Serving.{Serving, Answer}
+use Rattle.node_line.specs.request_meaning.Serving.{Serving, Answer}
 
 -- A node was told what it asked for, which did this where its file still had a text, and does that now: its question is answered
 -- by what is there, where its file is of the length and the date that were told; or a block of its file came.

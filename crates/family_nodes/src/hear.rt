@@ -4,19 +4,19 @@ ghost use Rattle.file_tree.specs.Tree.{IsFrom, Trees, is_fitting};
 ghost use Rattle.file_tree.specs.declared.job.JobAnswer.TheVariants.{Read as ReadView};
 ghost use Rattle.ngx_pattern.specs.Pattern.{Pattern as SetPattern};
 ghost use Rattle.ngx_variables.specs.declared.request.Main.{Main as MainView};
-ghost use Rattle.request_meaning.specs.Serving.{World};
-ghost use Rattle.request_phases.specs.declared.state.Phases.{Phases as PhasesView};
+ghost use Rattle.node_line.specs.request_meaning.Serving.{World};
+ghost use Rattle.node_line.specs.request_phases.declared.state.Phases.{Phases as PhasesView};
 ghost use Rattle.site_model.specs.declared.site.Site.{Site as SiteRow};
-ghost use Rattle.node_turn.specs.Stages.{IsSameNode, asks_from, is_asking, is_reading, node_act, text_in};
-ghost use Rattle.node_turn.specs.Nodes.{asked_path, hand, lent, stage_act};
+ghost use Rattle.node_line.specs.node_turn.Stages.{IsSameNode, asks_from, is_asking, is_reading, node_act, text_in};
+ghost use Rattle.node_line.specs.node_turn.Nodes.{asked_path, hand, lent, stage_act};
 ghost use Rattle.family_nodes.specs.Told.{Hears};
-ghost use Rattle.node_turn.specs.declared.node.Stage.TheVariants.{Reads as ReadsView, Told as ToldView};
+ghost use Rattle.node_line.specs.node_turn.declared.node.Stage.TheVariants.{Reads as ReadsView, Told as ToldView};
 
 use byte_text::{ByteText, OutOfMemory};
 use file_tree::{Ask, JobAnswer, Node as FileNode};
-use node_turn::{Body, Node, Stage, fill, take};
-use request_phases::Wait;
-use ssi_values::Table;
+use node_line::node_turn::{Body, Node, Stage, fill, take};
+use node_line::request_phases::Wait;
+use node_line::ssi_values::Table;
 use std::alloc::Global;
 
 /// Whether the job of a node waits for an answer.

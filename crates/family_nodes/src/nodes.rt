@@ -8,7 +8,7 @@ ghost use Rattle.family_nodes.specs.Marks.{IsMarked};
 use crate::hear::waits;
 use byte_text::OutOfMemory;
 use memchr::{memchr, memchr2};
-use node_turn::{Node, Stage};
+use node_line::node_turn::{Node, Stage};
 use std::alloc::Global;
 use std::marker::Model;
 
@@ -32,7 +32,7 @@ pub struct Nodes {
 
 impl Model for Nodes {
     ghost use Rattle.std.specs.Prelude.{List};
-    ghost use Rattle.node_turn.specs.declared.node.Node.{Node};
+    ghost use Rattle.node_line.specs.node_turn.declared.node.Node.{Node};
 
     ghost Value = { List Node };
 

@@ -5,7 +5,7 @@ ghost use Rattle.family_nodes.specs.Runs.{can_go, is_waiting as waits_for};
 
 use crate::hear::waits;
 use file_tree::Ask;
-use node_turn::{Node, Stage};
+use node_line::node_turn::{Node, Stage};
 use postpone_filter::Order;
 
 /// Whether a job asks the tree with this number.

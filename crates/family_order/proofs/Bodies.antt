@@ -4,10 +4,10 @@ use Rattle.std.proofs.lemmas.Bool.{eqb-true, eq-eqb}
 use Rattle.file_tree.specs.Tree.{Tree}
 use Rattle.acts.specs.Vars.{Vars}
 use Rattle.acts.specs.Act.{Done}
-use Rattle.ngx_variables.specs.declared.request.Main.{Main}
-use Rattle.ngx_variables.specs.declared.request.Request.{Request}
-use Rattle.request_meaning.specs.Serving.{World, Answer}
-use Rattle.request_meaning.specs.Replies.{run, main_reply, main_script, most_depth}
+use Rattle.race_meaning.specs.ngx_variables.declared.request.Main.{Main}
+use Rattle.race_meaning.specs.ngx_variables.declared.request.Request.{Request}
+use Rattle.family_meaning.specs.request_meaning.Serving.{World, Answer}
+use Rattle.family_meaning.specs.request_meaning.Replies.{run, main_reply, main_script, most_depth}
 use Rattle.postpone_filter.specs.Row.{Piece, is_open, front_of, fresh}
 use Rattle.postpone_filter.specs.Runs.{filled}
 use Rattle.family_meaning.specs.Line.{Line, Left, rest, before, reply_of}

@@ -2,7 +2,7 @@
 use Rattle.std.proofs.Common.{◌≡◌, ℕ, zero, suc, ◌<◌, List, [], ◌∷◌, ◌++◌, map, take, drop, refl, sym, ap, ◌∙◌, append_assoc, take-append-drop, if◌then◌else◌}
 use Rattle.file_tree.specs.Tree.{Tree}
 use Rattle.acts.specs.Vars.{Vars}
-use Rattle.request_meaning.specs.Serving.{World, Serving, Answer}
+use Rattle.family_meaning.specs.request_meaning.Serving.{World, Serving, Answer}
 use Rattle.postpone_filter.specs.Row.{Piece, front_of, clean, shorter}
 use Rattle.family_meaning.specs.Line.{Line}
 use Rattle.family_meaning.specs.Line.Line.{Nil, Gives}

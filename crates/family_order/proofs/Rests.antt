@@ -3,9 +3,9 @@ use Rattle.std.proofs.Common.{◌≡◌, ℕ, Bool, true, false, ◌==◌, List,
 use Rattle.std.proofs.lemmas.Bool.{eq-eqb}
 use Rattle.file_tree.specs.Tree.{Tree}
 use Rattle.acts.specs.Vars.{Vars}
-use Rattle.request_meaning.specs.Serving.{World, Answer}
-use Rattle.request_meaning.specs.Replies
-use Rattle.request_meaning.specs.Replies.{run, or_stub, main_reply, main_script, most_depth}
+use Rattle.family_meaning.specs.request_meaning.Serving.{World, Answer}
+use Rattle.family_meaning.specs.request_meaning.Replies
+use Rattle.family_meaning.specs.request_meaning.Replies.{run, or_stub, main_reply, main_script, most_depth}
 use Rattle.postpone_filter.specs.Row.{Piece, is_open}
 use Rattle.family_meaning.specs.Line.{Line, Left, rest, before, reply_of, status_of}
 use Rattle.family_meaning.specs.Line.Line.{Nil, Bytes, Gives, Waits, Stubs}

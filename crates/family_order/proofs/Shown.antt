@@ -5,8 +5,8 @@ use Rattle.file_tree.specs.Tree
 use Rattle.file_tree.specs.Tree.{Tree}
 use Rattle.acts.specs.Vars.{Vars, look}
 use Rattle.acts.specs.Act.{Done, Get, Stat, Call, Write, Inner, settled}
-use Rattle.request_meaning.specs.Serving.{World, Serving, Child, Reply, Answer}
-use Rattle.request_meaning.specs.Replies.{or_stub}
+use Rattle.family_meaning.specs.request_meaning.Serving.{World, Serving, Child, Reply, Answer}
+use Rattle.family_meaning.specs.request_meaning.Replies.{or_stub}
 use Rattle.postpone_filter.specs.Row.{Piece, Row, is_place, is_open, at_place, longer, closed, fresh, appended, with_child, ended}
 use Rattle.postpone_filter.proofs.Places.{place-node}
 use Rattle.family_meaning.specs.Line

@@ -2,7 +2,7 @@
 use Rattle.std.proofs.Common.{◌≡◌, ◌≢◌, ℕ, ◌≤◌, arith, true, false, List, [], ◌∷◌, ◌++◌, map, refl, sym, ap, ◌∙◌, append-nil}
 use Rattle.file_tree.specs.Tree.{Tree}
 use Rattle.acts.specs.Vars.{Vars}
-use Rattle.request_meaning.specs.Serving.{World, Serving, Answer}
+use Rattle.family_meaning.specs.request_meaning.Serving.{World, Serving, Answer}
 use Rattle.postpone_filter.specs.Row.{Piece, is_open, at_place, longer, closed, fresh}
 use Rattle.postpone_filter.specs.Buffers.{IsLawful}
 use Rattle.family_meaning.specs.Line.{front}

@@ -3,9 +3,9 @@ use Rattle.std.proofs.Common.{◌≡◌, ℕ, Bool, true, false, ◌&&◌, ◌==
 use Rattle.file_tree.specs.Tree.{Tree}
 use Rattle.acts.specs.Vars.{Vars, look, set}
 use Rattle.acts.specs.Act.{Done, Get, Put, Stat, Call, Write, Inner}
-use Rattle.request_meaning.specs.Serving.{World, Serving, Child, Reply, Answer}
-use Rattle.request_meaning.specs.Replies
-use Rattle.request_meaning.specs.Replies.{Came, run, or_stub}
+use Rattle.family_meaning.specs.request_meaning.Serving.{World, Serving, Child, Reply, Answer}
+use Rattle.family_meaning.specs.request_meaning.Replies
+use Rattle.family_meaning.specs.request_meaning.Replies.{Came, run, or_stub}
 use Rattle.postpone_filter.specs.Row.{Piece, is_place, is_open, front_of}
 use Rattle.postpone_filter.specs.Runs.{filled}
 use Rattle.postpone_filter.proofs.Places.{place-node}

@@ -5,8 +5,8 @@ use Rattle.file_tree.specs.Tree.{Tree}
 use Rattle.acts.specs.Vars.{Vars, look}
 use Rattle.acts.specs.Act.{Done, Get, Stat, Call, Write, Inner, settled}
 use Rattle.postpone_filter.specs.Row.{is_open}
-use Rattle.request_meaning.specs.Serving.{World, Serving, Child, Reply, Answer}
-use Rattle.request_meaning.specs.Replies.{or_stub}
+use Rattle.family_meaning.specs.request_meaning.Serving.{World, Serving, Child, Reply, Answer}
+use Rattle.family_meaning.specs.request_meaning.Replies.{or_stub}
 use Rattle.family_meaning.specs.Line.{Line, opened, ended}
 use Rattle.family_meaning.specs.Line.Line.{Nil}
 use Rattle.family_meaning.specs.Moves.{Moves, KeepsBody, SomeBody}

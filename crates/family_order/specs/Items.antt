@@ -1,10 +1,10 @@
 -- A family as it is served: the row in which its bytes wait, what has left of it, and what each of its nodes still does; and the
 -- line that it shows.
 use Rattle.std.specs.Prelude.{◌≡◌, ℕ, ◌==◌, Bool, true, false, List, [], ◌∷◌, ◌++◌, map, take, Option, None, Some, if◌then◌else◌}
-use Rattle.ngx_variables.specs.declared.request.Main.{Main}
-use Rattle.ngx_variables.specs.declared.request.Request.{Request}
-use Rattle.request_meaning.specs.Serving.{World, Serving, Child, Reply, Answer}
-use Rattle.request_meaning.specs.Replies.{script, main_script, most_depth}
+use Rattle.race_meaning.specs.ngx_variables.declared.request.Main.{Main}
+use Rattle.race_meaning.specs.ngx_variables.declared.request.Request.{Request}
+use Rattle.family_meaning.specs.request_meaning.Serving.{World, Serving, Child, Reply, Answer}
+use Rattle.family_meaning.specs.request_meaning.Replies.{script, main_script, most_depth}
 use Rattle.postpone_filter.specs.Row.{Piece, Row, is_place, is_open, fresh, front_of, appended, with_child, ended, used}
 use Rattle.postpone_filter.specs.Buffers.{IsLawful}
 use Rattle.family_meaning.specs.Line

@@ -5,7 +5,7 @@ use Rattle.acts.specs.Vars.{Vars}
 use Rattle.postpone_filter.specs.Row.{Row, fresh, is_open, front_of}
 use Rattle.postpone_filter.specs.Runs.{Call, step, filled}
 use Rattle.postpone_filter.specs.Runs.Call.{Append, AddChild, End, Use}
-use Rattle.request_meaning.specs.Serving.{World, Serving, Answer}
+use Rattle.family_meaning.specs.request_meaning.Serving.{World, Serving, Answer}
 use Rattle.family_meaning.specs.Line.{Line, front, ended, reply_of}
 use Rattle.family_meaning.specs.Line.Line.{Nil, Bytes, Gives}
 use Rattle.family_meaning.specs.Moves.{Moves, Runs, KeepsBody, AllEnd, IsGood}

@@ -3,12 +3,12 @@ use Rattle.std.specs.Prelude.{◌≡◌, ℕ, List, [], ◌∷◌, ◌++◌}
 use Rattle.file_tree.specs.Tree.{Tree}
 use Rattle.acts.specs.Vars.{Vars}
 use Rattle.acts.specs.Act.{Done}
-use Rattle.ngx_variables.specs.declared.request.Main.{Main}
-use Rattle.ngx_variables.specs.declared.request.Request.{Request}
+use Rattle.race_meaning.specs.ngx_variables.declared.request.Main.{Main}
+use Rattle.race_meaning.specs.ngx_variables.declared.request.Request.{Request}
 use Rattle.postpone_filter.specs.Row.{front_of, fresh}
 use Rattle.postpone_filter.specs.Runs.{filled}
-use Rattle.request_meaning.specs.Serving.{World, Answer}
-use Rattle.request_meaning.specs.Replies.{main_reply, main_script, most_depth}
+use Rattle.family_meaning.specs.request_meaning.Serving.{World, Answer}
+use Rattle.family_meaning.specs.request_meaning.Replies.{main_reply, main_script, most_depth}
 use Rattle.family_meaning.specs.Line.{Line, reply_of}
 use Rattle.family_meaning.specs.Line.Line.{Nil, Gives}
 use Rattle.family_meaning.specs.Moves.{Runs}

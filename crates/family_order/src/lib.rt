@@ -6,3 +6,4 @@
 mod laws;
 
 pub use laws::{order_is_kept, row_shows_line, row_stays_well, row_tells_line, shows_the_same};
+pub use race_meaning;

@@ -2,7 +2,7 @@
 use Rattle.std.proofs.Common.{◌≡◌, ℕ, true, false, List, [], ◌∷◌, ◌++◌, map, None, refl, ap, ◌∙◌, if◌then◌else◌}
 use Rattle.file_tree.specs.Tree.{Tree}
 use Rattle.acts.specs.Vars.{Vars}
-use Rattle.request_meaning.specs.Serving.{World}
+use Rattle.family_meaning.specs.request_meaning.Serving.{World}
 use Rattle.postpone_filter.specs.Row.{Piece}
 use Rattle.family_meaning.specs.Line.{Line}
 use Rattle.family_order.specs.Items.{Stance, stance_items, Item, Family, Shows, items_of, items, row_items}

@@ -3,9 +3,9 @@ use Rattle.std.proofs.Common.{◌≡◌, ◌+◌, subst, ◌≢◌, ℕ, suc, tr
 use Rattle.file_tree.specs.Tree.{Tree}
 use Rattle.acts.specs.Vars.{Vars}
 use Rattle.acts.specs.Act.{Done, Stat, Call, Write, Inner}
-use Rattle.request_meaning.specs.Serving.{World, Serving, Child, Reply, Answer}
-use Rattle.request_meaning.specs.Replies
-use Rattle.request_meaning.specs.Replies.{run, or_stub}
+use Rattle.family_meaning.specs.request_meaning.Serving.{World, Serving, Child, Reply, Answer}
+use Rattle.family_meaning.specs.request_meaning.Replies
+use Rattle.family_meaning.specs.request_meaning.Replies.{run, or_stub}
 use Rattle.postpone_filter.specs.Row.{Piece, Row, is_place, is_open, at_place, longer, closed, fresh, appended, with_child, ended}
 use Rattle.family_meaning.specs.Line
 use Rattle.family_meaning.specs.Line.{Line, Left, rest, before, reply_of, status_of, joined, opened, has_node}

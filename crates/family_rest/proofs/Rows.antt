@@ -3,11 +3,11 @@ use Rattle.std.proofs.Common.{◌≡◌, ℕ, ◌+◌, arith, Bool, true, false,
 use Rattle.file_tree.specs.Tree.{Tree}
 use Rattle.acts.specs.Vars.{Vars}
 use Rattle.acts.specs.Act.{Done}
-use Rattle.ngx_variables.specs.declared.request.Main.{Main}
-use Rattle.ngx_variables.specs.declared.request.Request.{Request}
-use Rattle.request_meaning.specs.Serving.{World, Answer}
-use Rattle.request_meaning.specs.Counts.{subs, subs_in}
-use Rattle.request_meaning.specs.Replies.{run, reply, main_came, main_script, most_depth}
+use Rattle.race_meaning.specs.ngx_variables.declared.request.Main.{Main}
+use Rattle.race_meaning.specs.ngx_variables.declared.request.Request.{Request}
+use Rattle.family_meaning.specs.request_meaning.Serving.{World, Answer}
+use Rattle.family_meaning.specs.request_meaning.Counts.{subs, subs_in}
+use Rattle.family_meaning.specs.request_meaning.Replies.{run, reply, main_came, main_script, most_depth}
 use Rattle.postpone_filter.specs.Row.{Piece, fresh, front_of, shorter}
 use Rattle.postpone_filter.specs.Runs.{filled}
 use Rattle.family_meaning.specs.Line.{Left, rest, before}

@@ -4,11 +4,11 @@ use Rattle.std.proofs.Common.{◌≡◌, inl, inr, ℕ, zero, suc, ◌+◌, List
 use Rattle.file_tree.specs.Tree.{Tree}
 use Rattle.acts.specs.Vars.{Vars, look, set}
 use Rattle.acts.specs.Act.{Done, Get, Put, Stat, Call, Write, Inner, settled}
-use Rattle.ngx_variables.specs.declared.request.Main.{Main}
-use Rattle.request_meaning.specs.Serving.{World, Serving, Child, Reply, Answer}
-use Rattle.request_meaning.specs.Replies
-use Rattle.request_meaning.specs.Replies.{Came, run, script, or_stub}
-use Rattle.request_meaning.specs.Counts.{subs_in, child_subs}
+use Rattle.race_meaning.specs.ngx_variables.declared.request.Main.{Main}
+use Rattle.family_meaning.specs.request_meaning.Serving.{World, Serving, Child, Reply, Answer}
+use Rattle.family_meaning.specs.request_meaning.Replies
+use Rattle.family_meaning.specs.request_meaning.Replies.{Came, run, script, or_stub}
+use Rattle.family_meaning.specs.request_meaning.Counts.{subs_in, child_subs}
 use Rattle.family_meaning.specs.Line.{Line, Left, rest, before, status_of, reply_of}
 use Rattle.family_meaning.specs.Line.Line.{Nil, Bytes, Gives, Waits, Stubs}
 use Rattle.family_meaning.specs.Left.{subs_left, act_subs}

@@ -2,7 +2,7 @@
 use Rattle.std.proofs.Common.{◌≡◌, ◌⊎◌, inl, inr, ℕ, List, [], ◌∷◌, ◌++◌, map, None, ap}
 use Rattle.file_tree.specs.Tree.{Tree}
 use Rattle.acts.specs.Vars.{Vars}
-use Rattle.request_meaning.specs.Serving.{World}
+use Rattle.family_meaning.specs.request_meaning.Serving.{World}
 use Rattle.family_meaning.specs.Line.{Line, Left, rest}
 use Rattle.family_meaning.specs.Line.Line.{Nil, Bytes, Gives, Waits, Stubs}
 use Rattle.family_meaning.specs.Moves.{Moves}

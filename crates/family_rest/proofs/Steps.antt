@@ -2,11 +2,11 @@
 use Rattle.std.proofs.Common.{◌≡◌, inl, ℕ, ◌+◌, arith, List, [], ◌∷◌, ◌++◌, take, None, refl, sym, ap, subst, ◌∙◌, append_assoc, append-nil}
 use Rattle.file_tree.specs.Tree.{Tree}
 use Rattle.acts.specs.Vars.{Vars}
-use Rattle.ngx_variables.specs.declared.request.Main.{Main}
-use Rattle.ngx_variables.specs.declared.request.Request.{Request}
-use Rattle.request_meaning.specs.Serving.{World}
-use Rattle.request_meaning.specs.Counts.{subs}
-use Rattle.request_meaning.specs.Replies.{main_script, most_depth}
+use Rattle.race_meaning.specs.ngx_variables.declared.request.Main.{Main}
+use Rattle.race_meaning.specs.ngx_variables.declared.request.Request.{Request}
+use Rattle.family_meaning.specs.request_meaning.Serving.{World}
+use Rattle.family_meaning.specs.request_meaning.Counts.{subs}
+use Rattle.family_meaning.specs.request_meaning.Replies.{main_script, most_depth}
 use Rattle.postpone_filter.specs.Row.{front_of}
 use Rattle.family_meaning.specs.Line.{Left, rest, before}
 use Rattle.race_meaning.specs.Named.{IsRaceless}

@@ -3,7 +3,7 @@ use Rattle.std.proofs.Common.{◌≡◌, ℕ, ◌+◌, true, List, ◌∷◌, []
 use Rattle.file_tree.specs.Tree.{Tree}
 use Rattle.acts.specs.Vars.{Vars, look}
 use Rattle.acts.specs.Act.{Get, settled}
-use Rattle.request_meaning.specs.Serving.{World, Serving, Reply, Answer}
+use Rattle.family_meaning.specs.request_meaning.Serving.{World, Serving, Reply, Answer}
 use Rattle.family_meaning.specs.Line.{Line, joined}
 use Rattle.family_meaning.specs.Moves.{Thinks as LineThinks, Moves}
 use Rattle.family_meaning.specs.Moves.Thinks.{Here, Reads as LineReads, InWait, InStub}

@@ -3,12 +3,12 @@ use Rattle.std.specs.Prelude.{◌≡◌, ℕ, ◌+◌, List, [], ◌∷◌, ◌+
 use Rattle.file_tree.specs.Tree.{Tree, Item}
 use Rattle.acts.specs.Vars.{Vars}
 use Rattle.acts.specs.Act.{Done, Stat}
-use Rattle.ngx_variables.specs.declared.request.Main.{Main}
-use Rattle.ngx_variables.specs.declared.request.Request.{Request}
+use Rattle.race_meaning.specs.ngx_variables.declared.request.Main.{Main}
+use Rattle.race_meaning.specs.ngx_variables.declared.request.Request.{Request}
 use Rattle.postpone_filter.specs.Row.{fresh, front_of}
 use Rattle.postpone_filter.specs.Runs.{filled}
-use Rattle.request_meaning.specs.Serving.{World, Serving, Answer}
-use Rattle.request_meaning.specs.Counts.{subs}
+use Rattle.family_meaning.specs.request_meaning.Serving.{World, Serving, Answer}
+use Rattle.family_meaning.specs.request_meaning.Counts.{subs}
 use Rattle.family_meaning.specs.Line.{Line, Left, before}
 use Rattle.family_meaning.specs.Moves.{Moves}
 use Rattle.family_meaning.specs.Moves.Moves.{Quietly, ByTable}

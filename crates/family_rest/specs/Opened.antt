@@ -2,7 +2,7 @@
 use Rattle.std.specs.Prelude.{ℕ, ◌+◌}
 use Rattle.file_tree.specs.Tree.{Tree}
 use Rattle.acts.specs.Vars.{Vars}
-use Rattle.request_meaning.specs.Serving.{World}
+use Rattle.family_meaning.specs.request_meaning.Serving.{World}
 use Rattle.family_meaning.specs.Line.{Line}
 use Rattle.family_meaning.specs.Moves.{Quiet, Moves}
 use Rattle.family_meaning.specs.Moves.Quiet.{Learns as LineLearns, Places as LinePlaces, Placed as LinePlaced, Merges as LineMerges, Opens as LineOpens, Asks as LineAsks, Hears as LineHears, Leaves, Keeps as LineKeeps, Decides as LineDecides, Chooses, Parts, Gone, PastBytes, PastNode, PastWait, Within as LineWithin, PastStub, WithinStub as LineWithinStub}

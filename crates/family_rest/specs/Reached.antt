@@ -2,9 +2,9 @@
 use Rattle.std.specs.Prelude.{ℕ, []}
 use Rattle.file_tree.specs.Tree.{Tree}
 use Rattle.acts.specs.Vars.{Vars}
-use Rattle.ngx_variables.specs.declared.request.Main.{Main}
-use Rattle.ngx_variables.specs.declared.request.Request.{Request}
-use Rattle.request_meaning.specs.Serving.{World}
+use Rattle.race_meaning.specs.ngx_variables.declared.request.Main.{Main}
+use Rattle.race_meaning.specs.ngx_variables.declared.request.Request.{Request}
+use Rattle.family_meaning.specs.request_meaning.Serving.{World}
 use Rattle.family_order.specs.Items.{Family, IsAlike, begun, leaving}
 use Rattle.family_order.specs.Acts.{Acts}
 

@@ -5,3 +5,4 @@
 mod laws;
 
 pub use laws::{quiet_is_exact, reached_stays_well, row_tells_still, steps_keep_still};
+pub use race_meaning;

@@ -11,4 +11,5 @@ pub use chain::{Chain, ChainFault, ChainState, RefusedChain};
 pub use facts::{Facts, FilterState};
 pub use filter::{BodyFilter, push_part};
 pub use laws::{chains_go_on, chains_turn};
+pub use ssi_text;
 pub use stage::Stage;

@@ -8,10 +8,10 @@ use Rattle.file_tree.specs.declared.job.Ask.{Ask}
 use Rattle.ngx_outside.specs.Views.{Log, ask_in}
 use Rattle.site_model.specs.declared.site.Site.{Site}
 use Rattle.request_meaning.specs.Laws.{shipped}
-use Rattle.request_phases.specs.declared.ground.Ground.{Ground}
-use Rattle.request_phases.specs.Rounds.{world_in}
-use Rattle.race_meaning.specs.Named.{IsRaceless}
-use Rattle.request_flow.specs.Rests.{Rest}
+use Rattle.served_site.specs.request_phases.declared.ground.Ground.{Ground}
+use Rattle.served_site.specs.request_phases.Rounds.{world_in}
+use Rattle.response_flow.specs.race_meaning.Named.{IsRaceless}
+use Rattle.response_flow.specs.request_flow.Rests.{Rest}
 use Rattle.response_flow.specs.declared.flight.Flight.{Flight}
 use Rattle.response_flow.specs.declared.flight.Onward.{Onward}
 use Rattle.response_flow.specs.declared.flight.Ran.{Ran}

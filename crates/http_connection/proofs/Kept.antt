@@ -3,7 +3,7 @@ use Rattle.std.proofs.Common.{◌≡◌, ℕ, ◌-◌, ◌<◌, ◌≤◌, ◌+�
 use Rattle.std.specs.Prelude.{is_some, nat_le}
 use Rattle.std.proofs.lemmas.Bool.Decides.{nat_tests}
 use Rattle.body_frame.specs.declared.state.BodyState.{BodyState}
-use Rattle.request_flow.specs.Flows.{asking_most, flow_most}
+use Rattle.response_flow.specs.request_flow.Flows.{asking_most, flow_most}
 use Rattle.response_flow.specs.declared.flight.Flight.{Flight}
 use Rattle.response_flow.specs.Flights.{FlightFits, most_kept, page_most}
 use Rattle.http_connection.specs.Conn.{room_at}

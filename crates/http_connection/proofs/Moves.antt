@@ -21,8 +21,8 @@ use Rattle.body_frame.specs.State.{body_of}
 use Rattle.body_frame.specs.declared.state.BodyState.{BodyState}
 use Rattle.answers_meaning.specs.Asking.{Service}
 use Rattle.answers_meaning.specs.Answers.{Response, Answer, Sends, then_closes, responses, first_response, response_at, refusal, bytes_in, logs_in, close_in, heavy_in, any_over, after_body}
-use Rattle.request_flow.specs.Flows.{asking_most, flow_most}
-use Rattle.request_flow.specs.Rests.{Rest, closes_after, logged_by}
+use Rattle.response_flow.specs.request_flow.Flows.{asking_most, flow_most}
+use Rattle.response_flow.specs.request_flow.Rests.{Rest, closes_after, logged_by}
 use Rattle.request_journal.specs.Noted.{last_logged, logged_if}
 use Rattle.response_flow.specs.declared.flight.Flight.{Flight}
 use Rattle.response_flow.specs.declared.flight.Onward.{Onward}

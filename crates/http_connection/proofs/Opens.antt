@@ -13,23 +13,23 @@ use Rattle.request_meaning.specs.Counts.{subs}
 use Rattle.request_meaning.specs.Laws.{shipped}
 use Rattle.request_meaning.specs.Replies.{main_reply, main_came, main_script, served}
 use Rattle.request_meaning.specs.Serving.{World, is_head}
-use Rattle.family_meaning.specs.Flight.{Terms}
+use Rattle.answers_meaning.specs.family_meaning.Flight.{Terms}
 use Rattle.ngx_variables.specs.declared.request.Main.{Main}
 use Rattle.ngx_variables.specs.declared.request.Request.{Request}
 use Rattle.answers_meaning.specs.Asking.{Service, main_of, request_of, world_of, server_for, stated_length}
 use Rattle.answers_meaning.specs.Answers.{Response, response_at, response_in, response_with, reply_in, refusal, terms_of}
-use Rattle.request_phases.specs.declared.ground.Ground.{Ground}
-use Rattle.request_phases.specs.Rounds.{world_in}
-use Rattle.request_opening.specs.declared.asked.Opening.{Opening}
-use Rattle.access_flow.specs.declared.flow.AccessFlow.{AccessFlow}
-use Rattle.request_flow.specs.declared.flow.Flow.{Flow}
+use Rattle.served_site.specs.request_phases.declared.ground.Ground.{Ground}
+use Rattle.served_site.specs.request_phases.Rounds.{world_in}
+use Rattle.response_flow.specs.request_opening.declared.asked.Opening.{Opening}
+use Rattle.response_flow.specs.access_flow.declared.flow.AccessFlow.{AccessFlow}
+use Rattle.response_flow.specs.request_flow.declared.flow.Flow.{Flow}
 use Rattle.std.specs.Global.{Box}
-use Rattle.request_flow.specs.Flows.{StageBy, stage_length, stage_server}
-use Rattle.request_flow.specs.declared.flow.Stage.{Stage}
-use Rattle.request_flow.specs.declared.flow.Stage.TheVariants.{Asked, Told, Reading, Came}
-use Rattle.request_opening.specs.Openings.{main_at}
-use Rattle.request_flow.specs.Terms.{terms_at}
-use Rattle.request_flow.specs.Rests.{Rest, finished, opened_rest, act_rest, closes_after, logged_by, values_by}
+use Rattle.response_flow.specs.request_flow.Flows.{StageBy, stage_length, stage_server}
+use Rattle.response_flow.specs.request_flow.declared.flow.Stage.{Stage}
+use Rattle.response_flow.specs.request_flow.declared.flow.Stage.TheVariants.{Asked, Told, Reading, Came}
+use Rattle.response_flow.specs.request_opening.Openings.{main_at}
+use Rattle.response_flow.specs.request_flow.Terms.{terms_at}
+use Rattle.response_flow.specs.request_flow.Rests.{Rest, finished, opened_rest, act_rest, closes_after, logged_by, values_by}
 use Rattle.response_flow.specs.declared.flight.Flight.{Flight}
 use Rattle.response_flow.specs.declared.flight.Flight.TheVariants.{Alone, Asking, Page}
 use Rattle.response_flow.specs.declared.flight.PageFlow.{PageFlow}
@@ -37,7 +37,7 @@ use Rattle.response_flow.specs.declared.flight.Ran.{Ran}
 use Rattle.response_flow.specs.declared.flight.Ran.TheVariants.{On, TooMany}
 use Rattle.response_flow.specs.Continues.{Continues, IfOn, RunsOn, is_over}
 use Rattle.response_flow.specs.Flights.{FlightReached, FlightServedBy, flight_length, flight_rest, flight_server}
-use Rattle.race_meaning.specs.Named.{IsRaceless}
+use Rattle.response_flow.specs.race_meaning.Named.{IsRaceless}
 use Rattle.served_site.specs.Served.{raw_server, server_numbered}
 use Rattle.http_connection.specs.Rests.{AreRaceless, HasServer, ReachedIn, Serves, service_in, rest_in, world_at, values_at}
 use Rattle.http_connection.specs.Steps.{Opened, OpenedTo, Refuses, is_heavy, start_in}

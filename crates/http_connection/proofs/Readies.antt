@@ -5,7 +5,7 @@ use Rattle.std.specs.List.{Contains}
 use Rattle.std.proofs.lemmas.Bool.Decides.{nat_tests}
 use Rattle.body_frame.specs.declared.state.BodyState.{BodyState}
 use Rattle.req_head.specs.declared.head.HeadStep.{HeadStep}
-use Rattle.subrequests.specs.Wants.{first_of, is_among}
+use Rattle.response_flow.specs.subrequests.Wants.{first_of, is_among}
 use Rattle.response_flow.specs.declared.flight.Flight.{Flight}
 use Rattle.response_flow.specs.Flights.{ready_of}
 use Rattle.http_connection.specs.Conn.{ready_at, starts_at}

@@ -15,23 +15,23 @@ use Rattle.req_head.specs.Laws.{FullDecides}
 use Rattle.body_frame.specs.Outcome.{Short}
 use Rattle.body_frame.specs.State.{body_of}
 use Rattle.body_frame.specs.declared.state.BodyState.{BodyState}
-use Rattle.access_flow.specs.Flows.{waits}
-use Rattle.request_flow.specs.declared.flow.Flow.{Flow}
+use Rattle.response_flow.specs.access_flow.Flows.{waits}
+use Rattle.response_flow.specs.request_flow.declared.flow.Flow.{Flow}
 use Rattle.std.specs.Global.{Box}
 use Rattle.response_flow.specs.declared.flight.Flight.{Flight}
 use Rattle.response_flow.specs.declared.flight.Flight.TheVariants.{Alone, Asking, Page}
 use Rattle.response_flow.specs.Flights.{FlightFits, are_done, jobs_by, most_kept, next_of, page_ready, pending_by, ready_by, shown_kept}
-use Rattle.page_response.specs.declared.pages.Pages.{Pages}
-use Rattle.subrequests.specs.Wants as family
-use Rattle.request_flow.specs.declared.flow.Stage.{Stage}
-use Rattle.request_flow.specs.declared.flow.Stage.TheVariants.{Asked, Told, Reading, Came}
+use Rattle.response_flow.specs.page_response.declared.pages.Pages.{Pages}
+use Rattle.response_flow.specs.subrequests.Wants as family
+use Rattle.response_flow.specs.request_flow.declared.flow.Stage.{Stage}
+use Rattle.response_flow.specs.request_flow.declared.flow.Stage.TheVariants.{Asked, Told, Reading, Came}
 use Rattle.http_connection.specs.Steps.{starts, rest_of, past_body, logged_in, IsLogged}
 use Rattle.http_connection.specs.Conn.{view_at, after_at, bytes_at, logs_at, room_at, starts_at, idle_at, shut_at}
 use Rattle.http_connection.proofs.Moves.{room_some, none_taken, unsent, below, and_left, and_right}
 use Rattle.answers_meaning.specs.Asking.{Service}
 use Rattle.answers_meaning.specs.Answers.{Answer, then_closes, responses, first_response, bytes_in, logs_in, close_in, after_body}
 use Rattle.http_connection.specs.Rests.{rest_in, Serves}
-use Rattle.request_flow.specs.Flows.{jobs_of, is_stat, may_run, shown_by, shown_most, placed_most, kept_most, is_block, stage_fits, flow_fits}
+use Rattle.response_flow.specs.request_flow.Flows.{jobs_of, is_stat, may_run, shown_by, shown_most, placed_most, kept_most, is_block, stage_fits, flow_fits}
 
 unlogged_close : (closing : Bool) → logs_in (cond closing then_closes []) ≡ []
 unlogged_close true = refl

@@ -11,7 +11,7 @@ use Rattle.req_head.specs.declared.head.HeadStep.{HeadStep}
 use Rattle.body_frame.specs.declared.state.BodyState.{BodyState}
 use Rattle.response_flow.specs.declared.flight.Flight.{Flight}
 use Rattle.response_flow.specs.Flights.{jobs_of}
-use Rattle.subrequests.specs.Wants.{first_job as job_first, first_of as number_first}
+use Rattle.response_flow.specs.subrequests.Wants.{first_job as job_first, first_of as number_first}
 use Rattle.http_connection.specs.Rests.{Serves}
 use Rattle.http_connection.specs.Conn.{view_at, room_at, ready_at, shut_at, pending_at}
 use Rattle.http_connection.specs.Wants.{first_of, room_if}

@@ -15,8 +15,8 @@ use Rattle.answers_meaning.specs.Asking.{Service}
 use Rattle.answers_meaning.specs.Answers.{Answer, then_closes, responses, bytes_in, logs_in, close_in, heavy_in}
 use Rattle.response_flow.specs.declared.flight.Flight.{Flight}
 use Rattle.response_flow.specs.Flights.{TailFits, flight_left, flight_tree, jobs_of, most_kept, pending_of, ready_by}
-use Rattle.request_flow.specs.Rests.{Rest, closes_after}
-use Rattle.request_opening.specs.Openings.{service_of}
+use Rattle.response_flow.specs.request_flow.Rests.{Rest, closes_after}
+use Rattle.response_flow.specs.request_opening.Openings.{service_of}
 use Rattle.ngx_pattern.specs.Pattern.{Pattern as SetPattern}
 use Rattle.site_model.specs.declared.site.Site.{Site}
 use Rattle.response_flow.specs.Continues.{is_over}

@@ -10,11 +10,11 @@ use Rattle.site_whole.specs.Whole.{server_whole, values_seen}
 use Rattle.request_meaning.specs.Laws.{shipped}
 use Rattle.request_meaning.specs.Serving.{World}
 use Rattle.answers_meaning.specs.Asking.{Service}
-use Rattle.race_meaning.specs.Named.{IsRaceless}
-use Rattle.request_opening.specs.Openings.{service_of}
+use Rattle.response_flow.specs.race_meaning.Named.{IsRaceless}
+use Rattle.response_flow.specs.request_opening.Openings.{service_of}
 use Rattle.response_flow.specs.declared.flight.Flight.{Flight}
 use Rattle.response_flow.specs.Flights.{FlightReached, flight_length, flight_rest, flight_server}
-use Rattle.request_flow.specs.Rests.{Rest, no_rest}
+use Rattle.response_flow.specs.request_flow.Rests.{Rest, no_rest}
 use Rattle.served_site.specs.declared.served.ServedSite.{ServedSite}
 use Rattle.served_site.specs.Served.{raw_server}
 

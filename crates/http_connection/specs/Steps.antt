@@ -13,7 +13,7 @@ use Rattle.response_flow.specs.declared.flight.Flight.{Flight}
 use Rattle.response_flow.specs.declared.flight.Ran.{Ran}
 use Rattle.response_flow.specs.declared.flight.Ran.TheVariants.{On, TooMany}
 use Rattle.response_flow.specs.Continues.{is_over}
-use Rattle.request_flow.specs.Rests.{closes_after, logged_by}
+use Rattle.response_flow.specs.request_flow.Rests.{closes_after, logged_by}
 use Rattle.http_connection.specs.Rests.{AreRaceless, Serves, service_in, rest_in, values_at}
 use Rattle.http_connection.specs.Times.{or_values, values_in}
 use Rattle.http_connection.specs.declared.open.Meeting.{Meeting}

@@ -1,6 +1,6 @@
 -- In what the bytes end that a connection keeps for its peer.
 use Rattle.std.specs.Prelude.{◌≡◌, ◌⊎◌, ◌++◌, ℕ, true, is_some, List, Option, None, Some, length}
-use Rattle.page_response.specs.Pages.{EndsIn}
+use Rattle.response_flow.specs.page_response.Pages.{EndsIn}
 use Rattle.response_flow.specs.Flights.{EndsChunk, HasTail}
 use Rattle.response_flow.specs.declared.flight.Flight.{Flight}
 

@@ -60,7 +60,7 @@ impl Conn {
     ghost use Rattle.ngx_outside.specs.Views.{Fresh, ask_in, is_idle as idle_in};
     ghost use Rattle.http_connection.specs.Conn.{view_of, left_of, fresh_course, room_at, starts_at, ready_at, idle_at, shut_at, pending_at, weight, asked_of};
     ghost use Rattle.response_flow.specs.Flights.{jobs_of};
-    ghost use Rattle.subrequests.specs.Wants.{first_job as job_first, first_of as number_first, is_among};
+    ghost use Rattle.response_flow.specs.subrequests.Wants.{first_job as job_first, first_of as number_first, is_among};
     ghost use Rattle.http_connection.specs.Rests.{Serves};
     ghost use Rattle.http_connection.specs.Times.{own_values, head_wait_in, soonest};
     ghost use Rattle.http_connection.specs.Conn.{awaited_at, due_at};

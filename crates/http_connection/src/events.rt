@@ -16,8 +16,8 @@ use crate::times::{AT_REST, Sending, marked, paced_on};
 use byte_text::OutOfMemory;
 use file_tree::{JobAnswer, is_fitting};
 use ngx_outside::{FileFault, Files, StepAnswer, StopCause};
-use reply_out::{OutRoom, Workspace};
 use req_head::{HeadRoom, head_stays, refusal_stays, size_fits};
+use response_flow::reply_out::{OutRoom, Workspace};
 use response_flow::{
     Passed, Ran, answered, ask, came, length_of, reads_alone, run_in_place, server_of, written,
 };
@@ -32,7 +32,7 @@ impl Conn {
     ghost use Rattle.ngx_outside.specs.Views.{Start};
     ghost use Rattle.ngx_outside.specs.declared.event.Event.TheVariants.{Arrived, Ended, Wrote, LinkFailed, FileDone, JobFailed, Run};
     ghost use Rattle.http_connection.specs.Conn.{starts_at, ready_at, StepsConn};
-    ghost use Rattle.subrequests.specs.Wants.{is_among};
+    ghost use Rattle.response_flow.specs.subrequests.Wants.{is_among};
     ghost use Rattle.http_connection.specs.Rests.{Serves};
     ghost use Rattle.http_connection.specs.Times.{mark_by};
     ghost use Rattle.http_connection.specs.Conn.{TimesConn};

@@ -2,7 +2,7 @@
 ghost use Rattle.std.specs.Prelude.{◌≡◌, ◌++◌, ◌∷◌, true, not, [], length, is_some, map};
 ghost use Rattle.ngx_outside.specs.Views.{start_of, log_of};
 ghost use Rattle.ngx_outside.specs.declared.event.Entry.{Entry as Logged};
-ghost use Rattle.request_flow.specs.Rests.{logged_by};
+ghost use Rattle.response_flow.specs.request_flow.Rests.{logged_by};
 ghost use Rattle.request_journal.specs.Journals.{HasRoom};
 ghost use Rattle.http_connection.specs.Steps.{logged_in, IsLogged};
 

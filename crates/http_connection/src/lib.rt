@@ -19,5 +19,7 @@ pub use conn::Conn;
 pub use law::{
     connections_are_bounded, connections_are_exact, connections_are_sound, connections_pend_whole,
 };
+pub use response_flow::reply_out;
+pub use served_site;
 pub use times::{Awaited, Pace, Times};
 pub use wants::next_want;

@@ -3,7 +3,7 @@ ghost use Rattle.std.specs.Prelude.{◌≡◌, ◌≤◌, ◌<◌, ◌+◌, not,
 ghost use Rattle.ngx_outside.specs.Views.{Start};
 ghost use Rattle.answers_meaning.specs.Asking.{stated_length as length_stated};
 ghost use Rattle.request_meaning.specs.Serving.{is_head as is_head_method};
-ghost use Rattle.request_flow.specs.Flows.{asking_most};
+ghost use Rattle.response_flow.specs.request_flow.Flows.{asking_most};
 ghost use Rattle.response_flow.specs.Continues.{IfOn};
 ghost use Rattle.response_flow.specs.Flights.{FlightFits, TailFits, flight_left, flight_tree, page_most};
 ghost use Rattle.http_connection.specs.Rests.{ReachedIn, Serves};
@@ -12,9 +12,9 @@ ghost use Rattle.http_connection.specs.Steps.{OpenedTo, Refuses};
 use crate::slot::forget;
 use byte_text::{ByteQueue, OutOfMemory};
 use http_types::{Addr, BodyKind, Method};
-use reply_out::{Workspace, put_refusal};
 use req_head::Head;
-use request_opening::Opening;
+use response_flow::reply_out::{Workspace, put_refusal};
+use response_flow::request_opening::Opening;
 use response_flow::{Onward, Ran, start};
 use served_site::ServedSite;
 

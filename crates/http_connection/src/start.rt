@@ -3,7 +3,7 @@ ghost use Rattle.std.specs.Prelude.{◌≡◌, ◌≤◌, ◌<◌, ◌+◌, ◌-
 ghost use Rattle.ngx_outside.specs.Views.{start_of, log_of};
 ghost use Rattle.req_head.specs.Step.{head_step};
 ghost use Rattle.ngx_outside.specs.declared.event.Entry.{Entry as Logged};
-ghost use Rattle.request_flow.specs.Flows.{asking_most};
+ghost use Rattle.response_flow.specs.request_flow.Flows.{asking_most};
 ghost use Rattle.response_flow.specs.Continues.{IfOn};
 ghost use Rattle.response_flow.specs.Flights.{FlightFits, TailFits, flight_left, flight_tree, page_most};
 ghost use Rattle.http_connection.specs.Rests.{AreRaceless, ReachedIn, Serves, service_in, rest_in, values_at};
@@ -20,9 +20,9 @@ use crate::slot::{put, take};
 use crate::times::own_level;
 use body_frame::BodyState;
 use byte_text::{ByteQueue, OutOfMemory};
-use reply_out::Workspace;
 use req_head::{Head, HeadRoom, HeadStep, awaits_first, read_head_in, size_fits};
 use request_journal::Journal;
+use response_flow::reply_out::Workspace;
 use response_flow::{Onward, Ran};
 use served_site::ServedSite;
 

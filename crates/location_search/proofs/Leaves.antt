@@ -1,7 +1,7 @@
 -- A list with no location.
 use Rattle.std.proofs.Common.{◌≡◌, ℕ, List, [], None, refl, ap}
 use Rattle.ngx_pattern.specs.Pattern.{Pattern as SetPattern}
-use Rattle.site_views.specs.Pattern.{Span}
+use Rattle.pattern_search.specs.site_views.Pattern.{Span}
 use Rattle.location_match.specs.Prefixes.{PrefixList}
 use Rattle.location_match.specs.Numbers.{first_number, number_of}
 use Rattle.location_search.specs.Found.{IsFirstMatch}

@@ -1,13 +1,13 @@
 -- Locations by their names.
 use Rattle.std.proofs.Common.{◌≡◌, ℕ, ◌≤◌, true, false, List, [], ◌∷◌, ◌++◌, map, length, drop, find, Some, option_map, bytes_eq, cond, refl, sym, ap, ◌∙◌}
 use Rattle.std.proofs.lemmas.List.{append-nil, drop_all}
-use Rattle.site_model.specs.declared.site.Site.{Site}
-use Rattle.site_model.specs.declared.site.NamedLocation.{NamedLocation}
-use Rattle.site_model.specs.declared.site.Server.{Server}
-use Rattle.site_views.specs.Pattern.{Pattern}
-use Rattle.site_views.specs.Views.{NamedView}
-use Rattle.site_views.specs.Search.{named}
-use Rattle.site_whole.specs.Whole.{named_whole, level_whole, server_whole}
+use Rattle.pattern_search.specs.site_model.declared.site.Site.{Site}
+use Rattle.pattern_search.specs.site_model.declared.site.NamedLocation.{NamedLocation}
+use Rattle.pattern_search.specs.site_model.declared.site.Server.{Server}
+use Rattle.pattern_search.specs.site_views.Pattern.{Pattern}
+use Rattle.pattern_search.specs.site_views.Views.{NamedView}
+use Rattle.pattern_search.specs.site_views.Search.{named}
+use Rattle.pattern_search.specs.site_whole.Whole.{named_whole, level_whole, server_whole}
 use Rattle.location_match.specs.Numbers.{number_in}
 use Rattle.location_search.specs.Names.{level_named}
 use Rattle.location_match.specs.declared.texts.NumberedText.{NumberedText}

@@ -1,12 +1,12 @@
 -- A server's locations by lists are as the meaning has them.
 use Rattle.std.proofs.Common.{◌≡◌, ℕ, nat_lt, true, false, List, [], ◌∷◌, cond, refl, sym, ap, ap₂, ◌∙◌}
-use Rattle.site_model.specs.declared.site.Site.{Site}
-use Rattle.site_model.specs.declared.site.Location.{Location as CodeLocation}
-use Rattle.site_model.specs.declared.site.Server.{Server}
-use Rattle.site_views.specs.Pattern.{Pattern}
-use Rattle.site_views.specs.Views.Locations.{Location}
-use Rattle.site_whole.specs.Whole.{Nested, inside as inside_of, outside as outside_of, nested, locations_whole, location_whole, server_whole}
-use Rattle.site_whole.specs.Whole.Nested.{NoneLeft as NoneIn, Nest as NestIn}
+use Rattle.pattern_search.specs.site_model.declared.site.Site.{Site}
+use Rattle.pattern_search.specs.site_model.declared.site.Location.{Location as CodeLocation}
+use Rattle.pattern_search.specs.site_model.declared.site.Server.{Server}
+use Rattle.pattern_search.specs.site_views.Pattern.{Pattern}
+use Rattle.pattern_search.specs.site_views.Views.Locations.{Location}
+use Rattle.pattern_search.specs.site_whole.Whole.{Nested, inside as inside_of, outside as outside_of, nested, locations_whole, location_whole, server_whole}
+use Rattle.pattern_search.specs.site_whole.Whole.Nested.{NoneLeft as NoneIn, Nest as NestIn}
 use Rattle.location_search.specs.Lists.{Numbered, inside, outside, numbered}
 use Rattle.location_search.specs.Lists.Numbered.{NoneLeft, Nest}
 use Rattle.location_search.specs.Found.{locations_in}

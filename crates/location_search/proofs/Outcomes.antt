@@ -3,10 +3,10 @@ use Rattle.std.proofs.Common.{◌≡◌, ℕ, ◌<◌, nat_lt, Bool, true, false
 use mathlib.Core.Bool.{true≢false}
 use Rattle.std.proofs.lemmas.Bool.Decides.{nat_tests}
 use Rattle.ngx_pattern.specs.Pattern.{Pattern as SetPattern}
-use Rattle.site_model.specs.declared.site.Site.{Site}
-use Rattle.site_views.specs.Pattern.{Span, groups_in}
-use Rattle.site_views.specs.Views.{LevelView}
-use Rattle.site_views.specs.Search.{Found, Sought, LongestPrefix, Candidates, plain, matched, decided, by_prefix, by_regex}
+use Rattle.pattern_search.specs.site_model.declared.site.Site.{Site}
+use Rattle.pattern_search.specs.site_views.Pattern.{Span, groups_in}
+use Rattle.pattern_search.specs.site_views.Views.{LevelView}
+use Rattle.pattern_search.specs.site_views.Search.{Found, Sought, LongestPrefix, Candidates, plain, matched, decided, by_prefix, by_regex}
 use Rattle.pattern_search.specs.Found.{patterns_seen}
 use Rattle.location_search.specs.Found.{found_seen, found_of, sought_seen, below, remembering, goes_on, with_groups}
 use Rattle.location_search.specs.declared.node.Node.{Node}

@@ -1,10 +1,10 @@
 -- Each way in which the search of a list comes to its end.
 use Rattle.std.proofs.Common.{◌≡◌, ℕ, Bool, true, false, List, length, find, Option, Some, None, is_some, option_map, option_and_then, slice_get, ⊎_elim, refl, sym, ap, ◌∙◌, subst, IfSome, arith}
 use Rattle.ngx_pattern.specs.Pattern.{Pattern as SetPattern}
-use Rattle.site_model.specs.declared.site.Site.{Site}
-use Rattle.site_views.specs.Pattern.{Span, groups_in}
-use Rattle.site_views.specs.Views.{Locations as LocationsView}
-use Rattle.site_views.specs.Search.{Found, Sought, LongestPrefix, Candidates, plain, matched, decided, by_prefix, by_regex, candidates, search}
+use Rattle.pattern_search.specs.site_model.declared.site.Site.{Site}
+use Rattle.pattern_search.specs.site_views.Pattern.{Span, groups_in}
+use Rattle.pattern_search.specs.site_views.Views.{Locations as LocationsView}
+use Rattle.pattern_search.specs.site_views.Search.{Found, Sought, LongestPrefix, Candidates, plain, matched, decided, by_prefix, by_regex, candidates, search}
 use Rattle.pattern_search.specs.Found.{found, found_at}
 use Rattle.location_match.specs.Prefixes.{fits}
 use Rattle.location_match.specs.Numbers.{number_of, IsLongestOf}

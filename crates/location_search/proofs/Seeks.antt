@@ -6,14 +6,14 @@ use Rattle.std.proofs.lemmas.Bool.{cases_lt, cases_Bool}
 use Rattle.std.proofs.lemmas.Bool.Decides.{nat_tests}
 use Rattle.std.proofs.lemmas.Slice.Eq.{bytes_eq-Decides}
 use Rattle.ngx_pattern.specs.Pattern.{Pattern as SetPattern}
-use Rattle.site_model.specs.declared.site.Site.{Site}
-use Rattle.site_model.specs.declared.site.Location.{Location as CodeLocation}
-use Rattle.site_model.specs.declared.site.LocationKind.{LocationKind}
-use Rattle.site_model.specs.declared.site.LocationKind.TheVariants as kinds
-use Rattle.site_views.specs.Pattern.{Span, groups_in}
-use Rattle.site_views.specs.Views.{LevelView}
-use Rattle.site_views.specs.Search.{Found, Sought, LongestPrefix, Candidates, plain, matched, decided, candidates, with_location, with_prefix, with_regex, longer}
-use Rattle.site_whole.specs.Whole.{level_whole, matching_by, pattern_at}
+use Rattle.pattern_search.specs.site_model.declared.site.Site.{Site}
+use Rattle.pattern_search.specs.site_model.declared.site.Location.{Location as CodeLocation}
+use Rattle.pattern_search.specs.site_model.declared.site.LocationKind.{LocationKind}
+use Rattle.pattern_search.specs.site_model.declared.site.LocationKind.TheVariants as kinds
+use Rattle.pattern_search.specs.site_views.Pattern.{Span, groups_in}
+use Rattle.pattern_search.specs.site_views.Views.{LevelView}
+use Rattle.pattern_search.specs.site_views.Search.{Found, Sought, LongestPrefix, Candidates, plain, matched, decided, candidates, with_location, with_prefix, with_regex, longer}
+use Rattle.pattern_search.specs.site_whole.Whole.{level_whole, matching_by, pattern_at}
 use Rattle.pattern_search.specs.Found.{patterns_seen, found, found_at}
 use Rattle.location_match.specs.Prefixes.{fits}
 use Rattle.location_match.specs.Numbers.{number_in, IsLongestOf}

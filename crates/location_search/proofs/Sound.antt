@@ -1,6 +1,6 @@
 -- Where a regular expression matched, its groups lie within the path.
 use Rattle.std.proofs.Common.{◌≡◌, ℕ, nat_lt, Bool, true, false, List, Option, Some, None, option_map, option_and_then, cond, refl, arith, IfSome}
-use Rattle.site_views.specs.Pattern.{Span}
+use Rattle.pattern_search.specs.site_views.Pattern.{Span}
 use Rattle.location_search.specs.Found.{AreSpans, HasSpans, below, remembering, goes_on, with_groups, found_of}
 use Rattle.location_search.specs.declared.node.PatternLocation.{PatternLocation}
 use Rattle.location_search.specs.declared.search.FoundLocation.{FoundLocation}

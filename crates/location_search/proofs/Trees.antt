@@ -2,7 +2,7 @@
 use Rattle.std.proofs.Common.{◌≡◌, ℕ, zero, suc, ◌+◌, ◌-◌, ◌≤◌, nat_lt, true, false, List, [], ◌∷◌, ◌++◌, map, length, take, drop, flat_map, Option, Some, None, slice_get, cond, refl, sym, ap, ap₂, ◌∙◌, subst, arith}
 use Rattle.std.proofs.lemmas.List.{append-nil, append_assoc, reverse-append, length-append, take_more, drop_all}
 use Rattle.std.proofs.lemmas.Option.{slice_get-get_or, get_or_from_slice_get}
-use Rattle.site_model.specs.declared.site.Location.{Location as CodeLocation}
+use Rattle.pattern_search.specs.site_model.declared.site.Location.{Location as CodeLocation}
 use Rattle.location_match.specs.Numbers.{number_in}
 use Rattle.location_search.specs.Lists.{Member, Numbered, inside, outside, numbered, members, is_exactly, is_prefix, is_firm, texts_in, text_of, patterns_in, pattern_of}
 use Rattle.location_search.specs.Lists.Numbered.{NoneLeft, Nest}

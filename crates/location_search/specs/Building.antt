@@ -1,6 +1,6 @@
 -- How the nodes are made, from the last location to the first.
 use Rattle.std.specs.Prelude.{◌≡◌, ℕ, nat_lt, Bool, true, List, [], ◌∷◌, length, map, reverse, Option, None, Some, if◌then◌else◌}
-use Rattle.site_model.specs.declared.site.Location.{Location as CodeLocation}
+use Rattle.pattern_search.specs.site_model.declared.site.Location.{Location as CodeLocation}
 use Rattle.location_match.specs.Numbers.{number_in, LeadsAs}
 use Rattle.location_search.specs.Lists.{Member, members, numbered, is_exactly, is_prefix, texts_in, patterns_in}
 use Rattle.location_search.specs.Nodes.{HaveNodes}

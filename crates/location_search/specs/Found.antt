@@ -1,13 +1,13 @@
 -- What a search of locations finds, as the meaning sees it, and the steps that it takes.
 use Rattle.std.specs.Prelude.{◌≡◌, ℕ, nat_lt, Bool, true, false, not, List, Option, None, Some, option_map, slice_get, length, find, is_some, IfSome, if◌then◌else◌}
-use Rattle.site_model.specs.declared.site.Site.{Site}
+use Rattle.pattern_search.specs.site_model.declared.site.Site.{Site}
 use Rattle.ngx_pattern.specs.Pattern.{Pattern as SetPattern, AllLieWithin}
 use Rattle.pattern_search.specs.Found.{found_at}
-use Rattle.site_views.specs.Pattern.{Pattern, Span, groups_in}
-use Rattle.site_views.specs.Views.{Locations as LocationsView}
-use Rattle.site_views.specs.Views.Locations.{NoMore, Location}
-use Rattle.site_views.specs.Search.{Found, Sought, plain}
-use Rattle.site_whole.specs.Whole.{level_whole, location_whole}
+use Rattle.pattern_search.specs.site_views.Pattern.{Pattern, Span, groups_in}
+use Rattle.pattern_search.specs.site_views.Views.{Locations as LocationsView}
+use Rattle.pattern_search.specs.site_views.Views.Locations.{NoMore, Location}
+use Rattle.pattern_search.specs.site_views.Search.{Found, Sought, plain}
+use Rattle.pattern_search.specs.site_whole.Whole.{level_whole, location_whole}
 use Rattle.location_search.specs.Lists.{Numbered}
 use Rattle.location_search.specs.Lists.Numbered.{NoneLeft, Nest}
 use Rattle.location_search.specs.declared.node.PatternLocation.{PatternLocation}

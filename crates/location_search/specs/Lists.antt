@@ -1,9 +1,9 @@
 -- The locations of a server by lists: those that are in no other, and those in each. A location's number here is how many
 -- locations come after it in the text, so what is in a location has a lower number.
 use Rattle.std.specs.Prelude.{ℕ, nat_lt, Bool, true, false, List, [], ◌∷◌, length, flat_map, if◌then◌else◌}
-use Rattle.site_model.specs.declared.site.LocationKind.{LocationKind}
-use Rattle.site_model.specs.declared.site.LocationKind.TheVariants as kinds
-use Rattle.site_model.specs.declared.site.Location.{Location as CodeLocation}
+use Rattle.pattern_search.specs.site_model.declared.site.LocationKind.{LocationKind}
+use Rattle.pattern_search.specs.site_model.declared.site.LocationKind.TheVariants as kinds
+use Rattle.pattern_search.specs.site_model.declared.site.Location.{Location as CodeLocation}
 use Rattle.location_match.specs.declared.texts.NumberedText.{NumberedText}
 use Rattle.location_search.specs.declared.node.PatternLocation.{PatternLocation}
 

@@ -1,6 +1,6 @@
 -- Locations by their names (https://nginx.org/en/docs/http/ngx_http_core_module.html#location).
 use Rattle.std.specs.Prelude.{ℕ, List, Option, option_map, find, bytes_eq}
-use Rattle.site_model.specs.declared.site.NamedLocation.{NamedLocation}
+use Rattle.pattern_search.specs.site_model.declared.site.NamedLocation.{NamedLocation}
 
 -- the level of the first that has the name
 abbrev pub level_named : List NamedLocation → List ℕ → Option ℕ

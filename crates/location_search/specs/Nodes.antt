@@ -1,6 +1,6 @@
 -- What is kept of a list of locations, and of all of a server's.
 use Rattle.std.specs.Prelude.{◌≡◌, ℕ, ◌<◌, List, Option, Some, None, slice_get}
-use Rattle.site_model.specs.declared.site.Location.{Location as CodeLocation}
+use Rattle.pattern_search.specs.site_model.declared.site.Location.{Location as CodeLocation}
 use Rattle.location_match.specs.Numbers.{number_in, LeadsAs}
 use Rattle.location_search.specs.Lists.{Member, Numbered, members, is_exactly, is_prefix, is_firm, texts_in, patterns_in, numbered}
 use Rattle.location_search.specs.Lists.Numbered.{NoneLeft, Nest}

@@ -1,5 +1,5 @@
 -- Of which server locations are.
-use Rattle.site_model.specs.declared.site.Server.{Server}
+use Rattle.pattern_search.specs.site_model.declared.site.Server.{Server}
 use Rattle.location_match.specs.Numbers.{LeadsAs}
 use Rattle.location_search.specs.Nodes.{IsTreeOf}
 use Rattle.location_search.specs.Names.{level_named}

@@ -4,12 +4,12 @@ ghost use Rattle.std.specs.Prelude.{◌≡◌, ℕ, ◌+◌, true, List, [], ◌
 ghost use Rattle.location_search.specs.Lists.{is_exactly, is_prefix, is_firm as firm_of, text_of, pattern_of};
 ghost use Rattle.location_search.specs.Nodes.{IsTreeOf};
 ghost use Rattle.location_search.specs.Building.{listed, is_inside as inside_of, HasNoneInside, GathersAll, HasTexts, IsBuilt};
-ghost use Rattle.site_model.specs.declared.site.Location.{Location as LocationRow};
+ghost use Rattle.pattern_search.specs.site_model.declared.site.Location.{Location as LocationRow};
 
 use crate::node::{LocationList, Node, PatternLocation, Tree};
 use byte_text::{ByteText, OutOfMemory};
 use location_match::{NumberedText, Prefixes};
-use site_model::{Location, LocationKind};
+use pattern_search::site_model::{Location, LocationKind};
 use std::alloc::Global;
 
 /// A location that is in none of those that were seen, with its number.

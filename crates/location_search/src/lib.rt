@@ -7,4 +7,5 @@ mod node;
 mod search;
 
 pub use locations::Locations;
+pub use pattern_search;
 pub use search::FoundLocation;

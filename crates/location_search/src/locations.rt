@@ -1,12 +1,12 @@
 // The locations of a server.
 ghost use Rattle.std.specs.Prelude.{◌≡◌, ℕ, List, Option, true, option_map, IfOk, IfSome};
-ghost use Rattle.site_model.specs.declared.site.Server.{Server as ServerRow};
-ghost use Rattle.site_model.specs.declared.site.NamedLocation.{NamedLocation as NamedRow};
-ghost use Rattle.site_model.specs.declared.site.Site.{Site as SiteRow};
+ghost use Rattle.pattern_search.specs.site_model.declared.site.Server.{Server as ServerRow};
+ghost use Rattle.pattern_search.specs.site_model.declared.site.NamedLocation.{NamedLocation as NamedRow};
+ghost use Rattle.pattern_search.specs.site_model.declared.site.Site.{Site as SiteRow};
 ghost use Rattle.location_match.specs.Numbers.{LeadsAs};
 ghost use Rattle.location_search.specs.Names.{level_named};
 ghost use Rattle.location_search.specs.Found.{found_of as found_in_sought};
-ghost use Rattle.site_views.specs.Pattern.{Pattern as PatternView};
+ghost use Rattle.pattern_search.specs.site_views.Pattern.{Pattern as PatternView};
 
 use crate::build::tree_of;
 use crate::node::Tree;
@@ -14,7 +14,7 @@ use crate::search::{FoundLocation, Sought, seek};
 use byte_text::{ByteText, OutOfMemory};
 use location_match::{NumberedText, Prefixes};
 use ngx_pattern::{PatternSet, Spans};
-use site_model::{NamedLocation, Server};
+use pattern_search::site_model::{NamedLocation, Server};
 use std::alloc::Global;
 
 /// The locations of a server, as they are searched. Contracts say of which server they are by `AreOf`.
@@ -56,9 +56,9 @@ fn names_of(alloc: Global, locations: &[NamedLocation]) -> Result<Prefixes, OutO
 }
 
 impl Locations {
-    ghost use Rattle.site_views.specs.Search.{search, named as named_in};
+    ghost use Rattle.pattern_search.specs.site_views.Search.{search, named as named_in};
     ghost use Rattle.pattern_search.specs.Found.{patterns_seen, found as found_in};
-    ghost use Rattle.site_whole.specs.Whole.{level_whole, server_whole};
+    ghost use Rattle.pattern_search.specs.site_whole.Whole.{level_whole, server_whole};
     ghost use Rattle.location_search.specs.Found.{AreSpans, found_seen};
     ghost use Rattle.location_search.specs.Served.{AreOf};
 

@@ -1,7 +1,7 @@
 // The search of the location that holds for a path.
 ghost use Rattle.std.specs.Prelude.{◌≡◌, ◌<◌, ◌==◌, ℕ, nat_lt, true, List, [], Option, None, Some, IfSome, is_some, option_map, option_and_then, option_copied, slice_get, length, find as first_of};
-ghost use Rattle.site_model.specs.declared.site.Site.{Site as SiteRow};
-ghost use Rattle.site_views.specs.Search.{decided, candidates};
+ghost use Rattle.pattern_search.specs.site_model.declared.site.Site.{Site as SiteRow};
+ghost use Rattle.pattern_search.specs.site_views.Search.{decided, candidates};
 ghost use Rattle.pattern_search.specs.Found.{patterns_seen, found as found_in, found_at};
 ghost use Rattle.location_match.specs.Numbers.{number_of, IsLongestOf};
 ghost use Rattle.location_match.specs.Prefixes.{fits};

@@ -16,8 +16,8 @@ use Rattle.replay_run.specs.Standing.{Standing, Unopened, Opened, AllStanding, i
 use Rattle.conf_inherit.specs.declared.site.Built.{Built}
 use Rattle.answers_meaning.specs.Asking.{Service}
 use Rattle.answers_meaning.specs.Answers.{responses, logs_in, close_in, answers}
-use Rattle.request_opening.specs.Openings.{service_of}
-use Rattle.http_connection.specs.Conn.{fresh_course, IsExact}
+use Rattle.site_service.specs.request_opening.Openings.{service_of}
+use Rattle.site_service.specs.http_connection.Conn.{fresh_course, IsExact}
 use Rattle.ngx_cli.specs.Running.{Answered, IsNew}
 
 -- on a connection that is held, its ends, what came and what of that is tracked

@@ -1,8 +1,8 @@
 -- The lines of the variables that are named, as they are printed.
 use Rattle.std.proofs.Common.{◌≡◌, ℕ, ◌+◌, ◌<◌, ◌≤◌, Bool, List, [], ◌∷◌, ◌++◌, map, get_or, drop, length, refl, sym, ap, ◌∙◌}
 use Rattle.source_lines.specs.declared.line.Line.{Line}
-use Rattle.race_places.specs.Places.{source_at, seen, conflict_seen}
-use Rattle.race_places.specs.declared.told.Conflict.{Conflict as Told}
+use Rattle.conf_races.specs.race_places.Places.{source_at, seen, conflict_seen}
+use Rattle.conf_races.specs.race_places.declared.told.Conflict.{Conflict as Told}
 use Rattle.conf_races.specs.Runs.{run_path}
 use Rattle.report_text.specs.Lines.{ended, lines_text}
 use Rattle.report_text.specs.Races.{Race, place_of, race_line}

@@ -22,8 +22,8 @@ use Rattle.replay_confs.specs.Confs.{conf_tree}
 use Rattle.conf_inherit.specs.Values.{has_items}
 use Rattle.conf_inherit.specs.declared.site.Built.{Built}
 use Rattle.answers_meaning.specs.Answers.{responses, logs_in, close_in, answers}
-use Rattle.request_opening.specs.Openings.{service_of}
-use Rattle.connection_core.specs.Core.{site_terms}
+use Rattle.site_service.specs.request_opening.Openings.{service_of}
+use Rattle.site_service.specs.connection_core.Core.{site_terms}
 use Rattle.report_text.specs.declared.report.ConnState.{ConnState}
 use Rattle.report_text.specs.declared.report.ConnState.TheVariants.{Stopped, Idle, Busy}
 use Rattle.report_text.specs.Report.{Report, run_text}

@@ -2,7 +2,7 @@
 ghost use Rattle.std.specs.Prelude.{◌≡◌, true, [], ◌++◌, ℕ, List, Ok, Err, IfOk, IfErr, OnOk, map, is_some, if◌then◌else◌};
 ghost use Rattle.report_text.specs.declared.report.ConnState.TheVariants.{Stopped, Idle, Busy};
 ghost use Rattle.replay_run.specs.Scene.{stage, AreHeld};
-ghost use Rattle.connection_core.specs.Core.{view_at, now_at, journal_at, conns_held, terms_at};
+ghost use Rattle.site_service.specs.connection_core.Core.{view_at, now_at, journal_at, conns_held, terms_at};
 ghost use Rattle.report_text.specs.Report.{run_text, report_of};
 ghost use Rattle.report_text.specs.Lines.{ended};
 ghost use Rattle.report_text.specs.Faults.{conf_fault_line};
@@ -15,7 +15,6 @@ use crate::site::{ReadSite, SiteError, site_at};
 use byte_text::{ByteText, OutOfMemory};
 use conf_include::PlacedFault;
 use conf_inherit::Built;
-use connection_core::{Hub, cores_are_sound};
 use ngx_outside::{
     Entry, StopCause, all_is_logged_when_idle, all_is_sent_when_idle, all_is_sent_when_shut,
     shut_is_exact, tracks_begin,
@@ -25,7 +24,8 @@ use replay_confs::ConfFiles;
 use replay_run::{Counts, Player, files_of, run_lines};
 use replay_text::{Conf, Confs, EventLine, Script, ScriptError, ScriptFault, TreeLine, read};
 use report_text::{ConnReport, ConnState, conf_fault_text, conn_text, end_text, script_fault_text};
-use served_site::ServedSite;
+use site_service::connection_core::{Hub, cores_are_sound};
+use site_service::served_site::ServedSite;
 use std::alloc::Global;
 
 /// What a script came to.

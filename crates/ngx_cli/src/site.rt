@@ -8,8 +8,8 @@ ghost use Rattle.ngx_cli.specs.declared.site.SiteError.TheVariants.{OutOfMemory 
 ghost use Rattle.ngx_cli.specs.Sites.{AreRaceless, AreRacesOf, conflicts_of, Describes, FailsIf, Reading, unread_by, site_at as site_found};
 
 use byte_text::{ByteText, ByteTexts, OutOfMemory};
-use conf_check::ReadError;
 use conf_include::{ExpandError, Expanded, PlacedFault, expand, folder_of};
+use conf_inherit::conf_check::ReadError;
 use conf_inherit::{Built, build};
 use conf_races::{FoundRaces, races};
 use ngx_outside::Files;

@@ -19,6 +19,7 @@ pub use compile::{Reference, lowercase, piece_named, reference_at};
 pub use fault::{EvalFault, ValueFault};
 pub use joining::{append_whole, drop_last_slash, joined};
 pub use laws::{builtin_is_not_set, settles_behind_value, value_settles};
+pub use req_head;
 pub use request::{FileRoot, Groups, Main, Request, Role, method_name};
 pub use value::{Piece, Value};
 pub use variable::{Variable, is_builtin};

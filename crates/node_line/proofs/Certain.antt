@@ -3,8 +3,8 @@ use Rattle.std.proofs.Common.{◌≡◌, ◌≢◌, ℕ, nat_le, Bool, true, fal
 use Rattle.acts.specs.Vars.{Vars}
 use Rattle.acts.specs.Act.{Done, Write}
 use Rattle.file_tree.specs.Tree.{Tree}
-use Rattle.request_meaning.specs.Serving.{World, Serving, Answer, Reply}
-use Rattle.request_meaning.specs.Replies.{run, reply, or_stub}
+use Rattle.family_meaning.specs.request_meaning.Serving.{World, Serving, Answer, Reply}
+use Rattle.family_meaning.specs.request_meaning.Replies.{run, reply, or_stub}
 use Rattle.family_meaning.specs.Line.{Line, Left, before, rest, joined, has_node, reply_of, status_of}
 use Rattle.family_meaning.specs.Line.Line.{Nil, Bytes, Gives, Waits, Stubs}
 use Rattle.family_meaning.specs.Moves.{AllEnd, IsGood, IsGoodLeft, KeepsBody, SomeBody}

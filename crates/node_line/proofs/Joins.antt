@@ -2,7 +2,7 @@
 use Rattle.std.proofs.Common.{◌≡◌, ◌≢◌, ℕ, List, [], ◌∷◌, ◌++◌, map, refl, sym, ap, ◌∙◌, append-nil}
 use Rattle.file_tree.specs.Tree.{Tree}
 use Rattle.acts.specs.Vars.{Vars}
-use Rattle.request_meaning.specs.Serving.{World, Serving, Answer}
+use Rattle.family_meaning.specs.request_meaning.Serving.{World, Serving, Answer}
 use Rattle.postpone_filter.specs.Row.{longer}
 use Rattle.family_meaning.specs.Line.{front}
 use Rattle.family_meaning.specs.Line.Line.{Nil, Bytes, Gives}

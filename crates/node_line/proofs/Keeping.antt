@@ -3,8 +3,8 @@ use Rattle.std.proofs.Common.{ℕ, List, [], ◌∷◌, refl}
 use Rattle.acts.specs.Vars.{Vars, look, set}
 use Rattle.acts.specs.Act.{Done, Get, Put, Stat, Call, Write, Inner, ◌>>=◌}
 use Rattle.file_tree.specs.Tree.{Tree}
-use Rattle.request_meaning.specs.Serving.{World, Serving, Child, Answer}
-use Rattle.request_meaning.specs.Replies.{Came, run, reply}
+use Rattle.family_meaning.specs.request_meaning.Serving.{World, Serving, Child, Answer}
+use Rattle.family_meaning.specs.request_meaning.Replies.{Came, run, reply}
 use Rattle.family_meaning.specs.Line.{rest, reply_of, has_node}
 use Rattle.family_meaning.specs.Line.Line.{Nil, Bytes, Gives}
 use Rattle.family_meaning.specs.Moves.{AllEnd, IsGood, KeepsBody}

@@ -5,20 +5,20 @@ use Rattle.std.proofs.lemmas.Bool.Decides.{nat_tests}
 use Rattle.std.proofs.lemmas.List.{nil_from_length}
 use Rattle.acts.specs.Act.{Done, Write}
 use Rattle.ngx_pattern.specs.Pattern.{Pattern as SetPattern}
-use Rattle.ngx_variables.specs.declared.request.Main.{Main}
-use Rattle.site_model.specs.declared.site.Site.{Site}
-use Rattle.request_meaning.specs.Serving.{World, Serving, Answer}
-use Rattle.request_phases.specs.declared.state.Phases.{Phases}
+use Rattle.family_meaning.specs.ngx_variables.declared.request.Main.{Main}
+use Rattle.node_turn.specs.site_model.declared.site.Site.{Site}
+use Rattle.family_meaning.specs.request_meaning.Serving.{World, Serving, Answer}
+use Rattle.node_turn.specs.request_phases.declared.state.Phases.{Phases}
 use Rattle.family_meaning.specs.Moves.{AllEnd, IsGood}
 use Rattle.family_meaning.specs.Suspended.{document_rest}
 use Rattle.std.specs.Global.{Box}
 use Rattle.filter_api.specs.Members.{Machine}
 use Rattle.filter_api.specs.declared.stage.Stage.{Stage as Filter}
 use Rattle.ssi_text.specs.Marks.{Mark, marks}
-use Rattle.request_meaning.specs.Bodies.{machines}
-use Rattle.request_meaning.specs.Documents.{Doc}
-use Rattle.page_body.specs.Pages.{waiting, stages_of}
-use Rattle.page_body.specs.declared.page.Page.{Page}
+use Rattle.family_meaning.specs.request_meaning.Bodies.{machines}
+use Rattle.family_meaning.specs.request_meaning.Documents.{Doc}
+use Rattle.node_turn.specs.page_body.Pages.{waiting, stages_of}
+use Rattle.node_turn.specs.page_body.declared.page.Page.{Page}
 use Rattle.node_turn.specs.Nodes.{answer_seen, asked_path, captured_act, captured_at, later, hand, lent, page_at, placed_act, served_act, stage_act, stage_heard}
 use Rattle.node_turn.specs.Stages.{hand_at, node_act, node_heard}
 use Rattle.node_turn.specs.declared.node.Body.{Body}

@@ -5,8 +5,8 @@ use Rattle.acts.specs.Vars.{Vars, look}
 use Rattle.acts.specs.Act.{Done, Get, Stat, Call, Write, Inner, settled}
 use Rattle.file_tree.specs.Tree.{Tree, Item}
 use Rattle.postpone_filter.specs.Row.{is_open, appended}
-use Rattle.request_meaning.specs.Serving.{World, Serving, Answer, Child, Reply}
-use Rattle.request_meaning.specs.Replies.{or_stub, script}
+use Rattle.family_meaning.specs.request_meaning.Serving.{World, Serving, Answer, Child, Reply}
+use Rattle.family_meaning.specs.request_meaning.Replies.{or_stub, script}
 use Rattle.family_meaning.specs.Line.{Line, has_node, joined, opened, reply_of, with_bytes, with_stub, ended as line_reply}
 use Rattle.family_meaning.specs.Line.Line.{Nil, Bytes, Gives, Waits, Stubs}
 use Rattle.family_meaning.specs.Moves.{Quiet, Moves, AllEnd, IsGood, KeepsBody, Thinks as LineThinks}

@@ -1,11 +1,11 @@
 -- What becomes of a node with a stub.
 use Rattle.std.specs.Prelude.{◌≡◌, ◌≢◌, ℕ, ◌&&◌, ◌==◌, nat_lt, Bool, true, false, List, [], length, Some}
 use Rattle.ngx_pattern.specs.Pattern.{Pattern as SetPattern}
-use Rattle.ngx_variables.specs.declared.request.Main.{Main}
-use Rattle.site_model.specs.declared.site.Site.{Site}
+use Rattle.family_meaning.specs.ngx_variables.declared.request.Main.{Main}
+use Rattle.node_turn.specs.site_model.declared.site.Site.{Site}
 use Rattle.postpone_filter.specs.Row.{Row as Order, appended, ended}
-use Rattle.request_meaning.specs.Serving.{World, Answer}
-use Rattle.request_meaning.specs.Replies.{or_stub}
+use Rattle.family_meaning.specs.request_meaning.Serving.{World, Answer}
+use Rattle.family_meaning.specs.request_meaning.Replies.{or_stub}
 use Rattle.acts.specs.Act.{Done}
 use Rattle.family_meaning.specs.Moves.{AllEnd, IsGood}
 use Rattle.node_turn.specs.Stages.{hand_at, withheld_more, node_act}

@@ -5,4 +5,7 @@
 
 mod stub;
 
+pub use family_rest;
+pub use node_turn;
+pub use node_turn::{request_phases, rewrite_code, ssi_exec, ssi_values};
 pub use stub::{comes, decides, has_bytes, is_good};

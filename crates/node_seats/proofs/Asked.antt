@@ -1,6 +1,6 @@
 -- One level of those for which a node waits.
 use Rattle.std.proofs.Common.{◌≡◌, ◌≢◌, ℕ, zero, suc, ◌-◌, ◌==◌, ◌&&◌, true, false, List, None, Some, slice_get, refl, sym, ap, ◌∙◌, arith}
-use Rattle.node_turn.specs.declared.node.Node.{Node}
+use Rattle.node_line.specs.node_turn.declared.node.Node.{Node}
 use Rattle.node_seats.specs.Joining.{answered_by, answers_asked, is_answered}
 use Rattle.node_seats.specs.Seats.{is_captured}
 

@@ -15,11 +15,11 @@ use Rattle.family_meaning.specs.Line.Line.{Nil, Gives, Stubs}
 use Rattle.family_order.specs.Items.{Stance, Family, IsWell, doing, is_shown}
 use Rattle.family_order.specs.Items.Stance.{Hidden}
 use Rattle.family_order.specs.Laws.{ShowsTheSame}
-use Rattle.node_turn.specs.Stages.{node_act}
-use Rattle.node_turn.specs.Turns.{Works}
-use Rattle.node_turn.specs.declared.node.Node.{Node}
-use Rattle.node_turn.specs.declared.node.Place.{Place}
-use Rattle.node_turn.specs.declared.node.Place.TheVariants.{Row, Stub, Gathers, Captured}
+use Rattle.node_line.specs.node_turn.Stages.{node_act}
+use Rattle.node_line.specs.node_turn.Turns.{Works}
+use Rattle.node_line.specs.node_turn.declared.node.Node.{Node}
+use Rattle.node_line.specs.node_turn.declared.node.Place.{Place}
+use Rattle.node_line.specs.node_turn.declared.node.Place.TheVariants.{Row, Stub, Gathers, Captured}
 use Rattle.node_line.specs.Stances.{Opening, Own, Spot, filling, owned, under}
 use Rattle.node_line.specs.Stances.Own.{Beside, Below}
 use Rattle.node_line.specs.Stances.Seat.{Inside}

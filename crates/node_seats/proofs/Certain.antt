@@ -9,12 +9,12 @@ use Rattle.request_meaning.specs.Serving.{World}
 use Rattle.family_meaning.specs.Line.{Line, joined}
 use Rattle.family_meaning.specs.Line.Line.{Nil, Gives, Waits, Stubs}
 use Rattle.family_meaning.specs.Moves.{KeepsBody, SomeBody}
-use Rattle.node_turn.specs.Stages.{is_capturing, node_act}
-use Rattle.node_turn.specs.declared.node.Node.{Node}
-use Rattle.node_turn.specs.declared.node.Place.{Place}
-use Rattle.node_turn.specs.declared.node.Place.TheVariants.{Row, Stub, Gathers, Captured}
-use Rattle.node_turn.specs.declared.node.Stage.{Stage}
-use Rattle.node_turn.specs.declared.node.Stage.TheVariants as stages
+use Rattle.node_line.specs.node_turn.Stages.{is_capturing, node_act}
+use Rattle.node_line.specs.node_turn.declared.node.Node.{Node}
+use Rattle.node_line.specs.node_turn.declared.node.Place.{Place}
+use Rattle.node_line.specs.node_turn.declared.node.Place.TheVariants.{Row, Stub, Gathers, Captured}
+use Rattle.node_line.specs.node_turn.declared.node.Stage.{Stage}
+use Rattle.node_line.specs.node_turn.declared.node.Stage.TheVariants as stages
 use Rattle.node_line.specs.Stances.{under}
 use Rattle.node_line.specs.Stubs.{gives_bytes, good}
 use Rattle.node_line.proofs.Certain.{Answers, EndsWell, answers_gives, answers_last, answers_stub, answers_under, answers_waits, some_first, some_kept, some_last, some_stub, some_text, some_under, some_written, well_gives, well_kept, well_last, well_under, well_waits}

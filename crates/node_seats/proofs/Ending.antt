@@ -17,10 +17,10 @@ use Rattle.family_order.specs.Items.{Family, IsWell, is_shown}
 use Rattle.family_order.specs.Items.Stance.{Hidden}
 use Rattle.node_line.specs.Stances.Own.{Beside, Below}
 use Rattle.family_order.specs.Laws.{ShowsTheSame}
-use Rattle.node_turn.specs.Stages.{is_capturing, node_act}
-use Rattle.node_turn.specs.declared.node.Node.{Node}
-use Rattle.node_turn.specs.declared.node.Place.{Place}
-use Rattle.node_turn.specs.declared.node.Place.TheVariants.{Row, Stub, Gathers, Captured}
+use Rattle.node_line.specs.node_turn.Stages.{is_capturing, node_act}
+use Rattle.node_line.specs.node_turn.declared.node.Node.{Node}
+use Rattle.node_line.specs.node_turn.declared.node.Place.{Place}
+use Rattle.node_line.specs.node_turn.declared.node.Place.TheVariants.{Row, Stub, Gathers, Captured}
 use Rattle.node_line.specs.Stances.{Opening, Own, filling, owned, under}
 use Rattle.node_line.specs.Stances.Spot.{After, Behind}
 use Rattle.node_line.proofs.Steps as steps

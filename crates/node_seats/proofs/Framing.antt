@@ -12,7 +12,7 @@ use Rattle.family_order.specs.Items.{Stance, Family, IsAlike, IsWell, doing, end
 use Rattle.family_order.specs.Items.Stance.{Hidden}
 use Rattle.family_order.specs.Laws.{ShowsTheSame}
 use Rattle.family_order.proofs.Wells.{well-doing}
-use Rattle.node_turn.specs.declared.node.Node.{Node}
+use Rattle.node_line.specs.node_turn.declared.node.Node.{Node}
 use Rattle.node_line.specs.Stances.{Opening}
 use Rattle.node_line.proofs.Steps as steps
 use Rattle.node_seats.specs.Seats.{doing_by, most_levels, seen, stance_in}

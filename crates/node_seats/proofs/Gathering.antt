@@ -7,10 +7,10 @@ use Rattle.site_model.specs.declared.site.Site.{Site}
 use Rattle.request_meaning.specs.Serving.{World}
 use Rattle.family_meaning.specs.Line.Line.{Nil, Gives}
 use Rattle.family_order.specs.Items.Stance.{Apart}
-use Rattle.node_turn.specs.Stages.{is_in_row}
-use Rattle.node_turn.specs.declared.node.Node.{Node}
-use Rattle.node_turn.specs.declared.node.Place.{Place}
-use Rattle.node_turn.specs.declared.node.Place.TheVariants.{Row, Stub, Gathers, Captured}
+use Rattle.node_line.specs.node_turn.Stages.{is_in_row}
+use Rattle.node_line.specs.node_turn.declared.node.Node.{Node}
+use Rattle.node_line.specs.node_turn.declared.node.Place.{Place}
+use Rattle.node_line.specs.node_turn.declared.node.Place.TheVariants.{Row, Stub, Gathers, Captured}
 use Rattle.node_line.specs.Stances.{under}
 use Rattle.node_seats.specs.Seats.{Doing, doing_by, is_asked, is_captured, is_inner, line_from, most_levels, place_stance, stance_in, stance_of, stub_in, withheld_text}
 use Rattle.node_seats.proofs.Above.{eq_self, false_true, some_same}

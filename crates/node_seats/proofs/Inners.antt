@@ -3,10 +3,10 @@ use Rattle.std.proofs.Common.{◌≡◌, ◌<◌, ◌≤◌, ℕ, zero, suc, ◌
 use Rattle.std.proofs.lemmas.Bool.Decides.{nat_tests}
 use Rattle.family_meaning.specs.Line.{Line, joined}
 use Rattle.family_meaning.specs.Line.Line.{Nil, Bytes, Gives, Waits}
-use Rattle.node_turn.specs.Stages.{is_capturing}
-use Rattle.node_turn.specs.declared.node.Node.{Node}
-use Rattle.node_turn.specs.declared.node.Place.{Place}
-use Rattle.node_turn.specs.declared.node.Place.TheVariants.{Row, Stub, Gathers, Captured}
+use Rattle.node_line.specs.node_turn.Stages.{is_capturing}
+use Rattle.node_line.specs.node_turn.declared.node.Node.{Node}
+use Rattle.node_line.specs.node_turn.declared.node.Place.{Place}
+use Rattle.node_line.specs.node_turn.declared.node.Place.TheVariants.{Row, Stub, Gathers, Captured}
 use Rattle.node_line.specs.Stances.{under}
 use Rattle.node_seats.specs.Seats.{Doing, ahead_line, asking_line, inner_line, inner_lines, is_captured, is_inner, line_from, most_nodes, put_by, stub_in, waited_line, withheld_text}
 

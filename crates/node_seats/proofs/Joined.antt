@@ -4,10 +4,10 @@ use Rattle.std.proofs.lemmas.Bool.{eqb-true}
 use Rattle.family_meaning.specs.Line.{Line}
 use Rattle.family_meaning.specs.Line.Line.{Nil, Gives, Waits, Stubs}
 use Rattle.family_order.specs.Items.{Stance, Item, items, stance_items}
-use Rattle.node_turn.specs.Stages.{is_capturing}
-use Rattle.node_turn.specs.declared.node.Node.{Node}
-use Rattle.node_turn.specs.declared.node.Place.{Place}
-use Rattle.node_turn.specs.declared.node.Place.TheVariants.{Row, Stub, Gathers, Captured}
+use Rattle.node_line.specs.node_turn.Stages.{is_capturing}
+use Rattle.node_line.specs.node_turn.declared.node.Node.{Node}
+use Rattle.node_line.specs.node_turn.declared.node.Place.{Place}
+use Rattle.node_line.specs.node_turn.declared.node.Place.TheVariants.{Row, Stub, Gathers, Captured}
 use Rattle.node_line.specs.Stances.{under}
 use Rattle.node_seats.specs.Seats.{Doing, ahead_line, asking_line, inner_line, inner_lines, is_asked, is_captured, is_inner, line_from, most_nodes, put_by, stub_in, waited_line, withheld_text}
 use Rattle.node_seats.specs.Joining.{AreClear, IsClearBy, number_with, numbers_at, numbers_below, numbers_from, waits_well}

@@ -4,10 +4,10 @@ use Rattle.std.proofs.lemmas.Bool.{eqb-true}
 use Rattle.family_meaning.specs.Line.{Line}
 use Rattle.family_meaning.specs.Line.Line.{Nil, Gives, Waits}
 use Rattle.family_order.specs.Items.Stance.{Waiting, Apart}
-use Rattle.node_turn.specs.Stages.{is_capturing, is_in_row}
-use Rattle.node_turn.specs.declared.node.Node.{Node}
-use Rattle.node_turn.specs.declared.node.Place.{Place}
-use Rattle.node_turn.specs.declared.node.Place.TheVariants.{Row, Stub, Gathers, Captured}
+use Rattle.node_line.specs.node_turn.Stages.{is_capturing, is_in_row}
+use Rattle.node_line.specs.node_turn.declared.node.Node.{Node}
+use Rattle.node_line.specs.node_turn.declared.node.Place.{Place}
+use Rattle.node_line.specs.node_turn.declared.node.Place.TheVariants.{Row, Stub, Gathers, Captured}
 use Rattle.node_line.specs.Stances.{Own, Spot, filling, owned, under}
 use Rattle.node_line.specs.Stances.Own.{Beside, Below}
 use Rattle.node_line.specs.Stances.Spot.{Whole, Behind, After, For, Stubbed}

@@ -2,7 +2,7 @@
 use Rattle.std.proofs.Common.{◌≡◌, ◌≢◌, ◌<◌, ◌≤◌, ℕ, zero, suc, ◌+◌, ◌-◌, ◌==◌, ◌&&◌, nat_lt, is_none, Bool, true, false, not, List, [], ◌∷◌, ◌++◌, length, Option, None, Some, slice_get, refl, sym, ap, ◌∙◌, subst, append_assoc, append-nil, arith, if◌then◌else◌}
 use Rattle.std.proofs.lemmas.Bool.{eqb-true}
 use Rattle.std.proofs.lemmas.Bool.Decides.{nat_tests}
-use Rattle.node_turn.specs.declared.node.Node.{Node}
+use Rattle.node_line.specs.node_turn.declared.node.Node.{Node}
 use Rattle.node_seats.specs.Joining.{AreClear, IsClearBy, has_some, number_with, numbers_at, numbers_below, numbers_from, waits_well}
 use Rattle.node_seats.specs.Seats.{inner_in, is_asked, is_captured, is_inner, most_nodes, stub_in, withheld_text}
 use Rattle.node_seats.proofs.Above.{false_true, left_true, none_some, right_true}

@@ -4,10 +4,10 @@ use Rattle.std.proofs.lemmas.Bool.{eqb-true}
 use Rattle.family_meaning.specs.Line.{Line}
 use Rattle.family_meaning.specs.Line.Line.{Nil, Gives, Waits, Stubs}
 use Rattle.family_order.specs.Items.Stance.{Going, Waiting, Apart, Hidden}
-use Rattle.node_turn.specs.Stages.{is_capturing}
-use Rattle.node_turn.specs.declared.node.Node.{Node}
-use Rattle.node_turn.specs.declared.node.Place.{Place}
-use Rattle.node_turn.specs.declared.node.Place.TheVariants.{Row, Stub, Gathers, Captured}
+use Rattle.node_line.specs.node_turn.Stages.{is_capturing}
+use Rattle.node_line.specs.node_turn.declared.node.Node.{Node}
+use Rattle.node_line.specs.node_turn.declared.node.Place.{Place}
+use Rattle.node_line.specs.node_turn.declared.node.Place.TheVariants.{Row, Stub, Gathers, Captured}
 use Rattle.node_line.specs.Stances.{under}
 use Rattle.node_seats.specs.Seats.{Doing, ahead_line, asking_line, inner_line, inner_lines, is_asked, most_nodes, withheld_text, is_captured, is_heard, line_from, place_stance, put_by, row_stance, stance_in, stance_of, stub_in, waited_line}
 use Rattle.node_seats.proofs.Paths.{on_path}

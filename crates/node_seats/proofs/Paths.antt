@@ -1,6 +1,6 @@
 -- The nodes that wait one above the other for the bytes of one.
 use Rattle.std.proofs.Common.{◌≡◌, ℕ, zero, suc, ◌==◌, ◌&&◌, ◌||◌, Bool, true, false, List, Option, None, Some, slice_get, sym, ap, ◌∙◌}
-use Rattle.node_turn.specs.declared.node.Node.{Node}
+use Rattle.node_line.specs.node_turn.declared.node.Node.{Node}
 use Rattle.node_seats.specs.Seats.{is_captured}
 
 -- A node with a number, or one of those that wait one above the other for its bytes.

@@ -17,9 +17,9 @@ use Rattle.family_order.specs.Items.Stance.{Apart, Going, Hidden, Waiting}
 use Rattle.family_meaning.specs.Moves.{AllEnd, IsGood}
 use Rattle.family_order.specs.Laws.{ShowsTheSame}
 use Rattle.family_order.proofs.Wells.{well-append}
-use Rattle.node_turn.specs.Stages.{is_capturing, node_act, node_heard}
-use Rattle.node_turn.specs.declared.node.Node.{Node}
-use Rattle.node_turn.specs.declared.node.Place.TheVariants.{Row, Stub}
+use Rattle.node_line.specs.node_turn.Stages.{is_capturing, node_act, node_heard}
+use Rattle.node_line.specs.node_turn.declared.node.Node.{Node}
+use Rattle.node_line.specs.node_turn.declared.node.Place.TheVariants.{Row, Stub}
 use Rattle.node_line.specs.Stances.{Opening, Own, Spot, filling, owned, under}
 use Rattle.node_line.specs.Stances.Own.{Beside, Below}
 use Rattle.node_line.specs.Stances.Spot.{After, Behind, For, Whole}

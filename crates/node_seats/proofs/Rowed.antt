@@ -7,9 +7,9 @@ use Rattle.family_order.specs.Items.{Stance, Item, stance_items, with_stance}
 use Rattle.family_order.specs.Items.Item.{Byte}
 use Rattle.family_order.specs.Items.Stance.{Hidden}
 use Rattle.family_order.proofs.Rows.{row_items-alike}
-use Rattle.node_turn.specs.declared.node.Node.{Node}
-use Rattle.node_turn.specs.declared.node.Place.{Place}
-use Rattle.node_turn.specs.declared.node.Place.TheVariants.{Row, Stub, Gathers, Captured}
+use Rattle.node_line.specs.node_turn.declared.node.Node.{Node}
+use Rattle.node_line.specs.node_turn.declared.node.Place.{Place}
+use Rattle.node_line.specs.node_turn.declared.node.Place.TheVariants.{Row, Stub, Gathers, Captured}
 use Rattle.node_line.proofs.Holes.{Hole, items_ahead, items_behind, reseated}
 use Rattle.node_seats.specs.Seats.{is_captured}
 use Rattle.node_seats.specs.Joining.{Joins, JoinsOne, joined_place}

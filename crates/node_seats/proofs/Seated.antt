@@ -6,10 +6,10 @@ use Rattle.request_meaning.specs.Serving.{Serving, Answer}
 use Rattle.family_meaning.specs.Line.{Line, joined}
 use Rattle.family_meaning.specs.Line.Line.{Nil, Gives}
 use Rattle.family_order.specs.Items.Stance.{Going}
-use Rattle.node_turn.specs.Stages.{is_in_row}
-use Rattle.node_turn.specs.declared.node.Node.{Node}
-use Rattle.node_turn.specs.declared.node.Place.{Place}
-use Rattle.node_turn.specs.declared.node.Place.TheVariants.{Row, Stub, Gathers, Captured}
+use Rattle.node_line.specs.node_turn.Stages.{is_in_row}
+use Rattle.node_line.specs.node_turn.declared.node.Node.{Node}
+use Rattle.node_line.specs.node_turn.declared.node.Place.{Place}
+use Rattle.node_line.specs.node_turn.declared.node.Place.TheVariants.{Row, Stub, Gathers, Captured}
 use Rattle.node_line.specs.Stances.{Own, Seat, Spot, filling, owned, stance_so, under}
 use Rattle.node_line.specs.Stances.Seat.{InRow, Inside}
 use Rattle.node_line.specs.Stances.Spot.{After, Behind}

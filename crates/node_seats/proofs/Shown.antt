@@ -16,10 +16,10 @@ use Rattle.family_order.specs.Items.Item.{Byte, Stub as StubItem}
 use Rattle.family_order.specs.Items.Stance.{Going, Waiting, Apart, Hidden}
 use Rattle.family_order.proofs.Rows.{Split, row_items-same, split}
 use Rattle.postpone_filter.specs.Buffers.{IsLawful}
-use Rattle.node_turn.specs.Stages.{is_capturing}
-use Rattle.node_turn.specs.declared.node.Node.{Node}
-use Rattle.node_turn.specs.declared.node.Place.{Place}
-use Rattle.node_turn.specs.declared.node.Place.TheVariants.{Row, Stub, Gathers, Captured}
+use Rattle.node_line.specs.node_turn.Stages.{is_capturing}
+use Rattle.node_line.specs.node_turn.declared.node.Node.{Node}
+use Rattle.node_line.specs.node_turn.declared.node.Place.{Place}
+use Rattle.node_line.specs.node_turn.declared.node.Place.TheVariants.{Row, Stub, Gathers, Captured}
 use Rattle.node_line.specs.Stances.{Opening, under}
 use Rattle.node_line.proofs.Holes.{Hole, hole_items, items_ahead, items_behind}
 use Rattle.node_line.proofs.Steps as steps

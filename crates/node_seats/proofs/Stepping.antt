@@ -11,11 +11,11 @@ use Rattle.postpone_filter.specs.Row.{Row as Order, is_open}
 use Rattle.request_meaning.specs.Serving.{World, Serving, Answer}
 use Rattle.family_order.specs.Items.{Stance, Family, IsAlike, with_stance, doing}
 use Rattle.family_order.specs.Laws.{ShowsTheSame}
-use Rattle.node_turn.specs.Stages.{hand_at, withheld_more, is_in_row, node_act}
-use Rattle.node_turn.specs.Turns.{PlacesAs, Works}
-use Rattle.node_turn.specs.declared.node.Node.{Node}
-use Rattle.node_turn.specs.declared.node.Place.{Place}
-use Rattle.node_turn.specs.declared.node.Place.TheVariants.{Row, Stub, Gathers, Captured}
+use Rattle.node_line.specs.node_turn.Stages.{hand_at, withheld_more, is_in_row, node_act}
+use Rattle.node_line.specs.node_turn.Turns.{PlacesAs, Works}
+use Rattle.node_line.specs.node_turn.declared.node.Node.{Node}
+use Rattle.node_line.specs.node_turn.declared.node.Place.{Place}
+use Rattle.node_line.specs.node_turn.declared.node.Place.TheVariants.{Row, Stub, Gathers, Captured}
 use Rattle.node_line.specs.Stances.{Opening, Spot, stance_so}
 use Rattle.node_line.specs.Stances.Seat.{Inside}
 use Rattle.node_line.specs.Stances.Spot.{After, Behind}

@@ -1,8 +1,8 @@
 -- One level of those to which the bytes of a node come, up to one that has a stub.
 use Rattle.std.proofs.Common.{◌≡◌, ◌≢◌, ◌<◌, ◌≤◌, ℕ, suc, ◌+◌, ◌-◌, nat_lt, is_some, true, false, List, [], Option, None, Some, slice_get, refl, sym, ap, ◌∙◌, subst, arith}
 use Rattle.std.proofs.lemmas.Bool.Decides.{nat_tests}
-use Rattle.node_turn.specs.declared.node.Node.{Node}
-use Rattle.node_turn.specs.declared.node.Place.TheVariants.{Gathers, Captured}
+use Rattle.node_line.specs.node_turn.declared.node.Node.{Node}
+use Rattle.node_line.specs.node_turn.declared.node.Place.TheVariants.{Gathers, Captured}
 use Rattle.node_line.specs.Stubs.{gives_bytes}
 use Rattle.node_seats.specs.Joining.{IsCertain, IsComing, IsShownAt, ends_well, gives_at, waits_well}
 use Rattle.node_seats.specs.Seats.{inner_in, inner_of_its, most_levels, most_nodes, stub_in, takes_up}

@@ -2,7 +2,7 @@
 use Rattle.std.proofs.Common.{◌≡◌, ◌≢◌, ◌<◌, ◌≤◌, ℕ, zero, suc, ◌-◌, ◌==◌, ◌||◌, nat_lt, Bool, true, false, not, List, [], ◌∷◌, Option, None, Some, get_or, length, slice_get, refl, sym, ap, ◌∙◌, arith}
 use Rattle.std.proofs.lemmas.Bool.{eqb-true}
 use Rattle.std.proofs.lemmas.Bool.Decides.{nat_tests}
-use Rattle.node_turn.specs.declared.node.Node.{Node}
+use Rattle.node_line.specs.node_turn.declared.node.Node.{Node}
 use Rattle.node_seats.specs.Seats.{NoInner, heard_by, inner_in, is_captured, is_heard, most_nodes}
 
 pub in_row_heard : (levels : ℕ) (nodes : List Node) (at : ℕ) (n : Node) → is_captured n.place ≡ false → true ≡ is_heard levels nodes at n

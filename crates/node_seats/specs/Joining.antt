@@ -9,12 +9,12 @@ use Rattle.postpone_filter.specs.Buffers.{IsLawful}
 use Rattle.request_meaning.specs.Serving.{World}
 use Rattle.family_meaning.specs.Line.Line.{Nil}
 use Rattle.family_meaning.specs.Moves.{KeepsBody, SomeBody}
-use Rattle.node_turn.specs.Stages.{is_capturing}
-use Rattle.node_turn.specs.declared.node.Node.{Node}
-use Rattle.node_turn.specs.declared.node.Place.{Place}
-use Rattle.node_turn.specs.declared.node.Place.TheVariants.{Row, Stub, Gathers, Captured}
-use Rattle.node_turn.specs.declared.node.Stage.{Stage}
-use Rattle.node_turn.specs.declared.node.Stage.TheVariants.{Ends}
+use Rattle.node_line.specs.node_turn.Stages.{is_capturing}
+use Rattle.node_line.specs.node_turn.declared.node.Node.{Node}
+use Rattle.node_line.specs.node_turn.declared.node.Place.{Place}
+use Rattle.node_line.specs.node_turn.declared.node.Place.TheVariants.{Row, Stub, Gathers, Captured}
+use Rattle.node_line.specs.node_turn.declared.node.Stage.{Stage}
+use Rattle.node_line.specs.node_turn.declared.node.Stage.TheVariants.{Ends}
 use Rattle.node_line.specs.Stubs.{good}
 use Rattle.node_seats.specs.Seats.{doing_by, is_captured, is_inner, line_from, most_levels, most_nodes, put_by, stub_in, withheld_text}
 

@@ -1,13 +1,13 @@
 // Nodes whose bytes come to one that has a stub, once its body is shown.
 ghost use Rattle.std.specs.Prelude.{◌≡◌, ◌≢◌, ◌≤◌, ◌+◌, ◌++◌, ℕ, List, IfOk, IfSome, OnOk, is_none, true, Some, slice_get};
-ghost use Rattle.node_turn.specs.declared.node.Node.{Node as NodeView};
+ghost use Rattle.node_line.specs.node_turn.declared.node.Node.{Node as NodeView};
 ghost use Rattle.node_seats.specs.Joining.{AreClear, AreInner, IsCertain, IsComing, IsShownAt, ends_well as well_ended, gives_at, has_some, waits_well as well_waits, is_answered as answered, number_with, numbers_from, IsClearBy};
 ghost use Rattle.node_seats.specs.Seats.{most_levels, stub_in, takes_up, withheld_text};
 
 use crate::seats::{MOST_LEVELS, MOST_NODES, comes_beside, is_inner_in, is_withheld};
 use byte_text::OutOfMemory;
+use node_line::node_turn::{Node, Place, Stage};
 use node_line::{has_bytes, is_good};
-use node_turn::{Node, Place, Stage};
 use std::alloc::Global;
 
 /// Whether each node that a node waits for is there, and its bytes come to that one.

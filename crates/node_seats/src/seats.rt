@@ -2,7 +2,7 @@
 ghost use Rattle.std.specs.Prelude.{◌≡◌, slice_get};
 ghost use Rattle.node_seats.specs.Seats.{IsNextInner, hears as hearing, inner_in, inner_of_its, is_asked as asked_for, is_captured, is_heard as heard, is_inner as inner_of, is_seated as has_seat, takes_up as takes_in};
 
-use node_turn::{Node, Place};
+use node_line::node_turn::{Node, Place};
 
 /// Whether the bytes of a node come to its parent.
 pub fn is_withheld(place: &Place) -> bool

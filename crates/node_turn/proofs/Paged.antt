@@ -1,23 +1,23 @@
 -- A page as a node keeps it.
 use Rattle.std.proofs.Common.{◌≡◌, ℕ, List, sym, ap, ◌∙◌}
 use Rattle.ngx_pattern.specs.Pattern.{Pattern as SetPattern}
-use Rattle.site_model.specs.declared.site.Server.{Server}
-use Rattle.site_whole.specs.Whole.{values_seen, server_whole}
-use Rattle.request_meaning.specs.Documents.{Doc}
-use Rattle.request_meaning.specs.Laws.{shipped}
-use Rattle.request_meaning.specs.Serving.{World, Serving, Answer}
-use Rattle.request_phases.specs.Rounds.{world_in}
-use Rattle.request_phases.specs.declared.ground.Ground.{Ground}
-use Rattle.request_phases.specs.declared.state.Phases.{Phases}
-use Rattle.rewrite_code.specs.Places.{standing_seen}
-use Rattle.ssi_exec.specs.Scenes.{doc_seen, values_of, IsAt}
-use Rattle.ssi_exec.specs.declared.document.Document.{Document}
-use Rattle.ssi_exec.specs.declared.document.Scene.{Scene}
-use Rattle.family_meaning.specs.Suspended.{document_rest}
-use Rattle.request_meaning.specs.Bodies.{machines}
+use Rattle.page_body.specs.site_model.declared.site.Server.{Server}
+use Rattle.page_body.specs.site_whole.Whole.{values_seen, server_whole}
+use Rattle.request_reply.specs.request_meaning.Documents.{Doc}
+use Rattle.request_reply.specs.request_meaning.Laws.{shipped}
+use Rattle.request_reply.specs.request_meaning.Serving.{World, Serving, Answer}
+use Rattle.request_reply.specs.request_phases.Rounds.{world_in}
+use Rattle.request_reply.specs.request_phases.declared.ground.Ground.{Ground}
+use Rattle.request_reply.specs.request_phases.declared.state.Phases.{Phases}
+use Rattle.request_reply.specs.rewrite_code.Places.{standing_seen}
+use Rattle.page_body.specs.ssi_exec.Scenes.{doc_seen, values_of, IsAt}
+use Rattle.page_body.specs.ssi_exec.declared.document.Document.{Document}
+use Rattle.page_body.specs.ssi_exec.declared.document.Scene.{Scene}
+use Rattle.page_body.specs.family_meaning.Suspended.{document_rest}
+use Rattle.request_reply.specs.request_meaning.Bodies.{machines}
 use Rattle.ssi_text.specs.Marks.{marks}
 use Rattle.acts.specs.Act.{◌>>=◌}
-use Rattle.request_meaning.specs.Commands.{captured}
+use Rattle.request_reply.specs.request_meaning.Commands.{captured}
 use Rattle.page_body.specs.Pages.{IsOf, page_captured, page_rest, waiting, stages_of}
 use Rattle.page_body.specs.declared.page.Page.{Page}
 use Rattle.node_turn.specs.Nodes.{answer_seen, captured_at, doc_at, page_at}

@@ -9,22 +9,22 @@ use Rattle.node_turn.specs.Nodes.{asked_path, path_or, IsFor, lent, of_method, p
 use Rattle.file_tree.specs.Tree.{Item, text_of, tree_of, node_of}
 use Rattle.file_tree.specs.declared.job.Node.{Node as FileNode}
 use Rattle.file_tree.specs.declared.job.Node.TheVariants as files
-use Rattle.site_model.specs.declared.site.Site.{Site}
-use Rattle.request_meaning.specs.Serving.{World, Serving, Answer, Prepared, Asked, Standing, Body as MeantBody}
-use Rattle.request_meaning.specs.Serving.Body.{NoBody, Plain, Filtered}
-use Rattle.request_meaning.specs.Answering.{sent, answer_with, page, page_to, page_answer, moved, closed_answer}
-use Rattle.request_meaning.specs.Bodies.{written}
-use Rattle.rewrite_code.specs.Places.{standing_seen}
-use Rattle.request_phases.specs.Rounds.{asked_in, prepared_as}
-use Rattle.request_phases.specs.declared.state.Conclusion.{Conclusion}
-use Rattle.request_phases.specs.declared.state.Conclusion.TheVariants as outcomes
-use Rattle.request_phases.specs.declared.state.Phases.{Phases}
-use Rattle.request_meaning.specs.Laws.{shipped}
-use Rattle.request_phases.specs.Rounds.{IsOfMain}
+use Rattle.page_body.specs.site_model.declared.site.Site.{Site}
+use Rattle.request_reply.specs.request_meaning.Serving.{World, Serving, Answer, Prepared, Asked, Standing, Body as MeantBody}
+use Rattle.request_reply.specs.request_meaning.Serving.Body.{NoBody, Plain, Filtered}
+use Rattle.request_reply.specs.request_meaning.Answering.{sent, answer_with, page, page_to, page_answer, moved, closed_answer}
+use Rattle.request_reply.specs.request_meaning.Bodies.{written}
+use Rattle.request_reply.specs.rewrite_code.Places.{standing_seen}
+use Rattle.request_reply.specs.request_phases.Rounds.{asked_in, prepared_as}
+use Rattle.request_reply.specs.request_phases.declared.state.Conclusion.{Conclusion}
+use Rattle.request_reply.specs.request_phases.declared.state.Conclusion.TheVariants as outcomes
+use Rattle.request_reply.specs.request_phases.declared.state.Phases.{Phases}
+use Rattle.request_reply.specs.request_meaning.Laws.{shipped}
+use Rattle.request_reply.specs.request_phases.Rounds.{IsOfMain}
 use Rattle.request_reply.specs.Replies.{FitsFile, IsReply, body_seen}
 use Rattle.request_reply.specs.declared.reply.Body.{Body as CodeBody}
 use Rattle.request_reply.specs.declared.reply.Reply.{Reply}
-use Rattle.ngx_variables.specs.declared.request.Main.{Main}
+use Rattle.page_body.specs.ngx_variables.declared.request.Main.{Main}
 use Rattle.filter_api.specs.declared.facts.Facts.{Facts}
 use Rattle.page_body.specs.Pages.{filtered_rest}
 

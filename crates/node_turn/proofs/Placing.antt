@@ -2,9 +2,9 @@
 use Rattle.std.proofs.Common.{◌≡◌, ◌≤◌, ◌∷◌, arith, ℕ, ◌+◌, List, [], ◌++◌, length, take, drop, Option, None, Some, refl, sym, ap, ◌∙◌, append-nil, append_assoc, take-append-drop, drop-drop, drop_of_length-le}
 use Rattle.acts.specs.Vars.{Vars}
 use Rattle.acts.specs.Act.{Done, Write}
-use Rattle.site_model.specs.declared.site.Site.{Site}
-use Rattle.request_meaning.specs.Serving.{World, Serving, Answer}
-use Rattle.request_phases.specs.declared.state.Phases.{Phases}
+use Rattle.page_body.specs.site_model.declared.site.Site.{Site}
+use Rattle.request_reply.specs.request_meaning.Serving.{World, Serving, Answer}
+use Rattle.request_reply.specs.request_phases.declared.state.Phases.{Phases}
 use Rattle.std.specs.Global.{Box}
 use Rattle.page_body.specs.declared.page.Page.{Page}
 use Rattle.node_turn.specs.Nodes.{later, padded, page_at, placed_act, served_act}

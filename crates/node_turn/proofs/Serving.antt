@@ -2,14 +2,14 @@
 use Rattle.std.proofs.Common.{◌≡◌, ℕ, suc, ◌&&◌, ◌==◌, not, Bool, true, false, List, [], ◌∷◌, ◌++◌, length, Option, refl, ap, ◌∙◌, subst, append_assoc}
 use Rattle.acts.specs.Vars.{Vars}
 use Rattle.acts.specs.Act.{Write}
-use Rattle.request_meaning.specs.Serving.{Serving, Answer}
+use Rattle.request_reply.specs.request_meaning.Serving.{Serving, Answer}
 use Rattle.std.proofs.lemmas.Bool.{eqb-true}
 use Rattle.page_body.specs.Reading.{ReadsTo, Writing}
 use Rattle.page_body.specs.Reading.ReadsTo.{Rests as ReadsRest, Reads as ReadsOne}
 use Rattle.page_body.specs.Reading.Writing.{Whole, Piece}
-use Rattle.site_model.specs.declared.site.Site.{Site}
-use Rattle.request_meaning.specs.Serving.{World}
-use Rattle.request_phases.specs.declared.state.Phases.{Phases}
+use Rattle.page_body.specs.site_model.declared.site.Site.{Site}
+use Rattle.request_reply.specs.request_meaning.Serving.{World}
+use Rattle.request_reply.specs.request_phases.declared.state.Phases.{Phases}
 use Rattle.std.specs.Global.{Box}
 use Rattle.page_body.specs.declared.page.Page.{Page}
 use Rattle.node_turn.specs.Nodes.{answer_seen, captured_act, padded, from_source, hand, later, placed_act, served_act}

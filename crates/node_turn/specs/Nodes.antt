@@ -9,24 +9,24 @@ use Rattle.file_tree.specs.declared.job.Node.{Node as FileNode}
 use Rattle.file_tree.specs.declared.job.Node.TheVariants as files
 use Rattle.http_types.specs.declared.words.Method.{Method}
 use Rattle.ngx_pattern.specs.Pattern.{Pattern as SetPattern}
-use Rattle.ngx_variables.specs.declared.request.Main.{Main}
-use Rattle.site_model.specs.declared.site.Site.{Site}
+use Rattle.page_body.specs.ngx_variables.declared.request.Main.{Main}
+use Rattle.page_body.specs.site_model.declared.site.Site.{Site}
 use Rattle.ssi_text.specs.Marks.{marks}
-use Rattle.request_meaning.specs.Serving.{World, Serving, Answer, Prepared, Body as MeantBody}
-use Rattle.request_meaning.specs.Serving.From.{Start}
-use Rattle.request_meaning.specs.Bodies.{written, machines}
-use Rattle.request_meaning.specs.Commands.{captured}
-use Rattle.request_meaning.specs.Documents.{Doc}
-use Rattle.request_meaning.specs.Phases.{rounds}
-use Rattle.family_meaning.specs.Suspended.{document_rest}
-use Rattle.rewrite_code.specs.Places.{standing_seen}
-use Rattle.request_phases.specs.Rounds.{asked_from, phases_told}
-use Rattle.request_phases.specs.declared.state.Conclusion.{Conclusion}
-use Rattle.request_phases.specs.declared.state.Conclusion.TheVariants as outcomes
-use Rattle.request_phases.specs.declared.state.Phases.{Phases}
-use Rattle.ssi_exec.specs.declared.document.Document.{Document}
-use Rattle.ssi_exec.specs.Scenes.{branch_seen, block_seen}
-use Rattle.request_meaning.specs.Documents.{default_message}
+use Rattle.request_reply.specs.request_meaning.Serving.{World, Serving, Answer, Prepared, Body as MeantBody}
+use Rattle.request_reply.specs.request_meaning.Serving.From.{Start}
+use Rattle.request_reply.specs.request_meaning.Bodies.{written, machines}
+use Rattle.request_reply.specs.request_meaning.Commands.{captured}
+use Rattle.request_reply.specs.request_meaning.Documents.{Doc}
+use Rattle.request_reply.specs.request_meaning.Phases.{rounds}
+use Rattle.page_body.specs.family_meaning.Suspended.{document_rest}
+use Rattle.request_reply.specs.rewrite_code.Places.{standing_seen}
+use Rattle.request_reply.specs.request_phases.Rounds.{asked_from, phases_told}
+use Rattle.request_reply.specs.request_phases.declared.state.Conclusion.{Conclusion}
+use Rattle.request_reply.specs.request_phases.declared.state.Conclusion.TheVariants as outcomes
+use Rattle.request_reply.specs.request_phases.declared.state.Phases.{Phases}
+use Rattle.page_body.specs.ssi_exec.declared.document.Document.{Document}
+use Rattle.page_body.specs.ssi_exec.Scenes.{branch_seen, block_seen}
+use Rattle.request_reply.specs.request_meaning.Documents.{default_message}
 use Rattle.http_moment.specs.Shown.{default_format}
 use Rattle.std.specs.Prelude.{option_map, unwrap_or, zero, suc, ◌∷◌}
 use Rattle.page_body.specs.Pages.{waiting, stages_of}

@@ -3,12 +3,12 @@ use Rattle.std.specs.Prelude.{◌≡◌, ℕ, ◌==◌, ◌&&◌, not, true, fal
 use Rattle.acts.specs.Vars.{Vars}
 use Rattle.acts.specs.Act.{Call, Inner}
 use Rattle.ngx_pattern.specs.Pattern.{Pattern as SetPattern}
-use Rattle.request_meaning.specs.Laws.{shipped}
-use Rattle.request_meaning.specs.Serving.{Answer, Serving}
-use Rattle.request_phases.specs.Rounds.{world_in}
-use Rattle.request_phases.specs.declared.ground.Ground.{Ground}
-use Rattle.request_phases.specs.declared.state.Phases.{Phases}
-use Rattle.ssi_exec.specs.Scenes.{child_seen}
+use Rattle.request_reply.specs.request_meaning.Laws.{shipped}
+use Rattle.request_reply.specs.request_meaning.Serving.{Answer, Serving}
+use Rattle.request_reply.specs.request_phases.Rounds.{world_in}
+use Rattle.request_reply.specs.request_phases.declared.ground.Ground.{Ground}
+use Rattle.request_reply.specs.request_phases.declared.state.Phases.{Phases}
+use Rattle.page_body.specs.ssi_exec.Scenes.{child_seen}
 use Rattle.node_turn.specs.Nodes.{stage_act, stage_heard}
 use Rattle.node_turn.specs.Stages.{is_capturing}
 use Rattle.node_turn.specs.Turns.{Works}

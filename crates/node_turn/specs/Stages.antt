@@ -4,10 +4,10 @@ use Rattle.file_tree.specs.Tree.{Item, Trees, text_of}
 use Rattle.file_tree.specs.declared.job.Ask.{Ask}
 use Rattle.file_tree.specs.declared.job.Ask.TheVariants as asks
 use Rattle.ngx_pattern.specs.Pattern.{Pattern as SetPattern}
-use Rattle.ngx_variables.specs.declared.request.Main.{Main}
-use Rattle.site_model.specs.declared.site.Site.{Site}
+use Rattle.page_body.specs.ngx_variables.declared.request.Main.{Main}
+use Rattle.page_body.specs.site_model.declared.site.Site.{Site}
 use Rattle.postpone_filter.specs.Row.{Row as Order, room}
-use Rattle.request_meaning.specs.Serving.{World, Serving, Answer}
+use Rattle.request_reply.specs.request_meaning.Serving.{World, Serving, Answer}
 use Rattle.node_turn.specs.Nodes.{asked_path, hand, lent, stage_act, stage_heard}
 use Rattle.node_turn.specs.declared.node.Node.{Node}
 use Rattle.node_turn.specs.declared.node.Place.{Place}

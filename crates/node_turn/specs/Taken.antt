@@ -2,9 +2,9 @@
 use Rattle.acts.specs.Vars.{Vars}
 use Rattle.std.specs.Prelude.{◌≡◌, ℕ, List, true, false}
 use Rattle.acts.specs.Act.{Call, Inner}
-use Rattle.ngx_variables.specs.declared.request.Main.{Main}
-use Rattle.request_meaning.specs.Serving.{Serving, Answer}
-use Rattle.ssi_exec.specs.Scenes.{child_seen}
+use Rattle.page_body.specs.ngx_variables.declared.request.Main.{Main}
+use Rattle.request_reply.specs.request_meaning.Serving.{Serving, Answer}
+use Rattle.page_body.specs.ssi_exec.Scenes.{child_seen}
 use Rattle.node_turn.specs.Stages.{is_capturing}
 use Rattle.node_turn.specs.Turns.{Works}
 use Rattle.node_turn.specs.declared.node.Stage.{Stage}

@@ -3,15 +3,15 @@ use Rattle.std.specs.Prelude.{◌≡◌, ℕ, List, [], ◌++◌, Option}
 use Rattle.acts.specs.Vars.{Vars, look}
 use Rattle.acts.specs.Act.{Get, Write, settled}
 use Rattle.ngx_pattern.specs.Pattern.{Pattern as SetPattern}
-use Rattle.site_model.specs.Levels.{raw_level}
-use Rattle.rewrite_code.specs.Places.{standing_seen}
-use Rattle.request_meaning.specs.Laws.{shipped}
-use Rattle.request_meaning.specs.Serving.{Serving, Answer}
-use Rattle.request_phases.specs.Rounds.{asked_in, prepared_as, world_in}
-use Rattle.request_phases.specs.declared.ground.Ground.{Ground}
-use Rattle.request_phases.specs.declared.state.Conclusion.{Conclusion}
-use Rattle.request_phases.specs.declared.state.Phases.{Phases}
-use Rattle.ssi_exec.specs.declared.document.Scene.{Scene}
+use Rattle.page_body.specs.site_model.Levels.{raw_level}
+use Rattle.request_reply.specs.rewrite_code.Places.{standing_seen}
+use Rattle.request_reply.specs.request_meaning.Laws.{shipped}
+use Rattle.request_reply.specs.request_meaning.Serving.{Serving, Answer}
+use Rattle.request_reply.specs.request_phases.Rounds.{asked_in, prepared_as, world_in}
+use Rattle.request_reply.specs.request_phases.declared.ground.Ground.{Ground}
+use Rattle.request_reply.specs.request_phases.declared.state.Conclusion.{Conclusion}
+use Rattle.request_reply.specs.request_phases.declared.state.Phases.{Phases}
+use Rattle.page_body.specs.ssi_exec.declared.document.Scene.{Scene}
 use Rattle.node_turn.specs.Nodes.{after_phases, bytes_for, stage_act}
 use Rattle.node_turn.specs.declared.node.Stage.{Stage}
 

@@ -1,8 +1,8 @@
 // What a request answers, beside its body.
 ghost use Rattle.std.specs.Prelude.{◌≡◌, List, ℕ};
-ghost use Rattle.request_meaning.specs.Serving.{Prepared};
-ghost use Rattle.request_phases.specs.declared.state.Phases.{Phases as PhasesView};
-ghost use Rattle.site_model.specs.declared.site.Site.{Site as SiteRow};
+ghost use Rattle.request_reply.specs.request_meaning.Serving.{Prepared};
+ghost use Rattle.request_reply.specs.request_phases.declared.state.Phases.{Phases as PhasesView};
+ghost use Rattle.page_body.specs.site_model.declared.site.Site.{Site as SiteRow};
 ghost use Rattle.request_reply.specs.Replies.{IsReply, body_seen};
 ghost use Rattle.node_turn.specs.Nodes.{IsFor, answer_seen};
 

@@ -3,8 +3,8 @@ ghost use Rattle.std.specs.Prelude.{◌≡◌};
 ghost use Rattle.node_turn.specs.Nodes.{of_method, lent};
 
 use crate::slot::swap;
-use ngx_variables::Main;
-use request_phases::Phases;
+use page_body::ngx_variables::Main;
+use request_reply::request_phases::Phases;
 
 /// Lets the main requests of a family and of a node's phases change places, but for their methods:
 /// the method is a node's own. What is lent so is given back by the same.

@@ -16,7 +16,10 @@ mod turn;
 pub use answered::Answered;
 pub use lending::lend;
 pub use node::{Body, Capture, Node, Place, Source, Stage};
+pub use page_body::{ssi_exec, ssi_values};
 pub use phase::answering;
+pub use request_reply;
+pub use request_reply::{request_phases, rewrite_code};
 pub use said::Said;
 pub use slot::{fill, put, take};
 pub use turn::{

@@ -5,8 +5,8 @@ use crate::answered::Answered;
 use byte_text::ByteText;
 use file_tree::{Ask, Node as FileNode};
 use page_body::Page;
-use request_phases::{Phases, Wait};
-use ssi_values::Table;
+use page_body::ssi_values::Table;
+use request_reply::request_phases::{Phases, Wait};
 
 /// What a body comes from: a text, and then this many bytes of a file, which is read at least once,
 /// an empty one too: it is unread where no block of it came yet.

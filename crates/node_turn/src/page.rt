@@ -2,12 +2,12 @@
 ghost use Rattle.std.specs.Prelude.{◌≡◌, ℕ, ◌++◌, true, false, List, [], IfOk, OnOk, None, Some};
 ghost use Rattle.acts.specs.Vars.{Vars};
 ghost use Rattle.ngx_pattern.specs.Pattern.{Pattern as SetPattern};
-ghost use Rattle.request_meaning.specs.Laws.{shipped};
-ghost use Rattle.request_meaning.specs.Serving.{Answer, Serving, World};
-ghost use Rattle.request_phases.specs.Rounds.{world_in};
-ghost use Rattle.request_phases.specs.declared.ground.Ground.{Ground as GroundView};
-ghost use Rattle.request_phases.specs.declared.state.Phases.{Phases as PhasesView};
-ghost use Rattle.ssi_exec.specs.declared.document.Scene.{Scene as SceneView};
+ghost use Rattle.request_reply.specs.request_meaning.Laws.{shipped};
+ghost use Rattle.request_reply.specs.request_meaning.Serving.{Answer, Serving, World};
+ghost use Rattle.request_reply.specs.request_phases.Rounds.{world_in};
+ghost use Rattle.request_reply.specs.request_phases.declared.ground.Ground.{Ground as GroundView};
+ghost use Rattle.request_reply.specs.request_phases.declared.state.Phases.{Phases as PhasesView};
+ghost use Rattle.page_body.specs.ssi_exec.declared.document.Scene.{Scene as SceneView};
 ghost use Rattle.acts.specs.Act.{Done};
 ghost use Rattle.page_body.specs.Pages.{Does, page_rest, stop_of, waits};
 ghost use Rattle.node_turn.specs.Nodes.{answer_seen, captured_act, captured_at, from_source, hand, later, page_at, served_act};
@@ -17,9 +17,9 @@ ghost use Rattle.node_turn.specs.Turns.{IsSceneOf};
 use crate::node::{Body, Capture, Source, Stage};
 use crate::slot::{fill, put, take};
 use byte_text::{ByteText, OutOfMemory};
-use ngx_variables::VarTable;
+use page_body::ngx_variables::VarTable;
+use page_body::ssi_exec::{Child, Scene};
 use page_body::{Doing, Page};
-use ssi_exec::{Child, Scene};
 use std::alloc::Global;
 
 /// What a node comes to where the next part of its body is taken up: how far it is then is put at

@@ -3,12 +3,12 @@ ghost use Rattle.std.specs.Prelude.{◌≡◌, ◌++◌, ℕ, List, true, false,
 ghost use Rattle.acts.specs.Act.{settled};
 ghost use Rattle.acts.specs.Vars.{Vars};
 ghost use Rattle.ngx_pattern.specs.Pattern.{Pattern as SetPattern};
-ghost use Rattle.request_meaning.specs.Laws.{shipped};
-ghost use Rattle.request_phases.specs.Rounds.{IsGround, world_in};
+ghost use Rattle.request_reply.specs.request_meaning.Laws.{shipped};
+ghost use Rattle.request_reply.specs.request_phases.Rounds.{IsGround, world_in};
 ghost use Rattle.acts.specs.Act.{Done, Write};
-ghost use Rattle.request_phases.specs.Rounds.{phases_left};
-ghost use Rattle.request_phases.specs.declared.ground.Ground.{Ground as GroundView};
-ghost use Rattle.request_phases.specs.declared.state.Phases.{Phases as PhasesView};
+ghost use Rattle.request_reply.specs.request_phases.Rounds.{phases_left};
+ghost use Rattle.request_reply.specs.request_phases.declared.ground.Ground.{Ground as GroundView};
+ghost use Rattle.request_reply.specs.request_phases.declared.state.Phases.{Phases as PhasesView};
 ghost use Rattle.request_reply.specs.Replies.{sent_as};
 ghost use Rattle.page_body.specs.Pages.{filtered_rest};
 ghost use Rattle.node_turn.specs.Nodes.{answer_seen, body_then, bytes_for, len_of as told_len, lent, padded, path_or, served_as, stage_act, told_length, with_main};
@@ -24,12 +24,12 @@ use error_page::page_text;
 use file_tree::{Ask, Node as FileNode};
 use filter_api::Facts;
 use ngx_pattern::PatternSet;
-use ngx_variables::{Main, VarTable};
 use page_body::Page;
-use request_phases::{Conclusion, Ground, Phases, Step, Wait, begin, resume};
+use page_body::ngx_variables::{Main, VarTable};
+use page_body::ssi_exec::Scene;
+use page_body::ssi_values::Table;
+use request_reply::request_phases::{Conclusion, Ground, Phases, Step, Wait, begin, resume};
 use request_reply::{Body as ReplyBody, reply_of};
-use ssi_exec::Scene;
-use ssi_values::Table;
 use std::alloc::Global;
 
 /// An answer with a file has the length that was told of it.

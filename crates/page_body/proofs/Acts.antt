@@ -3,7 +3,7 @@ use Rattle.std.proofs.Common.{◌≡◌, ℕ, Bool, true, false, cond, List, Opt
 use mathlib.Core.Path.{fun_ext}
 use Rattle.acts.specs.Vars.{Vars, look}
 use Rattle.acts.specs.Act.{Done, Get, Put, Stat, Call, Write, Inner, ◌>>=◌, settled}
-use Rattle.request_meaning.specs.Serving.{Serving, Child, Reply}
+use Rattle.family_meaning.specs.request_meaning.Serving.{Serving, Child, Reply}
 use Rattle.page_body.specs.Reading.{ReadsTo, Writing, ReadingSettles, WritingSettles}
 use Rattle.page_body.specs.Reading.ReadsTo.{Rests, Reads}
 use Rattle.page_body.specs.Reading.Writing.{Whole, Piece}

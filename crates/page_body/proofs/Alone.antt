@@ -20,13 +20,13 @@ use Rattle.ssi_text.specs.declared.part.Part.{Part}
 use Rattle.ssi_text.specs.declared.part.Part.TheVariants as parts
 use Rattle.uri_text.specs.declared.fault.UriFault.{UriFault}
 use Rattle.uri_text.specs.Target.{normal_of}
-use Rattle.request_meaning.specs.Serving.{World, Serving, Child, Reply}
-use Rattle.request_meaning.specs.Documents.{Doc, Branch, Truth, is_live, oops, live_oops, is_visible, dated, site_value, own_or, named_value, token_text, tokens_text, read_text, tokens, filled, is_pattern, is_equals, left_side, compared, truth}
-use Rattle.request_meaning.specs.Documents.Branch.{NoIf, InIf}
-use Rattle.request_meaning.specs.Documents.Truth.{Is, Unread, Pattern}
-use Rattle.request_meaning.specs.Commands.{Word, text_of, param, opens, opened, if_done, elif_done, else_done, endif_done, others_size, block_closed, is_good_format, with_format, with_message, config_done, echo_text, echo_done, kept, set_done, is_include, child_of, captured, include_child, included, include_at, include_text, included_name, in_folder, include_done, if_live, done, are_params, by_word, word_named, command, block_command}
-use Rattle.request_meaning.specs.Commands.Word.{Block, EndBlock, Config, Echo, If, Elif, Else, EndIf, Include, Set}
-use Rattle.request_meaning.specs.Bodies.{text_part, bad_part, command_part, added, added_at, added_part, part}
+use Rattle.family_meaning.specs.request_meaning.Serving.{World, Serving, Child, Reply}
+use Rattle.family_meaning.specs.request_meaning.Documents.{Doc, Branch, Truth, is_live, oops, live_oops, is_visible, dated, site_value, own_or, named_value, token_text, tokens_text, read_text, tokens, filled, is_pattern, is_equals, left_side, compared, truth}
+use Rattle.family_meaning.specs.request_meaning.Documents.Branch.{NoIf, InIf}
+use Rattle.family_meaning.specs.request_meaning.Documents.Truth.{Is, Unread, Pattern}
+use Rattle.family_meaning.specs.request_meaning.Commands.{Word, text_of, param, opens, opened, if_done, elif_done, else_done, endif_done, others_size, block_closed, is_good_format, with_format, with_message, config_done, echo_text, echo_done, kept, set_done, is_include, child_of, captured, include_child, included, include_at, include_text, included_name, in_folder, include_done, if_live, done, are_params, by_word, word_named, command, block_command}
+use Rattle.family_meaning.specs.request_meaning.Commands.Word.{Block, EndBlock, Config, Echo, If, Elif, Else, EndIf, Include, Set}
+use Rattle.family_meaning.specs.request_meaning.Bodies.{text_part, bad_part, command_part, added, added_at, added_part, part}
 use Rattle.page_body.proofs.Acts.{IsAlone, alone_done, alone_get, alone_write, alone_asks, alone_inner, alone_bind, choice}
 
 -- Of the subrequests that are asked for this is so, where this many levels are left.

@@ -7,9 +7,9 @@ use Rattle.acts.specs.Act.{Done, Write, ◌>>=◌, settled}
 use Rattle.ngx_variables.specs.declared.request.Main.{Main}
 use Rattle.ssi_text.specs.declared.part.Part.{Part}
 use Rattle.ssi_text.specs.Marks.{Mark, Byte, Other, marks, part_marks}
-use Rattle.request_meaning.specs.Serving.{World, Serving, Answer}
-use Rattle.request_meaning.specs.Documents.{Doc}
-use Rattle.request_meaning.specs.Bodies.{body, mark, part}
+use Rattle.family_meaning.specs.request_meaning.Serving.{World, Serving, Answer}
+use Rattle.family_meaning.specs.request_meaning.Documents.{Doc}
+use Rattle.family_meaning.specs.request_meaning.Bodies.{body, mark, part}
 use Rattle.ssi_exec.specs.declared.document.Served.{Served}
 use Rattle.ssi_exec.specs.declared.document.Served.TheVariants as served
 use Rattle.ssi_exec.specs.Scenes.{bytes_then, each_written, own_text, served_act, written}

@@ -14,9 +14,9 @@ use Rattle.addition_filter.specs.Machine.{addition_machine, addition_finish, is_
 use Rattle.addition_filter.specs.Surrounds.{feeds-on, feeds-first}
 use Rattle.ssi_filter.specs.Machine.{is_split, ssi_machine}
 use Rattle.ssi_filter.specs.Splits.{text_state, text_out}
-use Rattle.request_meaning.specs.Serving.{World}
-use Rattle.request_meaning.specs.Bodies.{machines}
-use Rattle.request_meaning.specs.Laws.{shipped}
+use Rattle.family_meaning.specs.request_meaning.Serving.{World}
+use Rattle.family_meaning.specs.request_meaning.Bodies.{machines}
+use Rattle.family_meaning.specs.request_meaning.Laws.{shipped}
 use Rattle.page_body.specs.Stages.{added_stage, ahead, behind, undecided_marks, shipped_machines, split_stage}
 
 -- the machines of a world with the chain that a server has

@@ -13,10 +13,10 @@ use Rattle.ssi_filter.specs.Machine.{is_split, ssi_machine}
 use Rattle.ssi_text.specs.declared.part.Part.{Part}
 use Rattle.ssi_text.specs.Marks.{Mark, Byte, marks, part_marks}
 use Rattle.ngx_variables.specs.declared.request.Main.{Main}
-use Rattle.request_meaning.specs.Serving.{World, Serving, Answer}
-use Rattle.request_meaning.specs.Documents.{Doc, begun}
-use Rattle.request_meaning.specs.Bodies.{body, machines, written}
-use Rattle.request_meaning.specs.Laws.{shipped}
+use Rattle.family_meaning.specs.request_meaning.Serving.{World, Serving, Answer}
+use Rattle.family_meaning.specs.request_meaning.Documents.{Doc, begun}
+use Rattle.family_meaning.specs.request_meaning.Bodies.{body, machines, written}
+use Rattle.family_meaning.specs.request_meaning.Laws.{shipped}
 use Rattle.family_meaning.specs.Suspended.{document_rest}
 use Rattle.page_body.specs.Stages.{added_stage, ahead, shipped_machines, split_stage}
 use Rattle.page_body.specs.declared.doing.Doing.{Doing}

@@ -9,12 +9,12 @@ use Rattle.filter_api.specs.declared.facts.Facts.{Facts}
 use Rattle.ssi_text.specs.declared.part.Part.{Part}
 use Rattle.ssi_text.specs.Marks.{Mark, marks}
 use Rattle.ngx_variables.specs.declared.request.Main.{Main}
-use Rattle.request_meaning.specs.Serving.{World, Serving, Answer}
-use Rattle.request_meaning.specs.Serving.Body.{Filtered}
-use Rattle.request_meaning.specs.Documents.{Doc}
-use Rattle.request_meaning.specs.Commands.{captured}
-use Rattle.request_meaning.specs.Bodies.{body, machines, written}
-use Rattle.request_meaning.specs.Laws.{shipped}
+use Rattle.family_meaning.specs.request_meaning.Serving.{World, Serving, Answer}
+use Rattle.family_meaning.specs.request_meaning.Serving.Body.{Filtered}
+use Rattle.family_meaning.specs.request_meaning.Documents.{Doc}
+use Rattle.family_meaning.specs.request_meaning.Commands.{captured}
+use Rattle.family_meaning.specs.request_meaning.Bodies.{body, machines, written}
+use Rattle.family_meaning.specs.request_meaning.Laws.{shipped}
 use Rattle.family_meaning.specs.Suspended.{document_rest}
 use Rattle.ssi_exec.specs.declared.document.Document.{Document}
 use Rattle.ssi_exec.specs.declared.document.Scene.{Scene}

@@ -2,7 +2,7 @@
 use Rattle.std.specs.Prelude.{◌≡◌, ℕ, List, ◌++◌, Option}
 use Rattle.acts.specs.Vars.{Vars, look}
 use Rattle.acts.specs.Act.{Get, Write, settled}
-use Rattle.request_meaning.specs.Serving.{Serving}
+use Rattle.family_meaning.specs.request_meaning.Serving.{Serving}
 
 -- Some of the variables with which an act begins are read, one after another, and this is left of it. Others may come between
 -- those reads and what is left, which `settled` leaves no room for.

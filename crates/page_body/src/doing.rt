@@ -3,7 +3,7 @@ ghost use Rattle.std.specs.Prelude.{◌≡◌, ℕ, false, List, map, IfOk, if�
 ghost use Rattle.acts.specs.Vars.{Vars};
 ghost use Rattle.ngx_variables.specs.declared.request.Main.{Main};
 ghost use Rattle.ssi_text.specs.Marks.{Byte, Other, part_marks};
-ghost use Rattle.request_meaning.specs.Serving.{Answer, Serving};
+ghost use Rattle.family_meaning.specs.request_meaning.Serving.{Answer, Serving};
 ghost use Rattle.ssi_exec.specs.declared.document.Scene.{Scene as SceneView};
 ghost use Rattle.ssi_exec.specs.Scenes.{bytes_then, own_text as text_of};
 ghost use Rattle.page_body.specs.Pages.{AsksByLevel, Does, DoesMarks, asks, doing_seen, stop_of};

@@ -1,6 +1,6 @@
 // What the words of a page's contracts mean.
 ghost use Rattle.page_body.specs.Reading.{ReadingSettles, WritingSettles};
-ghost use Rattle.request_meaning.specs.Serving.{Answer};
+ghost use Rattle.family_meaning.specs.request_meaning.Serving.{Answer};
 
 /// An act of which some variables are read settles as what is left of it does.
 pub fn reading_settles()

@@ -9,4 +9,7 @@ mod parts;
 
 pub use doing::Doing;
 pub use laws::{reading_settles, writing_settles};
+pub use ngx_variables;
 pub use page::Page;
+pub use ssi_exec;
+pub use ssi_exec::ssi_values;

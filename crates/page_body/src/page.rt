@@ -1,8 +1,8 @@
 // A page, and the blocks of its file.
 ghost use Rattle.std.specs.Prelude.{◌≡◌, ℕ, ◌-◌, ◌++◌, ◌&&◌, not, Bool, true, false, List, [], IfOk, OnOk, None, Some};
 ghost use Rattle.acts.specs.Act.{Write};
-ghost use Rattle.request_meaning.specs.Laws.{shipped};
-ghost use Rattle.request_meaning.specs.Serving.{Answer, World};
+ghost use Rattle.family_meaning.specs.request_meaning.Laws.{shipped};
+ghost use Rattle.family_meaning.specs.request_meaning.Serving.{Answer, World};
 ghost use Rattle.ssi_exec.specs.declared.document.Scene.{Scene as SceneView};
 ghost use Rattle.page_body.specs.Pages.{AsksByLevel, DoesNext, IsOf, IsOver, adds, filtered_rest, is_finished, page_captured, page_rest, parts_left, splits, stop_at, stop_of, text_then, waits};
 
@@ -11,9 +11,9 @@ use crate::parts::{block_parts, is_added, is_split, last_parts, opening_parts};
 use byte_text::{ByteText, OutOfMemory};
 use filter_api::Facts;
 use ngx_variables::VarTable;
+use ssi_exec::ssi_values::Table;
 use ssi_exec::{Document, Scene};
 use ssi_text::{Part, SsiState};
-use ssi_values::Table;
 use std::alloc::Global;
 
 /// The body of a page on which filters act, between two of its parts. Blocks of its file come by `feed`, and its end by

@@ -6,11 +6,11 @@ use Rattle.file_tree.specs.Tree.{Tree, Trees}
 use Rattle.ngx_pattern.specs.Pattern.{Pattern as SetPattern}
 use Rattle.site_model.specs.declared.site.Site.{Site}
 use Rattle.request_meaning.specs.Serving.{World}
-use Rattle.family_meaning.specs.Line.{Left, before}
+use Rattle.family_order.specs.family_meaning.Line.{Left, before}
 use Rattle.family_order.specs.Items.{Family as Meant, leaving}
-use Rattle.family_rest.specs.Laws.{RowTellsStill}
-use Rattle.family_rest.specs.Reached.{forgetting}
-use Rattle.family_rest.specs.Still.{still, subs_still}
+use Rattle.subrequests.specs.family_rest.Laws.{RowTellsStill}
+use Rattle.subrequests.specs.family_rest.Reached.{forgetting}
+use Rattle.subrequests.specs.family_rest.Still.{still, subs_still}
 use Rattle.outgoing.specs.Leaving.{Leaving, framed_as, to_come}
 use Rattle.postpone_filter.specs.Row.{FirstGives, Piece, front_of, is_open}
 use Rattle.postpone_filter.specs.Runs.{filled, giving}

@@ -6,12 +6,12 @@ use Rattle.site_model.specs.declared.site.Site.{Site}
 use Rattle.request_meaning.specs.Laws.{shipped}
 use Rattle.postpone_filter.specs.Row.{Piece, is_open}
 use Rattle.request_meaning.specs.Serving.{World, Answer}
-use Rattle.request_phases.specs.Rounds.{world_in}
-use Rattle.request_phases.specs.declared.ground.Ground.{Ground}
-use Rattle.family_meaning.specs.Line.{Left}
+use Rattle.subrequests.specs.request_phases.Rounds.{world_in}
+use Rattle.subrequests.specs.request_phases.declared.ground.Ground.{Ground}
+use Rattle.family_order.specs.family_meaning.Line.{Left}
 use Rattle.family_order.specs.Acts.{IsOver}
-use Rattle.family_rest.specs.Reached.{Reached}
-use Rattle.family_rest.specs.Still.{still, subs_still}
+use Rattle.subrequests.specs.family_rest.Reached.{Reached}
+use Rattle.subrequests.specs.family_rest.Still.{still, subs_still}
 use Rattle.outgoing.specs.Leaving.{framed_as, to_come, waiting}
 use Rattle.subrequests.specs.Moved.{files, meant}
 use Rattle.page_response.specs.declared.pages.Pages.{Pages}

@@ -3,10 +3,10 @@ use Rattle.std.specs.Prelude.{◌≡◌, ◌<◌, ◌≤◌, List, length}
 use Rattle.file_tree.specs.Tree.{Trees}
 use Rattle.ngx_pattern.specs.Pattern.{Pattern as SetPattern}
 use Rattle.outgoing.specs.Leaving.{most}
-use Rattle.race_meaning.specs.Named.{IsRaceless}
+use Rattle.family_order.specs.race_meaning.Named.{IsRaceless}
 use Rattle.request_meaning.specs.Laws.{shipped}
-use Rattle.request_phases.specs.Rounds.{world_in}
-use Rattle.request_phases.specs.declared.ground.Ground.{Ground}
+use Rattle.subrequests.specs.request_phases.Rounds.{world_in}
+use Rattle.subrequests.specs.request_phases.declared.ground.Ground.{Ground}
 use Rattle.subrequests.specs.Moved.{IsWhole}
 use Rattle.subrequests.specs.declared.family.Ran.{Ran}
 use Rattle.subrequests.specs.declared.family.Ran.TheVariants.{Rests, TooMany}

@@ -5,21 +5,21 @@ ghost use Rattle.ngx_pattern.specs.Pattern.{Pattern as SetPattern};
 ghost use Rattle.outgoing.specs.Leaving.{most, to_come};
 ghost use Rattle.postpone_filter.specs.Runs.{filled};
 ghost use Rattle.request_meaning.specs.Serving.{World};
-ghost use Rattle.request_phases.specs.Rounds.{IsGround};
+ghost use Rattle.subrequests.specs.request_phases.Rounds.{IsGround};
 ghost use Rattle.site_model.specs.declared.site.Site.{Site as SiteRow};
 ghost use Rattle.subrequests.specs.Moved.{IsFromAt, IsWhole, fits_at};
 ghost use Rattle.page_response.specs.Pages.{AreClosed, EndsIn, IsAllOver, IsReached, IsSame, bytes_left, nodes_asked, pages_left, whole_length};
 ghost use Rattle.page_response.specs.Ran.{RunsTo};
 
 use byte_text::{ByteQueue, OutOfMemory};
-use family_rest::{reached_stays_well, row_tells_still, steps_keep_still};
+use family_order::race_meaning::shipped_are_fit;
 use file_tree::JobAnswer;
 use ngx_pattern::PatternSet;
 use outgoing::Outgoing;
 use postpone_filter::Order;
-use race_meaning::shipped_are_fit;
-use request_phases::Ground;
 use std::alloc::Global;
+use subrequests::family_rest::{reached_stays_well, row_tells_still, steps_keep_still};
+use subrequests::request_phases::Ground;
 use subrequests::{Family, Ran};
 
 /// A page of parts, whose head was put: its family; the bytes that are written next, with the framing of those that

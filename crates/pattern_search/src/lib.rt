@@ -4,3 +4,4 @@
 mod search;
 
 pub use search::{find_spans, groups_of};
+pub use site_whole::site_model;

@@ -6,7 +6,7 @@ ghost use Rattle.pattern_search.specs.Found.{found_at, spans_if};
 
 use byte_text::OutOfMemory;
 use ngx_pattern::{PatternId, PatternSet, Spans};
-use ngx_variables::Groups;
+use site_views::ngx_variables::Groups;
 use std::alloc::Global;
 
 /// Searches for the pattern with this number, and leaves the spans of its match and of the groups 1 to 9. A number that no

@@ -6,7 +6,7 @@ use Rattle.std.specs.Ordering.{nat_cmp}
 use Rattle.std.specs.Cmp.Lexicographic.{slice_cmp}
 use Rattle.site_views.specs.Views.{ServerView}
 use Rattle.site_views.specs.Values.{Values}
-use Rattle.request_meaning.specs.Documents.{is_visible}
+use Rattle.race_meaning.specs.request_meaning.Documents.{is_visible}
 use Rattle.race_meaning.specs.Levels.{all_values}
 use Rattle.race_meaning.specs.Named.{is_named, is_shown, is_one_text, set_texts, is_set, auth_sets_it, begins_with_set, is_private}
 use Rattle.site_model.specs.declared.site.Site.{Site}

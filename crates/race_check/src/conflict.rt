@@ -1,7 +1,7 @@
 // The variables that the race check names.
 ghost use Rattle.std.specs.Prelude.{◌≡◌, ◌||◌, ◌&&◌, ℕ, ◌++◌, List, [], map, filter, bytes_eq, OnOk, IfOk};
 ghost use Rattle.std.specs.List.{list_any};
-ghost use Rattle.request_meaning.specs.Documents.{is_visible};
+ghost use Rattle.race_meaning.specs.request_meaning.Documents.{is_visible};
 ghost use Rattle.site_views.specs.Pattern.{Pattern};
 ghost use Rattle.site_whole.specs.Whole.{server_whole};
 ghost use Rattle.race_check.specs.declared.first.FirstLists.{FirstLists as FirstNames};

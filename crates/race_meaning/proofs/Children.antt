@@ -11,13 +11,13 @@ use Rattle.ngx_variables.specs.declared.request.Role.TheVariants.{Content, Auth,
 use Rattle.ssi_text.specs.declared.part.Part.{Part}
 use Rattle.ssi_text.specs.declared.part.Part.TheVariants as parts
 use Rattle.ssi_text.specs.Marks.{Mark, Byte, Other}
-use Rattle.filter_api.specs.Members.{others_of}
-use Rattle.request_meaning.specs.Serving.{World, Serving, Child, Answer, Standing, is_main_role, is_auth}
-use Rattle.request_meaning.specs.Answering.{facts_of, has_no_body}
-use Rattle.request_meaning.specs.Errors.{main_with}
-use Rattle.request_meaning.specs.Replies.{Came, run, reply, no_reply, script, served, child_asked, most_changes, or_stub, stubbed}
-use Rattle.request_meaning.specs.Bodies.{body, filtered_marks}
-use Rattle.request_meaning.specs.Documents.{begun}
+use Rattle.family_meaning.specs.filter_api.Members.{others_of}
+use Rattle.family_meaning.specs.request_meaning.Serving.{World, Serving, Child, Answer, Standing, is_main_role, is_auth}
+use Rattle.family_meaning.specs.request_meaning.Answering.{facts_of, has_no_body}
+use Rattle.family_meaning.specs.request_meaning.Errors.{main_with}
+use Rattle.family_meaning.specs.request_meaning.Replies.{Came, run, reply, no_reply, script, served, child_asked, most_changes, or_stub, stubbed}
+use Rattle.family_meaning.specs.request_meaning.Bodies.{body, filtered_marks}
+use Rattle.family_meaning.specs.request_meaning.Documents.{begun}
 use Rattle.ngx_variables.specs.Paths.{text_of}
 use Rattle.race_meaning.specs.Named.{is_open, is_fixed, IsRaceless}
 use Rattle.race_meaning.specs.Steady.{Names, Rules, Obeys, MayAsk, is_content, steady_rules, Steady, SameReply, InnerSame, any}

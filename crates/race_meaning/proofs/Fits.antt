@@ -3,14 +3,14 @@ use Rattle.std.proofs.Common.{◌≡◌, ℕ, ◌==◌, ◌&&◌, ◌||◌, Bool
 use Rattle.std.specs.List.{list_any}
 use Rattle.ssi_text.specs.declared.part.Part.TheVariants as parts
 use Rattle.ssi_text.specs.Marks.{Mark, Byte, Other}
-use Rattle.filter_api.specs.declared.facts.Facts.{Facts}
-use Rattle.filter_api.specs.declared.facts.FilterState.{FilterState}
-use Rattle.filter_api.specs.Members.{Member, fresh, feeds, whole, turned, others_of}
-use Rattle.addition_filter.specs.Machine.{is_added, addition_machine, addition_step, addition_finish, begun}
-use Rattle.ssi_filter.specs.Machine.{ssi_machine}
-use Rattle.request_meaning.specs.Serving.{World}
-use Rattle.request_meaning.specs.Bodies.{filtered_marks}
-use Rattle.request_meaning.specs.Laws.{shipped}
+use Rattle.family_meaning.specs.filter_api.declared.facts.Facts.{Facts}
+use Rattle.family_meaning.specs.filter_api.declared.facts.FilterState.{FilterState}
+use Rattle.family_meaning.specs.filter_api.Members.{Member, fresh, feeds, whole, turned, others_of}
+use Rattle.family_meaning.specs.addition_filter.Machine.{is_added, addition_machine, addition_step, addition_finish, begun}
+use Rattle.family_meaning.specs.ssi_filter.Machine.{ssi_machine}
+use Rattle.family_meaning.specs.request_meaning.Serving.{World}
+use Rattle.family_meaning.specs.request_meaning.Bodies.{filtered_marks}
+use Rattle.family_meaning.specs.request_meaning.Laws.{shipped}
 use Rattle.race_meaning.specs.Laws.{is_command, ShippedAreFit}
 
 abbrev commands : List Mark → Bool

@@ -1,11 +1,11 @@
 -- What is so of all levels of a server is so of the level that a search finds.
 use Rattle.std.proofs.Common.{◌≡◌, ℕ, nat_eq, nat_le, Bool, true, false, List, [], ◌∷◌, map, length, bytes_eq, find, Option, None, Some, option_map, subst, if◌then◌else◌}
 use Rattle.std.specs.List.{starts_with}
-use Rattle.site_views.specs.Pattern.{Finds, Span, groups_in}
-use Rattle.site_views.specs.Views.{LevelView, Locations, Matching, NamedView, ServerView}
-use Rattle.site_views.specs.Views.Locations.{NoMore, Location}
-use Rattle.site_views.specs.Views.Matching.{Exactly, Prefix, FirmPrefix, Regex}
-use Rattle.site_views.specs.Search.{Found, Sought, LongestPrefix, Candidates, plain, inner_or, matched, longer, with_prefix, with_regex, with_location, remembered, by_regex, by_prefix, decided, candidates, search, named}
+use Rattle.family_meaning.specs.site_views.Pattern.{Finds, Span, groups_in}
+use Rattle.family_meaning.specs.site_views.Views.{LevelView, Locations, Matching, NamedView, ServerView}
+use Rattle.family_meaning.specs.site_views.Views.Locations.{NoMore, Location}
+use Rattle.family_meaning.specs.site_views.Views.Matching.{Exactly, Prefix, FirmPrefix, Regex}
+use Rattle.family_meaning.specs.site_views.Search.{Found, Sought, LongestPrefix, Candidates, plain, inner_or, matched, longer, with_prefix, with_regex, with_location, remembered, by_regex, by_prefix, decided, candidates, search, named}
 use Rattle.race_meaning.specs.Levels.{location_levels, inner_levels, levels}
 use Rattle.race_meaning.proofs.Eaches.{Each, each_first, each_second}
 

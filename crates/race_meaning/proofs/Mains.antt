@@ -12,30 +12,30 @@ use Rattle.ngx_variables.specs.declared.request.Role.{Role}
 use Rattle.ngx_variables.specs.declared.request.Role.TheVariants.{Content, Auth, Main as MainRole}
 use Rattle.ssi_text.specs.declared.part.Part.{Part}
 use Rattle.ssi_text.specs.Marks.{Mark, Byte, Other}
-use Rattle.filter_api.specs.Members.{others_of}
-use Rattle.site_views.specs.Values.{Values, Text}
-use Rattle.site_views.specs.Rewrites.{Directive, Program}
-use Rattle.site_views.specs.Rewrites.Directive.{Set, If, Rewrite, Return, Stop}
-use Rattle.request_meaning.specs.Serving.{World, Serving, Answer, Asked, Prepared, Standing, From, is_main_role, writes}
-use Rattle.request_meaning.specs.Serving.From.{Start, Find, Named}
-use Rattle.request_meaning.specs.Serving.Body.{NoBody, Plain}
-use Rattle.request_meaning.specs.Cuts.{fit_value}
-use Rattle.request_meaning.specs.Answering.{page, page_to, page_answer, has_no_body, facts_of}
-use Rattle.request_meaning.specs.Errors.{Decided, Next, outcome_next}
-use Rattle.request_meaning.specs.Errors.Outcome.{Gives}
-use Rattle.request_meaning.specs.Errors.Next.{Answered, Changed}
-use Rattle.request_meaning.specs.Rewriting.{Passed, Ran, Step, set_step, step, on, rewritten, begins_at, program_run}
-use Rattle.request_meaning.specs.Rewriting.Ran.{Ends, Returns, Redirects, Drops, Breaks}
-use Rattle.request_meaning.specs.Phases.{after_program, find_config, standing, phases_from, round, until, rounds}
-use Rattle.request_meaning.specs.Documents.{Doc, begun, is_live}
-use Rattle.request_meaning.specs.Bodies.{body, mark, text_part, written, filtered_marks}
-use Rattle.request_meaning.specs.Replies.{run, reply, main_script, main_came, main_reply, served, outside, most_changes, most_depth}
-use Rattle.request_meaning.specs.Laws.{AllBlocks}
+use Rattle.family_meaning.specs.filter_api.Members.{others_of}
+use Rattle.family_meaning.specs.site_views.Values.{Values, Text}
+use Rattle.family_meaning.specs.site_views.Rewrites.{Directive, Program}
+use Rattle.family_meaning.specs.site_views.Rewrites.Directive.{Set, If, Rewrite, Return, Stop}
+use Rattle.family_meaning.specs.request_meaning.Serving.{World, Serving, Answer, Asked, Prepared, Standing, From, is_main_role, writes}
+use Rattle.family_meaning.specs.request_meaning.Serving.From.{Start, Find, Named}
+use Rattle.family_meaning.specs.request_meaning.Serving.Body.{NoBody, Plain}
+use Rattle.family_meaning.specs.request_meaning.Cuts.{fit_value}
+use Rattle.family_meaning.specs.request_meaning.Answering.{page, page_to, page_answer, has_no_body, facts_of}
+use Rattle.family_meaning.specs.request_meaning.Errors.{Decided, Next, outcome_next}
+use Rattle.family_meaning.specs.request_meaning.Errors.Outcome.{Gives}
+use Rattle.family_meaning.specs.request_meaning.Errors.Next.{Answered, Changed}
+use Rattle.family_meaning.specs.request_meaning.Rewriting.{Passed, Ran, Step, set_step, step, on, rewritten, begins_at, program_run}
+use Rattle.family_meaning.specs.request_meaning.Rewriting.Ran.{Ends, Returns, Redirects, Drops, Breaks}
+use Rattle.family_meaning.specs.request_meaning.Phases.{after_program, find_config, standing, phases_from, round, until, rounds}
+use Rattle.family_meaning.specs.request_meaning.Documents.{Doc, begun, is_live}
+use Rattle.family_meaning.specs.request_meaning.Bodies.{body, mark, text_part, written, filtered_marks}
+use Rattle.family_meaning.specs.request_meaning.Replies.{run, reply, main_script, main_came, main_reply, served, outside, most_changes, most_depth}
+use Rattle.family_meaning.specs.request_meaning.Laws.{AllBlocks}
 use Rattle.family_meaning.specs.Line.{rest, reply_of}
 use Rattle.family_meaning.specs.Line.Line.{Nil, Gives}
 use Rattle.family_meaning.specs.Flight
 use Rattle.family_meaning.specs.Flight.{Terms, flight_rest, whole_rest, unmade_rest}
-use Rattle.error_page.specs.Page.{page_of}
+use Rattle.family_meaning.specs.error_page.Page.{page_of}
 use Rattle.race_meaning.specs.Levels.{levels as levels_of, all_values}
 use Rattle.race_meaning.specs.Named.{is_open, is_fixed, is_one_text, set_texts, auth_sets_it, begins_with_set, IsRaceless}
 use Rattle.race_meaning.specs.Steady.{Rules}

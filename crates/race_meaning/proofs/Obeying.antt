@@ -16,10 +16,10 @@ use Rattle.ngx_variables.specs.declared.request.Role.TheVariants.{Content, Main 
 use Rattle.ngx_variables.specs.Paths.{text_of}
 use Rattle.ngx_variables.specs.Texts.{variable_text, piece_text, pieces_text, no_paths, is_too_long}
 use Rattle.ngx_variables.specs.Acts.{inner_piece, inner_pieces, file_paths, piece, value}
-use Rattle.file_path.specs.Acts.{located_act}
-use Rattle.site_views.specs.Values.{Text}
-use Rattle.request_meaning.specs.Serving.{Serving, Child, Reply}
-use Rattle.request_meaning.specs.Cuts.{Cut, is_question, onto_path, cut, some_value, target, fit_value}
+use Rattle.family_meaning.specs.file_path.Acts.{located_act}
+use Rattle.family_meaning.specs.site_views.Values.{Text}
+use Rattle.family_meaning.specs.request_meaning.Serving.{Serving, Child, Reply}
+use Rattle.family_meaning.specs.request_meaning.Cuts.{Cut, is_question, onto_path, cut, some_value, target, fit_value}
 use Rattle.race_meaning.specs.Reads.{is_piece, in_text}
 use Rattle.race_meaning.specs.Named.{is_of_main, is_steady_piece}
 use Rattle.race_meaning.specs.Steady.{Names, Covers, along, Rules, Obeys, MayAsk}

@@ -4,8 +4,8 @@ use Rattle.std.specs.List.{list_any}
 use Rattle.file_tree.specs.Tree.{Item}
 use Rattle.acts.specs.Vars.{Vars}
 use Rattle.acts.specs.Act.{Done, Write, ◌>>=◌}
-use Rattle.file_path.specs.Located.{Located}
-use Rattle.file_path.specs.Located.Located.{TooLong, NotThere, At}
+use Rattle.family_meaning.specs.file_path.Located.{Located}
+use Rattle.family_meaning.specs.file_path.Located.Located.{TooLong, NotThere, At}
 use Rattle.http_types.specs.declared.words.Method.{Method}
 use Rattle.ngx_variables.specs.declared.request.Main.{Main}
 use Rattle.ngx_variables.specs.declared.request.FileRoot.{FileRoot}
@@ -14,32 +14,32 @@ use Rattle.ngx_variables.specs.declared.request.Role.{Role}
 use Rattle.ngx_variables.specs.declared.request.Role.TheVariants.{Auth}
 use Rattle.ngx_variables.specs.Paths.{text_of}
 use Rattle.static_content.specs.Content.{refusal_of}
-use Rattle.site_views.specs.Values.{Values, Text, IndexName, Tries, LastTry, Shown, PageRule, PageTarget}
-use Rattle.site_views.specs.Values.LastTry.{ToPath, ToLocation, ToCode}
-use Rattle.site_views.specs.Values.PageTarget.{AtPath, AtLocation, AtUrl}
+use Rattle.family_meaning.specs.site_views.Values.{Values, Text, IndexName, Tries, LastTry, Shown, PageRule, PageTarget}
+use Rattle.family_meaning.specs.site_views.Values.LastTry.{ToPath, ToLocation, ToCode}
+use Rattle.family_meaning.specs.site_views.Values.PageTarget.{AtPath, AtLocation, AtUrl}
 use Rattle.access_rules.specs.Rule.{decision}
-use Rattle.site_views.specs.Rewrites.FileTest.{IsFile}
-use Rattle.site_views.specs.Views.{LevelView}
-use Rattle.site_views.specs.Search.{Found, search, named}
-use Rattle.request_meaning.specs.Serving.{World, Serving, Asked, Standing, Answer, Prepared, From, is_main, is_main_role, writes}
-use Rattle.request_meaning.specs.Serving.From.{Start, Find, Named}
-use Rattle.request_meaning.specs.Serving.Body.{NoBody, Plain}
-use Rattle.request_meaning.specs.Cuts.{Target}
-use Rattle.request_meaning.specs.Rewriting.{passes, Passed, Ran, with_groups, in_level, program_run}
-use Rattle.request_meaning.specs.Rewriting.Ran.{Ends, Returns, Redirects, Drops, Breaks}
-use Rattle.request_meaning.specs.Answering
-use Rattle.request_meaning.specs.Answering.{page, has_no_body, moved, closed, sent, sends_nothing, facts_of, body_sent, answer_with}
-use Rattle.request_meaning.specs.Errors.{Decided, decided, Outcome, Next, main_with, page_method, page_at, page_moved, error_page, by_rule, closing, may_apply, rule_for, failed, outcome_next}
-use Rattle.request_meaning.specs.Errors.Outcome.{Text as TextOutcome, File, Fails, Gives, Moves, Closes, Seeks, GoesTo, GoesToNamed}
-use Rattle.request_meaning.specs.Errors.Next.{Answered, Changed}
-use Rattle.request_meaning.specs.Access.{Verdict, set_fit, sets, auth_verdict, is_said, verdict}
-use Rattle.request_meaning.specs.Access.Verdict.{LetsIn, Denies}
-use Rattle.request_meaning.specs.Contents.{item_at, item, with_item, with_text, file, no_index, goes_to, index_at, index_name, indexed, by_method, content, with_path, last_try, is_found, try_at, try_name, tried, by_tries, precontent}
-use Rattle.request_meaning.specs.Phases.{after_program, by_verdict, access, in_location, is_too_large, entered, located, find_config, standing, at_named, phases_from, round, until, rounds}
-use Rattle.request_meaning.specs.Bodies
-use Rattle.request_meaning.specs.Bodies.{body, written, filtered_marks}
-use Rattle.request_meaning.specs.Documents.{begun}
-use Rattle.request_meaning.specs.Laws.{AllBlocks}
+use Rattle.family_meaning.specs.site_views.Rewrites.FileTest.{IsFile}
+use Rattle.family_meaning.specs.site_views.Views.{LevelView}
+use Rattle.family_meaning.specs.site_views.Search.{Found, search, named}
+use Rattle.family_meaning.specs.request_meaning.Serving.{World, Serving, Asked, Standing, Answer, Prepared, From, is_main, is_main_role, writes}
+use Rattle.family_meaning.specs.request_meaning.Serving.From.{Start, Find, Named}
+use Rattle.family_meaning.specs.request_meaning.Serving.Body.{NoBody, Plain}
+use Rattle.family_meaning.specs.request_meaning.Cuts.{Target}
+use Rattle.family_meaning.specs.request_meaning.Rewriting.{passes, Passed, Ran, with_groups, in_level, program_run}
+use Rattle.family_meaning.specs.request_meaning.Rewriting.Ran.{Ends, Returns, Redirects, Drops, Breaks}
+use Rattle.family_meaning.specs.request_meaning.Answering
+use Rattle.family_meaning.specs.request_meaning.Answering.{page, has_no_body, moved, closed, sent, sends_nothing, facts_of, body_sent, answer_with}
+use Rattle.family_meaning.specs.request_meaning.Errors.{Decided, decided, Outcome, Next, main_with, page_method, page_at, page_moved, error_page, by_rule, closing, may_apply, rule_for, failed, outcome_next}
+use Rattle.family_meaning.specs.request_meaning.Errors.Outcome.{Text as TextOutcome, File, Fails, Gives, Moves, Closes, Seeks, GoesTo, GoesToNamed}
+use Rattle.family_meaning.specs.request_meaning.Errors.Next.{Answered, Changed}
+use Rattle.family_meaning.specs.request_meaning.Access.{Verdict, set_fit, sets, auth_verdict, is_said, verdict}
+use Rattle.family_meaning.specs.request_meaning.Access.Verdict.{LetsIn, Denies}
+use Rattle.family_meaning.specs.request_meaning.Contents.{item_at, item, with_item, with_text, file, no_index, goes_to, index_at, index_name, indexed, by_method, content, with_path, last_try, is_found, try_at, try_name, tried, by_tries, precontent}
+use Rattle.family_meaning.specs.request_meaning.Phases.{after_program, by_verdict, access, in_location, is_too_large, entered, located, find_config, standing, at_named, phases_from, round, until, rounds}
+use Rattle.family_meaning.specs.request_meaning.Bodies
+use Rattle.family_meaning.specs.request_meaning.Bodies.{body, written, filtered_marks}
+use Rattle.family_meaning.specs.request_meaning.Documents.{begun}
+use Rattle.family_meaning.specs.request_meaning.Laws.{AllBlocks}
 use Rattle.race_meaning.specs.Reads.{in_text, in_tries, in_last, in_target, in_values}
 use Rattle.race_meaning.specs.Steady.{Names, Rules}
 use Rattle.race_meaning.proofs.Obeying

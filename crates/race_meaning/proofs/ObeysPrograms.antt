@@ -2,27 +2,27 @@
 use Rattle.std.proofs.Common.{◌≡◌, ◌⊎◌, inl, inr, ℕ, zero, suc, ◌≤◌, ◌==◌, ◌||◌, not, Bool, true, false, cond, List, [], ◌∷◌, bytes_eq, Option, None, Some, refl, ◌∙◌, ap, le_trans, le_refl, zero-le, not-suc-le-zero, if◌then◌else◌, arith}
 use Rattle.std.specs.List.{list_all}
 use Rattle.acts.specs.Act.{◌>>=◌}
-use Rattle.file_path.specs.Located.{Located, located as located_path}
-use Rattle.file_path.specs.Located.Located.{TooLong, NotThere, At}
+use Rattle.family_meaning.specs.file_path.Located.{Located, located as located_path}
+use Rattle.family_meaning.specs.file_path.Located.Located.{TooLong, NotThere, At}
 use Rattle.ngx_variables.specs.declared.request.Main.{Main}
 use Rattle.ngx_variables.specs.declared.request.FileRoot.{FileRoot}
 use Rattle.ngx_variables.specs.declared.request.FileRoot.TheVariants.{Whole}
 use Rattle.ngx_variables.specs.declared.request.Request.{Request}
 use Rattle.ngx_variables.specs.declared.request.Role.{Role}
 use Rattle.ngx_variables.specs.Grammar.{begins_with}
-use Rattle.site_views.specs.Pattern.{Pattern, Span, groups_in}
-use Rattle.site_views.specs.Values.{Values, Text}
-use Rattle.site_views.specs.Rewrites.{FileTest, Test, Flag, Directive, Program}
-use Rattle.site_views.specs.Rewrites.Test.{IsSet, Equals, Matches, OnFile}
-use Rattle.site_views.specs.Rewrites.Flag.{NoFlag, Last, Break, Redirect, Permanent}
-use Rattle.site_views.specs.Rewrites.Directive.{Set, If, Rewrite, Return, Stop}
-use Rattle.request_meaning.specs.Serving.{World, Serving, Standing}
-use Rattle.request_meaning.specs.Cuts.{Target, rewritten_args, ends_in_question}
-use Rattle.request_meaning.specs.Rewriting.{Tested, asked_at, test_at, tested, Passed, Ran, Step, matched, in_block, set_step, if_step, is_redirect, return_step, return_text, returned, rewrite_moves, rewrite_goes, is_moved, move_code, rewrite_to, rewrite_step, step, stays_first, on, rewritten, begins_at, program_run}
-use Rattle.request_meaning.specs.Rewriting.Tested.{Says, Unfit}
-use Rattle.request_meaning.specs.Rewriting.Ran.{Ends, Returns, Redirects, Drops, Breaks}
-use Rattle.request_meaning.specs.Rewriting.Step.{Goes, Stops}
-use Rattle.request_meaning.specs.Laws.{BlockHas, AllBlocks}
+use Rattle.family_meaning.specs.site_views.Pattern.{Pattern, Span, groups_in}
+use Rattle.family_meaning.specs.site_views.Values.{Values, Text}
+use Rattle.family_meaning.specs.site_views.Rewrites.{FileTest, Test, Flag, Directive, Program}
+use Rattle.family_meaning.specs.site_views.Rewrites.Test.{IsSet, Equals, Matches, OnFile}
+use Rattle.family_meaning.specs.site_views.Rewrites.Flag.{NoFlag, Last, Break, Redirect, Permanent}
+use Rattle.family_meaning.specs.site_views.Rewrites.Directive.{Set, If, Rewrite, Return, Stop}
+use Rattle.family_meaning.specs.request_meaning.Serving.{World, Serving, Standing}
+use Rattle.family_meaning.specs.request_meaning.Cuts.{Target, rewritten_args, ends_in_question}
+use Rattle.family_meaning.specs.request_meaning.Rewriting.{Tested, asked_at, test_at, tested, Passed, Ran, Step, matched, in_block, set_step, if_step, is_redirect, return_step, return_text, returned, rewrite_moves, rewrite_goes, is_moved, move_code, rewrite_to, rewrite_step, step, stays_first, on, rewritten, begins_at, program_run}
+use Rattle.family_meaning.specs.request_meaning.Rewriting.Tested.{Says, Unfit}
+use Rattle.family_meaning.specs.request_meaning.Rewriting.Ran.{Ends, Returns, Redirects, Drops, Breaks}
+use Rattle.family_meaning.specs.request_meaning.Rewriting.Step.{Goes, Stops}
+use Rattle.family_meaning.specs.request_meaning.Laws.{BlockHas, AllBlocks}
 use Rattle.race_meaning.specs.Reads.{is_piece, in_text, in_some, in_test, in_directive, block_after, settled_after, is_private_in}
 use Rattle.race_meaning.specs.Named.{is_steady_piece}
 use Rattle.race_meaning.specs.Steady.{Names, Covers, along, Rules}

@@ -11,12 +11,12 @@ use Rattle.ngx_variables.specs.declared.request.Main.{Main}
 use Rattle.ngx_variables.specs.declared.request.Request.{Request}
 use Rattle.ngx_variables.specs.Names.{name_of, variables, variable_named}
 use Rattle.ngx_variables.specs.Texts.{piece_text, pieces_text, no_paths, value_text, place_paths}
-use Rattle.site_views.specs.Values.{Values, Text, IndexName, PageRule}
-use Rattle.site_views.specs.Rewrites.{Program}
-use Rattle.site_views.specs.Rewrites.Directive.{Set, If, Rewrite, Return, Stop}
-use Rattle.site_views.specs.Views.{LevelView, ServerView}
-use Rattle.request_meaning.specs.Documents.{is_visible}
-use Rattle.request_meaning.specs.Laws.{AllBlocks}
+use Rattle.family_meaning.specs.site_views.Values.{Values, Text, IndexName, PageRule}
+use Rattle.family_meaning.specs.site_views.Rewrites.{Program}
+use Rattle.family_meaning.specs.site_views.Rewrites.Directive.{Set, If, Rewrite, Return, Stop}
+use Rattle.family_meaning.specs.site_views.Views.{LevelView, ServerView}
+use Rattle.family_meaning.specs.request_meaning.Documents.{is_visible}
+use Rattle.family_meaning.specs.request_meaning.Laws.{AllBlocks}
 use Rattle.race_meaning.specs.Levels.{block_values, level_values, levels, programs, all_values}
 use Rattle.ngx_variables.specs.Paths.{text_of}
 use Rattle.race_meaning.specs.Reads.{in_text, in_tries, in_target, in_values, is_private_in}

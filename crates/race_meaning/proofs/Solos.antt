@@ -7,9 +7,9 @@ use Rattle.acts.specs.Act.{Done, Get, Put, Stat, Call, Write, Inner, ◌>>=◌, 
 use Rattle.acts.proofs.ActLaws.{look_after_set}
 use Rattle.ngx_variables.specs.declared.request.Main.{Main}
 use Rattle.ngx_variables.specs.declared.request.Role.TheVariants.{Content, Auth}
-use Rattle.request_meaning.specs.Serving.{World, Serving, Child, Reply, Answer}
-use Rattle.request_meaning.specs.Replies
-use Rattle.request_meaning.specs.Replies.{Came, run, script, or_stub}
+use Rattle.family_meaning.specs.request_meaning.Serving.{World, Serving, Child, Reply, Answer}
+use Rattle.family_meaning.specs.request_meaning.Replies
+use Rattle.family_meaning.specs.request_meaning.Replies.{Came, run, script, or_stub}
 use Rattle.family_meaning.specs.Line.{Line, Left, rest, before, reply_of, status_of, joined, opened, with_stub, begun, has_node}
 use Rattle.family_meaning.specs.Line.Line.{Nil, Bytes, Gives, Waits, Stubs}
 use Rattle.family_meaning.specs.Moves.{Quiet, Thinks, Moves, Runs}

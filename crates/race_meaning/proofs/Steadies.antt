@@ -5,8 +5,8 @@ use Rattle.file_tree.specs.Tree.{Tree}
 use Rattle.acts.specs.Vars.{Vars, look, set}
 use Rattle.acts.specs.Act.{Done, Get, Put, Stat, Call, Write, Inner, ◌>>=◌}
 use Rattle.acts.proofs.ActLaws.{look_after_set}
-use Rattle.request_meaning.specs.Serving.{Serving, Child, Reply, Answer}
-use Rattle.request_meaning.specs.Replies.{Came, run, after_bytes}
+use Rattle.family_meaning.specs.request_meaning.Serving.{Serving, Child, Reply, Answer}
+use Rattle.family_meaning.specs.request_meaning.Replies.{Came, run, after_bytes}
 use Rattle.race_meaning.specs.Steady.{Names, Covers, along, Agree, Rules, Obeys, Shared, Steady, SameReply, InnerSame, any}
 
 pub agree_through : {a : Names} {t v w : Vars} → Agree a t v → Agree a t w → Agree a v w

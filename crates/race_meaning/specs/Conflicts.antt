@@ -1,10 +1,10 @@
 -- What the check tells of a named variable: where it is set, and where it is read.
 use Rattle.std.specs.Prelude.{◌≡◌, ℕ, ◌==◌, ◌&&◌, ◌||◌, nat_lt, Bool, true, false, List, [], ◌∷◌, ◌++◌, map, flat_map, bytes_eq, Contains, AllPairs, if◌then◌else◌, ◌↔◌}
 use Rattle.ngx_variables.specs.Paths.{text_of}
-use Rattle.site_views.specs.Values.{Values, Text, IndexName, PageRule}
-use Rattle.site_views.specs.Rewrites.{Directive, Program}
-use Rattle.site_views.specs.Rewrites.Directive.{Set, If, Rewrite, Return, Stop}
-use Rattle.site_views.specs.Views.{ServerView}
+use Rattle.family_meaning.specs.site_views.Values.{Values, Text, IndexName, PageRule}
+use Rattle.family_meaning.specs.site_views.Rewrites.{Directive, Program}
+use Rattle.family_meaning.specs.site_views.Rewrites.Directive.{Set, If, Rewrite, Return, Stop}
+use Rattle.family_meaning.specs.site_views.Views.{ServerView}
 use Rattle.race_meaning.specs.Reads.{in_text, in_tries, in_target, in_directive}
 use Rattle.race_meaning.specs.Named.{is_named, is_shown}
 

@@ -9,14 +9,14 @@ use Rattle.ngx_variables.specs.declared.request.Role.TheVariants.{Content}
 use Rattle.ngx_variables.specs.Texts.{value_text}
 use Rattle.ssi_text.specs.declared.part.Part.{Part}
 use Rattle.ssi_text.specs.declared.part.Part.TheVariants as parts
-use Rattle.filter_api.specs.declared.facts.Facts.{Facts}
-use Rattle.filter_api.specs.Members.{others_of}
-use Rattle.site_views.specs.Values.{Text}
-use Rattle.site_views.specs.Views.{ServerView}
-use Rattle.request_meaning.specs.Serving.{World, Child}
-use Rattle.request_meaning.specs.Replies.{reply, main_came, main_reply, main_script, most_depth}
-use Rattle.request_meaning.specs.Bodies.{filtered_marks}
-use Rattle.request_meaning.specs.Laws.{MakesText, shipped}
+use Rattle.family_meaning.specs.filter_api.declared.facts.Facts.{Facts}
+use Rattle.family_meaning.specs.filter_api.Members.{others_of}
+use Rattle.family_meaning.specs.site_views.Values.{Text}
+use Rattle.family_meaning.specs.site_views.Views.{ServerView}
+use Rattle.family_meaning.specs.request_meaning.Serving.{World, Child}
+use Rattle.family_meaning.specs.request_meaning.Replies.{reply, main_came, main_reply, main_script, most_depth}
+use Rattle.family_meaning.specs.request_meaning.Bodies.{filtered_marks}
+use Rattle.family_meaning.specs.request_meaning.Laws.{MakesText, shipped}
 use Rattle.family_meaning.specs.Line.{Line, Left, rest}
 use Rattle.family_meaning.specs.Line.Line.{Nil, Gives}
 use Rattle.family_meaning.specs.Moves.{Runs}

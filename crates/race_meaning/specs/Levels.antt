@@ -1,10 +1,10 @@
 -- All levels and programs of a server.
 use Rattle.std.specs.Prelude.{List, [], ◌∷◌, ◌++◌, map, flat_map, None, Some}
-use Rattle.site_views.specs.Values.{Values}
-use Rattle.site_views.specs.Rewrites.{Directive, Program}
-use Rattle.site_views.specs.Rewrites.Directive.{Set, If, Rewrite, Return, Stop}
-use Rattle.site_views.specs.Views.{LevelView, Locations, NamedView, ServerView}
-use Rattle.site_views.specs.Views.Locations.{NoMore, Location}
+use Rattle.family_meaning.specs.site_views.Values.{Values}
+use Rattle.family_meaning.specs.site_views.Rewrites.{Directive, Program}
+use Rattle.family_meaning.specs.site_views.Rewrites.Directive.{Set, If, Rewrite, Return, Stop}
+use Rattle.family_meaning.specs.site_views.Views.{LevelView, Locations, NamedView, ServerView}
+use Rattle.family_meaning.specs.site_views.Views.Locations.{NoMore, Location}
 
 -- the levels with programs of their own: the server's own, those of its locations, and of its locations `@name`
 unfoldable pub location_levels : Locations → List LevelView

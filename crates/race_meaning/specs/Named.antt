@@ -6,11 +6,11 @@ use Rattle.ngx_variables.specs.declared.variable.Variable.TheVariants.{Uri, Docu
 use Rattle.ngx_variables.specs.declared.value.Piece.{Piece}
 use Rattle.ngx_variables.specs.declared.value.Piece.TheVariants.{Literal, Group, Builtin, Argument, Field, Cookie, Set as SetVariable}
 use Rattle.ngx_variables.specs.Names.{name_of}
-use Rattle.request_meaning.specs.Documents.{is_visible}
-use Rattle.site_views.specs.Values.{Values, Text}
-use Rattle.site_views.specs.Rewrites.{Directive, Program}
-use Rattle.site_views.specs.Rewrites.Directive.{Set, If, Rewrite, Return, Stop}
-use Rattle.site_views.specs.Views.{ServerView}
+use Rattle.family_meaning.specs.request_meaning.Documents.{is_visible}
+use Rattle.family_meaning.specs.site_views.Values.{Values, Text}
+use Rattle.family_meaning.specs.site_views.Rewrites.{Directive, Program}
+use Rattle.family_meaning.specs.site_views.Rewrites.Directive.{Set, If, Rewrite, Return, Stop}
+use Rattle.family_meaning.specs.site_views.Views.{ServerView}
 use Rattle.race_meaning.specs.Levels.{programs, all_values}
 use Rattle.race_meaning.specs.Reads.{in_values, is_private_in}
 

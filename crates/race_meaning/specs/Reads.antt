@@ -4,12 +4,12 @@ use Rattle.std.specs.List.{list_any}
 use Rattle.ngx_variables.specs.declared.value.Piece.{Piece}
 use Rattle.ngx_variables.specs.declared.value.Piece.TheVariants.{Literal, Group, Builtin, Argument, Field, Cookie, Set as Variable}
 use Rattle.ngx_variables.specs.Paths.{text_of}
-use Rattle.site_views.specs.Values.{Values, Text, IndexName, Tries, LastTry, PageRule, PageTarget}
-use Rattle.site_views.specs.Values.LastTry.{ToPath, ToLocation, ToCode}
-use Rattle.site_views.specs.Values.PageTarget.{AtPath, AtLocation, AtUrl}
-use Rattle.site_views.specs.Rewrites.{Test, Directive, Program}
-use Rattle.site_views.specs.Rewrites.Test.{IsSet, Equals, Matches, OnFile}
-use Rattle.site_views.specs.Rewrites.Directive.{Set, If, Rewrite, Return, Stop}
+use Rattle.family_meaning.specs.site_views.Values.{Values, Text, IndexName, Tries, LastTry, PageRule, PageTarget}
+use Rattle.family_meaning.specs.site_views.Values.LastTry.{ToPath, ToLocation, ToCode}
+use Rattle.family_meaning.specs.site_views.Values.PageTarget.{AtPath, AtLocation, AtUrl}
+use Rattle.family_meaning.specs.site_views.Rewrites.{Test, Directive, Program}
+use Rattle.family_meaning.specs.site_views.Rewrites.Test.{IsSet, Equals, Matches, OnFile}
+use Rattle.family_meaning.specs.site_views.Rewrites.Directive.{Set, If, Rewrite, Return, Stop}
 
 abbrev pub is_piece : List ℕ → Piece → Bool
 is_piece name (Variable other) = bytes_eq other name

@@ -6,8 +6,8 @@ use Rattle.acts.specs.Act.{Done, Get, Put, Stat, Call, Write, Inner}
 use Rattle.ngx_variables.specs.declared.request.Main.{Main}
 use Rattle.ngx_variables.specs.declared.request.Role.{Role}
 use Rattle.ngx_variables.specs.declared.request.Role.TheVariants as role
-use Rattle.request_meaning.specs.Serving.{Serving, Child, Reply, Answer}
-use Rattle.request_meaning.specs.Replies.{Came, run}
+use Rattle.family_meaning.specs.request_meaning.Serving.{Serving, Child, Reply, Answer}
+use Rattle.family_meaning.specs.request_meaning.Replies.{Came, run}
 
 -- a set of names of variables
 abbrev pub Names : Type 0

@@ -4,7 +4,7 @@ use Rattle.error_page.specs.Page.{page_of}
 use Rattle.resp_head.specs.declared.head.ReplyHead.{ReplyHead}
 use Rattle.resp_head.specs.Head.{head_of}
 use Rattle.site_model.specs.declared.site.Level.{Level}
-use Rattle.request_meaning.specs.Responses.{framing, may_stay}
+use Rattle.request_reply.specs.request_meaning.Responses.{framing, may_stay}
 use Rattle.request_reply.specs.declared.reply.Body.{Body}
 use Rattle.request_reply.specs.declared.reply.Body.TheVariants as bodies
 use Rattle.request_reply.specs.declared.reply.Reply.{Reply}

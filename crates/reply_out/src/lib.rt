@@ -9,5 +9,8 @@ mod slot;
 mod terms;
 
 pub use reply::{Workspace, head_alone, put_refusal, put_reply, stays};
+pub use request_opening;
+pub use request_reply;
+pub use request_reply::request_phases;
 pub use room::OutRoom;
 pub use terms::{InPhases, Terms};

@@ -3,7 +3,7 @@ ghost use Rattle.std.specs.Prelude.{◌≡◌, ◌≤◌, ◌+◌, ◌==◌, ◌
 ghost use Rattle.ngx_outside.specs.Views.{Start};
 ghost use Rattle.answers_meaning.specs.Answers.{refusal};
 ghost use Rattle.resp_head.specs.Head.{head_of};
-ghost use Rattle.request_meaning.specs.Responses.{framing, may_stay};
+ghost use Rattle.request_reply.specs.request_meaning.Responses.{framing, may_stay};
 ghost use Rattle.reply_out.specs.Puts.{head_with, sent_now, content_now, put_now, stays_seen};
 
 use crate::heads::Heads;

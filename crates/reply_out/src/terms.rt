@@ -1,8 +1,8 @@
 // A request within its phases, and what its response is made with.
 use http_types::Version;
-use ngx_variables::VarTable;
 use request_opening::blank as blank_phases;
-use request_phases::Phases;
+use request_reply::request_phases::Phases;
+use site_model::ngx_variables::VarTable;
 use std::alloc::Global;
 
 /// What a response is made with, beside what is answered: the moment at which the request started,

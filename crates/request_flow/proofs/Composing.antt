@@ -8,7 +8,7 @@ use Rattle.resp_head.specs.Head.{head_of}
 use Rattle.site_model.specs.Levels.{raw_level}
 use Rattle.site_model.specs.declared.site.Level.{Level}
 use Rattle.site_model.specs.declared.site.Site.{Site}
-use Rattle.site_whole.specs.Whole.{values_seen}
+use Rattle.reply_out.specs.site_whole.Whole.{values_seen}
 use Rattle.request_meaning.specs.Bodies.{written}
 use Rattle.request_meaning.specs.Replies.{Came, most_depth, reply, run}
 use Rattle.request_meaning.specs.Responses.{content_sent, framed_body, framing, is_chunked, reply_head, response}
@@ -16,10 +16,10 @@ use Rattle.request_meaning.specs.Responses.{Framing as framings}
 use Rattle.request_meaning.specs.Serving.{World, Serving, Child, Answer, Prepared}
 use Rattle.family_meaning.specs.Flight.{stays_after}
 use Rattle.family_meaning.specs.Left.{act_subs}
-use Rattle.request_phases.specs.declared.state.Conclusion.{Conclusion}
-use Rattle.request_phases.specs.declared.state.Conclusion.TheVariants as outcomes
-use Rattle.request_reply.specs.Replies.{IsReply}
-use Rattle.request_reply.specs.declared.reply.Reply.{Reply}
+use Rattle.reply_out.specs.request_phases.declared.state.Conclusion.{Conclusion}
+use Rattle.reply_out.specs.request_phases.declared.state.Conclusion.TheVariants as outcomes
+use Rattle.reply_out.specs.request_reply.Replies.{IsReply}
+use Rattle.reply_out.specs.request_reply.declared.reply.Reply.{Reply}
 use Rattle.reply_out.specs.declared.terms.Terms.{Terms}
 use Rattle.request_flow.specs.declared.page.PageHead.{PageHead}
 use Rattle.request_flow.specs.Terms.{terms_seen}
@@ -27,9 +27,9 @@ use Rattle.request_flow.specs.Pages.{framed_if, page_by}
 use Rattle.request_flow.specs.Rests.{Follows, act_rest, came_rest, finished}
 use Rattle.reply_out.specs.Puts.{head_with, stays_seen}
 use Rattle.request_flow.specs.Sents.{with_length}
-use Rattle.request_phases.specs.Rounds.{asked_in, prepared_as}
-use Rattle.request_phases.specs.declared.state.Step.TheVariants as steps
-use Rattle.rewrite_code.specs.Places.{standing_seen}
+use Rattle.reply_out.specs.request_phases.Rounds.{asked_in, prepared_as}
+use Rattle.reply_out.specs.request_phases.declared.state.Step.TheVariants as steps
+use Rattle.reply_out.specs.rewrite_code.Places.{standing_seen}
 use Rattle.request_flow.specs.Padded.{padded}
 use Rattle.request_flow.specs.Pages.{page_act}
 use Rattle.request_flow.specs.Reached.{Settles, StepReached}

@@ -13,7 +13,7 @@ use Rattle.file_tree.specs.declared.job.JobAnswer.TheVariants as answer
 use Rattle.ngx_pattern.specs.Pattern.{Pattern as SetPattern}
 use Rattle.site_model.specs.declared.site.Site.{Site}
 use Rattle.request_meaning.specs.Serving.{World}
-use Rattle.request_phases.specs.declared.state.Wait.{Wait}
+use Rattle.reply_out.specs.request_phases.declared.state.Wait.{Wait}
 use Rattle.request_flow.specs.declared.blocks.Sending.{Sending}
 use Rattle.request_flow.specs.declared.flow.Stage.{Stage}
 use Rattle.request_flow.specs.declared.flow.Stage.TheVariants.{Asked, Told, Reading, Came}

@@ -11,7 +11,7 @@ use Rattle.site_model.specs.Levels.{raw_level}
 use Rattle.site_model.specs.declared.site.Level.{Level}
 use Rattle.site_model.specs.declared.site.Site.{Site}
 use Rattle.site_views.specs.Values.{Values}
-use Rattle.site_whole.specs.Whole.{values_seen}
+use Rattle.reply_out.specs.site_whole.Whole.{values_seen}
 use Rattle.request_meaning.specs.Serving.{World, Answer, Asked, Standing, Prepared, Body as MeantBody}
 use Rattle.request_meaning.specs.Serving.Body.{NoBody}
 use Rattle.request_meaning.specs.Answering.{sent, page, page_to, moved, answer_with, page_answer, closed_answer}
@@ -20,16 +20,16 @@ use Rattle.http_types.specs.declared.words.Version.{Version}
 use Rattle.http_types.specs.declared.words.Version.TheVariants as versions
 use Rattle.family_meaning.specs.Flight.{stays_after}
 use Rattle.request_meaning.specs.Laws.{shipped}
-use Rattle.rewrite_code.specs.Places.{standing_seen}
-use Rattle.request_phases.specs.Rounds.{prepared_as, asked_in, world_in}
-use Rattle.request_phases.specs.declared.ground.Ground.{Ground}
-use Rattle.request_phases.specs.declared.state.Phases.{Phases}
-use Rattle.request_phases.specs.declared.state.Conclusion.{Conclusion}
-use Rattle.request_phases.specs.declared.state.Conclusion.TheVariants as outcomes
-use Rattle.request_reply.specs.Replies.{IsReply, body_seen, FitsFile}
-use Rattle.request_reply.specs.declared.reply.Body.{Body}
-use Rattle.request_reply.specs.declared.reply.Body.TheVariants as bodies
-use Rattle.request_reply.specs.declared.reply.Reply.{Reply}
+use Rattle.reply_out.specs.rewrite_code.Places.{standing_seen}
+use Rattle.reply_out.specs.request_phases.Rounds.{prepared_as, asked_in, world_in}
+use Rattle.reply_out.specs.request_phases.declared.ground.Ground.{Ground}
+use Rattle.reply_out.specs.request_phases.declared.state.Phases.{Phases}
+use Rattle.reply_out.specs.request_phases.declared.state.Conclusion.{Conclusion}
+use Rattle.reply_out.specs.request_phases.declared.state.Conclusion.TheVariants as outcomes
+use Rattle.reply_out.specs.request_reply.Replies.{IsReply, body_seen, FitsFile}
+use Rattle.reply_out.specs.request_reply.declared.reply.Body.{Body}
+use Rattle.reply_out.specs.request_reply.declared.reply.Body.TheVariants as bodies
+use Rattle.reply_out.specs.request_reply.declared.reply.Reply.{Reply}
 use Rattle.reply_out.specs.declared.terms.Terms.{Terms}
 use Rattle.request_flow.specs.declared.steps.FileAt.{FileAt}
 use Rattle.request_flow.specs.declared.steps.Known.{Known}

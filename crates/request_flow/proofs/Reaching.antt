@@ -9,10 +9,10 @@ use Rattle.postpone_filter.specs.Row.{is_open}
 use Rattle.request_meaning.specs.Phases.{rounds}
 use Rattle.request_meaning.specs.Replies.{main_script, most_changes, most_depth, outside, served}
 use Rattle.request_meaning.specs.Serving.{World, Serving, Answer, Prepared}
-use Rattle.family_order.specs.Acts.{Does}
-use Rattle.family_order.specs.Acts.Acts.{Learns, Thinks}
-use Rattle.family_order.specs.Items.{IsAlike, alone, doing, row_items}
-use Rattle.family_order.specs.Items.Stance.{Going}
+use Rattle.family_rest.specs.family_order.Acts.{Does}
+use Rattle.family_rest.specs.family_order.Acts.Acts.{Learns, Thinks}
+use Rattle.family_rest.specs.family_order.Items.{IsAlike, alone, doing, row_items}
+use Rattle.family_rest.specs.family_order.Items.Stance.{Going}
 use Rattle.family_rest.specs.Reached.{Reached}
 use Rattle.family_rest.specs.Reached.Reached.{Acted, Likened, Starts}
 use Rattle.request_flow.specs.Reached.{IsReachedAt, Settles}

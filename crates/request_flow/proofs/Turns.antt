@@ -13,9 +13,9 @@ use Rattle.request_meaning.specs.Replies.{Came, run, reply, most_depth}
 use Rattle.family_meaning.specs.Flight.{Terms}
 use Rattle.family_meaning.specs.Left.{act_subs}
 use Rattle.family_meaning.proofs.Exacts.{settled_run}
-use Rattle.request_reply.specs.Replies.{body_seen}
-use Rattle.request_reply.specs.declared.reply.Body.{Body as CodeBody}
-use Rattle.request_reply.specs.declared.reply.Body.TheVariants as bodies
+use Rattle.reply_out.specs.request_reply.Replies.{body_seen}
+use Rattle.reply_out.specs.request_reply.declared.reply.Body.{Body as CodeBody}
+use Rattle.reply_out.specs.request_reply.declared.reply.Body.TheVariants as bodies
 use Rattle.request_flow.specs.Rests.{Rest, finished, came_rest, act_rest}
 use Rattle.request_flow.specs.Sents.{prepared_rest}
 

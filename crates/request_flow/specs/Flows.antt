@@ -10,10 +10,10 @@ use Rattle.ngx_outside.specs.Views.{Job}
 use Rattle.ngx_pattern.specs.Pattern.{Pattern as SetPattern}
 use Rattle.site_model.specs.declared.site.Site.{Site}
 use Rattle.request_meaning.specs.Serving.{World}
-use Rattle.request_phases.specs.Rounds.{phases_told}
+use Rattle.reply_out.specs.request_phases.Rounds.{phases_told}
 use Rattle.request_flow.specs.declared.blocks.Sending.{Sending}
 use Rattle.reply_out.specs.declared.terms.InPhases.{InPhases}
-use Rattle.request_phases.specs.declared.state.Wait.{Wait}
+use Rattle.reply_out.specs.request_phases.declared.state.Wait.{Wait}
 use Rattle.request_flow.specs.declared.flow.Stage.{Stage}
 use Rattle.request_flow.specs.declared.flow.Stage.TheVariants.{Asked, Told, Reading, Came}
 use Rattle.request_flow.specs.declared.flow.Flow.{Flow}

@@ -5,8 +5,8 @@ use Rattle.file_tree.specs.Tree.{Tree, Trees}
 use Rattle.ngx_pattern.specs.Pattern.{Pattern as SetPattern}
 use Rattle.request_meaning.specs.Replies.{Came, most_depth, reply, run}
 use Rattle.request_meaning.specs.Serving.{World, Serving, Answer}
-use Rattle.request_phases.specs.Rounds.{phases_left}
-use Rattle.request_phases.specs.declared.state.Step.TheVariants.{Answers, Calls}
+use Rattle.reply_out.specs.request_phases.Rounds.{phases_left}
+use Rattle.reply_out.specs.request_phases.declared.state.Step.TheVariants.{Answers, Calls}
 use Rattle.site_model.specs.declared.site.Site.{Site}
 use Rattle.family_meaning.specs.Left.{act_subs}
 use Rattle.reply_out.specs.declared.terms.InPhases.{InPhases}

@@ -11,12 +11,12 @@ use Rattle.ngx_pattern.specs.Pattern.{Pattern as SetPattern}
 use Rattle.site_model.specs.declared.site.Site.{Site}
 use Rattle.request_meaning.specs.Replies.{most_depth}
 use Rattle.request_meaning.specs.Serving.{World, Serving, Answer}
-use Rattle.family_order.specs.Items.{alone}
-use Rattle.family_order.specs.Items.Stance.{Going}
+use Rattle.family_rest.specs.family_order.Items.{alone}
+use Rattle.family_rest.specs.family_order.Items.Stance.{Going}
 use Rattle.family_rest.specs.Reached.{Reached}
-use Rattle.request_phases.specs.Rounds.{phases_left, phases_told}
-use Rattle.request_phases.specs.declared.state.Step.{Step}
-use Rattle.request_phases.specs.declared.state.Step.TheVariants.{Calls}
+use Rattle.reply_out.specs.request_phases.Rounds.{phases_left, phases_told}
+use Rattle.reply_out.specs.request_phases.declared.state.Step.{Step}
+use Rattle.reply_out.specs.request_phases.declared.state.Step.TheVariants.{Calls}
 use Rattle.request_flow.specs.declared.flow.Flow.{Flow}
 use Rattle.reply_out.specs.declared.terms.InPhases.{InPhases}
 use Rattle.request_flow.specs.declared.flow.Stage.{Stage}

@@ -9,7 +9,7 @@ use Rattle.ngx_variables.specs.declared.request.Request.{Request}
 use Rattle.site_model.specs.Levels.{raw_level}
 use Rattle.site_model.specs.declared.site.Site.{Site}
 use Rattle.site_views.specs.Values.{Values}
-use Rattle.site_whole.specs.Whole.{values_seen}
+use Rattle.reply_out.specs.site_whole.Whole.{values_seen}
 use Rattle.request_meaning.specs.Serving.{World, Serving, Answer, Prepared}
 use Rattle.request_meaning.specs.Bodies.{written}
 use Rattle.request_meaning.specs.Phases.{rounds}

@@ -8,13 +8,13 @@ use Rattle.request_meaning.specs.Serving.{World, Answer, Prepared, Body as Meant
 use Rattle.request_meaning.specs.Serving.Body.{NoBody, Plain, Filtered}
 use Rattle.request_meaning.specs.Replies.{Came}
 use Rattle.family_meaning.specs.Flight.{Terms}
-use Rattle.request_phases.specs.Rounds.{phases_left}
-use Rattle.request_phases.specs.declared.state.Conclusion.{Conclusion}
-use Rattle.request_phases.specs.declared.state.Conclusion.TheVariants as outcomes
-use Rattle.request_phases.specs.declared.state.Step.{Step}
-use Rattle.request_reply.specs.declared.reply.Body.{Body}
-use Rattle.request_reply.specs.declared.reply.Body.TheVariants as bodies
-use Rattle.request_reply.specs.declared.reply.Reply.{Reply}
+use Rattle.reply_out.specs.request_phases.Rounds.{phases_left}
+use Rattle.reply_out.specs.request_phases.declared.state.Conclusion.{Conclusion}
+use Rattle.reply_out.specs.request_phases.declared.state.Conclusion.TheVariants as outcomes
+use Rattle.reply_out.specs.request_phases.declared.state.Step.{Step}
+use Rattle.reply_out.specs.request_reply.declared.reply.Body.{Body}
+use Rattle.reply_out.specs.request_reply.declared.reply.Body.TheVariants as bodies
+use Rattle.reply_out.specs.request_reply.declared.reply.Reply.{Reply}
 use Rattle.reply_out.specs.declared.terms.InPhases.{InPhases}
 use Rattle.reply_out.specs.declared.terms.Terms.{Terms as CodeTerms}
 use Rattle.request_flow.specs.declared.steps.FileAt.{FileAt}

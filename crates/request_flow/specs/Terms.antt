@@ -2,7 +2,7 @@
 use Rattle.family_meaning.specs.Flight.{Terms}
 use Rattle.request_meaning.specs.Serving.{is_head}
 use Rattle.reply_out.specs.declared.terms.Terms.{Terms as CodeTerms}
-use Rattle.request_opening.specs.declared.asked.Opening.{Opening}
+use Rattle.reply_out.specs.request_opening.declared.asked.Opening.{Opening}
 
 -- what a response is asked with
 abbrev pub terms_seen : CodeTerms → Terms

@@ -5,7 +5,7 @@ ghost use Rattle.request_flow.specs.Flows.{waits as waits_for, may_run as can_ru
 use crate::blocks::Sending;
 use file_tree::{Ask, Node};
 use reply_out::InPhases;
-use request_phases::Wait;
+use reply_out::request_phases::Wait;
 
 /// No more bytes than these are shown as pending.
 const SHOWN: usize = 65536;

@@ -8,7 +8,7 @@ ghost use Rattle.ngx_pattern.specs.Pattern.{Pattern as SetPattern};
 ghost use Rattle.site_model.specs.declared.site.Site.{Site as SiteRow};
 ghost use Rattle.request_meaning.specs.Laws.{shipped};
 ghost use Rattle.request_meaning.specs.Serving.{World};
-ghost use Rattle.request_phases.specs.Rounds.{IsGround, world_in};
+ghost use Rattle.reply_out.specs.request_phases.Rounds.{IsGround, world_in};
 ghost use Rattle.request_flow.specs.Flows.{waits as waits_for, may_run as can_run, is_sending as sends, going_on, one_rest, flow_rest, flow_fits, flow_left, flow_most, tree_asked, heard_flow, file_length, stage_server, stage_length, stage_opened, HasOpened, IsServedBy, count_asked};
 ghost use Rattle.request_flow.specs.Rests.{Follows};
 ghost use Rattle.request_flow.specs.Pages.{GoesTo, IfAsks, IfOn, IfPage, AreOpened, IsServed, IsTold, closing_of, tree_of_went};
@@ -21,8 +21,8 @@ use crate::slot::put;
 use crate::steps::{FileAt, Known, go_on};
 use byte_text::{ByteQueue, ByteText, OutOfMemory};
 use file_tree::{Ask, JobAnswer, Node};
+use reply_out::request_phases::{Ground, Wait, resume};
 use reply_out::{InPhases, Workspace};
-use request_phases::{Ground, Wait, resume};
 use std::alloc::Global;
 use std::mem::replace;
 

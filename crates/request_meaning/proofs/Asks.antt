@@ -2,14 +2,14 @@
 use Rattle.std.proofs.Common.{◌≡◌, ℕ, Bool, true, false, List, [], ◌∷◌, Option, None, Some, refl, if◌then◌else◌}
 use Rattle.file_tree.specs.Tree.{Item}
 use Rattle.acts.specs.Act.{Done, Get, Put, Stat, Call, Write, Inner, ◌>>=◌}
-use Rattle.ngx_variables.specs.declared.variable.Variable.TheVariants.{DocumentRoot, RequestFilename}
-use Rattle.ngx_variables.specs.declared.value.Piece.{Piece}
-use Rattle.ngx_variables.specs.declared.value.Piece.TheVariants.{Builtin, Set}
-use Rattle.ngx_variables.specs.declared.request.Main.{Main}
-use Rattle.ngx_variables.specs.declared.request.FileRoot.{FileRoot}
-use Rattle.ngx_variables.specs.declared.request.Request.{Request}
-use Rattle.ngx_variables.specs.Paths.{text_of}
-use Rattle.ngx_variables.specs.Acts.{inner_piece, inner_pieces, file_paths, piece, value}
+use Rattle.file_path.specs.ngx_variables.declared.variable.Variable.TheVariants.{DocumentRoot, RequestFilename}
+use Rattle.file_path.specs.ngx_variables.declared.value.Piece.{Piece}
+use Rattle.file_path.specs.ngx_variables.declared.value.Piece.TheVariants.{Builtin, Set}
+use Rattle.file_path.specs.ngx_variables.declared.request.Main.{Main}
+use Rattle.file_path.specs.ngx_variables.declared.request.FileRoot.{FileRoot}
+use Rattle.file_path.specs.ngx_variables.declared.request.Request.{Request}
+use Rattle.file_path.specs.ngx_variables.Paths.{text_of}
+use Rattle.file_path.specs.ngx_variables.Acts.{inner_piece, inner_pieces, file_paths, piece, value}
 use Rattle.file_path.specs.Acts.{located_act}
 use Rattle.site_views.specs.Values.{Text}
 use Rattle.request_meaning.specs.Serving.{Serving, Child, Reply}

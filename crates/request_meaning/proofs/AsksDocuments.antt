@@ -4,17 +4,17 @@ use Rattle.std.specs.List.{list_any, before_first, after_first, ends_with}
 use Rattle.std.specs.Prelude.{nat_eq, bytes_eq}
 use Rattle.acts.specs.Vars.{look, set}
 use Rattle.acts.specs.Act.{Done, Get}
-use Rattle.ngx_variables.specs.declared.request.Role.TheVariants.{Content}
-use Rattle.ngx_variables.specs.declared.value.Piece.{Piece}
-use Rattle.ngx_variables.specs.declared.value.Piece.TheVariants.{Literal, Group, Builtin, Argument, Field, Cookie, Set as SetPiece}
-use Rattle.ngx_variables.specs.Grammar.{Token, lowercase, piece_named}
-use Rattle.ngx_variables.specs.Grammar.Token.{Bytes, Name}
-use Rattle.ngx_variables.specs.Pairs.{trimmed}
-use Rattle.ssi_text.specs.declared.part.Param.{Param}
-use Rattle.ssi_text.specs.declared.part.Part.{Part}
-use Rattle.ssi_text.specs.declared.part.Part.TheVariants as parts
-use Rattle.ssi_text.specs.Marks.{Mark, Byte, Other}
-use Rattle.filter_api.specs.Members.{others_of}
+use Rattle.file_path.specs.ngx_variables.declared.request.Role.TheVariants.{Content}
+use Rattle.file_path.specs.ngx_variables.declared.value.Piece.{Piece}
+use Rattle.file_path.specs.ngx_variables.declared.value.Piece.TheVariants.{Literal, Group, Builtin, Argument, Field, Cookie, Set as SetPiece}
+use Rattle.file_path.specs.ngx_variables.Grammar.{Token, lowercase, piece_named}
+use Rattle.file_path.specs.ngx_variables.Grammar.Token.{Bytes, Name}
+use Rattle.file_path.specs.ngx_variables.Pairs.{trimmed}
+use Rattle.ssi_filter.specs.ssi_text.declared.part.Param.{Param}
+use Rattle.ssi_filter.specs.ssi_text.declared.part.Part.{Part}
+use Rattle.ssi_filter.specs.ssi_text.declared.part.Part.TheVariants as parts
+use Rattle.ssi_filter.specs.ssi_text.Marks.{Mark, Byte, Other}
+use Rattle.addition_filter.specs.filter_api.Members.{others_of}
 use Rattle.uri_text.specs.declared.fault.UriFault.{UriFault}
 use Rattle.uri_text.specs.Target.{normal_of}
 use Rattle.request_meaning.specs.Serving.{World, Serving, Child, writes}

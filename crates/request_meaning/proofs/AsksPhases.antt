@@ -5,11 +5,11 @@ use Rattle.acts.specs.Vars.{Vars}
 use Rattle.acts.specs.Act.{Done}
 use Rattle.file_path.specs.Located.{Located}
 use Rattle.file_path.specs.Located.Located.{TooLong, NotThere, At}
-use Rattle.ngx_variables.specs.declared.request.Main.{Main}
-use Rattle.ngx_variables.specs.declared.request.Request.{Request}
-use Rattle.ngx_variables.specs.declared.request.Role.{Role}
-use Rattle.ngx_variables.specs.declared.request.FileRoot.TheVariants.{Whole}
-use Rattle.ngx_variables.specs.Grammar.{begins_with}
+use Rattle.file_path.specs.ngx_variables.declared.request.Main.{Main}
+use Rattle.file_path.specs.ngx_variables.declared.request.Request.{Request}
+use Rattle.file_path.specs.ngx_variables.declared.request.Role.{Role}
+use Rattle.file_path.specs.ngx_variables.declared.request.FileRoot.TheVariants.{Whole}
+use Rattle.file_path.specs.ngx_variables.Grammar.{begins_with}
 use Rattle.file_path.specs.Located.{located as located_path}
 use Rattle.static_content.specs.Content.{refusal_of}
 use Rattle.site_views.specs.Pattern.{Span, groups_in}

@@ -1,11 +1,11 @@
 -- How deep subrequests nest, and which sites ask for none.
 use Rattle.std.proofs.Common.{◌≡◌, ℕ, zero, suc, Bool, true, false, List, [], ◌∷◌, None, Some, is_some, refl, ap}
 use Rattle.acts.specs.Vars.{Vars}
-use Rattle.filter_api.specs.Members.{others_of}
-use Rattle.ngx_variables.specs.declared.request.Main.{Main}
-use Rattle.ngx_variables.specs.declared.request.Request.{Request}
-use Rattle.ngx_variables.specs.declared.request.Role.{Role}
-use Rattle.ngx_variables.specs.declared.request.Role.TheVariants as role
+use Rattle.addition_filter.specs.filter_api.Members.{others_of}
+use Rattle.file_path.specs.ngx_variables.declared.request.Main.{Main}
+use Rattle.file_path.specs.ngx_variables.declared.request.Request.{Request}
+use Rattle.file_path.specs.ngx_variables.declared.request.Role.{Role}
+use Rattle.file_path.specs.ngx_variables.declared.request.Role.TheVariants as role
 use Rattle.site_views.specs.Values.{Values}
 use Rattle.site_views.specs.Rewrites.{Program}
 use Rattle.site_views.specs.Rewrites.Directive.{Set, If, Rewrite, Return, Stop}

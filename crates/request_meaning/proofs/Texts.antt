@@ -1,8 +1,8 @@
 -- A body of text alone.
 use Rattle.std.proofs.Common.{◌≡◌, ℕ, Bool, true, false, ◌&&◌, ◌||◌, cond, List, [], ◌∷◌, map, refl, ap, ◌∙◌}
-use Rattle.ssi_text.specs.Marks.{Mark, Byte}
-use Rattle.filter_api.specs.declared.facts.Facts.{Facts}
-use Rattle.filter_api.specs.Members.{Member, whole, turned, others_of}
+use Rattle.ssi_filter.specs.ssi_text.Marks.{Mark, Byte}
+use Rattle.addition_filter.specs.filter_api.declared.facts.Facts.{Facts}
+use Rattle.addition_filter.specs.filter_api.Members.{Member, whole, turned, others_of}
 use Rattle.addition_filter.specs.Machine.{is_added, addition_machine}
 use Rattle.ssi_filter.specs.Machine.{is_split, ssi_machine}
 use Rattle.request_meaning.specs.Serving.{World}

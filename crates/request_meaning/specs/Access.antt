@@ -2,9 +2,9 @@
 -- ngx_http_auth_request_module.html, and ngx_http_core_module.html#satisfy).
 use Rattle.std.specs.Prelude.{ℕ, ◌==◌, ◌&&◌, ◌||◌, nat_le, nat_lt, Bool, true, false, List, [], ◌∷◌, Option, None, Some, if◌then◌else◌}
 use Rattle.acts.specs.Act.{Done, ◌>>=◌, ◌>>◌}
-use Rattle.ngx_variables.specs.declared.request.Main.{Main}
-use Rattle.ngx_variables.specs.declared.request.Request.{Request}
-use Rattle.ngx_variables.specs.declared.request.Role.TheVariants.{Auth}
+use Rattle.file_path.specs.ngx_variables.declared.request.Main.{Main}
+use Rattle.file_path.specs.ngx_variables.declared.request.Request.{Request}
+use Rattle.file_path.specs.ngx_variables.declared.request.Role.TheVariants.{Auth}
 use Rattle.access_rules.specs.Rule.{decision}
 use Rattle.site_views.specs.Values.{Values, Text}
 use Rattle.request_meaning.specs.Serving.{Serving, Child, asks, puts}

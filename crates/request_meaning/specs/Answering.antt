@@ -9,12 +9,12 @@ use Rattle.http_header.specs.FieldValue.{FieldValue}
 use Rattle.http_types.specs.declared.words.Addr.{Addr}
 use Rattle.httpdate.specs.Date.{parse_secs}
 use Rattle.file_type.specs.Types.{type_of}
-use Rattle.filter_api.specs.declared.facts.Facts.{Facts}
-use Rattle.filter_api.specs.Members.{Member}
-use Rattle.ngx_variables.specs.declared.request.Main.{Main}
-use Rattle.ngx_variables.specs.declared.request.Request.{Request}
-use Rattle.ngx_variables.specs.Grammar.{begins_with}
-use Rattle.resp_head.specs.Head.{is_bodiless}
+use Rattle.addition_filter.specs.filter_api.declared.facts.Facts.{Facts}
+use Rattle.addition_filter.specs.filter_api.Members.{Member}
+use Rattle.file_path.specs.ngx_variables.declared.request.Main.{Main}
+use Rattle.file_path.specs.ngx_variables.declared.request.Request.{Request}
+use Rattle.file_path.specs.ngx_variables.Grammar.{begins_with}
+use Rattle.error_page.specs.resp_head.Head.{is_bodiless}
 use Rattle.error_page.specs.Page.{page_of}
 use Rattle.site_views.specs.Values.{Values, MediaTypes, Shown}
 use Rattle.site_views.specs.Values.Shown.{OwnCode, Fixed, ByAnswer}

@@ -3,13 +3,13 @@
 use Rattle.std.specs.Prelude.{ℕ, zero, suc, false, List, [], ◌∷◌, map, Option, None, Some, if◌then◌else◌}
 use Rattle.acts.specs.Vars.{Vars}
 use Rattle.acts.specs.Act.{Done, Write, ◌>>=◌, ◌>>◌}
-use Rattle.filter_api.specs.declared.facts.Facts.{Facts}
-use Rattle.filter_api.specs.Members.{Member, Machine, turned}
-use Rattle.ngx_variables.specs.declared.request.Role.TheVariants.{Content}
-use Rattle.ssi_text.specs.declared.part.Param.{Param}
-use Rattle.ssi_text.specs.declared.part.Part.{Part}
-use Rattle.ssi_text.specs.declared.part.Part.TheVariants as parts
-use Rattle.ssi_text.specs.Marks.{Mark, Byte, Other}
+use Rattle.addition_filter.specs.filter_api.declared.facts.Facts.{Facts}
+use Rattle.addition_filter.specs.filter_api.Members.{Member, Machine, turned}
+use Rattle.file_path.specs.ngx_variables.declared.request.Role.TheVariants.{Content}
+use Rattle.ssi_filter.specs.ssi_text.declared.part.Param.{Param}
+use Rattle.ssi_filter.specs.ssi_text.declared.part.Part.{Part}
+use Rattle.ssi_filter.specs.ssi_text.declared.part.Part.TheVariants as parts
+use Rattle.ssi_filter.specs.ssi_text.Marks.{Mark, Byte, Other}
 use Rattle.request_meaning.specs.Serving.{World, Serving, Answer, Body, Child, writes, inner}
 use Rattle.request_meaning.specs.Serving.Body.{NoBody, Plain, Filtered}
 use Rattle.request_meaning.specs.Documents.{Doc, is_live, begun, error_text, oops, live_oops}

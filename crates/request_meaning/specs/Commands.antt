@@ -5,10 +5,10 @@ use Rattle.std.specs.Prelude.{◌-◌, take}
 use Rattle.acts.specs.Vars.{Vars, look, set}
 use Rattle.acts.specs.Act.{Done, ◌>>=◌, ◌>>◌}
 use Rattle.http_moment.specs.Shown.{is_format}
-use Rattle.ngx_variables.specs.declared.request.Role.TheVariants.{Content}
-use Rattle.ngx_variables.specs.Grammar.{lowercase, begins_with}
-use Rattle.ngx_variables.specs.Texts.{is_too_long}
-use Rattle.ssi_text.specs.declared.part.Param.{Param}
+use Rattle.file_path.specs.ngx_variables.declared.request.Role.TheVariants.{Content}
+use Rattle.file_path.specs.ngx_variables.Grammar.{lowercase, begins_with}
+use Rattle.file_path.specs.ngx_variables.Texts.{is_too_long}
+use Rattle.ssi_filter.specs.ssi_text.declared.part.Param.{Param}
 use Rattle.uri_text.specs.declared.fault.UriFault.{UriFault}
 use Rattle.uri_text.specs.Target.{normal_of}
 use Rattle.request_meaning.specs.Serving.{World, Serving, Child, writes, asks, inner}

@@ -4,12 +4,12 @@ use Rattle.std.specs.Prelude.{ℕ, ◌-◌, ◌==◌, Bool, false, List, [], ◌
 use Rattle.std.specs.List.{list_any, before_first, after_first, ends_with}
 use Rattle.std.specs.Prelude.{nat_eq}
 use Rattle.acts.specs.Act.{Done, ◌>>=◌}
-use Rattle.ngx_variables.specs.declared.value.Piece.{Piece}
-use Rattle.ngx_variables.specs.declared.value.Piece.TheVariants.{Literal}
-use Rattle.ngx_variables.specs.declared.request.Main.{Main}
-use Rattle.ngx_variables.specs.declared.request.Request.{Request}
-use Rattle.ngx_variables.specs.Texts.{is_too_long}
-use Rattle.ngx_variables.specs.Acts.{value}
+use Rattle.file_path.specs.ngx_variables.declared.value.Piece.{Piece}
+use Rattle.file_path.specs.ngx_variables.declared.value.Piece.TheVariants.{Literal}
+use Rattle.file_path.specs.ngx_variables.declared.request.Main.{Main}
+use Rattle.file_path.specs.ngx_variables.declared.request.Request.{Request}
+use Rattle.file_path.specs.ngx_variables.Texts.{is_too_long}
+use Rattle.file_path.specs.ngx_variables.Acts.{value}
 use Rattle.site_views.specs.Values.{Text}
 use Rattle.request_meaning.specs.Serving.{Serving}
 

@@ -6,18 +6,18 @@ use Rattle.std.specs.Char.{is_ascii_alphanumeric}
 use Rattle.acts.specs.Vars.{Vars, look}
 use Rattle.acts.specs.Act.{Done, Get, ◌>>=◌, ◌>>◌}
 use Rattle.http_moment.specs.Shown.{shown_text, default_format}
-use Rattle.ngx_variables.specs.declared.request.Main.{Main}
-use Rattle.ngx_variables.specs.declared.request.Request.{Request}
-use Rattle.ngx_variables.specs.declared.value.Piece.{Piece}
-use Rattle.ngx_variables.specs.declared.value.Piece.TheVariants.{Literal, Group, Builtin, Argument, Field, Cookie, Set}
-use Rattle.ngx_variables.specs.declared.compile.Reference.{Reference}
-use Rattle.ngx_variables.specs.declared.fault.ValueFault.{ValueFault}
-use Rattle.ngx_variables.specs.Grammar.{Token, onto_bytes, reference_at, name_in, piece_named, lowercase, begins_with}
-use Rattle.ngx_variables.specs.Grammar.Token.{Bytes, Name}
-use Rattle.ngx_variables.specs.Pairs.{trimmed}
-use Rattle.ngx_variables.specs.Acts.{piece}
-use Rattle.ngx_variables.specs.Texts.{is_too_long}
-use Rattle.resp_head.specs.Values.{escape}
+use Rattle.file_path.specs.ngx_variables.declared.request.Main.{Main}
+use Rattle.file_path.specs.ngx_variables.declared.request.Request.{Request}
+use Rattle.file_path.specs.ngx_variables.declared.value.Piece.{Piece}
+use Rattle.file_path.specs.ngx_variables.declared.value.Piece.TheVariants.{Literal, Group, Builtin, Argument, Field, Cookie, Set}
+use Rattle.file_path.specs.ngx_variables.declared.compile.Reference.{Reference}
+use Rattle.file_path.specs.ngx_variables.declared.fault.ValueFault.{ValueFault}
+use Rattle.file_path.specs.ngx_variables.Grammar.{Token, onto_bytes, reference_at, name_in, piece_named, lowercase, begins_with}
+use Rattle.file_path.specs.ngx_variables.Grammar.Token.{Bytes, Name}
+use Rattle.file_path.specs.ngx_variables.Pairs.{trimmed}
+use Rattle.file_path.specs.ngx_variables.Acts.{piece}
+use Rattle.file_path.specs.ngx_variables.Texts.{is_too_long}
+use Rattle.error_page.specs.resp_head.Values.{escape}
 use Rattle.site_views.specs.Values.{Values}
 use Rattle.request_meaning.specs.Serving.{World, Serving, writes}
 

@@ -5,8 +5,8 @@ use Rattle.std.specs.List.{list_any}
 use Rattle.acts.specs.Act.{Done, ◌>>=◌}
 use Rattle.http_types.specs.declared.words.Method.{Method}
 use Rattle.http_types.specs.declared.words.Method.TheVariants.{Get}
-use Rattle.ngx_variables.specs.declared.request.Main.{Main}
-use Rattle.ngx_variables.specs.declared.request.Request.{Request}
+use Rattle.file_path.specs.ngx_variables.declared.request.Main.{Main}
+use Rattle.file_path.specs.ngx_variables.declared.request.Request.{Request}
 use Rattle.site_views.specs.Values.{Values, Shown, PageRule, PageTarget}
 use Rattle.site_views.specs.Values.Shown.{OwnCode, Fixed, ByAnswer}
 use Rattle.site_views.specs.Values.PageTarget.{AtPath, AtLocation, AtUrl}

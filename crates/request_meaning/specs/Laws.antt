@@ -3,12 +3,12 @@ use Rattle.std.specs.Prelude.{◌≡◌, ℕ, zero, suc, false, List, [], ◌∷
 use Rattle.file_tree.specs.Tree.{Tree, Item}
 use Rattle.acts.specs.Vars.{Vars, look, set}
 use Rattle.acts.specs.Act.{Done, Get, Put, Stat, Call, Write, Inner, ◌>>=◌}
-use Rattle.filter_api.specs.declared.facts.Facts.{Facts}
-use Rattle.filter_api.specs.Members.{Member, others_of}
+use Rattle.addition_filter.specs.filter_api.declared.facts.Facts.{Facts}
+use Rattle.addition_filter.specs.filter_api.Members.{Member, others_of}
 use Rattle.addition_filter.specs.Machine.{addition_member}
 use Rattle.ssi_filter.specs.Machine.{ssi_member}
-use Rattle.ngx_variables.specs.declared.request.Main.{Main}
-use Rattle.ngx_variables.specs.declared.request.Request.{Request}
+use Rattle.file_path.specs.ngx_variables.declared.request.Main.{Main}
+use Rattle.file_path.specs.ngx_variables.declared.request.Request.{Request}
 use Rattle.site_views.specs.Values.{Values}
 use Rattle.site_views.specs.Rewrites.{Directive, Program}
 use Rattle.site_views.specs.Rewrites.Directive.{If}

@@ -2,7 +2,7 @@
 -- rewrite and post-rewrite, access, precontent and content; and their rounds.
 use Rattle.std.specs.Prelude.{ℕ, zero, suc, ◌&&◌, nat_le, nat_lt, Bool, true, false, not, List, [], Option, None, Some, if◌then◌else◌}
 use Rattle.acts.specs.Act.{Done, ◌>>=◌}
-use Rattle.ngx_variables.specs.declared.request.Request.{Request}
+use Rattle.file_path.specs.ngx_variables.declared.request.Request.{Request}
 use Rattle.site_views.specs.Values.{Values}
 use Rattle.site_views.specs.Views.{LevelView}
 use Rattle.site_views.specs.Search.{Found, search, named}

@@ -4,8 +4,8 @@ use Rattle.file_tree.specs.Tree.{Tree}
 use Rattle.acts.specs.Vars.{Vars, look, set}
 use Rattle.acts.specs.Act.{Done, Get, Put, Stat, Call, Write, Inner, ◌>>=◌, ◌>>◌}
 use Rattle.http_types.specs.declared.words.Method.TheVariants.{Get as GetMethod}
-use Rattle.ngx_variables.specs.declared.request.Main.{Main}
-use Rattle.ngx_variables.specs.declared.request.Request.{Request}
+use Rattle.file_path.specs.ngx_variables.declared.request.Main.{Main}
+use Rattle.file_path.specs.ngx_variables.declared.request.Request.{Request}
 use Rattle.request_meaning.specs.Serving.{World, Serving, Child, Reply, Answer, Asked}
 use Rattle.request_meaning.specs.Serving.From.{Start}
 use Rattle.request_meaning.specs.Phases.{rounds, standing}

@@ -2,8 +2,8 @@
 use Rattle.std.specs.Prelude.{ℕ, ◌+◌, ◌==◌, ◌&&◌, ◌||◌, nat_lt, Bool, true, false, not, List, [], ◌++◌, length, if◌then◌else◌}
 use Rattle.http_types.specs.declared.words.Version.{Version}
 use Rattle.http_types.specs.declared.words.Version.TheVariants.{V10, V11}
-use Rattle.resp_head.specs.declared.head.ReplyHead.{ReplyHead}
-use Rattle.resp_head.specs.Head.{head_of}
+use Rattle.error_page.specs.resp_head.declared.head.ReplyHead.{ReplyHead}
+use Rattle.error_page.specs.resp_head.Head.{head_of}
 use Rattle.chunk_out.specs.Chunks.{framed}
 use Rattle.site_views.specs.Values.{Values}
 use Rattle.request_meaning.specs.Serving.{Answer, Reply}

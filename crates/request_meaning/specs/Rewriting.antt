@@ -2,11 +2,11 @@
 use Rattle.std.specs.Prelude.{ℕ, zero, suc, ◌==◌, ◌||◌, Bool, true, false, not, List, [], ◌∷◌, bytes_eq, Option, None, Some, if◌then◌else◌}
 use Rattle.acts.specs.Act.{Done, Stat, ◌>>=◌, ◌>>◌}
 use Rattle.file_tree.specs.Tree.{Item, AFile, AFolder, ALocked, Nothing}
-use Rattle.ngx_variables.specs.declared.request.Main.{Main}
-use Rattle.ngx_variables.specs.declared.request.Request.{Request}
-use Rattle.ngx_variables.specs.declared.request.FileRoot.TheVariants.{Whole}
-use Rattle.ngx_variables.specs.Grammar.{begins_with}
-use Rattle.ngx_variables.specs.Acts.{value}
+use Rattle.file_path.specs.ngx_variables.declared.request.Main.{Main}
+use Rattle.file_path.specs.ngx_variables.declared.request.Request.{Request}
+use Rattle.file_path.specs.ngx_variables.declared.request.FileRoot.TheVariants.{Whole}
+use Rattle.file_path.specs.ngx_variables.Grammar.{begins_with}
+use Rattle.file_path.specs.ngx_variables.Acts.{value}
 use Rattle.file_path.specs.Located.{Located, located}
 use Rattle.file_path.specs.Located.Located.{TooLong, NotThere, At}
 use Rattle.site_views.specs.Pattern.{Span, groups_in}

@@ -2,12 +2,12 @@
 use Rattle.std.specs.Prelude.{ℕ, Bool, true, false, List, Option}
 use Rattle.acts.specs.Vars.{Vars}
 use Rattle.acts.specs.Act.{Act, Done, Put, Call, Write, Inner}
-use Rattle.filter_api.specs.declared.facts.Facts.{Facts}
-use Rattle.filter_api.specs.Members.{Member}
-use Rattle.ngx_variables.specs.declared.request.Main.{Main}
-use Rattle.ngx_variables.specs.declared.request.Request.{Request}
-use Rattle.ngx_variables.specs.declared.request.Role.{Role}
-use Rattle.ngx_variables.specs.declared.request.Role.TheVariants as role
+use Rattle.addition_filter.specs.filter_api.declared.facts.Facts.{Facts}
+use Rattle.addition_filter.specs.filter_api.Members.{Member}
+use Rattle.file_path.specs.ngx_variables.declared.request.Main.{Main}
+use Rattle.file_path.specs.ngx_variables.declared.request.Request.{Request}
+use Rattle.file_path.specs.ngx_variables.declared.request.Role.{Role}
+use Rattle.file_path.specs.ngx_variables.declared.request.Role.TheVariants as role
 use Rattle.http_types.specs.declared.words.Method.{Method}
 use Rattle.http_types.specs.declared.words.Method.TheVariants as methods
 use Rattle.site_views.specs.Pattern.{Finds}

@@ -3,4 +3,5 @@
 
 mod laws;
 
+pub use file_path;
 pub use laws::{alone_asks_none, changes_fall, node_is_meant, subrequests_nest};

@@ -1,1 +1,2 @@
 pub mod Openings
+pub use Rattle.site_whole.specs as site_whole

@@ -7,10 +7,10 @@ use Rattle.ngx_pattern.specs.Pattern.{Pattern as SetPattern}
 use Rattle.ngx_variables.specs.declared.request.Main.{Main}
 use Rattle.ngx_variables.specs.declared.request.Request.{Request}
 use Rattle.ngx_variables.specs.declared.request.Role.TheVariants as roles
-use Rattle.pattern_search.specs.Found.{patterns_seen, found}
-use Rattle.site_model.specs.declared.site.Site.{Site}
+use Rattle.request_phases.specs.pattern_search.Found.{patterns_seen, found}
+use Rattle.site_whole.specs.site_model.declared.site.Site.{Site}
 use Rattle.site_whole.specs.Whole.{whole}
-use Rattle.request_meaning.specs.Laws.{shipped}
+use Rattle.request_phases.specs.request_meaning.Laws.{shipped}
 use Rattle.answers_meaning.specs.Asking.{Service}
 use Rattle.request_phases.specs.declared.ground.Ground.{Ground}
 use Rattle.request_phases.specs.declared.state.Phases.{Phases}

@@ -1,7 +1,7 @@
 // What a request's head asks for.
 ghost use Rattle.std.specs.Prelude.{◌≡◌, OnOk, List, ℕ};
 ghost use Rattle.ngx_pattern.specs.Pattern.{Pattern as SetPattern};
-ghost use Rattle.pattern_search.specs.Found.{patterns_seen};
+ghost use Rattle.request_phases.specs.pattern_search.Found.{patterns_seen};
 ghost use Rattle.site_whole.specs.Whole.{server_whole};
 ghost use Rattle.answers_meaning.specs.Asking.{target_of as target_meant, request_of};
 ghost use Rattle.request_opening.specs.Openings.{main_at, phases_at, main_with};
@@ -12,9 +12,9 @@ use http_moment::LocalDate;
 use http_types::{Addr, Method, Version};
 use ngx_variables::{Groups, Main, Request, Role};
 use req_head::{Head, HeadFields, HeadRoom};
+use request_phases::rewrite_code::Progress;
 use request_phases::{Ground, Phases};
-use rewrite_code::Progress;
-use site_model::Server;
+use site_whole::site_model::Server;
 use std::alloc::Global;
 use std::mem::replace;
 use std::net::{IpAddr, Ipv4Addr};

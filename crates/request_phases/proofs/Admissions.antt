@@ -8,16 +8,16 @@ use Rattle.ngx_variables.specs.declared.request.Main.{Main}
 use Rattle.ngx_variables.specs.declared.request.Request.{Request}
 use Rattle.ngx_variables.specs.Texts.{is_too_long, value_text}
 use Rattle.site_model.specs.declared.values.AuthSet.{AuthSet}
-use Rattle.site_views.specs.Values.{Text}
-use Rattle.site_whole.specs.Whole.{auth_set_seen}
+use Rattle.request_meaning.specs.site_views.Values.{Text}
+use Rattle.try_index.specs.site_whole.Whole.{auth_set_seen}
 use Rattle.request_meaning.specs.Access.{sets, set_fit}
 use Rattle.request_meaning.specs.Cuts.{fit_value}
 use Rattle.request_meaning.specs.Serving.{Serving}
-use Rattle.target_text.specs.Settled.{FitValueSettles}
+use Rattle.try_index.specs.target_text.Settled.{FitValueSettles}
 use Rattle.site_model.specs.Levels.{raw_level}
 use Rattle.site_model.specs.declared.site.Site.{Site}
 use Rattle.site_model.specs.declared.site.Level.{Level}
-use Rattle.site_whole.specs.Whole.{auth_sets_at, values_seen}
+use Rattle.try_index.specs.site_whole.Whole.{auth_sets_at, values_seen}
 use Rattle.ngx_pattern.specs.Pattern.{Pattern as SetPattern}
 use Rattle.request_meaning.specs.Access.{Verdict, fit_verdict, status_verdict}
 use Rattle.request_meaning.specs.Contents.{precontent}

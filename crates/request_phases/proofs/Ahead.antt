@@ -6,7 +6,7 @@ use Rattle.acts.specs.Act.{Done, Stat, ◌>>=◌, settled, settled_then}
 use Rattle.acts.proofs.ActLaws.{settles_in_turn}
 use Rattle.file_tree.specs.Tree.{Item, node_of}
 use Rattle.static_content.specs.Content.{content_for}
-use Rattle.site_views.specs.Rewrites.FileTest.{IsFolder}
+use Rattle.request_meaning.specs.site_views.Rewrites.FileTest.{IsFolder}
 use Rattle.request_meaning.specs.Rewriting.{passes}
 use Rattle.request_meaning.specs.Contents.{content_outcome}
 use Rattle.try_index.specs.Searches.{index_told}
@@ -15,8 +15,8 @@ use Rattle.try_index.specs.declared.index.IndexState.{IndexState}
 use Rattle.ngx_pattern.specs.Pattern.{Pattern as SetPattern}
 use Rattle.ngx_variables.specs.declared.request.Request.{Request}
 use Rattle.site_model.specs.declared.site.Site.{Site}
-use Rattle.site_views.specs.Values.{PageRule, PageTarget}
-use Rattle.site_views.specs.Values.PageTarget.{AtPath, AtLocation, AtUrl}
+use Rattle.request_meaning.specs.site_views.Values.{PageRule, PageTarget}
+use Rattle.request_meaning.specs.site_views.Values.PageTarget.{AtPath, AtLocation, AtUrl}
 use Rattle.request_meaning.specs.Serving.{World, Serving, Asked, Standing, From, Prepared, Child, Reply}
 use Rattle.request_meaning.specs.Serving.From.{Find}
 use Rattle.request_meaning.specs.Answering.{page, page_to, page_answer, sent, answer_with, moved, closed_answer}

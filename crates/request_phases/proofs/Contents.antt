@@ -5,8 +5,8 @@ use Rattle.acts.specs.Vars.{Vars}
 use Rattle.acts.specs.Act.{Done, Stat, ◌>>=◌, settled, settled_then}
 use Rattle.acts.proofs.ActLaws.{settles_in_turn}
 use Rattle.file_tree.specs.Tree.{Item, Nothing, node_of}
-use Rattle.file_path.specs.Located.{Located, located_at}
-use Rattle.file_path.specs.Located.Located.{TooLong, NotThere, At}
+use Rattle.request_meaning.specs.file_path.Located.{Located, located_at}
+use Rattle.request_meaning.specs.file_path.Located.Located.{TooLong, NotThere, At}
 use Rattle.http_types.specs.declared.words.Method.{Method}
 use Rattle.http_types.specs.declared.words.Method.TheVariants.{Get, Head, Post, Other}
 use Rattle.ngx_pattern.specs.Pattern.{Pattern as SetPattern}
@@ -16,10 +16,10 @@ use Rattle.site_model.specs.declared.site.Site.{Site}
 use Rattle.site_model.specs.declared.site.Level.{Level}
 use Rattle.site_model.specs.declared.values.Tries.{Tries}
 use Rattle.access_rules.specs.declared.rule.Rule.{Rule}
-use Rattle.site_whole.specs.Whole.{values_seen, index_at, tries_seen, rules_at}
-use Rattle.site_views.specs.Values.{IndexName, Values}
+use Rattle.try_index.specs.site_whole.Whole.{values_seen, index_at, tries_seen, rules_at}
+use Rattle.request_meaning.specs.site_views.Values.{IndexName, Values}
 use Rattle.static_content.specs.Content.{content_for, refusal_of}
-use Rattle.site_views.specs.Rewrites.FileTest.{IsFolder}
+use Rattle.request_meaning.specs.site_views.Rewrites.FileTest.{IsFolder}
 use Rattle.request_meaning.specs.Serving.{World, Serving, Asked, Standing}
 use Rattle.request_meaning.specs.Rewriting.{passes, is_redirect}
 use Rattle.request_meaning.specs.Errors.{Outcome, Decided, decided}
@@ -34,7 +34,7 @@ use Rattle.try_index.specs.declared.tries.TryState.{TryState}
 use Rattle.try_index.specs.declared.tries.TryStep.TheVariants as steps
 use Rattle.try_index.specs.declared.index.IndexState.{IndexState}
 use Rattle.try_index.specs.declared.index.IndexStep.TheVariants as turns
-use Rattle.target_text.specs.Settled.{ItemSettles}
+use Rattle.try_index.specs.target_text.Settled.{ItemSettles}
 use Rattle.rewrite_code.specs.Places.{standing_seen}
 use Rattle.rewrite_code.specs.declared.place.Progress.{Progress}
 use Rattle.request_phases.specs.Located.{last_word}

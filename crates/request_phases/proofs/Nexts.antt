@@ -6,8 +6,8 @@ use Rattle.site_model.specs.Levels.{raw_level}
 use Rattle.site_model.specs.declared.site.Level.{Level}
 use Rattle.site_model.specs.declared.site.Site.{Site}
 use Rattle.site_model.specs.declared.values.Shown.{Shown}
-use Rattle.site_views.specs.Values.{PageRule}
-use Rattle.site_whole.specs.Whole.{values_seen, pages_at}
+use Rattle.request_meaning.specs.site_views.Values.{PageRule}
+use Rattle.try_index.specs.site_whole.Whole.{values_seen, pages_at}
 use Rattle.request_meaning.specs.Serving.{World, Serving, Asked, Standing, Prepared}
 use Rattle.request_meaning.specs.Answering.{page, page_to, page_answer}
 use Rattle.request_meaning.specs.Errors.{Outcome, Next, outcome_next, failed}

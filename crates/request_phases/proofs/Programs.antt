@@ -7,11 +7,11 @@ use Rattle.site_model.specs.Levels.{raw_level}
 use Rattle.site_model.specs.declared.site.Level.{Level}
 use Rattle.site_model.specs.declared.site.Server.{Server}
 use Rattle.site_model.specs.declared.site.Site.{Site}
-use Rattle.site_views.specs.Values.{Values}
-use Rattle.site_views.specs.Views.{LevelView}
-use Rattle.site_views.specs.Rewrites.{Program}
-use Rattle.site_views.specs.Search.{Found, search, named}
-use Rattle.site_whole.specs.Whole.{values_seen, level_whole, server_whole}
+use Rattle.request_meaning.specs.site_views.Values.{Values}
+use Rattle.request_meaning.specs.site_views.Views.{LevelView}
+use Rattle.request_meaning.specs.site_views.Rewrites.{Program}
+use Rattle.request_meaning.specs.site_views.Search.{Found, search, named}
+use Rattle.try_index.specs.site_whole.Whole.{values_seen, level_whole, server_whole}
 use Rattle.request_meaning.specs.Serving.{World, Serving, Asked, Standing}
 use Rattle.request_meaning.specs.Serving.From.{Start, Find, Named}
 use Rattle.request_meaning.specs.Rewriting.{Passed, program_run, rewritten, in_level, with_groups}
@@ -19,7 +19,7 @@ use Rattle.request_meaning.specs.Errors.{Decided, decided}
 use Rattle.request_meaning.specs.Errors.Outcome.{Fails, Gives, Text, Seeks}
 use Rattle.request_meaning.specs.Phases.{after_program, find_config, located, entered, in_location, is_too_large, phases_from, at_named, standing, access}
 use Rattle.family_meaning.specs.Suspended.{follows}
-use Rattle.pattern_search.specs.Found.{patterns_seen, found}
+use Rattle.location_search.specs.pattern_search.Found.{patterns_seen, found}
 use Rattle.rewrite_code.specs.Places.{standing_seen, progress_seen, ran_of}
 use Rattle.rewrite_code.specs.Runs.{program_of, still, resumed}
 use Rattle.rewrite_code.specs.declared.place.Progress.{Progress}
@@ -30,7 +30,7 @@ use Rattle.request_phases.specs.Programs.{ended_as, moved_into, ran_in, run_in, 
 use Rattle.filter_api.specs.Members.{Member}
 use Rattle.file_tree.specs.Tree.{Item}
 use Rattle.site_model.specs.declared.program.RewriteStep.{RewriteStep}
-use Rattle.site_views.specs.Pattern.{Span, groups_in}
+use Rattle.request_meaning.specs.site_views.Pattern.{Span, groups_in}
 use Rattle.rewrite_code.specs.declared.place.RunStep.{RunStep}
 use Rattle.location_search.specs.Found.{found_seen}
 use Rattle.location_search.specs.declared.search.FoundLocation.{FoundLocation}

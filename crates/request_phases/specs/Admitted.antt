@@ -5,7 +5,7 @@ use Rattle.acts.specs.Act.{Done, settled, ◌>>=◌}
 use Rattle.ngx_variables.specs.declared.request.Main.{Main}
 use Rattle.ngx_variables.specs.declared.request.Request.{Request}
 use Rattle.site_model.specs.declared.site.Site.{Site}
-use Rattle.site_views.specs.Values.{Text}
+use Rattle.request_meaning.specs.site_views.Values.{Text}
 use Rattle.request_meaning.specs.Access as access
 use Rattle.request_meaning.specs.Access.{sets, fit_verdict, status_verdict}
 use Rattle.request_meaning.specs.Errors.{Decided}

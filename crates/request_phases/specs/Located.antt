@@ -3,8 +3,8 @@ use Rattle.std.specs.Prelude.{ℕ, None, if◌then◌else◌}
 use Rattle.request_meaning.specs.Rewriting.{is_redirect}
 use Rattle.request_phases.specs.declared.state.Decision.{Decision}
 use Rattle.request_phases.specs.declared.state.Decision.TheVariants.{Error, Redirect}
-use Rattle.file_path.specs.Located.{Located}
-use Rattle.file_path.specs.Located.Located.{TooLong, NotThere, At}
+use Rattle.request_meaning.specs.file_path.Located.{Located}
+use Rattle.request_meaning.specs.file_path.Located.Located.{TooLong, NotThere, At}
 use Rattle.request_phases.specs.declared.content.Sought.{Sought}
 use Rattle.request_phases.specs.declared.content.Sought.TheVariants as sought
 

@@ -5,14 +5,14 @@ use Rattle.ngx_pattern.specs.Pattern.{Pattern as SetPattern}
 use Rattle.ngx_variables.specs.declared.request.Request.{Request}
 use Rattle.site_model.specs.Levels.{raw_level}
 use Rattle.site_model.specs.declared.site.Site.{Site}
-use Rattle.site_views.specs.Values.{Values}
-use Rattle.site_whole.specs.Whole.{level_whole}
+use Rattle.request_meaning.specs.site_views.Values.{Values}
+use Rattle.try_index.specs.site_whole.Whole.{level_whole}
 use Rattle.request_meaning.specs.Serving.{World, Serving, Asked}
 use Rattle.request_meaning.specs.Errors.{Decided, decided}
 use Rattle.request_meaning.specs.Rewriting.{Passed, program_run}
 use Rattle.request_meaning.specs.Phases.{after_program, is_too_large, entered, in_location}
 use Rattle.family_meaning.specs.Suspended.{follows}
-use Rattle.pattern_search.specs.Found.{patterns_seen}
+use Rattle.location_search.specs.pattern_search.Found.{patterns_seen}
 use Rattle.rewrite_code.specs.Places.{standing_seen, progress_seen}
 use Rattle.rewrite_code.specs.Runs.{program_of, still}
 use Rattle.rewrite_code.specs.declared.place.Progress.{Progress}

@@ -7,13 +7,13 @@ use Rattle.ngx_pattern.specs.Pattern.{Pattern as SetPattern}
 use Rattle.ngx_variables.specs.declared.request.Main.{Main}
 use Rattle.site_model.specs.Levels.{raw_level}
 use Rattle.site_model.specs.declared.site.Site.{Site}
-use Rattle.site_views.specs.Values.{Shown, Tries}
-use Rattle.site_whole.specs.Whole.{shown_seen, server_whole, index_seen, default_index}
+use Rattle.request_meaning.specs.site_views.Values.{Shown, Tries}
+use Rattle.try_index.specs.site_whole.Whole.{shown_seen, server_whole, index_seen, default_index}
 use Rattle.static_content.specs.Content.{content_for}
 use Rattle.request_meaning.specs.Serving.{World, Serving, Asked, Standing, From, Prepared}
 use Rattle.request_meaning.specs.Serving.From.{Start, Find, Named}
 use Rattle.request_meaning.specs.Rewriting.{passes}
-use Rattle.site_views.specs.Rewrites.FileTest.{IsFolder}
+use Rattle.request_meaning.specs.site_views.Rewrites.FileTest.{IsFolder}
 use Rattle.request_meaning.specs.Errors.{Decided, decided, Outcome}
 use Rattle.request_meaning.specs.Answering.{sent, page, moved, closed}
 use Rattle.request_meaning.specs.Access.{auth_child}
@@ -22,7 +22,7 @@ use Rattle.request_meaning.specs.Phases.{after_program, by_verdict}
 use Rattle.family_meaning.specs.Suspended.{follows, heard_verdict, rounds_rest}
 use Rattle.try_index.specs.Searches.{try_told, index_told}
 use Rattle.try_index.specs.declared.tries.TryState.{TryState}
-use Rattle.pattern_search.specs.Found.{patterns_seen, found}
+use Rattle.location_search.specs.pattern_search.Found.{patterns_seen, found}
 use Rattle.rewrite_code.specs.Places.{standing_seen, progress_seen}
 use Rattle.rewrite_code.specs.Runs.{program_of, resumed}
 use Rattle.rewrite_code.specs.declared.place.Progress.{Progress}

@@ -1,7 +1,7 @@
 -- What the access phase does by what was found out.
 use Rattle.acts.specs.Act.{Done, ◌>>=◌}
 use Rattle.ngx_variables.specs.declared.request.Main.{Main}
-use Rattle.site_views.specs.Values.{Values}
+use Rattle.request_meaning.specs.site_views.Values.{Values}
 use Rattle.request_meaning.specs.Serving.{Serving, Asked, Standing, asks}
 use Rattle.request_meaning.specs.Errors.{Decided}
 use Rattle.request_meaning.specs.Access as access

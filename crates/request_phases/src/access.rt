@@ -3,7 +3,7 @@
 ghost use Rattle.std.specs.Prelude.{◌≡◌, ℕ, List, IfOk};
 ghost use Rattle.ngx_pattern.specs.Pattern.{Pattern as SetPattern};
 ghost use Rattle.ngx_variables.specs.declared.request.Main.{Main as MainView};
-ghost use Rattle.site_views.specs.Values.{Values};
+ghost use Rattle.request_meaning.specs.site_views.Values.{Values};
 ghost use Rattle.request_meaning.specs.Access.{verdict as verdict_of, auth_verdict as auth_verdict_of};
 ghost use Rattle.request_meaning.specs.Phases.{access as access_of};
 ghost use Rattle.rewrite_code.specs.Places.{standing_seen};

@@ -4,7 +4,7 @@ ghost use Rattle.std.specs.Prelude.{◌≡◌, ℕ, List, ◌∷◌, map, IfOk};
 ghost use Rattle.acts.specs.Act.{Done, settled};
 ghost use Rattle.ngx_pattern.specs.Pattern.{Pattern as SetPattern};
 ghost use Rattle.request_meaning.specs.Access.{sets, status_verdict};
-ghost use Rattle.site_whole.specs.Whole.{auth_set_seen, auth_sets_at};
+ghost use Rattle.try_index.specs.site_whole.Whole.{auth_set_seen, auth_sets_at};
 ghost use Rattle.rewrite_code.specs.Places.{standing_seen};
 ghost use Rattle.request_phases.specs.Admitted.{SetsTo, admitted_act, phases_admitted, verdict_seen};
 ghost use Rattle.request_phases.specs.Rounds.{IsGround, IsOfMain};
@@ -21,7 +21,7 @@ use ngx_variables::{EvalFault, Main, Request, VarTable};
 use rewrite_code::Progress;
 use site_model::AuthSet;
 use std::alloc::Global;
-use target_text::fit_value_settles;
+use try_index::target_text::fit_value_settles;
 
 /// Whether a request is let in; if not, the code of the error.
 #[derive(Clone, Copy)]

@@ -15,5 +15,10 @@ mod state;
 
 pub use admission::admit;
 pub use ground::Ground;
+pub use ngx_variables;
+pub use ngx_variables::req_head;
+pub use rewrite_code;
 pub use rounds::{begin, resume};
+pub use site_model;
 pub use state::{Conclusion, Handled, Phases, Step, Wait};
+pub use try_index;

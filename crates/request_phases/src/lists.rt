@@ -1,6 +1,6 @@
 // The lists that levels name by number.
 ghost use Rattle.std.specs.Prelude.{◌≡◌, map};
-ghost use Rattle.site_whole.specs.Whole.{index_at, pages_at, rules_at, auth_sets_at, index_seen, page_seen, auth_set_seen, default_index};
+ghost use Rattle.try_index.specs.site_whole.Whole.{index_at, pages_at, rules_at, auth_sets_at, index_seen, page_seen, auth_set_seen, default_index};
 
 use access_rules::Rule;
 use site_model::{AuthSet, IndexName, PageRule, Site};

@@ -2,7 +2,7 @@
 ghost use Rattle.std.specs.Prelude.{◌≡◌, ℕ, List, None, Some, IfOk, true, false, if◌then◌else◌};
 ghost use Rattle.file_tree.specs.Tree.{Item, node_of, text_of};
 ghost use Rattle.ngx_pattern.specs.Pattern.{Pattern as SetPattern};
-ghost use Rattle.site_views.specs.Rewrites.FileTest.{IsFolder};
+ghost use Rattle.request_meaning.specs.site_views.Rewrites.FileTest.{IsFolder};
 ghost use Rattle.rewrite_code.specs.Places.{standing_seen};
 ghost use Rattle.request_meaning.specs.Serving.From.{Start};
 ghost use Rattle.request_meaning.specs.Rewriting.{passes};

@@ -1,22 +1,22 @@
 -- Texts and files as they are sent.
 use Rattle.std.proofs.Common.{◌≡◌, ℕ, Bool, true, false, not, ◌&&◌, ◌||◌, ◌==◌, cond, List, length, Option, None, Some, option_map, is_some, refl, sym, ◌∙◌, ap, subst}
 use Rattle.std.specs.List.{list_any}
-use Rattle.addition_filter.specs.Machine.{is_added}
+use Rattle.request_meaning.specs.addition_filter.Machine.{is_added}
 use Rattle.filter_api.specs.declared.facts.Facts.{Facts}
 use Rattle.filter_api.specs.Members.{Member}
-use Rattle.ssi_filter.specs.Machine.{is_split}
+use Rattle.request_meaning.specs.ssi_filter.Machine.{is_split}
 use Rattle.file_type.specs.Types.{type_of}
 use Rattle.resp_head.specs.Head.{is_bodiless}
-use Rattle.site_model.specs.Levels.{raw_level, types_at}
-use Rattle.site_model.specs.declared.site.Site.{Site}
-use Rattle.site_model.specs.declared.site.Level.{Level}
-use Rattle.site_views.specs.Values.{Values}
-use Rattle.site_whole.specs.Whole.{values_seen, media_at}
+use Rattle.request_phases.specs.site_model.Levels.{raw_level, types_at}
+use Rattle.request_phases.specs.site_model.declared.site.Site.{Site}
+use Rattle.request_phases.specs.site_model.declared.site.Level.{Level}
+use Rattle.request_meaning.specs.site_views.Values.{Values}
+use Rattle.request_phases.specs.site_whole.Whole.{values_seen, media_at}
 use Rattle.request_meaning.specs.Serving as meaning
 use Rattle.request_meaning.specs.Serving.{World, Asked, Standing, Prepared, is_main_role}
 use Rattle.request_meaning.specs.Answering.{has_no_body, facts_of, is_among, is_filtered, is_unmodified, shown_status, shown_date, answer_with, body_sent, read_of, prepared, sent, page_to, moved, redirect_target, page}
 use Rattle.request_meaning.specs.Laws.{shipped}
-use Rattle.rewrite_code.specs.Places.{standing_seen}
+use Rattle.request_phases.specs.rewrite_code.Places.{standing_seen}
 use Rattle.request_phases.specs.Rounds.{asked_in, handled_seen}
 use Rattle.request_phases.specs.declared.state.Phases.{Phases}
 use Rattle.request_reply.specs.Replies.{IsReply, acts_on, names_filters, body_seen, is_sent, status_in}

@@ -1,12 +1,12 @@
 -- A reply, as the recursive meaning prepares it.
 use Rattle.std.specs.Prelude.{◌≡◌, ℕ, ◌||◌, Bool, true, false, List, length, Option, None, Some, is_some, option_map, if◌then◌else◌}
-use Rattle.addition_filter.specs.Machine.{is_added}
+use Rattle.request_meaning.specs.addition_filter.Machine.{is_added}
 use Rattle.error_page.specs.Page.{page_of}
 use Rattle.filter_api.specs.declared.facts.Facts.{Facts}
 use Rattle.request_meaning.specs.Serving as meaning
 use Rattle.request_meaning.specs.Serving.{Prepared}
-use Rattle.site_model.specs.declared.site.Level.{Level}
-use Rattle.ssi_filter.specs.Machine.{is_split}
+use Rattle.request_phases.specs.site_model.declared.site.Level.{Level}
+use Rattle.request_meaning.specs.ssi_filter.Machine.{is_split}
 use Rattle.request_meaning.specs.Answering.{is_unmodified}
 use Rattle.request_phases.specs.declared.state.Phases.{Phases}
 use Rattle.request_phases.specs.declared.state.Conclusion.{Conclusion}

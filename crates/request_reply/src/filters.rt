@@ -2,17 +2,17 @@
 // ngx_http_addition_module.html#addition_types).
 ghost use Rattle.std.specs.Prelude.{◌≡◌, ◌&&◌, ◌||◌, bytes_eq, if◌then◌else◌, Some, None};
 ghost use Rattle.std.specs.List.{list_any};
-ghost use Rattle.rewrite_code.specs.Places.{standing_seen};
-ghost use Rattle.site_whole.specs.Whole.{media_at};
+ghost use Rattle.request_phases.specs.rewrite_code.Places.{standing_seen};
+ghost use Rattle.request_phases.specs.site_whole.Whole.{media_at};
 ghost use Rattle.request_meaning.specs.Answering.{facts_of, is_among as is_in_media};
-ghost use Rattle.site_model.specs.Levels.{raw_level};
+ghost use Rattle.request_phases.specs.site_model.Levels.{raw_level};
 ghost use Rattle.request_reply.specs.Replies.{acts_on, names_filters as filters_named};
 
 use crate::status::is_main;
 use byte_text::ByteText;
 use filter_api::Facts;
 use request_phases::Phases;
-use site_model::{Level, MediaTypes, Site};
+use request_phases::site_model::{Level, MediaTypes, Site};
 
 fn is_listed(kind: &[u8], types: &[ByteText]) -> bool
     ensures { result ≡ list_any (bytes_eq kind.now) types.now }

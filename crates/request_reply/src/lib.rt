@@ -8,3 +8,5 @@ mod reply;
 mod status;
 
 pub use reply::{Body, Reply, reply_of};
+pub use request_phases;
+pub use request_phases::rewrite_code;

@@ -1,14 +1,14 @@
 // Where a redirect leads (<https://nginx.org/en/docs/http/ngx_http_core_module.html#absolute_redirect>).
 ghost use Rattle.std.specs.Prelude.{◌≡◌, ◌∷◌, ◌++◌, ◌==◌, ◌&&◌, not, List, [], None, Some, IfOk, OnOk, codes, decimal};
 ghost use Rattle.std.specs.Net.Text.{ip_text};
-ghost use Rattle.ngx_variables.specs.Grammar.{begins_with};
-ghost use Rattle.site_views.specs.Values.{Values};
+ghost use Rattle.request_phases.specs.ngx_variables.Grammar.{begins_with};
+ghost use Rattle.request_meaning.specs.site_views.Values.{Values};
 ghost use Rattle.request_meaning.specs.Answering.{ip_host, host_or, redirect_host, redirect_port, absolute as absolute_of, redirect_target as target_of};
 
 use byte_text::{ByteText, OutOfMemory};
 use http_types::Addr;
-use ngx_variables::Main;
-use site_model::Level;
+use request_phases::ngx_variables::Main;
+use request_phases::site_model::Level;
 use std::alloc::Global;
 use std::net::IpAddr;
 

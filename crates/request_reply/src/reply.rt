@@ -3,8 +3,8 @@ ghost use Rattle.std.specs.Prelude.{◌≡◌, ◌||◌, ◌&&◌, not, Bool, tr
 ghost use Rattle.error_page.specs.Page.{page_of};
 ghost use Rattle.request_meaning.specs.Serving.{World};
 ghost use Rattle.request_meaning.specs.Answering.{page_to, read_of, sent as sent_of, closed as closed_of};
-ghost use Rattle.rewrite_code.specs.Places.{standing_seen};
-ghost use Rattle.site_model.specs.declared.site.Site.{Site as SiteRow};
+ghost use Rattle.request_phases.specs.rewrite_code.Places.{standing_seen};
+ghost use Rattle.request_phases.specs.site_model.declared.site.Site.{Site as SiteRow};
 ghost use Rattle.request_phases.specs.declared.state.Phases.{Phases as PhasesView};
 ghost use Rattle.request_phases.specs.Rounds.{asked_in, prepared_as};
 ghost use Rattle.request_meaning.specs.Laws.{shipped};
@@ -21,8 +21,8 @@ use crate::status::{
 use byte_text::{ByteText, OutOfMemory};
 use error_page::page_len;
 use filter_api::Facts;
+use request_phases::site_model::Site;
 use request_phases::{Conclusion, Phases};
-use site_model::Site;
 use std::alloc::Global;
 
 /// What is sent as the body.

@@ -2,9 +2,9 @@
 ghost use Rattle.std.specs.Prelude.{◌≡◌, ◌==◌, ◌&&◌, ◌||◌, not, Bool, true, false, None, Some, option_map, option_and_then};
 ghost use Rattle.http_header.specs.HeaderMap.{get};
 ghost use Rattle.httpdate.specs.Date.{parse_secs};
-ghost use Rattle.ngx_variables.specs.Grammar.{lowercase};
+ghost use Rattle.request_phases.specs.ngx_variables.Grammar.{lowercase};
 ghost use Rattle.http_types.specs.declared.words.Method.{Method as MethodView};
-ghost use Rattle.ngx_variables.specs.declared.request.Main.{Main as MainView};
+ghost use Rattle.request_phases.specs.ngx_variables.declared.request.Main.{Main as MainView};
 ghost use Rattle.resp_head.specs.Head.{is_bodiless as has_no_content};
 ghost use Rattle.request_meaning.specs.Serving.{is_main_role, is_head as is_head_method};
 ghost use Rattle.request_meaning.specs.Answering.{shown_status as status_shown, is_unmodified as unmodified, has_no_body as sends_no_body, shown_date as date_shown, is_closing as closes_for, since_date as date_since, same_date as dates_same, first_bytes as bytes_first};
@@ -12,10 +12,10 @@ ghost use Rattle.request_phases.specs.Rounds.{handled_seen};
 
 use http_moment::read_date;
 use http_types::Method;
-use ngx_variables::{Main, Request, Role};
-use req_head::HeadFields;
 use request_phases::Handled;
-use site_model::Shown;
+use request_phases::ngx_variables::{Main, Request, Role};
+use request_phases::req_head::HeadFields;
+use request_phases::site_model::Shown;
 
 /// Whether a response of this status has no content (RFC 9110, 15.3.5 and 15.4.5).
 #[tactic(auto, unfolding(resp_head::specs::Head::is_bodiless))]

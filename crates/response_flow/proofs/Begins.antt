@@ -7,25 +7,25 @@ use Rattle.file_tree.specs.Tree.{Nothing, Tree, Trees}
 use Rattle.ngx_pattern.specs.Pattern.{Pattern as SetPattern}
 use Rattle.site_model.specs.declared.site.Site.{Site}
 use Rattle.outgoing.specs.Leaving.{framed_as, most}
-use Rattle.race_meaning.specs.Laws.{ShippedAreFit}
-use Rattle.race_meaning.specs.Named.{IsRaceless}
+use Rattle.request_flow.specs.race_meaning.Laws.{ShippedAreFit}
+use Rattle.request_flow.specs.race_meaning.Named.{IsRaceless}
 use Rattle.request_meaning.specs.Laws.{shipped}
 use Rattle.request_meaning.specs.Replies.{Came, most_depth, reply, run}
 use Rattle.request_meaning.specs.Serving.{World, Serving, Answer, Asked, Prepared, Standing}
 use Rattle.family_meaning.proofs.Exacts.{settled_run}
 use Rattle.family_meaning.specs.Left.{act_subs, subs_left}
 use Rattle.family_meaning.specs.Line.{rest}
-use Rattle.family_order.specs.Items.{alone, row_items}
-use Rattle.family_order.specs.Items.Stance.{Going}
-use Rattle.family_rest.specs.Laws.{ReachedStaysWell, StepsKeepStill}
-use Rattle.family_rest.specs.Still.{line_of, still, subs_still}
-use Rattle.request_phases.specs.Rounds.{asked_in, prepared_as, world_in}
-use Rattle.request_phases.specs.declared.ground.Ground.{Ground}
-use Rattle.request_phases.specs.declared.state.Conclusion.{Conclusion}
-use Rattle.request_phases.specs.declared.state.Conclusion.TheVariants as outcomes
-use Rattle.rewrite_code.specs.Places.{standing_seen}
-use Rattle.node_turn.specs.Nodes as nodes
-use Rattle.node_turn.specs.Nodes.{after_phases, bytes_for}
+use Rattle.subrequests.specs.family_order.Items.{alone, row_items}
+use Rattle.subrequests.specs.family_order.Items.Stance.{Going}
+use Rattle.request_flow.specs.family_rest.Laws.{ReachedStaysWell, StepsKeepStill}
+use Rattle.request_flow.specs.family_rest.Still.{line_of, still, subs_still}
+use Rattle.request_flow.specs.request_phases.Rounds.{asked_in, prepared_as, world_in}
+use Rattle.request_flow.specs.request_phases.declared.ground.Ground.{Ground}
+use Rattle.request_flow.specs.request_phases.declared.state.Conclusion.{Conclusion}
+use Rattle.request_flow.specs.request_phases.declared.state.Conclusion.TheVariants as outcomes
+use Rattle.request_flow.specs.rewrite_code.Places.{standing_seen}
+use Rattle.access_flow.specs.node_turn.Nodes as nodes
+use Rattle.access_flow.specs.node_turn.Nodes.{after_phases, bytes_for}
 use Rattle.subrequests.specs.Moved.{BeginsWith, files, meant}
 use Rattle.page_response.specs.Pages.{IsReached, left_in, pages_left, step_weight}
 use Rattle.page_response.specs.declared.pages.Pages.{Pages}

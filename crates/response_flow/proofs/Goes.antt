@@ -8,13 +8,13 @@ use Rattle.ngx_pattern.specs.Pattern.{Pattern as SetPattern}
 use Rattle.site_model.specs.declared.site.Site.{Site}
 use Rattle.request_meaning.specs.Counts.{most_subs}
 use Rattle.request_meaning.specs.Serving.{World}
-use Rattle.family_rest.specs.Laws.{RowTellsStill}
+use Rattle.request_flow.specs.family_rest.Laws.{RowTellsStill}
 use Rattle.subrequests.specs.Moved.{IsWhole, files, meant}
 use Rattle.page_response.specs.Pages.{IsAllOver, IsSame, bytes_left, nodes_asked, whole_length}
 use Rattle.page_response.specs.Ran.{Goes, RunsTo}
 use Rattle.subrequests.specs.declared.family.Ran.{Ran as FamilyRan}
 use Rattle.subrequests.specs.declared.family.Ran.TheVariants as ran
-use Rattle.request_phases.specs.declared.ground.Ground.{Ground}
+use Rattle.request_flow.specs.request_phases.declared.ground.Ground.{Ground}
 use Rattle.page_response.specs.declared.pages.Pages.{Pages}
 use Rattle.request_flow.specs.Rests.{Follows, Rest, no_rest}
 use Rattle.access_flow.specs.Flows.{IsOpened, access_left}

@@ -5,10 +5,10 @@ use Rattle.file_tree.specs.Tree.{IsFrom, Trees, is_fitting, tree_of}
 use Rattle.file_tree.specs.declared.job.Ask.{Ask}
 use Rattle.file_tree.specs.declared.job.JobAnswer.{JobAnswer}
 use Rattle.ngx_outside.specs.Views.{ask_in}
-use Rattle.node_turn.specs.declared.node.Node.{Node}
-use Rattle.node_turn.specs.Stages.{is_asking, is_reading}
+use Rattle.access_flow.specs.node_turn.declared.node.Node.{Node}
+use Rattle.access_flow.specs.node_turn.Stages.{is_asking, is_reading}
 use Rattle.subrequests.specs.Moved.{IsFromAt, fits_at}
-use Rattle.family_nodes.specs.Runs.{is_waiting, job_of}
+use Rattle.subrequests.specs.family_nodes.Runs.{is_waiting, job_of}
 use Rattle.subrequests.specs.Wants.{is_among, jobs_from, ready_of}
 use Rattle.subrequests.proofs.Numbers.{job_is}
 use Rattle.page_response.specs.declared.pages.Pages.{Pages}

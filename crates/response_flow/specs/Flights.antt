@@ -8,8 +8,8 @@ use Rattle.request_meaning.specs.Serving.{World}
 use Rattle.chunk_out.specs.Chunks.{block_size, chunk}
 use Rattle.outgoing.specs.Leaving.{most}
 use Rattle.std.specs.List.{list_all}
-use Rattle.node_turn.specs.Stages.{is_ending}
-use Rattle.node_turn.specs.declared.node.Node.{Node}
+use Rattle.access_flow.specs.node_turn.Stages.{is_ending}
+use Rattle.access_flow.specs.node_turn.declared.node.Node.{Node}
 use Rattle.subrequests.specs.Families.{over_node}
 use Rattle.subrequests.specs.Moved.{IsWhole}
 use Rattle.subrequests.specs.Wants as family

@@ -3,10 +3,10 @@ use Rattle.std.specs.Prelude.{◌≡◌, ◌≤◌, ◌+◌, ℕ, List, [], leng
 use Rattle.file_tree.specs.Tree.{Trees, text_of}
 use Rattle.ngx_pattern.specs.Pattern.{Pattern as SetPattern}
 use Rattle.outgoing.specs.Leaving.{most}
-use Rattle.race_meaning.specs.Named.{IsRaceless}
+use Rattle.request_flow.specs.race_meaning.Named.{IsRaceless}
 use Rattle.request_meaning.specs.Laws.{shipped}
-use Rattle.request_phases.specs.Rounds.{world_in}
-use Rattle.request_phases.specs.declared.ground.Ground.{Ground}
+use Rattle.request_flow.specs.request_phases.Rounds.{world_in}
+use Rattle.request_flow.specs.request_phases.declared.ground.Ground.{Ground}
 use Rattle.subrequests.specs.Moved.{IsWhole}
 use Rattle.page_response.specs.Pages.{IsReached, pages_left}
 use Rattle.page_response.specs.declared.pages.Pages.{Pages}

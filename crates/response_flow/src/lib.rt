@@ -13,5 +13,6 @@ mod wants;
 pub use answer::{answered, came, reads_alone};
 pub use flight::{Flight, Onward, PageFlow, Passed, Ran, length_of, server_of};
 pub use law::{shown_are_most, shown_end_whole};
+pub use request_flow::{reply_out, request_opening};
 pub use run::{run_in_place, run_on, start};
 pub use wants::{ask, first_job, first_ready, is_ready, pending, written};

@@ -1,7 +1,7 @@
 // A page begins.
 ghost use Rattle.std.specs.Prelude.{◌≡◌, IfOk, List, [], Some, None, if◌then◌else◌};
 ghost use Rattle.file_tree.specs.Tree.{Trees, text_of};
-ghost use Rattle.node_turn.specs.Stages.{item_asked};
+ghost use Rattle.access_flow.specs.node_turn.Stages.{item_asked};
 ghost use Rattle.request_flow.specs.Sents.{known_tree};
 ghost use Rattle.ngx_pattern.specs.Pattern.{Pattern as SetPattern};
 ghost use Rattle.request_flow.specs.Pages.{IsTold};
@@ -9,13 +9,13 @@ ghost use Rattle.response_flow.specs.Opens.{Opens, known_text};
 
 use crate::flight::PageFlow;
 use byte_text::{ByteText, OutOfMemory};
-use family_rest::{reached_stays_well, row_tells_still, steps_keep_still};
 use file_tree::Ask;
 use page_response::Pages;
-use race_meaning::shipped_are_fit;
-use reply_out::InPhases;
+use request_flow::family_rest::{reached_stays_well, row_tells_still, steps_keep_still};
+use request_flow::race_meaning::shipped_are_fit;
+use request_flow::reply_out::InPhases;
+use request_flow::request_phases::Ground;
 use request_flow::{FileAt, Known, PageHead, PageStart};
-use request_phases::Ground;
 use std::alloc::Global;
 use subrequests::{Decided, Family};
 

@@ -3,23 +3,23 @@ ghost use Rattle.std.specs.Prelude.{◌≡◌, ◌≤◌, ◌<◌, ◌+◌, ◌*
 ghost use Rattle.file_tree.specs.Tree.{Trees};
 ghost use Rattle.ngx_pattern.specs.Pattern.{Pattern as SetPattern};
 ghost use Rattle.pattern_search.specs.Found.{patterns_seen};
-ghost use Rattle.race_meaning.specs.Named.{IsRaceless};
+ghost use Rattle.request_flow.specs.race_meaning.Named.{IsRaceless};
 ghost use Rattle.site_model.specs.declared.site.Site.{Site as SiteRow};
 ghost use Rattle.site_whole.specs.Whole.{server_whole};
-ghost use Rattle.answers_meaning.specs.Asking.{request_of};
+ghost use Rattle.request_flow.specs.answers_meaning.Asking.{request_of};
 ghost use Rattle.request_meaning.specs.Laws.{shipped};
 ghost use Rattle.request_meaning.specs.Serving.{World};
-ghost use Rattle.request_phases.specs.Rounds.{IsGround, world_in};
+ghost use Rattle.request_flow.specs.request_phases.Rounds.{IsGround, world_in};
 ghost use Rattle.subrequests.specs.Moved.{IsDone, IsWhole};
 ghost use Rattle.subrequests.specs.Wants.{is_among};
 ghost use Rattle.outgoing.specs.Leaving.{most};
 ghost use Rattle.page_response.specs.Pages.{EndsIn, IsAllOver, IsReached, pages_left};
 ghost use Rattle.request_flow.specs.Flows.{HasOpened, IsServedBy, asking_most, flow_fits, flow_left, flow_most, may_run as can_run, stage_length, stage_server, tree_asked};
-ghost use Rattle.request_opening.specs.Openings.{main_at};
+ghost use Rattle.request_flow.specs.request_opening.Openings.{main_at};
 ghost use Rattle.request_flow.specs.Terms.{terms_at};
 ghost use Rattle.request_flow.specs.Pages.{AreOpened, GoesTo, IfAsks, IfOn as IfGoes, IfPage, IsServed, IsTold, access_rest, closing_of, start_rest, tree_of_went};
 ghost use Rattle.request_flow.specs.Reached.{FlowReached, PageReached, StepReached, WentReached};
-ghost use Rattle.request_phases.specs.declared.state.Step.TheVariants.{Calls as ToCall};
+ghost use Rattle.request_flow.specs.request_phases.declared.state.Step.TheVariants.{Calls as ToCall};
 ghost use Rattle.access_flow.specs.Flows.{steps_left, waits};
 ghost use Rattle.access_flow.specs.Reached.{AccessReached};
 ghost use Rattle.request_flow.specs.Rests.{Follows, Rest, opened_rest};
@@ -28,7 +28,7 @@ ghost use Rattle.response_flow.specs.Continues.{Continues, IfOn, RunsOn, ran_as,
 ghost use Rattle.response_flow.specs.declared.flight.Ran.TheVariants.{On as OnView};
 ghost use Rattle.response_flow.specs.declared.flight.Flight.{Flight as FlightView};
 ghost use Rattle.response_flow.specs.declared.flight.PageFlow.{PageFlow as PageFlowView};
-ghost use Rattle.request_phases.specs.declared.ground.Ground.{Ground as GroundView};
+ghost use Rattle.request_flow.specs.request_phases.declared.ground.Ground.{Ground as GroundView};
 ghost use Rattle.page_response.specs.Ran.{RunsTo};
 ghost use Rattle.response_flow.specs.declared.flight.Flight.TheVariants.{Alone as AloneFlight, Asking as AskingFlight, Page as PageFlight};
 ghost use Rattle.response_flow.specs.Flights.{FlightFits, FlightReached, FlightServedBy, TailFits, TailIn, alone_rest, flight_left, flight_length, flight_rest, flight_server, flight_tree, most_kept, page_left, page_most, ready_of, sends_alone, with_opened};
@@ -38,15 +38,15 @@ use crate::open::opened;
 use crate::slot::{put, take};
 use access_flow::{AccessFlow, Ran as AccessRan, asks, run_on as access_run_on};
 use byte_text::{ByteQueue, OutOfMemory};
-use family_rest::row_tells_still;
 use page_response::Pages;
-use reply_out::Workspace;
+use request_flow::family_rest::row_tells_still;
+use request_flow::reply_out::Workspace;
+use request_flow::request_opening::Opening;
+use request_flow::request_phases::Ground;
 use request_flow::{
     AccessStart, Flow, Onward as FlowOnward, PageStart, Went, is_sending as is_flow_sending,
     run_on as flow_run_on, sends_on, start as flow_start,
 };
-use request_opening::Opening;
-use request_phases::Ground;
 use std::alloc::Global;
 use subrequests::Ran as FamilyRan;
 

@@ -17,12 +17,12 @@ ghost use Rattle.outgoing.specs.Leaving.{most};
 ghost use Rattle.page_response.specs.Pages.{IsReached, pages_left};
 
 use crate::flight::{Flight, PageFlow};
+use access_flow::node_turn::{Node, Stage};
 use access_flow::{AccessFlow, is_inner, may_run as access_may_run, waits as access_waits};
 use byte_text::ByteQueue;
 use file_tree::Ask;
-use node_turn::{Node, Stage};
 use page_response::Pages;
-use reply_out::OutRoom;
+use request_flow::reply_out::OutRoom;
 use request_flow::{may_run, shown_by, waits, wrote};
 
 /// No more bytes than these are shown as pending.

@@ -4,8 +4,8 @@ use Rattle.acts.specs.Vars.{Vars}
 use Rattle.acts.specs.Act.{Act, Done, Stat, ◌>>=◌, settled, settled_then}
 use Rattle.acts.proofs.ActLaws.{settles_in_turn}
 use Rattle.file_tree.specs.Tree.{Item, Nothing}
-use Rattle.file_path.specs.Located.{Located, located}
-use Rattle.file_path.specs.Located.Located.{TooLong, NotThere, At}
+use Rattle.request_meaning.specs.file_path.Located.{Located, located}
+use Rattle.request_meaning.specs.file_path.Located.Located.{TooLong, NotThere, At}
 use Rattle.ngx_pattern.specs.Pattern as of_set
 use Rattle.ngx_variables.specs.declared.request.Main.{Main}
 use Rattle.ngx_variables.specs.declared.request.Request.{Request}
@@ -13,14 +13,14 @@ use Rattle.ngx_variables.specs.declared.request.FileRoot.TheVariants.{Whole}
 use Rattle.ngx_variables.specs.Texts.{value_text}
 use Rattle.ngx_variables.specs.Acts.{value}
 use Rattle.rewrite_code.proofs.Values.{settles_behind_value}
-use Rattle.site_model.specs.declared.program.Test.{Test as CodeTest}
-use Rattle.site_model.specs.declared.program.Test.TheVariants as tests
-use Rattle.site_views.specs.Pattern.{Pattern, Span, groups_in}
-use Rattle.site_views.specs.Values.{Values, Text}
-use Rattle.site_views.specs.Rewrites.{FileTest, Test, Flag}
-use Rattle.site_views.specs.Rewrites.FileTest.{IsFile, IsFolder, IsThere}
-use Rattle.site_views.specs.Rewrites.Test.{OnFile}
-use Rattle.site_views.specs.Rewrites.Directive.{Set, If, Rewrite, Return, Stop}
+use Rattle.site_whole.specs.site_model.declared.program.Test.{Test as CodeTest}
+use Rattle.site_whole.specs.site_model.declared.program.Test.TheVariants as tests
+use Rattle.site_whole.specs.site_views.Pattern.{Pattern, Span, groups_in}
+use Rattle.site_whole.specs.site_views.Values.{Values, Text}
+use Rattle.site_whole.specs.site_views.Rewrites.{FileTest, Test, Flag}
+use Rattle.site_whole.specs.site_views.Rewrites.FileTest.{IsFile, IsFolder, IsThere}
+use Rattle.site_whole.specs.site_views.Rewrites.Test.{OnFile}
+use Rattle.site_whole.specs.site_views.Rewrites.Directive.{Set, If, Rewrite, Return, Stop}
 use Rattle.site_whole.specs.Whole.{test_seen, file_test_seen, pattern_at}
 use Rattle.request_meaning.specs.Serving.{World, Serving, Child, Reply}
 use Rattle.request_meaning.specs.Cuts.{Target, cut, fit_value, fitting, some_value, target}

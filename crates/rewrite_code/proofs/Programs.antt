@@ -7,15 +7,15 @@ use Rattle.acts.specs.Vars.{Vars}
 use Rattle.acts.specs.Act.{Act, Done, Stat, ◌>>=◌, settled}
 use Rattle.file_tree.specs.Tree.{Item}
 use Rattle.ngx_variables.specs.declared.request.Main.{Main}
-use Rattle.site_views.specs.Rewrites.{Directive, Program}
-use Rattle.site_views.specs.Rewrites.Directive.{Set, If, Rewrite, Return, Stop}
+use Rattle.site_whole.specs.site_views.Rewrites.{Directive, Program}
+use Rattle.site_whole.specs.site_views.Rewrites.Directive.{Set, If, Rewrite, Return, Stop}
 use Rattle.request_meaning.specs.Serving.{World, Serving}
 use Rattle.request_meaning.specs.Rewriting.{Passed, Ran, Step, on, step, stays_first, rewritten}
 use Rattle.request_meaning.specs.Rewriting.Ran.{Ends}
 use Rattle.request_meaning.specs.Rewriting.Step.{Goes, Stops}
 use Rattle.ngx_pattern.specs.Pattern.{Pattern as SetPattern}
-use Rattle.site_model.specs.declared.site.Site.{Site}
-use Rattle.site_model.specs.declared.program.RewriteStep.{RewriteStep}
+use Rattle.site_whole.specs.site_model.declared.site.Site.{Site}
+use Rattle.site_whole.specs.site_model.declared.program.RewriteStep.{RewriteStep}
 use Rattle.site_whole.specs.Whole.{step_seen}
 use Rattle.rewrite_code.specs.declared.place.Progress.{Progress}
 use Rattle.rewrite_code.specs.declared.place.Ending.{Ending}

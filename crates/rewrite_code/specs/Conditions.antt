@@ -4,19 +4,19 @@ use Rattle.acts.specs.Vars.{Vars}
 use Rattle.acts.specs.Act.{Done, Stat}
 use Rattle.file_tree.specs.declared.job.Node.{Node}
 use Rattle.file_tree.specs.declared.job.Node.TheVariants as nodes
-use Rattle.file_path.specs.Located.{Located, located}
-use Rattle.file_path.specs.Located.Located.{TooLong, NotThere, At}
+use Rattle.request_meaning.specs.file_path.Located.{Located, located}
+use Rattle.request_meaning.specs.file_path.Located.Located.{TooLong, NotThere, At}
 use Rattle.ngx_pattern.specs.Pattern.{Pattern as SetPattern}
 use Rattle.ngx_variables.specs.declared.value.Piece.{Piece}
 use Rattle.ngx_variables.specs.declared.request.Main.{Main}
 use Rattle.ngx_variables.specs.declared.request.Request.{Request}
 use Rattle.ngx_variables.specs.declared.request.FileRoot.TheVariants.{Whole}
 use Rattle.ngx_variables.specs.Texts.{value_text}
-use Rattle.site_model.specs.declared.program.Test.{Test as CodeTest}
-use Rattle.site_model.specs.declared.program.Test.TheVariants as tests
-use Rattle.site_model.specs.declared.program.FileTest.{FileTest as CodeFileTest}
-use Rattle.site_model.specs.declared.program.FileTest.TheVariants as file_tests
-use Rattle.site_views.specs.Rewrites.{Test}
+use Rattle.site_whole.specs.site_model.declared.program.Test.{Test as CodeTest}
+use Rattle.site_whole.specs.site_model.declared.program.Test.TheVariants as tests
+use Rattle.site_whole.specs.site_model.declared.program.FileTest.{FileTest as CodeFileTest}
+use Rattle.site_whole.specs.site_model.declared.program.FileTest.TheVariants as file_tests
+use Rattle.site_whole.specs.site_views.Rewrites.{Test}
 use Rattle.request_meaning.specs.Serving.{Serving}
 use Rattle.request_meaning.specs.Rewriting.{Tested, says, is_true, equals, matching}
 use Rattle.request_meaning.specs.Rewriting.Tested.{Says, Unfit}

@@ -5,10 +5,10 @@ use Rattle.acts.specs.Act.{Done, Stat}
 use Rattle.ngx_variables.specs.declared.request.Main.{Main}
 use Rattle.ngx_variables.specs.declared.request.Request.{Request}
 use Rattle.ngx_variables.specs.Grammar.{begins_with}
-use Rattle.site_model.specs.Levels.{raw_level}
-use Rattle.site_model.specs.declared.site.Site.{Site}
-use Rattle.site_views.specs.Values.{Text, Values}
-use Rattle.site_views.specs.Rewrites.{Test, Directive, Flag}
+use Rattle.site_whole.specs.site_model.Levels.{raw_level}
+use Rattle.site_whole.specs.site_model.declared.site.Site.{Site}
+use Rattle.site_whole.specs.site_views.Values.{Text, Values}
+use Rattle.site_whole.specs.site_views.Rewrites.{Test, Directive, Flag}
 use Rattle.site_whole.specs.Whole.{values_seen}
 use Rattle.request_meaning.specs.Serving.{Serving}
 use Rattle.request_meaning.specs.Cuts.{Target}

@@ -1,7 +1,7 @@
 -- Where a request is in its programs, as the recursive meaning sees it, and what its programs come to.
 use Rattle.std.specs.Prelude.{ℕ, Bool, List, Option}
-use Rattle.site_model.specs.Levels.{raw_level}
-use Rattle.site_model.specs.declared.site.Site.{Site}
+use Rattle.site_whole.specs.site_model.Levels.{raw_level}
+use Rattle.site_whole.specs.site_model.declared.site.Site.{Site}
 use Rattle.site_whole.specs.Whole.{values_seen}
 use Rattle.request_meaning.specs.Serving.{Standing}
 use Rattle.request_meaning.specs.Rewriting.{Passed, Ran}

@@ -5,12 +5,12 @@ use Rattle.acts.specs.Act.{Done, Stat, ◌>>=◌, settled}
 use Rattle.file_tree.specs.Tree.{Item}
 use Rattle.ngx_pattern.specs.Pattern.{Pattern as SetPattern}
 use Rattle.ngx_variables.specs.declared.request.Main.{Main}
-use Rattle.site_model.specs.declared.site.Site.{Site}
-use Rattle.site_model.specs.declared.program.RewriteStep.{RewriteStep}
-use Rattle.site_views.specs.Values.{Values}
-use Rattle.site_views.specs.Rewrites.{Test, Directive, Program}
-use Rattle.site_views.specs.Rewrites.Test.{IsSet, Equals, Matches, OnFile}
-use Rattle.site_views.specs.Rewrites.Directive.{Set, If, Rewrite, Return, Stop}
+use Rattle.site_whole.specs.site_model.declared.site.Site.{Site}
+use Rattle.site_whole.specs.site_model.declared.program.RewriteStep.{RewriteStep}
+use Rattle.site_whole.specs.site_views.Values.{Values}
+use Rattle.site_whole.specs.site_views.Rewrites.{Test, Directive, Program}
+use Rattle.site_whole.specs.site_views.Rewrites.Test.{IsSet, Equals, Matches, OnFile}
+use Rattle.site_whole.specs.site_views.Rewrites.Directive.{Set, If, Rewrite, Return, Stop}
 use Rattle.site_whole.specs.Whole.{step_seen}
 use Rattle.request_meaning.specs.Serving.{World, Serving}
 use Rattle.request_meaning.specs.Rewriting.{Passed, Ran, Step, on, says, passes, if_step, tested, rewritten}

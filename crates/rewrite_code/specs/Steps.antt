@@ -3,8 +3,8 @@ use Rattle.std.specs.Prelude.{ℕ, ◌+◌, ◌<◌, ◌&&◌, ◌==◌, Bool, d
 use Rattle.acts.specs.Vars.{Vars}
 use Rattle.acts.specs.Act.{settled}
 use Rattle.ngx_variables.specs.declared.request.Main.{Main}
-use Rattle.site_model.specs.declared.site.Site.{Site}
-use Rattle.site_views.specs.Rewrites.{Program}
+use Rattle.site_whole.specs.site_model.declared.site.Site.{Site}
+use Rattle.site_whole.specs.site_views.Rewrites.{Program}
 use Rattle.request_meaning.specs.Serving.{World, Serving}
 use Rattle.request_meaning.specs.Rewriting.{Ran, rewritten}
 use Rattle.rewrite_code.specs.declared.place.Progress.{Progress}

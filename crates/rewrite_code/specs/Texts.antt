@@ -7,7 +7,7 @@ use Rattle.ngx_variables.specs.declared.value.Piece.TheVariants.{Literal}
 use Rattle.ngx_variables.specs.declared.request.Main.{Main}
 use Rattle.ngx_variables.specs.declared.request.Request.{Request}
 use Rattle.ngx_variables.specs.Texts.{is_too_long, value_text}
-use Rattle.site_views.specs.Values.{Text}
+use Rattle.site_whole.specs.site_views.Values.{Text}
 use Rattle.request_meaning.specs.Cuts.{Cut, Target, cut, fitting, is_question}
 use Rattle.rewrite_code.specs.declared.target.Aim.{Aim}
 

@@ -1,10 +1,10 @@
 // The condition of an `if`.
 ghost use Rattle.std.specs.Prelude.{◌≡◌, ℕ, ◌+◌, ◌<◌, ◌≤◌, Bool, true, false, List, [], ◌∷◌, ◌++◌, length, None, Some, option_map, IfOk};
 ghost use Rattle.file_tree.specs.Tree.{Item, node_of};
-ghost use Rattle.file_path.specs.Located.{located};
+ghost use Rattle.request_meaning.specs.file_path.Located.{located};
 ghost use Rattle.ngx_variables.specs.declared.request.FileRoot.TheVariants.{Whole};
 ghost use Rattle.ngx_variables.specs.Texts.{value_text};
-ghost use Rattle.site_views.specs.Pattern.{Pattern};
+ghost use Rattle.site_whole.specs.site_views.Pattern.{Pattern};
 ghost use Rattle.site_whole.specs.Whole.{test_seen};
 ghost use Rattle.request_meaning.specs.Rewriting as rewriting;
 ghost use Rattle.request_meaning.specs.Rewriting.{is_true, equals, matching};
@@ -17,11 +17,11 @@ ghost use Rattle.rewrite_code.specs.Conditions.{looks_at, looks, variable_of, ch
 use crate::groups::find_groups;
 use crate::text::{fit_text, fitted};
 use byte_text::{ByteText, OutOfMemory};
-use file_path::path_under;
 use file_tree::Node;
 use ngx_pattern::PatternSet;
 use ngx_variables::{EvalFault, FileRoot, Groups, Main, Piece, Request, Value, VarTable};
-use site_model::{FileTest, Test};
+use request_meaning::file_path::path_under;
+use site_whole::site_model::{FileTest, Test};
 use std::alloc::Global;
 
 /// What a condition says.

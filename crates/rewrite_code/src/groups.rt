@@ -1,6 +1,6 @@
 // Searches for patterns.
 ghost use Rattle.std.specs.Prelude.{◌≡◌, option_map, IfOk};
-ghost use Rattle.site_views.specs.Pattern.{groups_in};
+ghost use Rattle.site_whole.specs.site_views.Pattern.{groups_in};
 ghost use Rattle.pattern_search.specs.Found.{found_at};
 
 use byte_text::OutOfMemory;

@@ -1,7 +1,7 @@
 // Where a request is within its rewrite programs.
 use byte_text::ByteText;
 use ngx_variables::{Main, Request};
-use site_model::Site;
+use site_whole::site_model::Site;
 use std::alloc::Global;
 
 /// What stays while a program runs: the allocator, the site, and the main request.

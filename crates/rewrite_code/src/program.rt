@@ -1,8 +1,8 @@
 // Programs, worked off directive by directive.
 ghost use Rattle.std.specs.Prelude.{◌≡◌, ℕ, ◌+◌, ◌-◌, ◌<◌, ◌≤◌, ◌^◌, ◌==◌, ◌&&◌, List, length, drop, slice_index_or, IfOk};
 ghost use Rattle.file_tree.specs.Tree.{Item, node_of};
-ghost use Rattle.site_model.specs.declared.site.Site.{Site as SiteRow};
-ghost use Rattle.site_views.specs.Pattern.{Pattern};
+ghost use Rattle.site_whole.specs.site_model.declared.site.Site.{Site as SiteRow};
+ghost use Rattle.site_whole.specs.site_views.Pattern.{Pattern};
 ghost use Rattle.site_whole.specs.Whole.{step_seen};
 ghost use Rattle.request_meaning.specs.Serving.{World};
 ghost use Rattle.request_meaning.specs.Rewriting.{rewritten, program_run, stays_first};
@@ -19,7 +19,7 @@ use byte_text::OutOfMemory;
 use file_tree::Node;
 use ngx_pattern::PatternSet;
 use ngx_variables::VarTable;
-use site_model::{Program, RewriteStep};
+use site_whole::site_model::{Program, RewriteStep};
 
 /// Whether the run of `set`s that begins a program goes on past a directive.
 fn stays_leading(leading: bool, directive: &RewriteStep) -> bool

@@ -6,7 +6,7 @@ ghost use Rattle.ngx_pattern.specs.Pattern.{Pattern as SetPattern};
 ghost use Rattle.ngx_variables.specs.declared.request.Main.{Main as MainRow};
 ghost use Rattle.ngx_variables.specs.declared.request.Request.{Request as RequestRow};
 ghost use Rattle.ngx_variables.specs.Texts.{value_text};
-ghost use Rattle.site_model.specs.declared.site.Site.{Site as SiteRow};
+ghost use Rattle.site_whole.specs.site_model.declared.site.Site.{Site as SiteRow};
 ghost use Rattle.site_whole.specs.Whole.{step_seen, test_seen};
 ghost use Rattle.request_meaning.specs.Serving.{World};
 ghost use Rattle.request_meaning.specs.Rewriting as meaning;
@@ -25,7 +25,7 @@ use crate::place::Progress;
 use crate::text::literal_fit;
 use byte_text::{ByteText, OutOfMemory};
 use ngx_variables::{Main, Piece, Request, Value, VarTable};
-use site_model::{RewriteStep, Test};
+use site_whole::site_model::{RewriteStep, Test};
 
 /// `set` of such a text; of another it does nothing.
 fn set_at_once(name: &ByteText, text: &Value, vars: &mut VarTable) -> Result<bool, OutOfMemory>

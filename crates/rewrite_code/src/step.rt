@@ -3,9 +3,9 @@ ghost use Rattle.std.specs.Prelude.{◌≡◌, ℕ, ◌+◌, ◌<◌, ◌≤◌,
 ghost use Rattle.file_tree.specs.Tree.{Item, node_of};
 ghost use Rattle.acts.specs.Act.{settled};
 ghost use Rattle.acts.specs.Vars.{Vars};
-ghost use Rattle.site_model.specs.declared.site.Site.{Site as SiteRow};
-ghost use Rattle.site_views.specs.Pattern.{Pattern, groups_in};
-ghost use Rattle.site_views.specs.Rewrites.Directive.{If};
+ghost use Rattle.site_whole.specs.site_model.declared.site.Site.{Site as SiteRow};
+ghost use Rattle.site_whole.specs.site_views.Pattern.{Pattern, groups_in};
+ghost use Rattle.site_whole.specs.site_views.Rewrites.Directive.{If};
 ghost use Rattle.site_whole.specs.Whole.{step_seen, test_seen, flag_seen};
 ghost use Rattle.request_meaning.specs.Serving.{World};
 ghost use Rattle.request_meaning.specs.Rewriting as meaning;
@@ -31,7 +31,7 @@ use byte_text::{ByteText, OutOfMemory};
 use file_tree::Node;
 use ngx_pattern::PatternSet;
 use ngx_variables::{Groups, Main, Request, Value, VarTable};
-use site_model::{Flag, RewriteStep, Site, Test};
+use site_whole::site_model::{Flag, RewriteStep, Site, Test};
 use std::alloc::Global;
 
 /// What a directive makes of a program: it goes on past the next `skip` directives, or ends.

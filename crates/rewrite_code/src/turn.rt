@@ -1,7 +1,7 @@
 // Where a `rewrite` that matched leads.
 ghost use Rattle.std.specs.Prelude.{◌≡◌, ℕ, ◌+◌, ◌<◌, ◌≤◌, Bool, true, false, List, [], ◌∷◌, ◌++◌, length, None, Some, IfOk};
 ghost use Rattle.ngx_variables.specs.Grammar.{begins_with};
-ghost use Rattle.site_model.specs.declared.site.Site.{Site as SiteRow};
+ghost use Rattle.site_whole.specs.site_model.declared.site.Site.{Site as SiteRow};
 ghost use Rattle.site_whole.specs.Whole.{flag_seen};
 ghost use Rattle.request_meaning.specs.Cuts.{ends_in_question, rewritten_args};
 ghost use Rattle.request_meaning.specs.Rewriting.{Passed, rewrite_by, rewrite_to};
@@ -14,7 +14,7 @@ use crate::step::Move;
 use crate::target::{Aim, rewritten_args, with_args};
 use byte_text::{ByteText, OutOfMemory};
 use ngx_variables::Value;
-use site_model::Flag;
+use site_whole::site_model::Flag;
 use std::alloc::Global;
 
 /// Where it leads: to a redirect with this code; or to another path, after which a location is sought or none, and the

@@ -13,10 +13,10 @@ use http_types::Addr;
 use location_search::Locations;
 use ngx_pattern::PatternSet;
 use request_phases::Ground;
+use request_phases::try_index::default_index;
 use server_choice::Servers;
 use site_model::{IndexName, Listens, Server, Site};
 use std::alloc::Global;
-use try_index::default_index;
 
 /// A site as it is served. A number that no server has is that of a server that listens nowhere. `raceless` says that the race
 /// check named no variable of it.

@@ -1,2 +1,3 @@
 pub mod Levels
 pub mod Listens
+pub use Rattle.ngx_variables.specs as ngx_variables

@@ -8,6 +8,7 @@ mod site;
 mod values;
 
 pub use listen::Listens;
+pub use ngx_variables;
 pub use program::{FileTest, Flag, Program, RewriteStep, Test};
 pub use site::{
     Level, Location, LocationKind, NamedLocation, Return, Rules, Server, ServerName, Site,

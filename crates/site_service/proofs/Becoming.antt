@@ -20,7 +20,7 @@ use Rattle.pattern_search.specs.Found.{patterns_seen}
 use Rattle.site_model.specs.declared.site.Site.{Site}
 use Rattle.site_views.specs.Views.{ListenView}
 use Rattle.site_whole.specs.Whole.{whole, server_whole, listen_seen}
-use Rattle.http_connection.specs.Conn.{fresh_course}
+use Rattle.connection_core.specs.http_connection.Conn.{fresh_course}
 use Rattle.connection_core.specs.Core.{site_terms}
 use Rattle.site_service.specs.Ends.{each_once}
 use Rattle.site_service.specs.Serving.{Outside, Became, addresses_of, addresses, fresh_at}

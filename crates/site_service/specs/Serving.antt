@@ -18,10 +18,10 @@ use Rattle.pattern_search.specs.Found.{patterns_seen}
 use Rattle.site_model.specs.declared.site.Site.{Site}
 use Rattle.site_views.specs.Views.{ListenView, ServerView}
 use Rattle.site_whole.specs.Whole.{whole}
-use Rattle.answers_meaning.specs.Asking.{Service}
-use Rattle.answers_meaning.specs.Answers.{answers, responses, close_in}
-use Rattle.request_opening.specs.Openings.{service_of}
-use Rattle.http_connection.specs.Conn.{fresh_course}
+use Rattle.connection_core.specs.answers_meaning.Asking.{Service}
+use Rattle.connection_core.specs.answers_meaning.Answers.{answers, responses, close_in}
+use Rattle.connection_core.specs.request_opening.Openings.{service_of}
+use Rattle.connection_core.specs.http_connection.Conn.{fresh_course}
 use Rattle.connection_core.specs.Core.{site_terms}
 use Rattle.site_service.specs.Ends.{each_once}
 

@@ -4,4 +4,6 @@
 mod ends;
 mod service;
 
+pub use connection_core;
+pub use connection_core::served_site;
 pub use service::{CheckedSite, serve_site};

@@ -6,11 +6,11 @@ ghost use Rattle.site_service.specs.Serving.{AreNew, Outside, Serving};
 
 use crate::ends::addresses;
 use byte_text::OutOfMemory;
+use connection_core::served_site::ServedSite;
 use connection_core::{Hub, cores_are_sound};
 use ngx_outside::{Clock, Files, Links, all_is_sent_when_idle, shut_is_exact};
 use ngx_pattern::PatternSet;
 use ready_loop::{Ending, closed_unended_sent_all, closed_unstopped_sent_all, kept_begins, serve};
-use served_site::ServedSite;
 use site_model::Site;
 use std::alloc::Global;
 

@@ -2,7 +2,7 @@
 use Rattle.std.specs.Prelude.{ℕ, nat_lt, false, List, [], ◌∷◌, map, codes, Option, None, Some, option_map, slice_get, unwrap_or, if◌then◌else◌}
 use Rattle.http_types.specs.declared.words.Addr.{Addr}
 use Rattle.access_rules.specs.declared.rule.Rule.{Rule}
-use Rattle.ngx_variables.specs.declared.value.Piece.TheVariants.{Literal}
+use Rattle.site_views.specs.ngx_variables.declared.value.Piece.TheVariants.{Literal}
 use Rattle.site_model.specs.Levels.{types_at, raw_level}
 use Rattle.site_model.specs.Listens.{listens_exactly}
 use Rattle.site_model.specs.declared.program.RewriteStep.{RewriteStep}

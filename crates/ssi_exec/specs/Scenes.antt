@@ -6,7 +6,7 @@ use Rattle.acts.specs.Act.{Done, Write, settled, ◌>>=◌, ◌>>◌}
 use Rattle.ngx_variables.specs.declared.request.Main.{Main}
 use Rattle.ngx_variables.specs.declared.request.Role.TheVariants.{Content}
 use Rattle.site_whole.specs.Whole.{values_seen}
-use Rattle.site_views.specs.Values.{Values}
+use Rattle.site_whole.specs.site_views.Values.{Values}
 use Rattle.ssi_text.specs.declared.part.Part.{Part}
 use Rattle.ssi_text.specs.declared.part.Part.TheVariants as parts
 use Rattle.request_meaning.specs.Serving.{World, Serving, Child, asks, inner, writes}

@@ -2,7 +2,7 @@
 ghost use Rattle.std.specs.Prelude.{◌≡◌, ℕ, Bool, List, Option, IfOk, Some, None, unwrap_or};
 ghost use Rattle.acts.specs.Vars.{Vars};
 ghost use Rattle.http_moment.specs.Shown.{default_format};
-ghost use Rattle.site_views.specs.Values.{Values};
+ghost use Rattle.site_whole.specs.site_views.Values.{Values};
 ghost use Rattle.ssi_text.specs.declared.part.Part.{Part as PartView};
 ghost use Rattle.request_meaning.specs.Documents.{Doc, begun, default_message, error_text, is_live, live_oops, oops};
 ghost use Rattle.ssi_values.specs.Known.{filled_text, known_seen, named_text, truth_of, truth_seen};
@@ -12,7 +12,7 @@ ghost use Rattle.ssi_exec.specs.Scenes.{branch_seen, doc_seen, known_at, served_
 use byte_text::{ByteText, OutOfMemory};
 use http_moment::DEFAULT_FORMAT;
 use ngx_variables::{Main, Request, VarTable};
-use site_model::{Level, Server, Site};
+use site_whole::site_model::{Level, Server, Site};
 use ssi_values::{Sight, Table, Truth, condition, filled, named_value};
 use std::alloc::Global;
 

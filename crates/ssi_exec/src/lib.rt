@@ -11,3 +11,4 @@ mod settings;
 mod words;
 
 pub use document::{Child, Document, Scene, Served};
+pub use ssi_values;

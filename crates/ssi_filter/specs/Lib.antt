@@ -1,2 +1,3 @@
 pub mod Machine
 pub mod Splits
+pub use Rattle.ssi_text.specs as ssi_text

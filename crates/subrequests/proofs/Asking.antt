@@ -9,12 +9,12 @@ use Rattle.postpone_filter.specs.Row.{Row, is_open, with_child}
 use Rattle.request_meaning.specs.Serving.{World}
 use Rattle.request_meaning.specs.Replies.{script}
 use Rattle.family_order.specs.Laws.{ShowsTheSame}
-use Rattle.ssi_exec.specs.Scenes.{child_seen}
-use Rattle.ssi_exec.specs.declared.document.Child.{Child}
+use Rattle.node_line.specs.ssi_exec.Scenes.{child_seen}
+use Rattle.node_line.specs.ssi_exec.declared.document.Child.{Child}
 use Rattle.node_line.specs.Stances.{Opening}
-use Rattle.node_turn.specs.Stages.{IsSameNode, is_capturing, main_of, node_act, node_heard, text_in}
-use Rattle.node_turn.specs.Turns.{Works}
-use Rattle.node_turn.specs.declared.node.Node.{Node}
+use Rattle.node_line.specs.node_turn.Stages.{IsSameNode, is_capturing, main_of, node_act, node_heard, text_in}
+use Rattle.node_line.specs.node_turn.Turns.{Works}
+use Rattle.node_line.specs.node_turn.declared.node.Node.{Node}
 use Rattle.node_seats.specs.Seats.{is_seated, seen}
 use Rattle.subrequests.specs.Families.{IsSound, texts_of}
 use Rattle.subrequests.specs.Moved.{IsAsking, IsInner, SameTexts}

@@ -11,22 +11,22 @@ use Rattle.ngx_variables.specs.declared.request.Main.{Main}
 use Rattle.site_model.specs.declared.site.Site.{Site}
 use Rattle.postpone_filter.specs.Row.{Piece, Row, at_place, clean, closed, ended, fresh, is_open, with_child}
 use Rattle.request_meaning.specs.Serving.{World, Serving, Answer}
-use Rattle.request_phases.specs.declared.state.Phases.{Phases}
+use Rattle.node_line.specs.request_phases.declared.state.Phases.{Phases}
 use Rattle.family_order.specs.Items.{Family, alone, doing, with_stance}
 use Rattle.family_order.specs.Items.Stance.{Going}
 use Rattle.family_order.specs.Laws.{ShowsTheSame}
-use Rattle.node_turn.specs.Stages.{is_in_row, node_act}
+use Rattle.node_line.specs.node_turn.Stages.{is_in_row, node_act}
 use Rattle.subrequests.specs.Families.{ArePast, IsSound, first_row, goes_on_at, is_past, rises_at}
 use Rattle.node_seats.specs.Seats.{doing_by, is_captured, most_levels, seen, stance_in}
 use Rattle.node_seats.proofs.Seated.{in_row_is}
 use Rattle.node_line.specs.Stances.{Opening}
 use Rattle.family_order.proofs.Wells.{begun-well}
 use Rattle.family_order.specs.Items.{IsWellRow}
-use Rattle.node_turn.specs.declared.node.Place.{Place}
-use Rattle.node_turn.specs.declared.node.Place.TheVariants.{Row as InRow, Stub, Gathers, Captured}
+use Rattle.node_line.specs.node_turn.declared.node.Place.{Place}
+use Rattle.node_line.specs.node_turn.declared.node.Place.TheVariants.{Row as InRow, Stub, Gathers, Captured}
 use Rattle.node_line.specs.Stances.Seat.{InRow as InItsRow}
-use Rattle.node_turn.specs.Nodes.{lent, of_method}
-use Rattle.node_turn.specs.declared.node.Node.{Node}
+use Rattle.node_line.specs.node_turn.Nodes.{lent, of_method}
+use Rattle.node_line.specs.node_turn.declared.node.Node.{Node}
 use Rattle.node_line.proofs.Steps as steps
 use Rattle.subrequests.proofs.Wholes.{left_of, right_of}
 

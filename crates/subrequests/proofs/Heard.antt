@@ -14,9 +14,9 @@ use Rattle.family_order.specs.Acts.{Goes}
 use Rattle.family_order.specs.Acts.Goes.{Stays, Acting, Alike}
 use Rattle.family_order.specs.Items.{Stance, Family, IsAlike, IsWell, with_stance, doing}
 use Rattle.family_order.specs.Laws.{ShowsTheSame}
-use Rattle.family_rest.specs.Laws.{QuietIsExact, RowTellsStill}
-use Rattle.family_rest.specs.Still.{subs_still}
-use Rattle.node_turn.specs.Stages.{IsSameNode, node_act, text_in}
+use Rattle.node_line.specs.family_rest.Laws.{QuietIsExact, RowTellsStill}
+use Rattle.node_line.specs.family_rest.Still.{subs_still}
+use Rattle.node_line.specs.node_turn.Stages.{IsSameNode, node_act, text_in}
 use Rattle.subrequests.specs.Families.{text_at, texts_of}
 use Rattle.node_seats.specs.Seats.{doing_by, most_levels, seen, stance_in}
 use Rattle.node_seats.proofs.Located.{StandsAs}
@@ -24,7 +24,7 @@ use Rattle.node_seats.proofs.Seated.{Replaced, Seated}
 use Rattle.subrequests.specs.Moved.{Keeps}
 use Rattle.family_nodes.specs.Told.{Hears}
 use Rattle.family_nodes.specs.Told.Hears.{Learned, Came}
-use Rattle.node_turn.specs.declared.node.Node.{Node}
+use Rattle.node_line.specs.node_turn.declared.node.Node.{Node}
 use Rattle.subrequests.proofs.Members as members
 use Rattle.subrequests.proofs.Members.{eq_self, same_number, other_number}
 use Rattle.family_nodes.proofs.Sets.{get_set_same, get_set_other}

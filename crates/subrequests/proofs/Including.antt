@@ -11,9 +11,9 @@ use Rattle.postpone_filter.specs.Row.{Row, ended, is_open}
 use Rattle.request_meaning.specs.Serving.{World, Serving, Answer, Reply}
 use Rattle.request_meaning.specs.Replies.{or_stub}
 use Rattle.family_order.specs.Laws.{ShowsTheSame}
-use Rattle.node_turn.specs.Stages.{is_capturing, is_ending, is_in_row, node_act, node_heard}
-use Rattle.node_turn.specs.declared.node.Node.{Node}
-use Rattle.node_turn.specs.declared.node.Place.{Place}
+use Rattle.node_line.specs.node_turn.Stages.{is_capturing, is_ending, is_in_row, node_act, node_heard}
+use Rattle.node_line.specs.node_turn.declared.node.Node.{Node}
+use Rattle.node_line.specs.node_turn.declared.node.Place.{Place}
 use Rattle.node_line.specs.Stances.{Opening}
 use Rattle.node_seats.specs.Seats.{IsNextInner, NoInner, doing_by, inner_in, inner_of_its, is_asked, is_captured, is_heard, is_inner, is_seated, most_levels, most_nodes, seen, stub_in, withheld_text, takes_up}
 use Rattle.node_seats.proofs.Above.{Takes, above_is}

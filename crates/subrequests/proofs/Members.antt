@@ -10,15 +10,15 @@ use Rattle.ngx_variables.specs.declared.request.Main.{Main}
 use Rattle.site_model.specs.declared.site.Site.{Site}
 use Rattle.postpone_filter.specs.Row.{Row, is_open, appended, with_child, ended}
 use Rattle.request_meaning.specs.Serving.{World, Serving, Answer, Child, Reply}
-use Rattle.family_meaning.specs.Line.Line.{Nil, Gives}
+use Rattle.family_order.specs.family_meaning.Line.Line.{Nil, Gives}
 use Rattle.request_meaning.specs.Replies.{script}
-use Rattle.request_phases.specs.declared.state.Phases.{Phases}
+use Rattle.node_line.specs.request_phases.declared.state.Phases.{Phases}
 use Rattle.family_order.specs.Items.{Stance, stance_by, Family, IsWell, IsWellRow, IsAlike, is_shown, doing, placing, opening, ending}
 use Rattle.family_order.specs.Items.Stance.{Going, Apart}
 use Rattle.family_order.specs.Laws.{ShowsTheSame}
 use Rattle.family_order.proofs.Wells.{step-well}
 use Rattle.postpone_filter.specs.Runs.Call.{Append, AddChild, End}
-use Rattle.node_turn.specs.Stages.{IsSameNode, hand_at, withheld_more, node_act, node_heard, text_in, item_asked, is_asking}
+use Rattle.node_line.specs.node_turn.Stages.{IsSameNode, hand_at, withheld_more, node_act, node_heard, text_in, item_asked, is_asking}
 use Rattle.subrequests.specs.Families.{IsSound, captured_at, goes_on_at, reads_text, rises_at, with_text, text_at, texts_of}
 use Rattle.node_seats.specs.Seats.{Doing, NoInner, doing_by, inner_in, is_asked, is_inner, most_nodes, withheld_text, is_captured, is_heard, is_seated, most_levels, place_stance, row_stance, seen, stance_in, stance_of, stub_in, takes_up}
 use Rattle.node_seats.proofs.Besides.{Beside, IsAsMuch, as_much, is_free, same_stance, still_stance}
@@ -29,18 +29,18 @@ use Rattle.node_seats.proofs.Seated.{IsBare, Replaced, Seated, in_row_is, line_a
 use Rattle.node_seats.proofs.Stepping as stepping
 use Rattle.subrequests.specs.Moved.{SameTexts}
 use Rattle.node_line.specs.Stances.{Opening, place_by, stance_at, under}
-use Rattle.node_turn.specs.Nodes.{asked_path, lent, stage_act, stage_heard}
-use Rattle.node_turn.specs.Turns.{Works, PlacesAs}
-use Rattle.node_turn.specs.declared.node.Node.{Node}
-use Rattle.node_turn.specs.declared.node.Stage.{Stage}
-use Rattle.node_turn.specs.declared.node.Stage.TheVariants as at_stage
+use Rattle.node_line.specs.node_turn.Nodes.{asked_path, lent, stage_act, stage_heard}
+use Rattle.node_line.specs.node_turn.Turns.{Works, PlacesAs}
+use Rattle.node_line.specs.node_turn.declared.node.Node.{Node}
+use Rattle.node_line.specs.node_turn.declared.node.Stage.{Stage}
+use Rattle.node_line.specs.node_turn.declared.node.Stage.TheVariants as at_stage
 use Rattle.family_nodes.proofs.Sets.{get_before, get_kept, get_last, get_none, get_set_same, get_set_other, length_set, length_snoc}
 use Rattle.node_line.proofs.Steps as steps
 use Rattle.node_line.specs.Stubs.{CameAs, DecidedAs}
 use Rattle.node_line.specs.Stubs.CameAs.{Withheld, Joined}
-use Rattle.node_turn.specs.Stages.{is_in_row}
-use Rattle.node_turn.specs.declared.node.Place.{Place}
-use Rattle.node_turn.specs.declared.node.Place.TheVariants.{Row as InRow, Stub, Gathers, Captured}
+use Rattle.node_line.specs.node_turn.Stages.{is_in_row}
+use Rattle.node_line.specs.node_turn.declared.node.Place.{Place}
+use Rattle.node_line.specs.node_turn.declared.node.Place.TheVariants.{Row as InRow, Stub, Gathers, Captured}
 
 -- ---- numbers
 

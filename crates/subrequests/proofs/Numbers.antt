@@ -5,7 +5,7 @@ use Rattle.ngx_outside.specs.Views.{ask_in}
 use Rattle.postpone_filter.specs.Row.{Row}
 use Rattle.family_nodes.specs.Runs.{can_go, is_waiting, job_of, runs_at}
 use Rattle.subrequests.specs.Wants.{jobs_from, first_job, first_of, is_among, ready_from}
-use Rattle.node_turn.specs.declared.node.Node.{Node}
+use Rattle.node_line.specs.node_turn.declared.node.Node.{Node}
 use Rattle.node_line.proofs.Steps as steps
 
 same_no : {A : Type 0} (b : Bool) → b ≡ true → b ≡ false → A

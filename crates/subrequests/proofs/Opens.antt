@@ -9,11 +9,11 @@ use Rattle.request_meaning.specs.Phases.{rounds}
 use Rattle.request_meaning.specs.Replies.{child_asked, script, served}
 use Rattle.request_meaning.specs.Serving.{Asked, World}
 use Rattle.request_meaning.specs.Serving.From.{Start}
-use Rattle.request_phases.specs.Rounds.{asked_from, handled_seen}
-use Rattle.request_phases.specs.declared.state.Phases.{Phases}
-use Rattle.ssi_exec.specs.Scenes.{child_seen}
-use Rattle.ssi_exec.specs.declared.document.Child.{Child}
-use Rattle.node_turn.specs.Nodes.{lent, of_method, served_as}
+use Rattle.node_line.specs.request_phases.Rounds.{asked_from, handled_seen}
+use Rattle.node_line.specs.request_phases.declared.state.Phases.{Phases}
+use Rattle.node_line.specs.ssi_exec.Scenes.{child_seen}
+use Rattle.node_line.specs.ssi_exec.declared.document.Child.{Child}
+use Rattle.node_line.specs.node_turn.Nodes.{lent, of_method, served_as}
 
 pub record IsAsked (p : Phases) (path args : List ℕ) : Type 0 where
   pub request : p.at.request ≡ record { method = GetMethod; path = path; args = args; groups = []; place = None; role = Content }

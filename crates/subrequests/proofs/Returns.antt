@@ -13,12 +13,12 @@ use Rattle.request_meaning.specs.Replies.{or_stub}
 use Rattle.family_order.specs.Items.{IsWell}
 use Rattle.family_order.specs.Items.{IsWellRow}
 use Rattle.family_order.specs.Laws.{ShowsTheSame}
-use Rattle.node_turn.specs.Stages.{is_ending, is_in_row, node_act, node_heard}
-use Rattle.node_turn.specs.Nodes.{answer_seen, asked_path, lent, stage_act}
-use Rattle.node_turn.specs.declared.node.Node.{Node}
-use Rattle.node_turn.specs.declared.node.Stage.{Stage}
-use Rattle.node_turn.specs.declared.node.Stage.TheVariants as stages
-use Rattle.node_turn.specs.declared.node.Place.{Place}
+use Rattle.node_line.specs.node_turn.Stages.{is_ending, is_in_row, node_act, node_heard}
+use Rattle.node_line.specs.node_turn.Nodes.{answer_seen, asked_path, lent, stage_act}
+use Rattle.node_line.specs.node_turn.declared.node.Node.{Node}
+use Rattle.node_line.specs.node_turn.declared.node.Stage.{Stage}
+use Rattle.node_line.specs.node_turn.declared.node.Stage.TheVariants as stages
+use Rattle.node_line.specs.node_turn.declared.node.Place.{Place}
 use Rattle.node_line.specs.Stances.{Opening}
 use Rattle.node_seats.specs.Seats.{NoInner, doing_by, inner_in, inner_of_its, is_asked, is_inner, most_nodes, withheld_text, is_captured, is_heard, is_seated, most_levels, seen, stub_in}
 use Rattle.node_seats.proofs.Included.{Waits_too}

@@ -3,7 +3,7 @@ use Rattle.std.proofs.Common.{◌≡◌, ℕ, zero, suc, ◌+◌, ◌-◌, ◌<�
 use Rattle.postpone_filter.specs.Row.{Row}
 use Rattle.family_nodes.specs.Runs.{runs_at, waits_at}
 use Rattle.subrequests.specs.Wants.{jobs_from, ready_from}
-use Rattle.node_turn.specs.declared.node.Node.{Node}
+use Rattle.node_line.specs.node_turn.declared.node.Node.{Node}
 use Rattle.subrequests.proofs.Numbers as numbers
 use Rattle.subrequests.proofs.Wholes as wholes
 

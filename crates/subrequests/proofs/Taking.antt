@@ -10,8 +10,8 @@ use Rattle.site_model.specs.declared.site.Site.{Site}
 use Rattle.postpone_filter.specs.Row.{Row, is_open, with_child}
 use Rattle.request_meaning.specs.Serving.{World, Serving, Answer, Child, Reply}
 use Rattle.request_meaning.specs.Replies.{script}
-use Rattle.family_meaning.specs.Line.{opened}
-use Rattle.family_meaning.specs.Line.Line.{Nil, Gives, Waits}
+use Rattle.family_order.specs.family_meaning.Line.{opened}
+use Rattle.family_order.specs.family_meaning.Line.Line.{Nil, Gives, Waits}
 use Rattle.family_order.specs.Acts.Acts.{Opens, Asks}
 use Rattle.family_order.specs.Items.{Stance, Family, IsAlike, IsWell, doing, opening, stance_by, with_stance}
 use Rattle.family_order.specs.Items.Stance.{Going, Waiting}
@@ -19,10 +19,10 @@ use Rattle.family_order.specs.Laws.{ShowsTheSame}
 use Rattle.node_line.specs.Stances.{Opening, filling, owned}
 use Rattle.node_line.specs.Stances.Seat.{InRow as InItsRow, Inside}
 use Rattle.node_line.specs.Stances.Spot.{After, Behind}
-use Rattle.node_turn.specs.Stages.{IsSameNode, is_capturing, is_in_row, item_asked, node_act, node_heard, text_in}
-use Rattle.node_turn.specs.Turns.{Works}
-use Rattle.node_turn.specs.declared.node.Node.{Node}
-use Rattle.node_turn.specs.declared.node.Place.TheVariants.{Row as InRow, Captured}
+use Rattle.node_line.specs.node_turn.Stages.{IsSameNode, is_capturing, is_in_row, item_asked, node_act, node_heard, text_in}
+use Rattle.node_line.specs.node_turn.Turns.{Works}
+use Rattle.node_line.specs.node_turn.declared.node.Node.{Node}
+use Rattle.node_line.specs.node_turn.declared.node.Place.TheVariants.{Row as InRow, Captured}
 use Rattle.node_seats.specs.Seats.{doing_by, withheld_text, is_captured, is_seated, most_levels, most_nodes, seen, stance_in, stub_in, takes_up}
 use Rattle.node_seats.proofs.Framing as framing
 use Rattle.node_seats.proofs.Beginning as beginning

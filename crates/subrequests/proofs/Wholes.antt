@@ -11,27 +11,27 @@ use Rattle.site_model.specs.declared.site.Site.{Site}
 use Rattle.postpone_filter.specs.Row.{Row, is_open, room}
 use Rattle.request_meaning.specs.Laws.{shipped}
 use Rattle.request_meaning.specs.Serving.{World, Answer}
-use Rattle.request_phases.specs.Rounds.{world_in}
-use Rattle.request_phases.specs.declared.ground.Ground.{Ground}
+use Rattle.node_line.specs.request_phases.Rounds.{world_in}
+use Rattle.node_line.specs.request_phases.declared.ground.Ground.{Ground}
 use Rattle.family_order.specs.Acts.{IsOver}
 use Rattle.family_order.specs.Items.Stance.{Going}
 use Rattle.family_order.specs.Laws.{ShowsTheSame}
-use Rattle.node_turn.specs.Stages.{is_ending, is_in_row, is_placing, is_reading, is_serving, is_turning, node_act, can_place}
+use Rattle.node_line.specs.node_turn.Stages.{is_ending, is_in_row, is_placing, is_reading, is_serving, is_turning, node_act, can_place}
 use Rattle.subrequests.specs.Families.{AreDone, IsSound, captured_at, goes_on_at, in_row_at, over_node}
 use Rattle.node_seats.specs.Seats.{doing_by, is_captured, most_levels, seen}
 use Rattle.node_seats.proofs.Seated.{in_row_is}
-use Rattle.node_turn.specs.declared.node.Place.{Place}
-use Rattle.node_turn.specs.declared.node.Place.TheVariants.{Row as InRow, Stub, Gathers, Captured}
+use Rattle.node_line.specs.node_turn.declared.node.Place.{Place}
+use Rattle.node_line.specs.node_turn.declared.node.Place.TheVariants.{Row as InRow, Stub, Gathers, Captured}
 use Rattle.node_line.specs.Stances.{Opening}
 use Rattle.subrequests.specs.Moved.{IsFromAt, OverrunsBy, SameFiles, Steps, files, fits_at, is_at, meant}
-use Rattle.node_turn.specs.Nodes.{answer_seen, asked_path, lent, stage_act}
+use Rattle.node_line.specs.node_turn.Nodes.{answer_seen, asked_path, lent, stage_act}
 use Rattle.family_nodes.specs.Runs.{runs_at}
 use Rattle.std.specs.Global.{Box}
-use Rattle.node_turn.specs.declared.node.Body.{Body}
+use Rattle.node_line.specs.node_turn.declared.node.Body.{Body}
 use Rattle.subrequests.specs.declared.family.Family.{Family}
-use Rattle.node_turn.specs.declared.node.Node.{Node}
-use Rattle.node_turn.specs.declared.node.Stage.{Stage}
-use Rattle.node_turn.specs.declared.node.Stage.TheVariants as stages
+use Rattle.node_line.specs.node_turn.declared.node.Node.{Node}
+use Rattle.node_line.specs.node_turn.declared.node.Stage.{Stage}
+use Rattle.node_line.specs.node_turn.declared.node.Stage.TheVariants as stages
 use Rattle.subrequests.proofs.Members as members
 use Rattle.family_nodes.proofs.Sets.{length_set}
 use Rattle.node_line.proofs.Steps as steps

@@ -9,14 +9,14 @@ use Rattle.postpone_filter.specs.Row.{Row, fresh, is_open}
 use Rattle.request_meaning.specs.Replies.{or_stub, script}
 use Rattle.request_meaning.specs.Serving.{World}
 use Rattle.family_order.specs.Items.{IsWellRow}
-use Rattle.ssi_exec.specs.Scenes.{child_seen}
-use Rattle.ssi_exec.specs.declared.document.Child.{Child}
-use Rattle.node_turn.specs.Stages.{IsSameNode, is_capturing, is_ending, is_in_row, main_of, node_act, node_heard, text_in}
-use Rattle.node_turn.specs.declared.node.Node.{Node}
-use Rattle.node_turn.specs.declared.node.Stage.{Stage}
-use Rattle.node_turn.specs.declared.node.Stage.TheVariants.{Begins, Asks, Told, Places, Serves, Reads, Captures, Ends}
-use Rattle.node_turn.specs.declared.node.Place.{Place}
-use Rattle.node_turn.specs.declared.node.Place.TheVariants.{Row as InRow, Stub, Gathers, Captured}
+use Rattle.node_line.specs.ssi_exec.Scenes.{child_seen}
+use Rattle.node_line.specs.ssi_exec.declared.document.Child.{Child}
+use Rattle.node_line.specs.node_turn.Stages.{IsSameNode, is_capturing, is_ending, is_in_row, main_of, node_act, node_heard, text_in}
+use Rattle.node_line.specs.node_turn.declared.node.Node.{Node}
+use Rattle.node_line.specs.node_turn.declared.node.Stage.{Stage}
+use Rattle.node_line.specs.node_turn.declared.node.Stage.TheVariants.{Begins, Asks, Told, Places, Serves, Reads, Captures, Ends}
+use Rattle.node_line.specs.node_turn.declared.node.Place.{Place}
+use Rattle.node_line.specs.node_turn.declared.node.Place.TheVariants.{Row as InRow, Stub, Gathers, Captured}
 use Rattle.node_line.specs.Stances.{place_by}
 use Rattle.node_seats.specs.Seats.{is_captured, takes_up, withheld_text}
 

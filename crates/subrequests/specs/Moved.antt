@@ -9,27 +9,27 @@ use Rattle.site_model.specs.declared.site.Site.{Site}
 use Rattle.request_meaning.specs.Laws.{shipped}
 use Rattle.request_meaning.specs.Replies.{most_depth}
 use Rattle.request_meaning.specs.Serving.{World, Serving, Answer}
-use Rattle.request_phases.specs.Rounds.{asked_in, prepared_as, world_in}
-use Rattle.request_phases.specs.declared.state.Conclusion.{Conclusion}
-use Rattle.request_phases.specs.declared.state.Phases.{Phases}
-use Rattle.rewrite_code.specs.Places.{standing_seen}
-use Rattle.request_phases.specs.declared.ground.Ground.{Ground}
+use Rattle.node_line.specs.request_phases.Rounds.{asked_in, prepared_as, world_in}
+use Rattle.node_line.specs.request_phases.declared.state.Conclusion.{Conclusion}
+use Rattle.node_line.specs.request_phases.declared.state.Phases.{Phases}
+use Rattle.node_line.specs.rewrite_code.Places.{standing_seen}
+use Rattle.node_line.specs.request_phases.declared.ground.Ground.{Ground}
 use Rattle.family_order.specs.Acts.{Goes, IsOver}
 use Rattle.family_order.specs.Items.{Family as Meant, alone, doing}
 use Rattle.family_order.specs.Items.Stance.{Going}
-use Rattle.family_rest.specs.Still.{still, subs_still}
-use Rattle.ssi_exec.specs.Scenes.{child_seen}
-use Rattle.ssi_exec.specs.declared.document.Child.{Child}
-use Rattle.node_turn.specs.Stages.{main_of, node_act}
+use Rattle.node_line.specs.family_rest.Still.{still, subs_still}
+use Rattle.node_line.specs.ssi_exec.Scenes.{child_seen}
+use Rattle.node_line.specs.ssi_exec.declared.document.Child.{Child}
+use Rattle.node_line.specs.node_turn.Stages.{main_of, node_act}
 use Rattle.subrequests.specs.Families.{IsInnerOpened, IsPushed, IsSound, reads_text, texts_of}
 use Rattle.node_seats.specs.Seats.{seen}
-use Rattle.node_turn.specs.Nodes.{after_phases, bytes_for}
+use Rattle.node_line.specs.node_turn.Nodes.{after_phases, bytes_for}
 use Rattle.node_line.specs.Stances.{Opening}
 use Rattle.subrequests.specs.declared.family.Family.{Family}
-use Rattle.node_turn.specs.declared.node.Node.{Node}
-use Rattle.node_turn.specs.declared.node.Place.TheVariants.{Captured}
+use Rattle.node_line.specs.node_turn.declared.node.Node.{Node}
+use Rattle.node_line.specs.node_turn.declared.node.Place.TheVariants.{Captured}
 use Rattle.postpone_filter.specs.Row.{with_child}
-use Rattle.node_turn.specs.declared.node.Stage.{Stage}
+use Rattle.node_line.specs.node_turn.declared.node.Stage.{Stage}
 
 -- The family that the meaning has, where the files that are read still have these texts, by node; and those of these trees.
 abbrev pub meant : World → List SetPattern → Site → (texts : ℕ → List ℕ) → Family → Meant

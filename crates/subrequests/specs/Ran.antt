@@ -1,7 +1,7 @@
 -- What becomes of a node that runs.
 use Rattle.std.specs.Prelude.{◌≡◌, ℕ, false, List, slice_get}
 use Rattle.ngx_pattern.specs.Pattern.{Pattern as SetPattern}
-use Rattle.request_phases.specs.declared.ground.Ground.{Ground}
+use Rattle.node_line.specs.request_phases.declared.ground.Ground.{Ground}
 use Rattle.subrequests.specs.Moved.{IsWhole, OverrunsBy, Steps}
 use Rattle.family_nodes.specs.Runs.{runs_at}
 use Rattle.subrequests.specs.Wants.{is_among, ready_of}

@@ -2,14 +2,14 @@
 use Rattle.std.specs.Prelude.{◌≡◌, ◌≢◌, ℕ, suc, ◌==◌, Bool, true, false, List, [], ◌∷◌, Option, None, Some, slice_get, if◌then◌else◌}
 use Rattle.ngx_outside.specs.Views.{Job}
 use Rattle.postpone_filter.specs.Row.{Row}
-use Rattle.node_turn.specs.Stages.{is_ending, is_placing, is_serving, is_turning, may_fetch}
+use Rattle.node_line.specs.node_turn.Stages.{is_ending, is_placing, is_serving, is_turning, may_fetch}
 use Rattle.subrequests.specs.Families.{captured_at, gathers_at, in_row_at, stub_at}
 use Rattle.subrequests.specs.Moved.{is_at}
 use Rattle.family_nodes.specs.Runs.{can_go, is_waiting, runs_at}
 use Rattle.subrequests.specs.declared.family.Family.{Family}
 use Rattle.subrequests.specs.declared.next_step.Next.{Next}
 use Rattle.subrequests.specs.declared.next_step.Next.TheVariants.{Turns, Fetches, Places, Comes, Takes, Gathers, Ends, Decides, Returns, Frees, Waits}
-use Rattle.node_turn.specs.declared.node.Node.{Node}
+use Rattle.node_line.specs.node_turn.declared.node.Node.{Node}
 
 -- the jobs of nodes, of which the first has this number
 unfoldable pub jobs_from : (tree : ℕ) → ℕ → List Node → List Job

@@ -1,8 +1,8 @@
 // Subrequests that are over, and where their bytes come.
 ghost use Rattle.std.specs.Prelude.{◌≡◌, ◌≢◌, List, OnOk, true, false, slice_get};
 ghost use Rattle.ngx_pattern.specs.Pattern.{Pattern as SetPattern};
-ghost use Rattle.request_phases.specs.declared.ground.Ground.{Ground as GroundView};
-ghost use Rattle.node_turn.specs.Stages.{is_ending};
+ghost use Rattle.node_line.specs.request_phases.declared.ground.Ground.{Ground as GroundView};
+ghost use Rattle.node_line.specs.node_turn.Stages.{is_ending};
 ghost use Rattle.subrequests.specs.Families.{captured_at, goes_on_at, in_row_at};
 ghost use Rattle.node_seats.specs.Seats.{IsNextInner, NoInner, inner_of_its, is_seated as has_seat, most_nodes};
 ghost use Rattle.subrequests.specs.Moved.{IsWhole, Steps, stands};
@@ -12,9 +12,9 @@ use crate::returning::{both, put_before, put_first, put_reply, take_before, take
 use byte_text::OutOfMemory;
 use family_order::shows_the_same;
 use node_line::decides;
+use node_line::node_turn::{Stage, put};
+use node_line::ssi_values::Table;
 use node_seats::{comes_beside, next_inner};
-use node_turn::{Stage, put};
-use ssi_values::Table;
 use std::alloc::Global;
 
 impl Family {

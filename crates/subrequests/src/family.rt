@@ -4,10 +4,10 @@ ghost use Rattle.file_tree.specs.Tree.{Trees, text_of};
 ghost use Rattle.ngx_pattern.specs.Pattern.{Pattern as SetPattern};
 ghost use Rattle.family_order.specs.Items.{IsWell};
 ghost use Rattle.request_meaning.specs.Serving.{World};
-ghost use Rattle.request_phases.specs.Rounds.{IsGround};
-ghost use Rattle.request_phases.specs.declared.ground.Ground.{Ground as GroundView};
+ghost use Rattle.node_line.specs.request_phases.Rounds.{IsGround};
+ghost use Rattle.node_line.specs.request_phases.declared.ground.Ground.{Ground as GroundView};
 ghost use Rattle.site_model.specs.declared.site.Site.{Site as SiteRow};
-ghost use Rattle.node_turn.specs.Stages.{is_ending, is_in_row as in_row, is_placing, is_serving, is_turning, item_asked, may_fetch};
+ghost use Rattle.node_line.specs.node_turn.Stages.{is_ending, is_in_row as in_row, is_placing, is_serving, is_turning, item_asked, may_fetch};
 ghost use Rattle.subrequests.specs.Families.{AreDone, goes_on_at, in_row_at, over_node};
 ghost use Rattle.node_seats.specs.Seats.{is_seated as has_seat};
 ghost use Rattle.std.specs.List.{list_all};
@@ -23,17 +23,19 @@ use crate::past::put_all_past;
 use byte_text::{ByteText, OutOfMemory};
 use family_nodes::{Nodes, can_run, hears};
 use family_order::shows_the_same;
-use family_rest::{quiet_is_exact, row_tells_still};
 use file_tree::{Ask, JobAnswer};
 use http_types::Method;
 use ngx_pattern::PatternSet;
 use ngx_variables::{Main, VarTable};
 use node_line::comes;
+use node_line::family_rest::{quiet_is_exact, row_tells_still};
+use node_line::node_turn::{
+    Node, Place, Stage, Turn, answering, fetches, lend, places, takes, turns,
+};
+use node_line::request_phases::{Conclusion, Ground, Phases};
+use node_line::ssi_values::Table;
 use node_seats::is_seated;
-use node_turn::{Node, Place, Stage, Turn, answering, fetches, lend, places, takes, turns};
 use postpone_filter::Order;
-use request_phases::{Conclusion, Ground, Phases};
-use ssi_values::Table;
 use std::alloc::Global;
 
 /// A request and its subrequests: the main request, which is lent to the node that runs; the table

@@ -1,8 +1,8 @@
 // Nodes with a stub, to which bytes of their subrequests come: until it is known whether their body is shown, and then.
 ghost use Rattle.std.specs.Prelude.{◌≡◌, List, IfOk, OnOk, true, false, slice_get};
 ghost use Rattle.ngx_pattern.specs.Pattern.{Pattern as SetPattern};
-ghost use Rattle.request_phases.specs.declared.ground.Ground.{Ground as GroundView};
-ghost use Rattle.node_turn.specs.Stages.{is_ending, is_serving};
+ghost use Rattle.node_line.specs.request_phases.declared.ground.Ground.{Ground as GroundView};
+ghost use Rattle.node_line.specs.node_turn.Stages.{is_ending, is_serving};
 ghost use Rattle.subrequests.specs.Families.{goes_on_at, gathers_at, stub_at};
 ghost use Rattle.node_seats.specs.Seats.{is_seated as has_seat};
 ghost use Rattle.node_seats.specs.Joining.{IsShownAt, Joins, JoinsOne};

@@ -15,3 +15,4 @@ mod returning;
 mod wants;
 
 pub use family::{Decided, Family, Ran};
+pub use node_line::{family_rest, request_phases};

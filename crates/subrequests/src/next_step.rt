@@ -1,12 +1,12 @@
 // What a node does next.
 ghost use Rattle.std.specs.Prelude.{◌≡◌, Some, true, false, slice_get, if◌then◌else◌};
-ghost use Rattle.node_turn.specs.Stages.{is_in_row as in_row};
+ghost use Rattle.node_line.specs.node_turn.Stages.{is_in_row as in_row};
 ghost use Rattle.node_seats.specs.Seats.{is_captured};
 ghost use Rattle.subrequests.specs.Families.{has_stub};
 ghost use Rattle.subrequests.specs.Wants.{StandsAt};
 ghost use Rattle.subrequests.specs.declared.next_step.Next.TheVariants.{Ends as EndsNext, Decides as DecidesNext, Frees as FreesNext, Returns as ReturnsNext};
 
-use node_turn::{Node, Place, Stage, needs_block};
+use node_line::node_turn::{Node, Place, Stage, needs_block};
 
 /// What a node does next.
 #[derive(Clone, Copy)]

@@ -1,7 +1,7 @@
 // Subrequests that open: beside their parent, in its body, or because it waits for theirs.
 ghost use Rattle.std.specs.Prelude.{◌≡◌, ◌≢◌, ◌<◌, ◌+◌, List, length, OnOk, None, true, slice_get};
 ghost use Rattle.ngx_pattern.specs.Pattern.{Pattern as SetPattern};
-ghost use Rattle.node_turn.specs.Stages.{is_in_row as in_row};
+ghost use Rattle.node_line.specs.node_turn.Stages.{is_in_row as in_row};
 ghost use Rattle.subrequests.specs.Families.{goes_on_at};
 ghost use Rattle.subrequests.specs.Moved.{AsksAt, InnerAt, IsWhole, OpensAt, SameFiles};
 
@@ -10,9 +10,9 @@ use crate::family::{Family, MOST_NODES};
 use crate::next_step::is_in_row;
 use byte_text::{ByteText, OutOfMemory};
 use family_order::shows_the_same;
-use node_turn::Node;
-use request_phases::Ground;
-use ssi_exec::Child;
+use node_line::node_turn::Node;
+use node_line::request_phases::Ground;
+use node_line::ssi_exec::Child;
 use std::alloc::Global;
 
 /// Whether a node may have one more subrequest, where there are `count` nodes.

@@ -8,9 +8,9 @@ use byte_text::{ByteText, OutOfMemory};
 use family_nodes::Nodes;
 use file_tree::Ask;
 use http_types::Method;
-use node_turn::{Node, Place, Stage};
+use node_line::node_turn::{Node, Place, Stage};
+use node_line::ssi_values::Table;
 use postpone_filter::Order;
-use ssi_values::Table;
 use std::alloc::Global;
 
 /// The node of a subrequest of the main request that is over: nothing of it is looked at any more

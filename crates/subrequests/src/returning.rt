@@ -1,13 +1,13 @@
 // What a node whose body its parent waits for gives back, and how the parent goes on with it.
 ghost use Rattle.std.specs.Prelude.{◌≡◌, ◌++◌, [], true, IfOk, OnOk, None};
-ghost use Rattle.node_turn.specs.declared.node.Place.TheVariants.{Row as RowView};
+ghost use Rattle.node_line.specs.node_turn.declared.node.Place.TheVariants.{Row as RowView};
 ghost use Rattle.subrequests.specs.Families.{HasFirst, HasReply, IsTaken, end_status, freed_place, gathering_place, is_stubbed as stubbed, with_text};
 ghost use Rattle.node_seats.specs.Joining.{joined_place};
 ghost use Rattle.node_seats.specs.Seats.{takes_up, withheld_text};
 
 use byte_text::{ByteText, OutOfMemory};
-use node_turn::{Capture, MOST_WITHHELD, Node, Place, Stage, fill, put, take};
-use ssi_values::Table;
+use node_line::node_turn::{Capture, MOST_WITHHELD, Node, Place, Stage, fill, put, take};
+use node_line::ssi_values::Table;
 use std::alloc::Global;
 
 /// The status of the answer to which a node has come; 0 where it has come to none.

@@ -14,7 +14,7 @@ use Rattle.ngx_variables.specs.declared.request.Main.{Main}
 use Rattle.ngx_variables.specs.declared.request.Request.{Request}
 use Rattle.ngx_variables.specs.declared.eval.FilePaths.{FilePaths}
 use Rattle.ngx_variables.specs.Texts.{piece_text, pieces_text, place_paths, value_text, is_too_long}
-use Rattle.site_views.specs.Values.{Text}
+use Rattle.request_meaning.specs.site_views.Values.{Text}
 use Rattle.request_meaning.specs.Cuts.{Cut, Target, cut, onto_path, whole, fitting, is_question}
 use Rattle.target_text.specs.Settled.{bytes_before_question, before_question, target_text}
 

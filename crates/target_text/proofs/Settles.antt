@@ -11,7 +11,7 @@ use Rattle.file_path.specs.Located.{Located, located_at}
 use Rattle.file_path.specs.Located.Located.{TooLong, NotThere, At}
 use Rattle.file_path.specs.Acts.{located_act}
 use Rattle.file_path.proofs.Settles.{located_settles}
-use Rattle.site_views.specs.Values.{Text}
+use Rattle.request_meaning.specs.site_views.Values.{Text}
 use Rattle.request_meaning.specs.Serving.{Child, Reply}
 use Rattle.request_meaning.specs.Cuts.{cut, fitting, some_value, target, fit_value}
 use Rattle.request_meaning.specs.Contents.{item, item_at}

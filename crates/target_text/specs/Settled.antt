@@ -9,7 +9,7 @@ use Rattle.ngx_variables.specs.declared.request.Main.{Main}
 use Rattle.ngx_variables.specs.declared.request.Request.{Request}
 use Rattle.ngx_variables.specs.Texts.{is_too_long, value_text}
 use Rattle.file_path.specs.Located.{located_at}
-use Rattle.site_views.specs.Values.{Text}
+use Rattle.request_meaning.specs.site_views.Values.{Text}
 use Rattle.request_meaning.specs.Serving.{Standing}
 use Rattle.request_meaning.specs.Cuts.{Target, cut, fitting, fit_value, target, is_question}
 use Rattle.request_meaning.specs.Contents.{item, item_at}

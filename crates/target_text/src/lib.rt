@@ -5,5 +5,7 @@
 mod laws;
 mod target;
 
+pub use file_path;
 pub use laws::{fit_value_settles, item_settles, target_settles};
+pub use ngx_variables;
 pub use target::{Target, target_of};

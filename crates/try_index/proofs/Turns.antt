@@ -9,23 +9,23 @@ use Rattle.acts.specs.Act.{Done, Stat, ◌>>=◌, settled, settled_then}
 use Rattle.acts.proofs.ActLaws.{settles_in_turn}
 use Rattle.file_tree.specs.Tree.{Item, AFile, AFolder, ALocked, Nothing, node_of}
 use Rattle.file_tree.specs.declared.job.Node.{Node}
-use Rattle.ngx_variables.specs.declared.request.Main.{Main}
-use Rattle.ngx_variables.specs.declared.request.FileRoot.{FileRoot}
-use Rattle.ngx_variables.specs.declared.request.Request.{Request}
-use Rattle.ngx_variables.specs.Texts.{value_text, is_too_long}
-use Rattle.file_path.specs.Located.{Located, located_at}
-use Rattle.file_path.specs.Located.Located.{TooLong, NotThere, At}
-use Rattle.site_model.specs.declared.values.IndexName.{IndexName as CodeName}
+use Rattle.target_text.specs.ngx_variables.declared.request.Main.{Main}
+use Rattle.target_text.specs.ngx_variables.declared.request.FileRoot.{FileRoot}
+use Rattle.target_text.specs.ngx_variables.declared.request.Request.{Request}
+use Rattle.target_text.specs.ngx_variables.Texts.{value_text, is_too_long}
+use Rattle.target_text.specs.file_path.Located.{Located, located_at}
+use Rattle.target_text.specs.file_path.Located.Located.{TooLong, NotThere, At}
+use Rattle.site_whole.specs.site_model.declared.values.IndexName.{IndexName as CodeName}
 use Rattle.site_whole.specs.Whole.{index_seen}
-use Rattle.site_views.specs.Values.{Text, IndexName, LastTry, Tries}
-use Rattle.site_views.specs.Values.LastTry.{ToPath, ToLocation, ToCode}
-use Rattle.site_views.specs.Rewrites.FileTest.{IsFile, IsFolder}
-use Rattle.request_meaning.specs.Rewriting.{passes}
-use Rattle.request_meaning.specs.Serving.{Serving, Standing}
-use Rattle.request_meaning.specs.Cuts.{Target, fit_value, target, or_none}
-use Rattle.request_meaning.specs.Errors.{Decided, decided}
-use Rattle.request_meaning.specs.Errors.Outcome.{Fails, GoesTo, GoesToNamed}
-use Rattle.request_meaning.specs.Contents.{item, item_at, with_item, with_text, tried, try_name, try_at, last_try, is_found, ends_in_slash, indexed, index_name, index_at, no_index, goes_to, content, with_path, last_code}
+use Rattle.site_whole.specs.site_views.Values.{Text, IndexName, LastTry, Tries}
+use Rattle.site_whole.specs.site_views.Values.LastTry.{ToPath, ToLocation, ToCode}
+use Rattle.site_whole.specs.site_views.Rewrites.FileTest.{IsFile, IsFolder}
+use Rattle.target_text.specs.request_meaning.Rewriting.{passes}
+use Rattle.target_text.specs.request_meaning.Serving.{Serving, Standing}
+use Rattle.target_text.specs.request_meaning.Cuts.{Target, fit_value, target, or_none}
+use Rattle.target_text.specs.request_meaning.Errors.{Decided, decided}
+use Rattle.target_text.specs.request_meaning.Errors.Outcome.{Fails, GoesTo, GoesToNamed}
+use Rattle.target_text.specs.request_meaning.Contents.{item, item_at, with_item, with_text, tried, try_name, try_at, last_try, is_found, ends_in_slash, indexed, index_name, index_at, no_index, goes_to, content, with_path, last_code}
 use Rattle.target_text.specs.Settled.{fit, target_text, FitValueSettles, TargetSettles, ItemSettles}
 use Rattle.try_index.specs.declared.probe.Turn.{Turn}
 use Rattle.try_index.specs.declared.tries.TryState.{TryState}

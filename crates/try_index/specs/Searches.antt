@@ -6,18 +6,18 @@ use Rattle.acts.specs.Act.{Done, Stat}
 use Rattle.file_tree.specs.Tree.{Item}
 use Rattle.file_tree.specs.declared.job.Node.{Node}
 use Rattle.file_tree.specs.declared.job.Node.TheVariants.{File, Folder, Locked, Missing}
-use Rattle.ngx_variables.specs.declared.request.Main.{Main}
-use Rattle.ngx_variables.specs.declared.request.FileRoot.{FileRoot}
-use Rattle.ngx_variables.specs.declared.request.Request.{Request}
-use Rattle.ngx_variables.specs.Texts.{value_text, is_too_long}
-use Rattle.file_path.specs.Located.{located_at}
-use Rattle.file_path.specs.Located.Located.{TooLong, NotThere, At}
-use Rattle.site_views.specs.Values.{Text, IndexName, LastTry, Tries}
-use Rattle.site_views.specs.Values.LastTry.{ToPath, ToLocation, ToCode}
-use Rattle.request_meaning.specs.Serving.{Serving, Standing}
-use Rattle.request_meaning.specs.Errors.{Decided, decided}
-use Rattle.request_meaning.specs.Errors.Outcome.{GoesTo, GoesToNamed}
-use Rattle.request_meaning.specs.Contents.{content, tried, try_at, with_path, last_code, indexed, index_at, no_index, goes_to, ends_in_slash}
+use Rattle.target_text.specs.ngx_variables.declared.request.Main.{Main}
+use Rattle.target_text.specs.ngx_variables.declared.request.FileRoot.{FileRoot}
+use Rattle.target_text.specs.ngx_variables.declared.request.Request.{Request}
+use Rattle.target_text.specs.ngx_variables.Texts.{value_text, is_too_long}
+use Rattle.target_text.specs.file_path.Located.{located_at}
+use Rattle.target_text.specs.file_path.Located.Located.{TooLong, NotThere, At}
+use Rattle.site_whole.specs.site_views.Values.{Text, IndexName, LastTry, Tries}
+use Rattle.site_whole.specs.site_views.Values.LastTry.{ToPath, ToLocation, ToCode}
+use Rattle.target_text.specs.request_meaning.Serving.{Serving, Standing}
+use Rattle.target_text.specs.request_meaning.Errors.{Decided, decided}
+use Rattle.target_text.specs.request_meaning.Errors.Outcome.{GoesTo, GoesToNamed}
+use Rattle.target_text.specs.request_meaning.Contents.{content, tried, try_at, with_path, last_code, indexed, index_at, no_index, goes_to, ends_in_slash}
 use Rattle.target_text.specs.Settled.{fit, target_text}
 use Rattle.try_index.specs.declared.probe.Turn.{Turn}
 use Rattle.try_index.specs.declared.tries.TryState.{TryState}

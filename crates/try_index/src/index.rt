@@ -3,23 +3,23 @@ ghost use Rattle.std.specs.Prelude.{◌≡◌, ℕ, ◌<◌, ◌≤◌, List, le
 ghost use Rattle.acts.specs.Act.{Done, settled};
 ghost use Rattle.file_tree.specs.Tree.{Item, node_of};
 ghost use Rattle.file_tree.specs.declared.job.Node.TheVariants.{Missing};
-ghost use Rattle.ngx_variables.specs.declared.request.Main.{Main as MainView};
-ghost use Rattle.ngx_variables.specs.Texts.{value_text};
-ghost use Rattle.site_views.specs.Values.{IndexName as NameView};
+ghost use Rattle.target_text.specs.ngx_variables.declared.request.Main.{Main as MainView};
+ghost use Rattle.target_text.specs.ngx_variables.Texts.{value_text};
+ghost use Rattle.site_whole.specs.site_views.Values.{IndexName as NameView};
 ghost use Rattle.site_whole.specs.Whole.{index_seen, default_index as index_html};
-ghost use Rattle.request_meaning.specs.Serving.{Standing};
-ghost use Rattle.request_meaning.specs.Errors.{decided};
-ghost use Rattle.request_meaning.specs.Errors.Outcome.{Fails};
-ghost use Rattle.request_meaning.specs.Contents.{indexed};
+ghost use Rattle.target_text.specs.request_meaning.Serving.{Standing};
+ghost use Rattle.target_text.specs.request_meaning.Errors.{decided};
+ghost use Rattle.target_text.specs.request_meaning.Errors.Outcome.{Fails};
+ghost use Rattle.target_text.specs.request_meaning.Contents.{indexed};
 ghost use Rattle.target_text.specs.Settled.{fit};
 ghost use Rattle.try_index.specs.Searches.{IsAt, indexed_from, index_told, index_left, IsIndexUnfit};
 
 use crate::probe::{Scene, is_file, turn_of};
 use byte_text::{ByteText, OutOfMemory};
 use file_tree::Node;
-use ngx_variables::{EvalFault, FileRoot, Main, Piece, Request, Value, VarTable};
-use site_model::IndexName;
+use site_whole::site_model::IndexName;
 use std::alloc::Global;
+use target_text::ngx_variables::{EvalFault, FileRoot, Main, Piece, Request, Value, VarTable};
 use target_text::{fit_value_settles, item_settles};
 
 /// A search of the names of `index`, between two questions to the files.

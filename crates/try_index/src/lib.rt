@@ -9,4 +9,5 @@ mod tries;
 
 pub use index::{IndexState, IndexStep, default_index};
 pub use probe::Scene;
+pub use target_text;
 pub use tries::{TryState, TryStep};

@@ -1,13 +1,13 @@
 // The file of a name.
 ghost use Rattle.std.specs.Prelude.{◌≡◌, ◌++◌, false, IfOk, Err, MatchOption};
-ghost use Rattle.ngx_variables.specs.Texts.{value_text, is_too_long};
+ghost use Rattle.target_text.specs.ngx_variables.Texts.{value_text, is_too_long};
 ghost use Rattle.try_index.specs.Searches.{IsNotThere, IsThere, IsUnfit, is_file, is_folder as folder_node};
 
 use byte_text::ByteText;
-use file_path::path_of;
 use file_tree::Node;
-use ngx_variables::{EvalFault, FileRoot, Main, Request, Value, VarTable};
 use std::alloc::Global;
+use target_text::file_path::path_of;
+use target_text::ngx_variables::{EvalFault, FileRoot, Main, Request, Value, VarTable};
 
 /// What names are tried over: the place of the level's files, the main request, the request, and the variables.
 #[derive(Clone, Copy)]

@@ -3,22 +3,22 @@ ghost use Rattle.std.specs.Prelude.{◌≡◌, ℕ, ◌<◌, ◌≤◌, List, le
 ghost use Rattle.acts.specs.Act.{Done, settled};
 ghost use Rattle.file_tree.specs.Tree.{Item, node_of};
 ghost use Rattle.file_tree.specs.declared.job.Node.TheVariants.{Missing};
-ghost use Rattle.ngx_variables.specs.declared.request.Main.{Main as MainView};
-ghost use Rattle.site_views.specs.Values.{Tries as TriesView};
+ghost use Rattle.target_text.specs.ngx_variables.declared.request.Main.{Main as MainView};
+ghost use Rattle.site_whole.specs.site_views.Values.{Tries as TriesView};
 ghost use Rattle.site_whole.specs.Whole.{tries_seen, last_seen};
-ghost use Rattle.request_meaning.specs.Serving.{Standing};
-ghost use Rattle.request_meaning.specs.Errors.{decided};
-ghost use Rattle.request_meaning.specs.Errors.Outcome.{Fails};
-ghost use Rattle.request_meaning.specs.Contents.{ends_in_slash as slash_last, last_try, tried};
+ghost use Rattle.target_text.specs.request_meaning.Serving.{Standing};
+ghost use Rattle.target_text.specs.request_meaning.Errors.{decided};
+ghost use Rattle.target_text.specs.request_meaning.Errors.Outcome.{Fails};
+ghost use Rattle.target_text.specs.request_meaning.Contents.{ends_in_slash as slash_last, last_try, tried};
 ghost use Rattle.try_index.specs.declared.tries.TryState.{TryState as TryView};
 ghost use Rattle.try_index.specs.Searches.{IsAt, is_found as found_by, tried_from, try_told, try_left, IsLastUnfit, IsTryUnfit};
 
 use crate::probe::{Scene, is_file, is_folder, turn_of};
 use byte_text::ByteText;
 use file_tree::Node;
-use ngx_variables::{EvalFault, FileRoot, Main, Request, Value, VarTable};
-use site_model::{LastTry, Tries};
+use site_whole::site_model::{LastTry, Tries};
 use std::alloc::Global;
+use target_text::ngx_variables::{EvalFault, FileRoot, Main, Request, Value, VarTable};
 use target_text::{fit_value_settles, item_settles, target_of, target_settles};
 
 /// A search of the names of `try_files`, between two questions to the files.

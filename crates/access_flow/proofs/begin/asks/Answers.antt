@@ -4,12 +4,12 @@ use Rattle.request_meaning.specs.Laws.{shipped}
 use Rattle.request_meaning.specs.Phases.{rounds}
 use Rattle.request_meaning.specs.Replies.{child_asked}
 use Rattle.request_meaning.specs.Serving.From.{Start}
-use Rattle.request_phases.specs.Rounds.{asked_from, world_in}
-use Rattle.request_phases.specs.declared.state.Phases.{Phases}
-use Rattle.request_phases.specs.declared.state.Step.TheVariants.{Calls}
+use Rattle.node_turn.specs.request_phases.Rounds.{asked_from, world_in}
+use Rattle.node_turn.specs.request_phases.declared.state.Phases.{Phases}
+use Rattle.node_turn.specs.request_phases.declared.state.Step.TheVariants.{Calls}
 use Rattle.request_flow.specs.Flows.{item_asked}
 use Rattle.request_flow.specs.Sents.{step_rest}
-use Rattle.reply_out.specs.declared.terms.InPhases.{InPhases}
+use Rattle.request_flow.specs.reply_out.declared.terms.InPhases.{InPhases}
 use Rattle.access_flow.specs.Flows.{IsOpened, inner_left, outer_of, stage_rest}
 use Rattle.access_flow.specs.Reached.{StageReached}
 use Rattle.access_flow.specs.declared.flow.AccessFlow.{AccessFlow}

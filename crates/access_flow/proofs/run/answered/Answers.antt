@@ -1,5 +1,5 @@
 use Rattle.std.proofs.Common.{◌≡◌, sym, ◌∙◌, subst}
-use Rattle.request_phases.specs.Rounds.{phases_told}
+use Rattle.node_turn.specs.request_phases.Rounds.{phases_told}
 use Rattle.request_flow.specs.Flows.{item_asked}
 use Rattle.request_flow.specs.Reached.{path_asked, told_text_item}
 use Rattle.access_flow.specs.Flows.{by_answer, stage_rest}

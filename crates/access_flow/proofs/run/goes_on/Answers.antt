@@ -1,8 +1,8 @@
 use Rattle.std.proofs.Common.{◌≡◌, sym, ap, ◌∙◌, subst}
 use Rattle.acts.specs.Act.{settled}
-use Rattle.request_phases.specs.Rounds.{phases_left}
+use Rattle.node_turn.specs.request_phases.Rounds.{phases_left}
 use Rattle.access_flow.proofs.Told.{fits_told}
-use Rattle.request_reply.specs.Replies.{FitsFile}
+use Rattle.node_turn.specs.request_reply.Replies.{FitsFile}
 use Rattle.access_flow.specs.Flows.{inner_left}
 use Rattle.access_flow.proofs.Inner.{asked_left, replied_left}
 use Rattle.access_flow.proofs.Reaching.{asked_reached, replied_reached}

@@ -3,7 +3,7 @@ use Rattle.file_tree.specs.Tree.{AFile, text_of}
 use Rattle.request_meaning.specs.Laws.{shipped}
 use Rattle.request_meaning.specs.Phases.{rounds}
 use Rattle.request_meaning.specs.Serving.From.{Start}
-use Rattle.request_phases.specs.Rounds.{asked_from, phases_left, phases_told, world_in}
+use Rattle.node_turn.specs.request_phases.Rounds.{asked_from, phases_left, phases_told, world_in}
 use Rattle.request_flow.specs.Flows.{item_asked, told_item}
 use Rattle.request_flow.specs.Pages.{GoesTo}
 use Rattle.request_flow.specs.Reached.{told_text_item}

@@ -1,6 +1,6 @@
 use Rattle.std.proofs.Common.{◌≡◌, drop}
 use Rattle.std.specs.List.{list_all}
-use Rattle.ngx_variables.specs.Grammar.{is_name_byte}
+use Rattle.site_model.specs.ngx_variables.Grammar.{is_name_byte}
 use Rattle.conf_values.proofs.variable.are_name_bytes.Given as goal
 
 -- the bytes that are left decide

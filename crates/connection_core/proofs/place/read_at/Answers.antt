@@ -1,7 +1,7 @@
 use Rattle.std.proofs.Common.{sym, ap, ◌∙◌, subst}
 use Rattle.std.proofs.lemmas.Result.{IfOk-weaker, on_err_weaker}
 use Rattle.ngx_outside.specs.Views.{ask_in}
-use Rattle.response_flow.specs.Flights.{jobs_of}
+use Rattle.http_connection.specs.response_flow.Flights.{jobs_of}
 use Rattle.http_connection.specs.declared.conn.Conn.{Conn}
 use Rattle.http_connection.specs.Reads.{AsksWithin}
 use Rattle.connection_core.proofs.Held.{here_is, replaced_at, set_at, unchanged_at}

@@ -1,6 +1,6 @@
 use Rattle.std.proofs.Common.{◌≡◌, ◌++◌, Err, ap, ◌∙◌, rules}
-use Rattle.ngx_variables.specs.declared.fault.EvalFault.TheVariants.{TooLong}
-use Rattle.ngx_variables.specs.Texts.{value_text}
+use Rattle.target_text.specs.ngx_variables.declared.fault.EvalFault.TheVariants.{TooLong}
+use Rattle.target_text.specs.ngx_variables.Texts.{value_text}
 use Rattle.site_whole.specs.Whole.{shown_seen}
 use Rattle.request_meaning.specs.Errors.{url_code}
 use Rattle.error_pages.specs.declared.page.PageStep.TheVariants.{Url}

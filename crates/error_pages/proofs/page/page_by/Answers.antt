@@ -1,6 +1,6 @@
 use Rattle.std.proofs.Common.{◌≡◌, Err, ap, sym, subst, ◌∙◌, rules}
 use Rattle.acts.specs.Act.{settled}
-use Rattle.ngx_variables.specs.declared.fault.EvalFault.TheVariants.{TooLong}
+use Rattle.target_text.specs.ngx_variables.declared.fault.EvalFault.TheVariants.{TooLong}
 use Rattle.site_whole.specs.Whole.{target_seen, shown_seen}
 use Rattle.request_meaning.specs.Errors.{error_page}
 use Rattle.error_pages.specs.Pages.{IsTooLong}

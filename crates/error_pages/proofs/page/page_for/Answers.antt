@@ -1,5 +1,5 @@
 use Rattle.std.proofs.Common.{◌≡◌, true, false, not, is_some, Err, map, ap, sym, subst, ◌∙◌, rules}
-use Rattle.ngx_variables.specs.declared.fault.EvalFault.TheVariants.{TooLong}
+use Rattle.target_text.specs.ngx_variables.declared.fault.EvalFault.TheVariants.{TooLong}
 use Rattle.site_whole.specs.Whole.{page_seen}
 use Rattle.error_pages.specs.Pages.{applies, IsTooLongBy}
 use Rattle.error_pages.proofs.Nexts as nexts

@@ -1,5 +1,5 @@
 use Rattle.std.proofs.Common.{sym, ap, ◌∙◌}
-use Rattle.node_turn.specs.declared.node.Body.{Body}
+use Rattle.node_line.specs.node_turn.declared.node.Body.{Body}
 use Rattle.family_nodes.proofs.Hearing as hearing
 use Rattle.family_nodes.proofs.hear.came.Goals as goal
 

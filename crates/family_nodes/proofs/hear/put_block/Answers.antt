@@ -1,6 +1,6 @@
 use Rattle.std.proofs.Common.{◌++◌, drop, sym, ap, ◌∙◌}
 use Rattle.file_tree.specs.Tree.{text_of}
-use Rattle.node_turn.specs.Stages.{item_asked}
+use Rattle.node_line.specs.node_turn.Stages.{item_asked}
 use Rattle.family_nodes.proofs.Hearing as hearing
 use Rattle.family_nodes.proofs.hear.put_block.Goals as goal
 

@@ -1,7 +1,7 @@
 use Rattle.std.proofs.Common.{ap, ◌∙◌, length, map, sym, subst, ◌++◌}
 use Rattle.std.specs.Prelude.{not, is_some}
 use Rattle.ngx_outside.specs.Views.{start_of}
-use Rattle.request_flow.specs.Rests.{logged_by}
+use Rattle.response_flow.specs.request_flow.Rests.{logged_by}
 use Rattle.http_connection.specs.Steps.{logged_in, IsLogged}
 use Rattle.http_connection.proofs.Moves.{finished_starts, finished_count, finished_logged, finished_logs}
 use Rattle.http_connection.proofs.journal.finish.Goals as goal

@@ -6,12 +6,12 @@ use Rattle.site_views.specs.Choice.{server_of}
 use Rattle.site_whole.specs.Whole.{whole, server_whole}
 use Rattle.answers_meaning.specs.Asking.{server_for, request_of}
 use Rattle.request_meaning.specs.Laws.{shipped}
-use Rattle.request_phases.specs.Rounds.{world_in}
-use Rattle.request_opening.specs.declared.asked.Opening.{Opening}
-use Rattle.request_opening.specs.Openings.{main_at}
-use Rattle.request_flow.specs.Terms.{terms_at}
-use Rattle.request_flow.specs.Rests.{opened_rest}
-use Rattle.race_meaning.specs.Named.{IsRaceless}
+use Rattle.served_site.specs.request_phases.Rounds.{world_in}
+use Rattle.response_flow.specs.request_opening.declared.asked.Opening.{Opening}
+use Rattle.response_flow.specs.request_opening.Openings.{main_at}
+use Rattle.response_flow.specs.request_flow.Terms.{terms_at}
+use Rattle.response_flow.specs.request_flow.Rests.{opened_rest}
+use Rattle.response_flow.specs.race_meaning.Named.{IsRaceless}
 use Rattle.response_flow.specs.Continues.{IfOn, RunsOn}
 use Rattle.response_flow.specs.Flights.{FlightReached, flight_tree}
 use Rattle.served_site.specs.Served.{server_numbered}

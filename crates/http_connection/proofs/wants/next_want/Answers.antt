@@ -2,7 +2,7 @@ use Rattle.std.proofs.Common.{Some, None, length, eqb, ◌≡◌, refl, sym, ◌
 use Rattle.std.specs.Prelude.{is_some}
 use Rattle.ngx_outside.specs.Wants.{wants_at}
 use Rattle.response_flow.specs.Flights.{jobs_of}
-use Rattle.subrequests.specs.Wants.{first_job as job_first, first_of as number_first}
+use Rattle.response_flow.specs.subrequests.Wants.{first_job as job_first, first_of as number_first}
 use Rattle.http_connection.specs.Conn.{pending_at, ready_at, shut_at}
 use Rattle.http_connection.proofs.Wanted.{next_is}
 use Rattle.http_connection.proofs.wants.next_want.Goals as goal

@@ -1,7 +1,7 @@
 use Rattle.std.proofs.Common.{◌≡◌, List, Some, None, true, false, refl, option_and_then, slice_get, sym, ap, ap₂, ◌∙◌, subst}
 use Rattle.ngx_pattern.specs.Pattern.{Pattern as SetPattern}
-use Rattle.site_views.specs.Pattern.{Span}
-use Rattle.site_views.specs.Search.{decided}
+use Rattle.pattern_search.specs.site_views.Pattern.{Span}
+use Rattle.pattern_search.specs.site_views.Search.{decided}
 use Rattle.location_search.specs.Found.{AreSpans, HasSpans, IsFirstMatch, level_at, is_firm_at, remembering, goes_on}
 use Rattle.location_search.specs.Nodes.{IsTreeAt}
 use Rattle.location_search.specs.declared.search.FoundLocation.{FoundLocation}

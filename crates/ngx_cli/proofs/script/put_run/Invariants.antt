@@ -1,7 +1,7 @@
 use Rattle.std.proofs.Common.{◌≡◌, ◌++◌, take}
 use Rattle.std.specs.Prelude.{map, flat_map}
 use Rattle.replay_run.specs.Scene.{stage}
-use Rattle.connection_core.specs.Core.{view_at, now_at, journal_at}
+use Rattle.site_service.specs.connection_core.Core.{view_at, now_at, journal_at}
 use Rattle.report_text.specs.Report.{conn_text}
 use Rattle.ngx_cli.specs.Running.{report_in}
 use Rattle.ngx_cli.proofs.script.put_run.Given as goal

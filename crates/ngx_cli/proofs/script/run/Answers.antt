@@ -6,9 +6,9 @@ use Rattle.replay_run.specs.Scene.{Stage, stage}
 use Rattle.replay_run.specs.Plays.{Plays, sent_in}
 use Rattle.replay_run.specs.Standing.{AllStanding}
 use Rattle.ngx_outside.specs.Seen.{Terms}
-use Rattle.http_connection.specs.Conn.{fresh_course}
+use Rattle.site_service.specs.http_connection.Conn.{fresh_course}
 use Rattle.site_model.specs.declared.site.Site.{Site}
-use Rattle.connection_core.specs.Core.{view_at, now_at, fresh_at, terms_at, site_terms, journal_at, conns_held, IsRacelessSite}
+use Rattle.site_service.specs.connection_core.Core.{view_at, now_at, fresh_at, terms_at, site_terms, journal_at, conns_held, IsRacelessSite}
 use Rattle.report_text.specs.Report.{run_text}
 use Rattle.ngx_cli.specs.Running.{IsNew, report_in}
 use Rattle.ngx_cli.proofs.Answering.{answered, begins_standing, opened_by_lines}

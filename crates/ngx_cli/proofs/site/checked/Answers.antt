@@ -1,7 +1,7 @@
 use Rattle.std.proofs.Common.{◌≡◌, List, [], ◌∷◌, map, refl, subst}
 use Rattle.conf_text.specs.declared.directive.Directive.{Directive}
 use Rattle.conf_inherit.specs.Pools.{patterns_in, site_built}
-use Rattle.race_places.specs.Places.{conflict_seen}
+use Rattle.conf_races.specs.race_places.Places.{conflict_seen}
 use Rattle.conf_races.specs.Runs.{run_path}
 use Rattle.conf_races.specs.Races.{RacesOf, conflicts_seen}
 use Rattle.ngx_cli.specs.Sites.{path_in}

@@ -1,5 +1,5 @@
 use Rattle.std.proofs.Common.{◌≡◌, ℕ, suc, ◌+◌, ◌++◌, ◌<◌, ◌-◌, Some, true, slice_get}
-use Rattle.node_turn.specs.declared.node.Node.{Node}
+use Rattle.node_line.specs.node_turn.declared.node.Node.{Node}
 use Rattle.node_seats.specs.Seats.{is_inner, stub_in}
 use Rattle.node_seats.specs.Joining.{AreClear, IsClearBy, numbers_below, numbers_from}
 use Rattle.node_seats.proofs.joining.+inner.Given as goal

@@ -1,9 +1,9 @@
 use Rattle.std.proofs.Common.{◌≡◌, ℕ, List, sym, ap, ◌∙◌, subst}
 use Rattle.acts.specs.Act.{Call, Inner}
-use Rattle.request_meaning.specs.Serving.{Serving, Answer}
-use Rattle.request_meaning.specs.Laws.{shipped}
-use Rattle.request_phases.specs.Rounds.{world_in}
-use Rattle.ssi_exec.specs.Scenes.{child_seen}
+use Rattle.request_reply.specs.request_meaning.Serving.{Serving, Answer}
+use Rattle.request_reply.specs.request_meaning.Laws.{shipped}
+use Rattle.request_reply.specs.request_phases.Rounds.{world_in}
+use Rattle.page_body.specs.ssi_exec.Scenes.{child_seen}
 use Rattle.page_body.specs.Pages.{Does, stop_of}
 use Rattle.node_turn.specs.Nodes.{answer_seen, captured_at, from_source, page_at, stage_act, stage_heard}
 use Rattle.node_turn.specs.Turns.{Works}

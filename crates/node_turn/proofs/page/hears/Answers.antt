@@ -1,7 +1,7 @@
 use Rattle.std.proofs.Common.{sym, ap, ◌∙◌, subst}
 use Rattle.acts.specs.Act.{Write}
-use Rattle.request_meaning.specs.Laws.{shipped}
-use Rattle.request_phases.specs.Rounds.{world_in}
+use Rattle.request_reply.specs.request_meaning.Laws.{shipped}
+use Rattle.request_reply.specs.request_phases.Rounds.{world_in}
 use Rattle.page_body.specs.Pages.{page_captured, page_rest, text_then}
 use Rattle.node_turn.specs.Nodes.{answer_seen, captured_act, from_source, stage_act}
 use Rattle.node_turn.specs.Turns.{Works}

@@ -1,7 +1,7 @@
 use Rattle.std.proofs.Common.{◌≡◌, ℕ, List, [], refl, sym, ap, ◌∙◌, subst}
-use Rattle.request_meaning.specs.Laws.{shipped}
-use Rattle.request_meaning.specs.Serving.{Answer, Serving}
-use Rattle.request_phases.specs.Rounds.{world_in}
+use Rattle.request_reply.specs.request_meaning.Laws.{shipped}
+use Rattle.request_reply.specs.request_meaning.Serving.{Answer, Serving}
+use Rattle.request_reply.specs.request_phases.Rounds.{world_in}
 use Rattle.page_body.specs.Pages.{Does, page_rest}
 use Rattle.page_body.specs.declared.page.Page.{Page}
 use Rattle.node_turn.specs.Nodes.{answer_seen, captured_at, from_source, page_at, stage_act}

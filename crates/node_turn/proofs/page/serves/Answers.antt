@@ -1,7 +1,7 @@
 use Rattle.std.proofs.Common.{sym, ap, ◌∙◌, subst}
 use Rattle.acts.specs.Act.{Done, Write}
-use Rattle.request_meaning.specs.Laws.{shipped}
-use Rattle.request_phases.specs.Rounds.{world_in}
+use Rattle.request_reply.specs.request_meaning.Laws.{shipped}
+use Rattle.request_reply.specs.request_phases.Rounds.{world_in}
 use Rattle.node_turn.specs.Nodes.{answer_seen, from_source, later, page_at, served_act, stage_act}
 use Rattle.node_turn.specs.Turns.{Works}
 use Rattle.node_turn.specs.declared.node.Stage.{Stage}

@@ -1,8 +1,8 @@
 use Rattle.std.proofs.Common.{sym, ap, ◌∙◌}
 use Rattle.acts.specs.Act.{settled}
-use Rattle.request_meaning.specs.Laws.{shipped}
-use Rattle.rewrite_code.specs.Places.{standing_seen}
-use Rattle.request_phases.specs.Rounds.{asked_in, phases_left, prepared_as, world_in}
+use Rattle.request_reply.specs.request_meaning.Laws.{shipped}
+use Rattle.request_reply.specs.rewrite_code.Places.{standing_seen}
+use Rattle.request_reply.specs.request_phases.Rounds.{asked_in, phases_left, prepared_as, world_in}
 use Rattle.node_turn.specs.Nodes.{after_phases, bytes_for, padded, served_as}
 use Rattle.node_turn.proofs.Phased as phased
 use Rattle.node_turn.proofs.phase.after_step.Goals as goal

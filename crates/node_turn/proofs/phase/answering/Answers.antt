@@ -1,9 +1,9 @@
 use Rattle.std.proofs.Common.{◌++◌, List, ℕ, refl, sym, ap, ◌∙◌}
 use Rattle.acts.specs.Act.{Done, Write, settled}
 use Rattle.error_page.specs.Page.{page_of}
-use Rattle.request_meaning.specs.Laws.{shipped}
-use Rattle.rewrite_code.specs.Places.{standing_seen}
-use Rattle.request_phases.specs.Rounds.{asked_in, prepared_as, world_in}
+use Rattle.request_reply.specs.request_meaning.Laws.{shipped}
+use Rattle.request_reply.specs.rewrite_code.Places.{standing_seen}
+use Rattle.request_reply.specs.request_phases.Rounds.{asked_in, prepared_as, world_in}
 use Rattle.request_reply.specs.Replies.{sent_as}
 use Rattle.node_turn.specs.Nodes.{answer_seen, body_then, bytes_for, padded}
 use Rattle.node_turn.proofs.Phased as phased

@@ -1,10 +1,10 @@
 use Rattle.std.proofs.Common.{ap, ◌∙◌, sym}
 use Rattle.acts.specs.Act.{settled}
-use Rattle.request_meaning.specs.Laws.{shipped}
-use Rattle.request_meaning.specs.Phases.{rounds}
-use Rattle.request_meaning.specs.Serving.From.{Start}
-use Rattle.request_phases.specs.Rounds.{asked_from, phases_left, world_in}
-use Rattle.request_phases.specs.declared.state.Phases.{Phases}
+use Rattle.request_reply.specs.request_meaning.Laws.{shipped}
+use Rattle.request_reply.specs.request_meaning.Phases.{rounds}
+use Rattle.request_reply.specs.request_meaning.Serving.From.{Start}
+use Rattle.request_reply.specs.request_phases.Rounds.{asked_from, phases_left, world_in}
+use Rattle.request_reply.specs.request_phases.declared.state.Phases.{Phases}
 use Rattle.node_turn.specs.Nodes.{after_phases, padded, path_or, served_as, stage_act}
 use Rattle.node_turn.proofs.Phased as phased
 use Rattle.node_turn.proofs.phase.begins.Goals as goal

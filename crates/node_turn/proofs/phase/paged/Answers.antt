@@ -1,7 +1,7 @@
 use Rattle.std.proofs.Common.{◌++◌, [], refl, sym, ap, ◌∙◌}
 use Rattle.acts.specs.Act.{Write}
-use Rattle.request_meaning.specs.Laws.{shipped}
-use Rattle.request_phases.specs.Rounds.{world_in}
+use Rattle.request_reply.specs.request_meaning.Laws.{shipped}
+use Rattle.request_reply.specs.request_phases.Rounds.{world_in}
 use Rattle.page_body.specs.Pages.{filtered_rest}
 use Rattle.page_body.specs.declared.page.Page.{Page}
 use Rattle.node_turn.specs.Nodes.{answer_seen, hand, later, padded, page_at, placed_act}

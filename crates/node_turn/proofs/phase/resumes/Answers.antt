@@ -1,8 +1,8 @@
 use Rattle.std.proofs.Common.{ap, ◌∙◌, sym}
 use Rattle.acts.specs.Act.{settled}
 use Rattle.file_tree.specs.Tree.{text_of}
-use Rattle.request_meaning.specs.Laws.{shipped}
-use Rattle.request_phases.specs.Rounds.{phases_left, phases_told, world_in}
+use Rattle.request_reply.specs.request_meaning.Laws.{shipped}
+use Rattle.request_reply.specs.request_phases.Rounds.{phases_left, phases_told, world_in}
 use Rattle.node_turn.specs.Nodes.{after_phases, padded, path_or, served_as, stage_act, told_item}
 use Rattle.node_turn.proofs.Phased as phased
 use Rattle.node_turn.proofs.phase.resumes.Goals as goal

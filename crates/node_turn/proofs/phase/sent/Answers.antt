@@ -1,7 +1,7 @@
 use Rattle.std.proofs.Common.{◌++◌, sym, ap, ◌∙◌}
 use Rattle.acts.specs.Act.{settled}
-use Rattle.request_meaning.specs.Laws.{shipped}
-use Rattle.request_phases.specs.Rounds.{world_in}
+use Rattle.request_reply.specs.request_meaning.Laws.{shipped}
+use Rattle.request_reply.specs.request_phases.Rounds.{world_in}
 use Rattle.request_reply.specs.Replies.{sent_as}
 use Rattle.node_turn.specs.Nodes.{answer_seen, body_then, padded}
 use Rattle.node_turn.proofs.Phased as phased

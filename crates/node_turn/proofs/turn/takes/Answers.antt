@@ -1,7 +1,7 @@
 use Rattle.std.proofs.Common.{◌≡◌, sym, ◌∙◌, subst}
-use Rattle.request_meaning.specs.Laws.{shipped}
-use Rattle.request_phases.specs.Rounds.{world_in}
-use Rattle.request_phases.specs.declared.state.Phases.{Phases}
+use Rattle.request_reply.specs.request_meaning.Laws.{shipped}
+use Rattle.request_reply.specs.request_phases.Rounds.{world_in}
+use Rattle.request_reply.specs.request_phases.declared.state.Phases.{Phases}
 use Rattle.node_turn.specs.Stages.{node_act, node_heard}
 use Rattle.node_turn.specs.Nodes.{answer_seen, asked_path, captured_act, later, lent, served_act, stage_act, with_main}
 use Rattle.node_turn.specs.Served.{ServesTo}

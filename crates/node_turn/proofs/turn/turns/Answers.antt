@@ -1,7 +1,7 @@
 use Rattle.std.proofs.Common.{sym, ap, ◌∙◌}
 use Rattle.acts.specs.Act.{settled}
-use Rattle.request_meaning.specs.Laws.{shipped}
-use Rattle.request_phases.specs.Rounds.{world_in}
+use Rattle.request_reply.specs.request_meaning.Laws.{shipped}
+use Rattle.request_reply.specs.request_phases.Rounds.{world_in}
 use Rattle.file_tree.specs.Tree.{tree_of}
 use Rattle.node_turn.specs.Stages.{ask_or, is_asking, node_act}
 use Rattle.node_turn.specs.Nodes.{asked_path, lent, stage_act}

@@ -1,6 +1,6 @@
 use Rattle.std.proofs.Common.{◌++◌, ap, map, sym, ◌∙◌}
 use Rattle.ssi_text.specs.Marks.{Byte}
-use Rattle.request_meaning.specs.Bodies.{body}
+use Rattle.family_meaning.specs.request_meaning.Bodies.{body}
 use Rattle.ssi_exec.specs.Scenes.{bytes_then, doc_seen}
 use Rattle.page_body.specs.Pages.{captured_then, marks_rest}
 use Rattle.page_body.proofs.Bodies.{text_does}

@@ -1,7 +1,7 @@
 use Rattle.std.proofs.Common.{refl, sym, ap, ◌∙◌}
 use Rattle.request_meaning.specs.Laws.{shipped}
-use Rattle.rewrite_code.specs.Places.{standing_seen}
-use Rattle.request_phases.specs.Rounds.{world_in, asked_in, prepared_as}
+use Rattle.reply_out.specs.rewrite_code.Places.{standing_seen}
+use Rattle.reply_out.specs.request_phases.Rounds.{world_in, asked_in, prepared_as}
 use Rattle.request_flow.specs.declared.page.PageHead.{PageHead}
 use Rattle.request_flow.specs.Terms.{terms_seen}
 use Rattle.request_flow.specs.Sents.{known_bytes, known_tree}

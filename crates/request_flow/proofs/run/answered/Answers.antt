@@ -1,6 +1,6 @@
 use Rattle.std.proofs.Common.{◌≡◌, true, length, None, sym, ◌∙◌, subst}
 use Rattle.file_tree.specs.Tree.{IsFrom, is_fitting}
-use Rattle.request_phases.specs.Rounds.{phases_told}
+use Rattle.reply_out.specs.request_phases.Rounds.{phases_told}
 use Rattle.request_flow.specs.Flows.{one_rest, stage_fits}
 use Rattle.request_flow.specs.Reached.{StageReached, path_asked, told_text_item}
 use Rattle.request_flow.specs.Rests.{Follows}

@@ -1,6 +1,6 @@
 use Rattle.std.proofs.Common.{sym, subst}
 use Rattle.request_meaning.specs.Laws.{shipped}
-use Rattle.request_phases.specs.Rounds.{world_in}
+use Rattle.reply_out.specs.request_phases.Rounds.{world_in}
 use Rattle.request_flow.specs.Flows.{HasOpened, IsServedBy, flow_rest, one_rest, stage_length, stage_opened, stage_server}
 use Rattle.request_flow.specs.Pages.{GoesTo}
 use Rattle.request_flow.specs.Reached.{FlowReached}

@@ -2,7 +2,7 @@ use Rattle.std.proofs.Common.{sym, ap, ◌∙◌, subst, ℕ, List}
 use Rattle.file_tree.specs.Tree.{AFile, text_of, tree_of}
 use Rattle.request_meaning.specs.Laws.{shipped}
 use Rattle.request_meaning.specs.Serving.{Serving, Prepared}
-use Rattle.request_phases.specs.Rounds.{world_in, phases_told, phases_left}
+use Rattle.reply_out.specs.request_phases.Rounds.{world_in, phases_told, phases_left}
 use Rattle.request_flow.specs.Flows.{told_item, item_asked}
 use Rattle.reply_out.specs.declared.terms.InPhases.{InPhases}
 use Rattle.request_flow.specs.Terms.{terms_seen}

@@ -1,7 +1,7 @@
 use Rattle.std.proofs.Common.{[], sym, ap, ◌∙◌, subst}
 use Rattle.request_meaning.specs.Laws.{shipped}
-use Rattle.request_phases.specs.Admitted.{phases_admitted}
-use Rattle.request_phases.specs.Rounds.{world_in, phases_left}
+use Rattle.reply_out.specs.request_phases.Admitted.{phases_admitted}
+use Rattle.reply_out.specs.request_phases.Rounds.{world_in, phases_left}
 use Rattle.reply_out.specs.declared.terms.InPhases.{InPhases}
 use Rattle.request_flow.specs.Terms.{terms_seen}
 use Rattle.request_flow.specs.Pages.{GoesTo}

@@ -1,9 +1,9 @@
 use Rattle.std.proofs.Common.{ℕ, List, [], None, length, sym, ap, ◌∙◌, cond, arith}
 use Rattle.file_tree.specs.Tree.{text_of}
 use Rattle.request_meaning.specs.Laws.{shipped}
-use Rattle.rewrite_code.specs.Places.{standing_seen}
-use Rattle.request_phases.specs.Rounds.{world_in, asked_in, prepared_as}
-use Rattle.request_reply.specs.Replies.{body_seen}
+use Rattle.reply_out.specs.rewrite_code.Places.{standing_seen}
+use Rattle.reply_out.specs.request_phases.Rounds.{world_in, asked_in, prepared_as}
+use Rattle.reply_out.specs.request_reply.Replies.{body_seen}
 use Rattle.request_flow.specs.declared.flow.Onward.{Onward}
 use Rattle.request_flow.specs.Flows.{flow_rest, item_asked}
 use Rattle.request_flow.specs.Terms.{terms_seen}

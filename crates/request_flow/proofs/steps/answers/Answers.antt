@@ -1,7 +1,7 @@
 use Rattle.std.proofs.Common.{None, Some, sym, subst}
 use Rattle.request_meaning.specs.Laws.{shipped}
-use Rattle.request_phases.specs.Rounds.{world_in}
-use Rattle.request_phases.specs.declared.state.Step.TheVariants.{Answers as ToAnswer}
+use Rattle.reply_out.specs.request_phases.Rounds.{world_in}
+use Rattle.reply_out.specs.request_phases.declared.state.Step.TheVariants.{Answers as ToAnswer}
 use Rattle.request_flow.specs.Pages.{page_rest, start_rest}
 use Rattle.request_flow.specs.Reached.{PageReached}
 use Rattle.request_flow.specs.Rests.{Follows, Rest}

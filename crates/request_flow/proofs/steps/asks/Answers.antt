@@ -1,9 +1,9 @@
 use Rattle.std.proofs.Common.{[], None, sym, ap, ◌∙◌, subst}
-use Rattle.request_phases.specs.declared.state.Step.TheVariants.{Asks as ToAsk}
+use Rattle.reply_out.specs.request_phases.declared.state.Step.TheVariants.{Asks as ToAsk}
 use Rattle.request_flow.specs.declared.flow.Flow.{Flow}
 use Rattle.acts.specs.Act.{Stat}
 use Rattle.file_tree.specs.Tree.{Item}
-use Rattle.request_phases.specs.Rounds.{phases_told}
+use Rattle.reply_out.specs.request_phases.Rounds.{phases_told}
 use Rattle.reply_out.specs.declared.terms.InPhases.{InPhases}
 use Rattle.request_flow.specs.Flows.{one_rest, told_rest}
 use Rattle.request_flow.specs.Terms.{terms_seen}

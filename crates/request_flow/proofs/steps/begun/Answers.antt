@@ -1,15 +1,15 @@
 use Rattle.std.proofs.Common.{[], sym, ap, ◌∙◌, subst}
 use Rattle.acts.specs.Act.{settled}
-use Rattle.pattern_search.specs.Found.{patterns_seen}
-use Rattle.site_whole.specs.Whole.{server_whole}
-use Rattle.answers_meaning.specs.Asking.{request_of}
+use Rattle.reply_out.specs.pattern_search.Found.{patterns_seen}
+use Rattle.reply_out.specs.site_whole.Whole.{server_whole}
+use Rattle.reply_out.specs.answers_meaning.Asking.{request_of}
 use Rattle.request_meaning.specs.Laws.{shipped}
 use Rattle.request_meaning.specs.Phases.{rounds}
 use Rattle.request_meaning.specs.Replies.{outside}
 use Rattle.request_meaning.specs.Serving.From.{Start}
-use Rattle.request_phases.specs.Rounds.{world_in, phases_left, asked_from}
-use Rattle.request_phases.specs.declared.state.Phases.{Phases}
-use Rattle.request_opening.specs.Openings.{main_at}
+use Rattle.reply_out.specs.request_phases.Rounds.{world_in, phases_left, asked_from}
+use Rattle.reply_out.specs.request_phases.declared.state.Phases.{Phases}
+use Rattle.reply_out.specs.request_opening.Openings.{main_at}
 use Rattle.request_flow.specs.Terms.{terms_seen}
 use Rattle.request_flow.specs.Reached.{Settles}
 use Rattle.request_flow.specs.Rests.{act_rest, finished, opened_rest}

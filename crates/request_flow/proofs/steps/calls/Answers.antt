@@ -1,5 +1,5 @@
 use Rattle.std.proofs.Common.{[], sym, ap, ◌∙◌, subst}
-use Rattle.request_phases.specs.declared.state.Step.TheVariants.{Calls as ToCall}
+use Rattle.reply_out.specs.request_phases.declared.state.Step.TheVariants.{Calls as ToCall}
 use Rattle.reply_out.specs.declared.terms.InPhases.{InPhases}
 use Rattle.request_flow.specs.Reached.{StepReached}
 use Rattle.request_flow.specs.Sents.{step_rest}

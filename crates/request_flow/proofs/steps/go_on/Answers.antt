@@ -1,6 +1,6 @@
 use Rattle.std.proofs.Common.{None, sym, ap, ◌∙◌, subst}
 use Rattle.request_meaning.specs.Laws.{shipped}
-use Rattle.request_phases.specs.Rounds.{world_in}
+use Rattle.reply_out.specs.request_phases.Rounds.{world_in}
 use Rattle.request_flow.specs.Flows.{flow_rest}
 use Rattle.request_flow.specs.Rests.{Follows}
 use Rattle.request_flow.specs.Pages.{GoesTo, access_rest}

@@ -1,16 +1,16 @@
 use Rattle.std.proofs.Common.{List, ℕ, ◌+◌, ◌*◌, ◌<◌, ◌≤◌, length, false, sym, subst, arith}
 use Rattle.ngx_pattern.specs.Pattern.{Pattern as SetPattern}
-use Rattle.pattern_search.specs.Found.{patterns_seen}
-use Rattle.site_whole.specs.Whole.{server_whole}
-use Rattle.answers_meaning.specs.Asking.{request_of}
+use Rattle.reply_out.specs.pattern_search.Found.{patterns_seen}
+use Rattle.reply_out.specs.site_whole.Whole.{server_whole}
+use Rattle.reply_out.specs.answers_meaning.Asking.{request_of}
 use Rattle.request_meaning.specs.Laws.{shipped}
-use Rattle.request_phases.specs.Rounds.{world_in}
+use Rattle.reply_out.specs.request_phases.Rounds.{world_in}
 use Rattle.request_flow.specs.declared.flow.Onward.{Onward}
 use Rattle.request_flow.specs.declared.page.Went.{Went}
 use Rattle.request_flow.specs.declared.page.Went.TheVariants.{On, Asks, Page}
 use Rattle.request_flow.specs.Flows.{asking_most, flow_left, flow_most}
 use Rattle.request_flow.specs.Pages.{GoesTo, IfOn}
-use Rattle.request_opening.specs.Openings.{main_at}
+use Rattle.reply_out.specs.request_opening.Openings.{main_at}
 use Rattle.request_flow.specs.Terms.{terms_at}
 use Rattle.request_flow.specs.Rests.{opened_rest}
 use Rattle.request_flow.proofs.steps.start.Goals as goal

@@ -1,5 +1,5 @@
 use Rattle.std.proofs.Common.{◌≡◌, Err, ◌∙◌, ap, map}
-use Rattle.site_whole.specs.Whole.{index_at, index_seen}
+use Rattle.try_index.specs.site_whole.Whole.{index_at, index_seen}
 use Rattle.request_meaning.specs.Serving.{Asked}
 use Rattle.request_phases.specs.Rounds.{world_in}
 use Rattle.request_phases.proofs.Contents as contents

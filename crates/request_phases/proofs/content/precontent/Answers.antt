@@ -1,7 +1,7 @@
 use Rattle.std.proofs.Common.{refl, sym, ◌∙◌, ap}
 use Rattle.acts.specs.Act.{settled}
 use Rattle.file_tree.specs.Tree.{Nothing}
-use Rattle.site_whole.specs.Whole.{tries_seen}
+use Rattle.try_index.specs.site_whole.Whole.{tries_seen}
 use Rattle.request_meaning.specs.Serving.{Asked}
 use Rattle.request_phases.specs.Rounds.{world_in}
 use Rattle.request_phases.proofs.Contents as contents

@@ -1,13 +1,13 @@
 use Rattle.std.proofs.Common.{◌≡◌, Some, option_map, sym, ◌∙◌, ap, subst}
 use Rattle.acts.specs.Act.{settled}
 use Rattle.request_meaning.specs.Serving.{Asked}
-use Rattle.pattern_search.specs.Found.{patterns_seen, found}
-use Rattle.site_whole.specs.Whole.{server_whole}
+use Rattle.location_search.specs.pattern_search.Found.{patterns_seen, found}
+use Rattle.try_index.specs.site_whole.Whole.{server_whole}
 use Rattle.location_search.specs.Found.{found_seen}
 use Rattle.request_phases.specs.Programs.{entered_at}
 use Rattle.request_phases.specs.Rounds.{world_in, reached_in}
 use Rattle.request_phases.proofs.Programs as programs
-use Rattle.site_views.specs.Search.{search}
+use Rattle.request_meaning.specs.site_views.Search.{search}
 use Rattle.request_phases.proofs.locate.find_config.Goals as goal
 
 pub returns-in_ok-in_server-in-None-clause-does : goal.returns-in_ok-in_server-in-None-clause-does

@@ -1,8 +1,8 @@
 use Rattle.std.proofs.Common.{false, option_map, refl, sym, ◌∙◌, ap}
 use Rattle.acts.specs.Act.{settled}
 use Rattle.request_meaning.specs.Serving.{Asked}
-use Rattle.pattern_search.specs.Found.{patterns_seen}
-use Rattle.site_whole.specs.Whole.{level_whole}
+use Rattle.location_search.specs.pattern_search.Found.{patterns_seen}
+use Rattle.try_index.specs.site_whole.Whole.{level_whole}
 use Rattle.request_phases.specs.Programs.{run_in}
 use Rattle.request_phases.specs.Rounds.{world_in, reached_in}
 use Rattle.request_phases.specs.declared.state.Decision.TheVariants.{Error}

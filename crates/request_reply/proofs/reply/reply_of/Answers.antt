@@ -1,5 +1,5 @@
 use Rattle.std.proofs.Common.{sym, subst, refl}
-use Rattle.rewrite_code.specs.Places.{standing_seen}
+use Rattle.request_phases.specs.rewrite_code.Places.{standing_seen}
 use Rattle.request_phases.specs.Rounds.{asked_in, prepared_as}
 use Rattle.request_reply.specs.Replies.{IsReply, FitsFile}
 use Rattle.request_reply.proofs.Sents as sents

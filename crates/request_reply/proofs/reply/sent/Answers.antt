@@ -1,6 +1,6 @@
 use Rattle.std.proofs.Common.{refl, ◌∙◌, ap, cond, None, Some}
 use Rattle.file_type.specs.Types.{type_of}
-use Rattle.site_model.specs.Levels.{types_at}
+use Rattle.request_phases.specs.site_model.Levels.{types_at}
 use Rattle.request_reply.proofs.Sents as sents
 use Rattle.request_reply.proofs.reply.sent.Goals as goal
 

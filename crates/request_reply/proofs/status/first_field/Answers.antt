@@ -1,7 +1,7 @@
 use Rattle.std.proofs.Common.{◌≡◌, Option, Some, None, option_map, refl, ◌∙◌}
 use Rattle.http_header.specs.FieldValue.{FieldValue}
 use Rattle.http_header.specs.HeaderMap.{get}
-use Rattle.ngx_variables.specs.Grammar.{lowercase}
+use Rattle.request_phases.specs.ngx_variables.Grammar.{lowercase}
 use Rattle.request_meaning.specs.Answering.{first_bytes}
 use Rattle.request_reply.proofs.status.first_field.Goals as goal
 

@@ -3,7 +3,7 @@ use Rattle.file_tree.specs.Tree.{Trees}
 use Rattle.subrequests.specs.Moved.{BeginsWith, IsWhole, files}
 use Rattle.subrequests.specs.declared.family.Family.{Family}
 use Rattle.page_response.specs.declared.pages.Pages.{Pages}
-use Rattle.reply_out.specs.declared.terms.InPhases.{InPhases}
+use Rattle.request_flow.specs.reply_out.declared.terms.InPhases.{InPhases}
 use Rattle.response_flow.specs.Opens.{Opens, known_text}
 use Rattle.response_flow.proofs.Begins as begins
 use Rattle.response_flow.proofs.open.opened.Goals as goal

@@ -1,6 +1,6 @@
 use Rattle.std.proofs.Common.{◌≡◌, sym, ap, ◌∙◌, subst}
 use Rattle.request_meaning.specs.Laws.{shipped}
-use Rattle.request_phases.specs.Rounds.{world_in}
+use Rattle.request_flow.specs.request_phases.Rounds.{world_in}
 use Rattle.response_flow.specs.Continues.{IfOn, RunsOn}
 use Rattle.response_flow.specs.Flights.{FlightReached, FlightServedBy, TailFits, flight_length, flight_rest, flight_server}
 use Rattle.response_flow.specs.declared.flight.Flight.{Flight}

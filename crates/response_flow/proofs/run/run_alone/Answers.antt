@@ -1,8 +1,8 @@
 use Rattle.std.proofs.Common.{◌+◌, ◌≤◌, List, Some, length, subst}
 use Rattle.ngx_pattern.specs.Pattern.{Pattern as SetPattern}
-use Rattle.race_meaning.specs.Named.{IsRaceless}
+use Rattle.request_flow.specs.race_meaning.Named.{IsRaceless}
 use Rattle.request_meaning.specs.Laws.{shipped}
-use Rattle.request_phases.specs.Rounds.{world_in}
+use Rattle.request_flow.specs.request_phases.Rounds.{world_in}
 use Rattle.request_flow.specs.Flows.{flow_left, flow_rest, stage_opened}
 use Rattle.request_flow.specs.Pages.{AreOpened, GoesTo}
 use Rattle.request_flow.specs.Reached.{WentReached}

@@ -2,9 +2,9 @@ use Rattle.std.proofs.Common.{◌≡◌, ℕ, ◌+◌, ◌*◌, ◌<◌, ◌≤�
 use Rattle.std.specs.Prelude.{is_some, not}
 use Rattle.file_tree.specs.Tree.{Nothing, Trees}
 use Rattle.ngx_pattern.specs.Pattern.{Pattern as SetPattern}
-use Rattle.race_meaning.specs.Named.{IsRaceless}
+use Rattle.request_flow.specs.race_meaning.Named.{IsRaceless}
 use Rattle.request_meaning.specs.Laws.{shipped}
-use Rattle.request_phases.specs.Rounds.{world_in}
+use Rattle.request_flow.specs.request_phases.Rounds.{world_in}
 use Rattle.request_flow.specs.Flows.{flow_fits, flow_left, flow_most}
 use Rattle.request_flow.specs.Pages.{AreOpened, GoesTo, IfAsks, IfOn as IfGoes, IfPage, IsServed, IsTold, closing_of, tree_of_went}
 use Rattle.request_flow.specs.Reached.{WentReached}

@@ -2,7 +2,7 @@ use Rattle.std.proofs.Common.{◌≡◌, [], length, true, None, Some, refl, sym
 use Rattle.std.specs.Prelude.{is_some}
 use Rattle.request_meaning.specs.Laws.{shipped}
 use Rattle.page_response.specs.declared.pages.Pages.{Pages}
-use Rattle.request_phases.specs.Rounds.{world_in}
+use Rattle.request_flow.specs.request_phases.Rounds.{world_in}
 use Rattle.subrequests.specs.Moved.{files}
 use Rattle.response_flow.specs.Continues.{IfOn, RunsOn, ran_as, ran_in}
 use Rattle.response_flow.specs.Flights.{FlightFits, FlightReached, TailFits, flight_rest, page_left}

@@ -1,7 +1,7 @@
 use Rattle.std.proofs.Common.{◌≡◌, ◌+◌, ◌<◌, ◌≤◌, true, Some, length, sym, subst, arith}
 use Rattle.file_tree.specs.Tree.{tree_of}
 use Rattle.request_meaning.specs.Laws.{shipped}
-use Rattle.request_phases.specs.Rounds.{world_in}
+use Rattle.request_flow.specs.request_phases.Rounds.{world_in}
 use Rattle.subrequests.specs.Wants.{is_among}
 use Rattle.access_flow.specs.Flows.{steps_left, waits}
 use Rattle.request_flow.specs.Flows.{flow_left, may_run}

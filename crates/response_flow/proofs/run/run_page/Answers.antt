@@ -1,8 +1,8 @@
 use Rattle.std.proofs.Common.{◌≡◌, true, List, [], None, refl, sym, ap, ◌∙◌, subst}
 use Rattle.std.specs.Prelude.{is_some}
 use Rattle.request_meaning.specs.Laws.{shipped}
-use Rattle.request_phases.specs.Rounds.{world_in}
-use Rattle.request_phases.specs.declared.ground.Ground.{Ground}
+use Rattle.request_flow.specs.request_phases.Rounds.{world_in}
+use Rattle.request_flow.specs.request_phases.declared.ground.Ground.{Ground}
 use Rattle.ngx_pattern.specs.Pattern.{Pattern as SetPattern}
 use Rattle.subrequests.specs.Moved.{IsDone, IsWhole, files}
 use Rattle.page_response.specs.Pages.{IsAllOver}

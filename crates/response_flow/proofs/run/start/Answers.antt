@@ -1,12 +1,12 @@
 use Rattle.std.proofs.Common.{◌≤◌, false, List, subst, arith}
 use Rattle.ngx_pattern.specs.Pattern.{Pattern as SetPattern}
-use Rattle.answers_meaning.specs.Asking.{request_of}
+use Rattle.request_flow.specs.answers_meaning.Asking.{request_of}
 use Rattle.pattern_search.specs.Found.{patterns_seen}
 use Rattle.site_whole.specs.Whole.{server_whole}
-use Rattle.race_meaning.specs.Named.{IsRaceless}
+use Rattle.request_flow.specs.race_meaning.Named.{IsRaceless}
 use Rattle.request_meaning.specs.Laws.{shipped}
-use Rattle.request_phases.specs.Rounds.{world_in}
-use Rattle.request_opening.specs.Openings.{main_at}
+use Rattle.request_flow.specs.request_phases.Rounds.{world_in}
+use Rattle.request_flow.specs.request_opening.Openings.{main_at}
 use Rattle.request_flow.specs.Flows.{asking_most}
 use Rattle.request_flow.specs.Terms.{terms_at}
 use Rattle.request_flow.specs.Pages.{AreOpened, GoesTo}

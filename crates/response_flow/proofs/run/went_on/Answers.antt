@@ -1,7 +1,7 @@
 use Rattle.std.proofs.Common.{◌≡◌, ◌+◌, ◌*◌, ◌≤◌, ◌<◌, true, [], None, Some, length, sym, ap, ◌∙◌, subst, arith}
 use Rattle.std.specs.Prelude.{is_some, not}
 use Rattle.request_meaning.specs.Laws.{shipped}
-use Rattle.request_phases.specs.Rounds.{world_in}
+use Rattle.request_flow.specs.request_phases.Rounds.{world_in}
 use Rattle.request_flow.specs.Flows.{flow_fits, flow_left, flow_most}
 use Rattle.request_flow.specs.Pages.{AreOpened, GoesTo, IfAsks, IfOn as IfGoes, IfPage, IsServed, IsTold, closing_of, start_rest, tree_of_went}
 use Rattle.request_flow.specs.Reached.{PageReached, WentReached}

@@ -1,5 +1,5 @@
 use Rattle.std.proofs.Common.{◌≡◌, ◌+◌, ◌<◌, ◌≤◌, false, List, length, drop, get_or, subst, ◌∙◌, ap, arith}
-use Rattle.site_model.specs.declared.program.RewriteStep.{RewriteStep}
+use Rattle.site_whole.specs.site_model.declared.program.RewriteStep.{RewriteStep}
 use Rattle.request_meaning.specs.Rewriting.{rewritten}
 use Rattle.pattern_search.specs.Found.{patterns_seen}
 use Rattle.rewrite_code.specs.Found.{finding}

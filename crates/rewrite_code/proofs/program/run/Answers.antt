@@ -1,5 +1,5 @@
 use Rattle.std.proofs.Common.{◌≡◌, true, false, List, drop, subst}
-use Rattle.site_model.specs.declared.program.RewriteStep.{RewriteStep}
+use Rattle.site_whole.specs.site_model.declared.program.RewriteStep.{RewriteStep}
 use Rattle.request_meaning.specs.Rewriting.{rewritten, program_run, begins_at}
 use Rattle.rewrite_code.specs.Found.{finding}
 use Rattle.rewrite_code.specs.Places.{standing_seen}

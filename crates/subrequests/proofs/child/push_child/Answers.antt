@@ -1,9 +1,9 @@
 use Rattle.std.proofs.Common.{◌≡◌, ◌-◌, Some, slice_get, sym, ap, ◌∙◌, subst}
 use Rattle.request_meaning.specs.Replies.{script}
-use Rattle.ssi_exec.specs.Scenes.{child_seen}
-use Rattle.node_turn.specs.Nodes.{of_method}
-use Rattle.node_turn.specs.Stages.{main_of}
-use Rattle.node_turn.specs.declared.node.Node.{Node}
+use Rattle.node_line.specs.ssi_exec.Scenes.{child_seen}
+use Rattle.node_line.specs.node_turn.Nodes.{of_method}
+use Rattle.node_line.specs.node_turn.Stages.{main_of}
+use Rattle.node_line.specs.node_turn.declared.node.Node.{Node}
 use Rattle.family_nodes.proofs.Sets as sets
 use Rattle.subrequests.proofs.Wholes as wholes
 use Rattle.subrequests.proofs.child.push_child.Goals as goal

@@ -1,5 +1,5 @@
 use Rattle.std.proofs.Common.{[], ◌++◌, ap, ◌∙◌}
-use Rattle.node_turn.specs.declared.node.Place.{Place}
+use Rattle.node_line.specs.node_turn.declared.node.Place.{Place}
 use Rattle.subrequests.specs.Families.{with_text}
 use Rattle.subrequests.proofs.Joins as joining
 use Rattle.subrequests.proofs.returning.put_first.Goals as goal

@@ -1,6 +1,6 @@
 use Rattle.std.proofs.Common.{refl, sym, ap, ◌∙◌}
-use Rattle.node_turn.specs.Nodes.{asked_path, lent, stage_act, stage_heard}
-use Rattle.node_turn.specs.Stages.{is_capturing}
+use Rattle.node_line.specs.node_turn.Nodes.{asked_path, lent, stage_act, stage_heard}
+use Rattle.node_line.specs.node_turn.Stages.{is_capturing}
 use Rattle.subrequests.specs.Families.HasReply.{Hears}
 use Rattle.subrequests.proofs.returning.put_reply.Goals as goal
 

@@ -1,6 +1,6 @@
 use Rattle.std.proofs.Common.{◌≡◌, ◌++◌, Some, Err, ap, ◌∙◌, sym, rules}
-use Rattle.ngx_variables.specs.declared.fault.EvalFault.TheVariants.{TooLong}
-use Rattle.ngx_variables.specs.Texts.{value_text}
+use Rattle.target_text.specs.ngx_variables.declared.fault.EvalFault.TheVariants.{TooLong}
+use Rattle.target_text.specs.ngx_variables.Texts.{value_text}
 use Rattle.try_index.proofs.Turns as turns
 use Rattle.try_index.proofs.index.evaluated.Goals as goal
 

@@ -1,8 +1,8 @@
 use Rattle.std.proofs.Common.{◌≡◌, true, false, Ok, Err, inl, inr, ◌++◌, ap, sym, ◌∙◌, rules}
-use Rattle.ngx_variables.specs.declared.fault.EvalFault.TheVariants.{TooLong}
-use Rattle.ngx_variables.specs.Texts.{value_text}
-use Rattle.file_path.specs.Located.{located_at}
-use Rattle.file_path.specs.Located.Located.{At}
+use Rattle.target_text.specs.ngx_variables.declared.fault.EvalFault.TheVariants.{TooLong}
+use Rattle.target_text.specs.ngx_variables.Texts.{value_text}
+use Rattle.target_text.specs.file_path.Located.{located_at}
+use Rattle.target_text.specs.file_path.Located.Located.{At}
 use Rattle.try_index.proofs.probe.turn_of.Goals as goal
 
 pub returns-then-not-there-clause-ok : goal.returns-then-not-there-clause-ok

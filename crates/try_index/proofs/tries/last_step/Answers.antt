@@ -1,10 +1,10 @@
 use Rattle.std.proofs.Common.{◌≡◌, Err, ap, sym, subst, ◌∙◌, rules}
 use Rattle.acts.specs.Act.{Done, settled}
-use Rattle.ngx_variables.specs.declared.fault.EvalFault.TheVariants.{TooLong}
+use Rattle.target_text.specs.ngx_variables.declared.fault.EvalFault.TheVariants.{TooLong}
 use Rattle.site_whole.specs.Whole.{last_seen}
-use Rattle.request_meaning.specs.Errors.{decided}
-use Rattle.request_meaning.specs.Errors.Outcome.{GoesTo, GoesToNamed}
-use Rattle.request_meaning.specs.Contents.{last_try}
+use Rattle.target_text.specs.request_meaning.Errors.{decided}
+use Rattle.target_text.specs.request_meaning.Errors.Outcome.{GoesTo, GoesToNamed}
+use Rattle.target_text.specs.request_meaning.Contents.{last_try}
 use Rattle.target_text.specs.Settled.{target_seen}
 use Rattle.try_index.specs.Searches.{IsLastUnfit}
 use Rattle.try_index.proofs.Turns as turns

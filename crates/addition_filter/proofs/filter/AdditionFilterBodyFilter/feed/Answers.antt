@@ -1,7 +1,7 @@
 use Rattle.std.proofs.Common.{◌≡◌, ◌++◌, [], ◌∷◌, eqb, true, false, sym, ap, ◌∙◌, arith, append_assoc}
 use Rattle.std.proofs.lemmas.Bool.Decides.{nat_tests}
-use Rattle.ssi_text.specs.Marks.{Other, marks, part_marks}
-use Rattle.ssi_text.specs.declared.part.Part.TheVariants.{Before}
+use Rattle.filter_api.specs.ssi_text.Marks.{Other, marks, part_marks}
+use Rattle.filter_api.specs.ssi_text.declared.part.Part.TheVariants.{Before}
 use Rattle.addition_filter.specs.Machine.{is_nothing}
 use Rattle.addition_filter.specs.Surrounds.{feeds-on, feeds-first}
 use Rattle.addition_filter.proofs.filter.AdditionFilterBodyFilter.feed.Goals as goal

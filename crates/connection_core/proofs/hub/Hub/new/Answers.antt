@@ -1,5 +1,5 @@
 use Rattle.std.proofs.Common.{ap, ◌∙◌, sym, subst}
-use Rattle.served_site.specs.declared.served.ServedSite.{ServedSite}
+use Rattle.http_connection.specs.served_site.declared.served.ServedSite.{ServedSite}
 use Rattle.connection_core.specs.Core.{site_terms}
 use Rattle.connection_core.specs.Table.{AllKnown, AllReached, serves_with}
 use Rattle.connection_core.proofs.Told.{told_of, told_still}

@@ -1,6 +1,6 @@
 use Rattle.std.proofs.Common.{length, ap, sym, ◌∙◌}
 use Rattle.std.specs.Prelude.{is_some}
-use Rattle.subrequests.specs.Wants.{first_of}
+use Rattle.response_flow.specs.subrequests.Wants.{first_of}
 use Rattle.http_connection.specs.Conn.{starts_at}
 use Rattle.http_connection.proofs.Readies.{first_starts, flying_ready, none_starts, resting_ready}
 use Rattle.http_connection.proofs.conn.Conn.first_ready.Goals as goal

@@ -16,9 +16,9 @@ use Rattle.http_connection.proofs.Tails.{fits_tail, stopped_tail}
 use Rattle.http_connection.proofs.conn.Conn.goes_on.Goals as goal
 use Rattle.http_connection.specs.Rests.{ReachedIn, Serves, service_in, rest_in, values_at}
 use Rattle.response_flow.specs.Continues.{ran_in}
-use Rattle.subrequests.specs.Wants.{is_among}
+use Rattle.response_flow.specs.subrequests.Wants.{is_among}
 use Rattle.request_meaning.specs.Laws.{shipped}
-use Rattle.request_phases.specs.Rounds.{world_in}
+use Rattle.served_site.specs.request_phases.Rounds.{world_in}
 use Rattle.response_flow.specs.Flights.{FlightReached, flight_tree, ready_of}
 use Rattle.response_flow.specs.declared.flight.Onward.{Onward}
 use Rattle.response_flow.specs.declared.flight.Ran.TheVariants.{On}

@@ -1,6 +1,6 @@
 use Rattle.std.proofs.Common.{length, ap, sym, ◌∙◌}
 use Rattle.std.specs.Prelude.{is_some}
-use Rattle.subrequests.specs.Wants.{is_among}
+use Rattle.response_flow.specs.subrequests.Wants.{is_among}
 use Rattle.http_connection.specs.Conn.{starts_at}
 use Rattle.http_connection.proofs.Readies.{flying_ready, is_started, isnt_started, resting_ready}
 use Rattle.http_connection.proofs.conn.Conn.is_ready.Goals as goal

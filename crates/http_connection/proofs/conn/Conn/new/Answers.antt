@@ -4,7 +4,7 @@ use Rattle.ngx_outside.specs.Views.{Fresh}
 use Rattle.ngx_outside.specs.declared.event.Entry.{Entry}
 use Rattle.req_head.specs.declared.head.HeadStep.{HeadStep}
 use Rattle.response_flow.specs.Flights.{shown_kept}
-use Rattle.request_flow.specs.Flows.{shown_most}
+use Rattle.response_flow.specs.request_flow.Flows.{shown_most}
 use Rattle.answers_meaning.specs.Answers.{responses, any_over}
 use Rattle.http_connection.specs.Steps.{logged_in}
 use Rattle.http_connection.specs.Conn.{fresh_course, until, view_at}

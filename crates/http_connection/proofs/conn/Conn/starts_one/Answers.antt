@@ -3,7 +3,7 @@ use Rattle.std.specs.Prelude.{is_some}
 use Rattle.std.specs.List.{Contains}
 use Rattle.ngx_outside.specs.Views.{Start, Ran}
 use Rattle.ngx_outside.specs.declared.event.StopCause.TheVariants as stop
-use Rattle.request_flow.specs.Flows.{asking_most}
+use Rattle.response_flow.specs.request_flow.Flows.{asking_most}
 use Rattle.response_flow.specs.Flights.{FlightFits, TailFits, flight_left, flight_tree, page_most}
 use Rattle.http_connection.specs.Rests.{ReachedIn, Serves, service_in, rest_in, values_at}
 use Rattle.http_connection.specs.Tails.{KeepsTail}

@@ -1,5 +1,5 @@
 use Rattle.std.proofs.Common.{◌≡◌, List, Some, sym, ap, ◌∙◌, subst, option_map, true, IfSome}
-use Rattle.site_views.specs.Search.{Sought, search}
+use Rattle.pattern_search.specs.site_views.Search.{Sought, search}
 use Rattle.pattern_search.specs.Found.{patterns_seen, found}
 use Rattle.location_search.specs.Lists.{numbered}
 use Rattle.location_search.specs.Nodes.{IsTreeAt}

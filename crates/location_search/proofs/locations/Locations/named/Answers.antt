@@ -1,5 +1,5 @@
 use Rattle.std.proofs.Common.{ap, ◌∙◌, option_map}
-use Rattle.site_whole.specs.Whole.{level_whole}
+use Rattle.pattern_search.specs.site_whole.Whole.{level_whole}
 use Rattle.location_search.proofs.Named.{server-named}
 use Rattle.location_search.proofs.locations.Locations.named.Goals as goal
 

@@ -1,5 +1,5 @@
-use Rattle.request_meaning.specs.Commands.{captured}
-use Rattle.request_meaning.specs.Bodies.{machines}
+use Rattle.family_meaning.specs.request_meaning.Commands.{captured}
+use Rattle.family_meaning.specs.request_meaning.Bodies.{machines}
 use Rattle.ssi_text.specs.Marks.{marks}
 use Rattle.family_meaning.specs.Suspended.{document_rest}
 use Rattle.ssi_exec.specs.Scenes.{doc_seen}

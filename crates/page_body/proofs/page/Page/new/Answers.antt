@@ -3,8 +3,8 @@ use Rattle.acts.specs.Act.{Write}
 use Rattle.addition_filter.specs.Machine.{is_added}
 use Rattle.ssi_filter.specs.Machine.{is_split}
 use Rattle.ssi_text.specs.Marks.{marks}
-use Rattle.request_meaning.specs.Bodies.{machines}
-use Rattle.request_meaning.specs.Documents.{begun}
+use Rattle.family_meaning.specs.request_meaning.Bodies.{machines}
+use Rattle.family_meaning.specs.request_meaning.Documents.{begun}
 use Rattle.family_meaning.specs.Suspended.{document_rest}
 use Rattle.ssi_exec.specs.Scenes.{doc_seen}
 use Rattle.page_body.specs.Stages.{added_stage, ahead, split_stage}

@@ -1,5 +1,5 @@
 use Rattle.std.proofs.Common.{◌≡◌, length, arith, sym, ◌∙◌}
-use Rattle.request_meaning.specs.Bodies.{machines}
+use Rattle.family_meaning.specs.request_meaning.Bodies.{machines}
 use Rattle.ssi_exec.specs.Scenes.{doc_seen}
 use Rattle.page_body.specs.Pages.{page_captured, page_rest, stages_of}
 use Rattle.page_body.proofs.Pages.{idle_does, none_by, page_is_over, part_does}

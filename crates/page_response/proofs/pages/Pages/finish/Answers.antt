@@ -1,5 +1,5 @@
 use Rattle.std.proofs.Common.{ℕ, ◌+◌, ◌++◌, [], length, sym, ap, ◌∙◌, append-nil, append_assoc}
-use Rattle.family_meaning.specs.Line.{Left}
+use Rattle.family_order.specs.family_meaning.Line.{Left}
 use Rattle.outgoing.specs.Leaving.{framed_as, to_come}
 use Rattle.postpone_filter.specs.Runs.{filled}
 use Rattle.subrequests.specs.Moved.{files, meant}

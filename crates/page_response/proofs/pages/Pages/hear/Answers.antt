@@ -1,7 +1,7 @@
 use Rattle.std.proofs.Common.{◌+◌, ◌∙◌, length, sym, ap, refl, arith}
 use Rattle.acts.specs.Vars.{Vars}
-use Rattle.family_meaning.specs.Line.{Left}
-use Rattle.family_rest.specs.Still.{still, subs_still}
+use Rattle.family_order.specs.family_meaning.Line.{Left}
+use Rattle.subrequests.specs.family_rest.Still.{still, subs_still}
 use Rattle.subrequests.specs.Moved.{files, meant}
 use Rattle.page_response.specs.Pages.{step_weight}
 use Rattle.page_response.proofs.Moving as moving

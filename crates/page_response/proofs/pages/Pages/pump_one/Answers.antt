@@ -1,13 +1,13 @@
 use Rattle.std.proofs.Common.{◌+◌, ◌++◌, ◌≤◌, List, ℕ, length, drop, sym, ap, ◌∙◌, subst}
-use Rattle.family_rest.specs.Reached.{Reached}
-use Rattle.family_rest.specs.Reached.Reached.{Left as HasLeft, Forgot}
-use Rattle.family_rest.specs.Still.{still, subs_still}
+use Rattle.subrequests.specs.family_rest.Reached.{Reached}
+use Rattle.subrequests.specs.family_rest.Reached.Reached.{Left as HasLeft, Forgot}
+use Rattle.subrequests.specs.family_rest.Still.{still, subs_still}
 use Rattle.outgoing.specs.Leaving.{to_come}
 use Rattle.postpone_filter.specs.Row.{Row}
 use Rattle.postpone_filter.specs.Runs.Call.{Use}
 use Rattle.family_order.specs.Items.{IsWellRow}
 use Rattle.family_order.proofs.Wells.{step-well}
-use Rattle.node_seats.specs.Seats.{seen}
+use Rattle.subrequests.specs.node_seats.Seats.{seen}
 use Rattle.subrequests.specs.Moved.{files, meant}
 use Rattle.page_response.proofs.Moving as moving
 use Rattle.page_response.proofs.pages.Pages.pump_one.Goals as goal

@@ -1,8 +1,8 @@
 use Rattle.std.proofs.Common.{◌≡◌, ◌+◌, ◌-◌, ◌∙◌, ◌++◌, length, sym, ap, refl, subst, arith}
 use Rattle.file_tree.specs.Tree.{Nothing}
-use Rattle.family_rest.specs.Still.{still, subs_still}
+use Rattle.subrequests.specs.family_rest.Still.{still, subs_still}
 use Rattle.request_meaning.specs.Laws.{shipped}
-use Rattle.request_phases.specs.Rounds.{world_in}
+use Rattle.subrequests.specs.request_phases.Rounds.{world_in}
 use Rattle.subrequests.specs.Moved.{files, meant}
 use Rattle.subrequests.specs.Ran as ran
 use Rattle.page_response.specs.Pages.{step_weight}

@@ -1,8 +1,8 @@
 use Rattle.std.proofs.Common.{◌≡◌, ◌≢◌, ◌+◌, suc, length, set, [], None, Some, refl, sym, ap, ◌∙◌, subst, arith}
 use Rattle.postpone_filter.specs.Row.{Row}
-use Rattle.node_turn.specs.declared.node.Node.{Node}
+use Rattle.node_line.specs.node_turn.declared.node.Node.{Node}
 use Rattle.node_seats.specs.Seats.{is_captured}
-use Rattle.node_turn.specs.declared.node.Place.TheVariants.{Captured}
+use Rattle.node_line.specs.node_turn.declared.node.Place.TheVariants.{Captured}
 use Rattle.subrequests.specs.Families.{IsPushed, IsSound}
 use Rattle.subrequests.specs.Moved.{IsAsking}
 use Rattle.subrequests.proofs.Members as members

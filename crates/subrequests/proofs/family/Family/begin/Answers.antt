@@ -1,12 +1,12 @@
 use Rattle.std.proofs.Common.{◌≡◌, ◌≤◌, false, None, refl, sym, ap, ◌∙◌, arith}
 use Rattle.request_meaning.specs.Laws.{shipped}
-use Rattle.request_phases.specs.Rounds.{asked_in, prepared_as, world_in}
-use Rattle.request_phases.specs.declared.state.Phases.{Phases}
+use Rattle.node_line.specs.request_phases.Rounds.{asked_in, prepared_as, world_in}
+use Rattle.node_line.specs.request_phases.declared.state.Phases.{Phases}
 use Rattle.acts.specs.Act.{settled}
-use Rattle.rewrite_code.specs.Places.{standing_seen}
-use Rattle.node_turn.specs.Nodes.{after_phases, asked_path, bytes_for, lent, stage_act}
-use Rattle.node_turn.specs.declared.node.Node.{Node}
-use Rattle.node_turn.specs.declared.node.Place.TheVariants.{Row as InRow}
+use Rattle.node_line.specs.rewrite_code.Places.{standing_seen}
+use Rattle.node_line.specs.node_turn.Nodes.{after_phases, asked_path, bytes_for, lent, stage_act}
+use Rattle.node_line.specs.node_turn.declared.node.Node.{Node}
+use Rattle.node_line.specs.node_turn.declared.node.Place.TheVariants.{Row as InRow}
 use Rattle.subrequests.specs.Families.{text_at}
 use Rattle.subrequests.proofs.Beginning as beginning
 use Rattle.subrequests.proofs.family.Family.begin.Goals as goal

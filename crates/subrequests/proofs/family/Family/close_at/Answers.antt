@@ -1,10 +1,10 @@
 use Rattle.std.proofs.Common.{true, set, refl, sym, ap, ◌∙◌, subst}
 use Rattle.request_meaning.specs.Laws.{shipped}
-use Rattle.request_phases.specs.Rounds.{world_in}
+use Rattle.node_line.specs.request_phases.Rounds.{world_in}
 use Rattle.postpone_filter.specs.Row.{Row, is_open}
-use Rattle.node_turn.specs.Stages.{is_ending}
+use Rattle.node_line.specs.node_turn.Stages.{is_ending}
 use Rattle.node_seats.specs.Seats.{is_captured, seen}
-use Rattle.node_turn.specs.declared.node.Node.{Node}
+use Rattle.node_line.specs.node_turn.declared.node.Node.{Node}
 use Rattle.node_line.specs.Stances.{Opening}
 use Rattle.subrequests.proofs.Members as members
 use Rattle.subrequests.proofs.Wholes as wholes

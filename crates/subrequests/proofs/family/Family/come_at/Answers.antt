@@ -1,6 +1,6 @@
 use Rattle.request_meaning.specs.Laws.{shipped}
-use Rattle.request_phases.specs.Rounds.{world_in}
-use Rattle.node_turn.specs.Stages.{is_placing}
+use Rattle.node_line.specs.request_phases.Rounds.{world_in}
+use Rattle.node_line.specs.node_turn.Stages.{is_placing}
 use Rattle.subrequests.proofs.Members as members
 use Rattle.subrequests.proofs.Wholes as wholes
 use Rattle.subrequests.proofs.family.Family.come_at.Goals as goal

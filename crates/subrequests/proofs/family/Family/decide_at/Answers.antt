@@ -1,9 +1,9 @@
 use Rattle.std.proofs.Common.{set, Some, ap, ◌∙◌}
 use Rattle.request_meaning.specs.Laws.{shipped}
-use Rattle.request_phases.specs.Rounds.{world_in}
+use Rattle.node_line.specs.request_phases.Rounds.{world_in}
 use Rattle.postpone_filter.specs.Row.{Row}
-use Rattle.node_turn.specs.Stages.{is_ending}
-use Rattle.node_turn.specs.declared.node.Node.{Node}
+use Rattle.node_line.specs.node_turn.Stages.{is_ending}
+use Rattle.node_line.specs.node_turn.declared.node.Node.{Node}
 use Rattle.subrequests.specs.Families.{goes_on_at}
 use Rattle.node_seats.specs.Seats.{is_captured}
 use Rattle.subrequests.proofs.Members as members

@@ -1,7 +1,7 @@
 use Rattle.std.proofs.Common.{ap, ◌∙◌, refl}
 use Rattle.request_meaning.specs.Laws.{shipped}
-use Rattle.request_phases.specs.Rounds.{world_in}
-use Rattle.node_turn.specs.Stages.{may_fetch}
+use Rattle.node_line.specs.request_phases.Rounds.{world_in}
+use Rattle.node_line.specs.node_turn.Stages.{may_fetch}
 use Rattle.node_seats.specs.Seats.{is_captured}
 use Rattle.family_nodes.specs.Runs.{runs_at}
 use Rattle.family_nodes.proofs.Sets.{get_set_same}

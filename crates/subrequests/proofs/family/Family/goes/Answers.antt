@@ -1,6 +1,6 @@
 use Rattle.std.proofs.Common.{◌≡◌, true, false, slice_get, sym, subst}
 use Rattle.node_seats.specs.Seats.{is_seated}
-use Rattle.node_turn.specs.Stages.{is_ending, is_placing}
+use Rattle.node_line.specs.node_turn.Stages.{is_ending, is_placing}
 use Rattle.subrequests.specs.Families.{captured_at, in_row_at}
 use Rattle.subrequests.specs.Moved.{IsWhole, Steps, stands}
 use Rattle.subrequests.specs.Wants.{Stands}

@@ -1,8 +1,8 @@
 use Rattle.std.proofs.Common.{◌≡◌, ◌++◌, sym, ap, ◌∙◌, subst, set, arith}
 use Rattle.request_meaning.specs.Laws.{shipped}
-use Rattle.request_phases.specs.Rounds.{world_in}
-use Rattle.node_turn.specs.Stages.{is_ending}
-use Rattle.node_turn.specs.declared.node.Node.{Node}
+use Rattle.node_line.specs.request_phases.Rounds.{world_in}
+use Rattle.node_line.specs.node_turn.Stages.{is_ending}
+use Rattle.node_line.specs.node_turn.declared.node.Node.{Node}
 use Rattle.node_seats.specs.Seats.{IsNextInner}
 use Rattle.node_seats.proofs.Located.{as_itself}
 use Rattle.subrequests.specs.Families.{HasFirst}

@@ -1,6 +1,6 @@
 use Rattle.std.proofs.Common.{◌≡◌, ◌≢◌, ◌+◌, suc, [], length, set, None, refl, sym, ap, ◌∙◌, subst, arith}
 use Rattle.postpone_filter.specs.Row.{Row}
-use Rattle.node_turn.specs.declared.node.Node.{Node}
+use Rattle.node_line.specs.node_turn.declared.node.Node.{Node}
 use Rattle.node_seats.specs.Seats.{is_captured}
 use Rattle.subrequests.specs.Families.{IsSound}
 use Rattle.subrequests.specs.Moved.{IsInner}

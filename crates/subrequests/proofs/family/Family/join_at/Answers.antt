@@ -1,9 +1,9 @@
 use Rattle.std.proofs.Common.{◌≡◌, ◌+◌, length, set, sym, subst}
 use Rattle.request_meaning.specs.Laws.{shipped}
-use Rattle.request_phases.specs.Rounds.{world_in}
+use Rattle.node_line.specs.request_phases.Rounds.{world_in}
 use Rattle.acts.specs.Vars.{Vars}
 use Rattle.ngx_variables.specs.declared.request.Main.{Main}
-use Rattle.node_turn.specs.declared.node.Node.{Node}
+use Rattle.node_line.specs.node_turn.declared.node.Node.{Node}
 use Rattle.node_line.specs.Stances.{Opening}
 use Rattle.node_seats.specs.Seats.{seen}
 use Rattle.node_seats.specs.Joining.{AreInner}

@@ -1,6 +1,6 @@
 use Rattle.std.proofs.Common.{◌≡◌, ◌==◌, true, cond, Some, set, slice_get, sym, ap, subst, ◌∙◌}
 use Rattle.postpone_filter.specs.Row.{Row, is_open, reopened}
-use Rattle.node_turn.specs.declared.node.Node.{Node}
+use Rattle.node_line.specs.node_turn.declared.node.Node.{Node}
 use Rattle.node_seats.specs.Seats.{is_captured}
 use Rattle.subrequests.specs.Families.{IsSound}
 use Rattle.subrequests.proofs.Joins as joining

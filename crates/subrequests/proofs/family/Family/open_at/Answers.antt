@@ -1,18 +1,18 @@
 use Rattle.std.proofs.Common.{◌≡◌, ◌+◌, ◌≢◌, suc, length, true, set, slice_get, None, Some, refl, sym, ap, ◌∙◌, subst, arith}
 use Rattle.request_meaning.specs.Laws.{shipped}
 use Rattle.request_meaning.specs.Replies.{script}
-use Rattle.request_phases.specs.Rounds.{world_in}
+use Rattle.node_line.specs.request_phases.Rounds.{world_in}
 use Rattle.postpone_filter.specs.Row.{Row, with_child}
 use Rattle.acts.specs.Act.{Inner}
 use Rattle.family_order.specs.Items.{doing}
 use Rattle.family_order.specs.Items.Stance.{Going}
-use Rattle.ssi_exec.specs.Scenes.{child_seen}
-use Rattle.node_turn.specs.Stages.{is_in_row, main_of, node_act}
+use Rattle.node_line.specs.ssi_exec.Scenes.{child_seen}
+use Rattle.node_line.specs.node_turn.Stages.{is_in_row, main_of, node_act}
 use Rattle.subrequests.specs.Families.{IsSound, texts_of}
 use Rattle.node_seats.specs.Seats.{is_captured, seen}
 use Rattle.node_line.specs.Stances.{Opening}
-use Rattle.node_turn.specs.declared.node.Node.{Node}
-use Rattle.node_turn.specs.declared.node.Place.TheVariants.{Row as InRow}
+use Rattle.node_line.specs.node_turn.declared.node.Node.{Node}
+use Rattle.node_line.specs.node_turn.declared.node.Place.TheVariants.{Row as InRow}
 use Rattle.subrequests.proofs.Members as members
 use Rattle.family_nodes.proofs.Sets.{get_set_same, length_set, length_snoc}
 use Rattle.subrequests.proofs.Wholes as wholes

@@ -1,8 +1,8 @@
 use Rattle.std.proofs.Common.{set, take, sym, ap, ◌∙◌, subst}
 use Rattle.request_meaning.specs.Laws.{shipped}
-use Rattle.request_phases.specs.Rounds.{world_in}
+use Rattle.node_line.specs.request_phases.Rounds.{world_in}
 use Rattle.postpone_filter.specs.Row.{Row, is_open}
-use Rattle.node_turn.specs.Stages.{hand_at, is_placing}
+use Rattle.node_line.specs.node_turn.Stages.{hand_at, is_placing}
 use Rattle.node_seats.specs.Seats.{is_captured, seen}
 use Rattle.family_nodes.specs.Runs.{runs_at}
 use Rattle.family_nodes.proofs.Sets.{get_set_same}

@@ -1,7 +1,7 @@
 use Rattle.std.proofs.Common.{sym, ◌∙◌}
 use Rattle.request_meaning.specs.Laws.{shipped}
-use Rattle.request_phases.specs.Rounds.{world_in}
-use Rattle.node_turn.specs.Stages.{is_ending}
+use Rattle.node_line.specs.request_phases.Rounds.{world_in}
+use Rattle.node_line.specs.node_turn.Stages.{is_ending}
 use Rattle.subrequests.proofs.Including as including
 use Rattle.subrequests.proofs.Returns as returning
 use Rattle.subrequests.proofs.Wholes as wholes

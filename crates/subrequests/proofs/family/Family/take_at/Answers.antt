@@ -1,18 +1,18 @@
 use Rattle.std.proofs.Common.{◌≡◌, ◌-◌, suc, not, slice_get, arith, ℕ, ◌+◌, List, set, refl, sym, ap, ◌∙◌, subst}
 use Rattle.ngx_variables.specs.declared.request.Main.{Main}
 use Rattle.request_meaning.specs.Laws.{shipped}
-use Rattle.request_phases.specs.Rounds.{world_in}
+use Rattle.node_line.specs.request_phases.Rounds.{world_in}
 use Rattle.acts.specs.Act.{Inner}
 use Rattle.family_order.specs.Items.{doing}
 use Rattle.family_order.specs.Items.Stance.{Going}
 use Rattle.request_meaning.specs.Serving.{Answer, Reply, Serving}
-use Rattle.ssi_exec.specs.Scenes.{child_seen}
+use Rattle.node_line.specs.ssi_exec.Scenes.{child_seen}
 use Rattle.node_line.specs.Stances.{Opening}
-use Rattle.node_turn.specs.declared.node.Place.TheVariants.{Row as InRow}
+use Rattle.node_line.specs.node_turn.declared.node.Place.TheVariants.{Row as InRow}
 use Rattle.subrequests.specs.Moved.{meant}
-use Rattle.node_turn.specs.declared.node.Node.{Node}
-use Rattle.node_turn.specs.Stages.{is_in_row, is_serving, main_of, node_act, node_heard}
-use Rattle.node_turn.specs.Taken.{TakesTo, WaitsBy}
+use Rattle.node_line.specs.node_turn.declared.node.Node.{Node}
+use Rattle.node_line.specs.node_turn.Stages.{is_in_row, is_serving, main_of, node_act, node_heard}
+use Rattle.node_line.specs.node_turn.Taken.{TakesTo, WaitsBy}
 use Rattle.node_seats.specs.Seats.{is_captured, seen}
 use Rattle.subrequests.specs.Families.{goes_on_at, texts_of}
 use Rattle.subrequests.proofs.Asking as asking

@@ -1,8 +1,8 @@
 use Rattle.std.proofs.Common.{set, refl, sym, ap, ◌∙◌, arith}
 use Rattle.request_meaning.specs.Laws.{shipped}
-use Rattle.request_phases.specs.Rounds.{world_in}
+use Rattle.node_line.specs.request_phases.Rounds.{world_in}
 use Rattle.node_seats.specs.Seats.{doing_by, is_captured, most_levels, seen, stance_in}
-use Rattle.node_turn.specs.declared.node.Node.{Node}
+use Rattle.node_line.specs.node_turn.declared.node.Node.{Node}
 use Rattle.subrequests.proofs.Members as members
 use Rattle.node_line.proofs.Steps as steps
 use Rattle.family_nodes.proofs.Sets as sets

@@ -1,8 +1,8 @@
 use Rattle.std.proofs.Common.{set, refl, sym, ap, subst}
 use Rattle.ngx_variables.specs.declared.request.Main.{Main}
 use Rattle.request_meaning.specs.Laws.{shipped}
-use Rattle.request_phases.specs.Rounds.{world_in}
-use Rattle.node_turn.specs.Stages.{is_turning}
+use Rattle.node_line.specs.request_phases.Rounds.{world_in}
+use Rattle.node_line.specs.node_turn.Stages.{is_turning}
 use Rattle.node_seats.specs.Seats.{is_captured, seen}
 use Rattle.node_line.specs.Stances.{Opening}
 use Rattle.subrequests.proofs.Members as members

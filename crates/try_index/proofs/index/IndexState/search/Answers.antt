@@ -1,5 +1,5 @@
 use Rattle.std.proofs.Common.{◌≡◌, ◌≤◌, Err, true, false, length, subst, ◌∙◌, refl, inl, inr, arith, rules}
-use Rattle.ngx_variables.specs.declared.fault.EvalFault.TheVariants.{TooLong}
+use Rattle.target_text.specs.ngx_variables.declared.fault.EvalFault.TheVariants.{TooLong}
 use Rattle.try_index.specs.Searches.{IsNotThere, IsThere, IsUnfit}
 use Rattle.site_whole.specs.Whole.{index_seen}
 use Rattle.try_index.proofs.Turns as turns

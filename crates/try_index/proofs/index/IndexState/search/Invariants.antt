@@ -1,8 +1,8 @@
 use Rattle.std.proofs.Common.{◌≡◌, ◌-◌, length, drop, map}
 use Rattle.acts.specs.Act.{settled}
 use Rattle.site_whole.specs.Whole.{index_seen}
-use Rattle.request_meaning.specs.Serving.{Standing}
-use Rattle.request_meaning.specs.Contents.{indexed}
+use Rattle.target_text.specs.request_meaning.Serving.{Standing}
+use Rattle.target_text.specs.request_meaning.Contents.{indexed}
 use Rattle.try_index.specs.Searches.{IsAt}
 use Rattle.try_index.proofs.index.IndexState.search.Given as goal
 

@@ -1,5 +1,5 @@
 use Rattle.std.proofs.Common.{◌≡◌, true, false, Err, sym, ◌∙◌, rules}
-use Rattle.ngx_variables.specs.declared.fault.EvalFault.TheVariants.{TooLong}
+use Rattle.target_text.specs.ngx_variables.declared.fault.EvalFault.TheVariants.{TooLong}
 use Rattle.site_whole.specs.Whole.{tries_seen}
 use Rattle.try_index.specs.Searches.{is_found}
 use Rattle.try_index.proofs.Turns as turns

@@ -1,5 +1,5 @@
 use Rattle.std.proofs.Common.{◌≡◌, ◌<◌, ◌≤◌, Err, [], length, get_or, ap, ◌∙◌, refl, inl, inr, arith, rules}
-use Rattle.ngx_variables.specs.declared.fault.EvalFault.TheVariants.{TooLong}
+use Rattle.target_text.specs.ngx_variables.declared.fault.EvalFault.TheVariants.{TooLong}
 use Rattle.site_whole.specs.Whole.{last_seen, tries_seen}
 use Rattle.try_index.specs.Searches.{IsNotThere, IsThere}
 use Rattle.try_index.proofs.Turns as turns

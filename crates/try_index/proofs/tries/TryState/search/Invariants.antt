@@ -1,8 +1,8 @@
 use Rattle.std.proofs.Common.{◌≡◌, ◌-◌, length, drop}
 use Rattle.acts.specs.Act.{settled}
 use Rattle.site_whole.specs.Whole.{last_seen}
-use Rattle.request_meaning.specs.Serving.{Standing}
-use Rattle.request_meaning.specs.Contents.{tried}
+use Rattle.target_text.specs.request_meaning.Serving.{Standing}
+use Rattle.target_text.specs.request_meaning.Contents.{tried}
 use Rattle.try_index.specs.Searches.{IsAt}
 use Rattle.try_index.proofs.tries.TryState.search.Given as goal
 
