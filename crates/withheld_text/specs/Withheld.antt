@@ -9,4 +9,4 @@ IsKept false kept gone = (gone ≡ []) × (length kept ≤ 16385)
 -- the bytes are those of the text, or both are too long for a variable
 pub data IsFront (text bytes : List ℕ) : Type 0 where
   All : bytes ≡ text → IsFront text bytes
-  Longer : (16384 < length text → 16384 < length bytes) → IsFront text bytes
+  Longer : 16384 < length text → 16384 < length bytes → IsFront text bytes
