@@ -2,4 +2,5 @@ mod Phased
 mod Paged
 mod Serving
 mod Placing
+mod Fronts
 pub mod Walks

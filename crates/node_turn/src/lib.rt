@@ -22,6 +22,5 @@ pub use request_reply;
 pub use request_reply::{request_phases, rewrite_code};
 pub use said::Said;
 pub use slot::{fill, put, take};
-pub use turn::{
-    MOST_WITHHELD, Placed, Turn, fetches, needs_block, places, takes, turns, withhold, withholds,
-};
+pub use turn::{Placed, Turn, fetches, needs_block, places, takes, turns, withhold, withholds};
+pub use withheld_text::Withheld;

@@ -7,6 +7,7 @@ use file_tree::{Ask, Node as FileNode};
 use page_body::Page;
 use page_body::ssi_values::Table;
 use request_reply::request_phases::{Phases, Wait};
+use withheld_text::Withheld;
 
 /// What a body comes from: a text, and then this many bytes of a file, which is read at least once,
 /// an empty one too: it is unread where no block of it came yet.
@@ -35,7 +36,7 @@ pub struct Body {
 pub struct Capture {
     pub body: Box<Body>,
     pub name: ByteText,
-    pub text: ByteText,
+    pub text: Withheld,
 }
 
 /// How far a node is. Until its body begins it has the variables with which its document begins.
@@ -75,19 +76,19 @@ pub enum Place {
     /// came so far.
     Stub {
         stub: ByteText,
-        text: ByteText,
+        text: Withheld,
     },
     /// It isn't known yet either, and bytes of its subrequests come to it: these bytes of its body came
     /// after theirs.
     Gathers {
         stub: ByteText,
-        text: ByteText,
+        text: Withheld,
     },
     /// To its parent: these bytes of its body came so far. It may have a stub that takes the place
     /// of an empty body, or of one with a status of 400 or above.
     Captured {
         stub: Option<ByteText>,
-        text: ByteText,
+        text: Withheld,
     },
 }
 
@@ -107,7 +108,7 @@ pub struct Node {
     pub place: Place,
     /// The bytes of its parent that come right before its own, where its own come to its parent,
     /// which doesn't wait for them.
-    pub before: ByteText,
+    pub before: Withheld,
     /// Its phases, in which the main request's method alone counts.
     pub phases: Phases,
     /// Its job, or its last one, and from which byte on its file is read next.

@@ -9,7 +9,7 @@ ghost use Rattle.request_reply.specs.request_phases.declared.ground.Ground.{Grou
 ghost use Rattle.request_reply.specs.request_phases.declared.state.Phases.{Phases as PhasesView};
 ghost use Rattle.page_body.specs.ssi_exec.declared.document.Scene.{Scene as SceneView};
 ghost use Rattle.acts.specs.Act.{Done};
-ghost use Rattle.page_body.specs.Pages.{Does, page_rest, stop_of, waits};
+ghost use Rattle.page_body.specs.Pages.{Does, page_captured, page_rest, stop_of, text_then, waits};
 ghost use Rattle.node_turn.specs.Nodes.{answer_seen, captured_act, captured_at, from_source, hand, later, page_at, served_act};
 ghost use Rattle.node_turn.specs.Served.{ServesTo, WaitsAt, is_spent as source_spent};
 ghost use Rattle.node_turn.specs.Turns.{IsSceneOf};
@@ -21,6 +21,7 @@ use page_body::ngx_variables::VarTable;
 use page_body::ssi_exec::{Child, Scene};
 use page_body::{Doing, Page};
 use std::alloc::Global;
+use withheld_text::Withheld;
 
 /// What a node comes to where the next part of its body is taken up: how far it is then is put at
 /// its stage.
@@ -129,7 +130,7 @@ fn done(
             Ok(Served::Opens(child))
         }
         Doing::Captures { name, child } => {
-            let none = ByteText::new(alloc);
+            let none = Withheld::new(alloc);
             let body = with_bytes(body, ByteText::new(alloc), Some(page));
             let capture = Capture {
                 body,
@@ -212,6 +213,29 @@ pub(crate) fn serves(
     }
 }
 
+/// No variable has more bytes than these: the most that `subrequest_output_buffer_size` may say, of which no more are kept.
+const MOST_CAPTURED: u32 = 16384;
+
+/// The body of a subrequest goes into the variable of this name of a page, which a body that is too long for it unsets, whatever
+/// its bytes are. The text that is written in its place, if there is one.
+fn captures(
+    alloc: Global,
+    scene: &Scene<'_>,
+    page: &mut Page,
+    name: &[u8],
+    body: Withheld,
+) -> Result<Option<ByteText>, OutOfMemory>
+    ensures { IfOk result (λ text. (w : World) (answer : Answer) (bytes : List ℕ)
+        → page_captured w answer scene.now page.old name.now body bytes
+        ≡ text_then text (page_rest w answer scene.now page.new bytes)) }
+{
+    if scene.level.capture_most > MOST_CAPTURED {
+        return Err(OutOfMemory);
+    }
+    let text = page.captured(alloc, scene, name, body.into_front())?;
+    Ok(text)
+}
+
 /// Goes on with a body whose page has the body of a subrequest now.
 pub(crate) fn hears(
     alloc: Global,
@@ -233,7 +257,7 @@ pub(crate) fn hears(
         return Err(OutOfMemory);
     };
     let mut page = page;
-    match page.captured(alloc, scene, name.as_slice(), text)? {
+    match captures(alloc, scene, &mut page, name.as_slice(), text)? {
         Some(text) => {
             let body = with_bytes(body, text, Some(page));
             fill(stage, Stage::Places(body));

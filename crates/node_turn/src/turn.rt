@@ -276,36 +276,24 @@ pub fn places(
     }
 }
 
-/// No more bytes than these are withheld of a body of which it isn't known whether it is shown.
-pub const MOST_WITHHELD: usize = 1048576;
-
 /// More bytes of a node came that are withheld.
 ///
 /// # Errors
-/// `OutOfMemory`, where there is no room for them too.
+/// `OutOfMemory`, where there is no room for those that are kept.
 pub fn withhold(place: &mut Place, bytes: &[u8]) -> Result<(), OutOfMemory>
     ensures { OnOk result (place.new ≡ withheld_more bytes.now place.old) }
 {
     match place {
         Place::Row => Ok(()),
         Place::Stub { stub: _, text } => {
-            if text.len().saturating_add(bytes.len()) > MOST_WITHHELD {
-                return Err(OutOfMemory);
-            }
             text.extend(bytes)?;
             Ok(())
         }
         Place::Gathers { stub: _, text } => {
-            if text.len().saturating_add(bytes.len()) > MOST_WITHHELD {
-                return Err(OutOfMemory);
-            }
             text.extend(bytes)?;
             Ok(())
         }
         Place::Captured { stub: _, text } => {
-            if text.len().saturating_add(bytes.len()) > MOST_WITHHELD {
-                return Err(OutOfMemory);
-            }
             text.extend(bytes)?;
             Ok(())
         }
@@ -315,7 +303,7 @@ pub fn withhold(place: &mut Place, bytes: &[u8]) -> Result<(), OutOfMemory>
 /// The bytes that are at hand are withheld, all of them: it isn't known yet whether they are shown.
 ///
 /// # Errors
-/// `OutOfMemory`, where there is no room for them too; the node is then not to go on.
+/// `OutOfMemory`, where there is no room for those that are kept; the node is then not to go on.
 pub fn withholds(alloc: Global, node: &mut Node) -> Result<(), OutOfMemory>
     requires { is_placing node.old.stage ≡ true }
     ensures acts { OnOk result ((w : World) (patterns : List SetPattern) (site : SiteRow)

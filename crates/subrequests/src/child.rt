@@ -20,7 +20,7 @@ use file_tree::Ask;
 use http_moment::LocalDate;
 use http_types::{Addr, Method, Version};
 use ngx_variables::{Groups, Main, Request, Role};
-use node_line::node_turn::{Node, Place, Stage, take};
+use node_line::node_turn::{Node, Place, Stage, Withheld, take};
 use node_line::request_phases::Phases;
 use node_line::rewrite_code::Progress;
 use node_line::ssi_exec::Child;
@@ -111,13 +111,13 @@ fn place_of(alloc: Global, stub: Option<ByteText>, captured: bool) -> Place
     if captured {
         return Place::Captured {
             stub,
-            text: ByteText::new(alloc),
+            text: Withheld::new(alloc),
         };
     }
     match stub {
         Some(stub) => Place::Stub {
             stub,
-            text: ByteText::new(alloc),
+            text: Withheld::new(alloc),
         },
         None => Place::Row,
     }
@@ -132,7 +132,7 @@ fn child_node(
     parent: u32,
     left: u32,
     child: Child,
-    captured: Option<ByteText>,
+    captured: Option<Withheld>,
 ) -> Node
     ensures left { result.left ≡ left }
     ensures over { result.over ≡ false }
@@ -153,7 +153,7 @@ fn child_node(
         waited: _,
     } = child;
     let is_captured = captured.is_some();
-    let before = captured.unwrap_or(ByteText::new(alloc));
+    let before = captured.unwrap_or(Withheld::new(alloc));
     Node {
         parent,
         left,
@@ -181,7 +181,7 @@ pub(crate) fn push_child(
     nodes: &mut Nodes,
     at: u32,
     child: Child,
-    captured: Option<ByteText>,
+    captured: Option<Withheld>,
 ) -> Result<(), OutOfMemory>
     ensures { OnOk result ((n : NodeView) → slice_get nodes.old at ≡ Some n
         → IsPushed nodes.old nodes.new at (place_for (is_some captured) child.stub)
@@ -217,7 +217,7 @@ pub(crate) fn put_inner(
     node: &mut Node,
     id: u32,
     waited: bool,
-) -> Result<ByteText, OutOfMemory>
+) -> Result<Withheld, OutOfMemory>
     ensures opened { IfOk result (λ before. IsInnerOpened node.old node.new before) }
     ensures waits { OnOk result
         (node.new.waits ≡ (if waited then Some id else node.old.waits)) }

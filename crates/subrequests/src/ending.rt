@@ -139,7 +139,7 @@ impl Family {
         let text = taken(alloc, &node.stage, &mut node.place)?;
         let parent = node.parent;
         let before = take_before(alloc, node);
-        let text = both(before, text.as_slice())?;
+        let text = both(before, text)?;
         match self.next_inner_of(parent, at) {
             Some(next) => {
                 if next as usize >= self.nodes.len() {

@@ -30,7 +30,7 @@ use ngx_variables::{Main, VarTable};
 use node_line::comes;
 use node_line::family_rest::{quiet_is_exact, row_tells_still};
 use node_line::node_turn::{
-    Node, Place, Stage, Turn, answering, fetches, lend, places, takes, turns,
+    Node, Place, Stage, Turn, Withheld, answering, fetches, lend, places, takes, turns,
 };
 use node_line::request_phases::{Conclusion, Ground, Phases};
 use node_line::ssi_values::Table;
@@ -194,7 +194,7 @@ impl Family {
             waits: None,
             asks: None,
             place: Place::Row,
-            before: ByteText::new(alloc),
+            before: Withheld::new(alloc),
             phases,
             ask,
             start: 0,

@@ -8,9 +8,9 @@ ghost use Rattle.subrequests.specs.Moved.{AsksAt, InnerAt, IsWhole, OpensAt, Sam
 use crate::child::{push_child, put_asks, put_child, put_inner};
 use crate::family::{Family, MOST_NODES};
 use crate::next_step::is_in_row;
-use byte_text::{ByteText, OutOfMemory};
+use byte_text::OutOfMemory;
 use family_order::shows_the_same;
-use node_line::node_turn::Node;
+use node_line::node_turn::{Node, Withheld};
 use node_line::request_phases::Ground;
 use node_line::ssi_exec::Child;
 use std::alloc::Global;
@@ -128,7 +128,7 @@ impl Family {
             &mut self.nodes,
             at,
             child,
-            Some(ByteText::new(alloc)),
+            Some(Withheld::new(alloc)),
         )?;
         Ok(())
     }

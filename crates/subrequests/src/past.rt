@@ -8,7 +8,7 @@ use byte_text::{ByteText, OutOfMemory};
 use family_nodes::Nodes;
 use file_tree::Ask;
 use http_types::Method;
-use node_line::node_turn::{Node, Place, Stage};
+use node_line::node_turn::{Node, Place, Stage, Withheld};
 use node_line::ssi_values::Table;
 use postpone_filter::Order;
 use std::alloc::Global;
@@ -27,7 +27,7 @@ fn past_node(alloc: Global) -> Node
         waits: None,
         asks: None,
         place: Place::Row,
-        before: ByteText::new(alloc),
+        before: Withheld::new(alloc),
         phases: child_phases(alloc, 0, Method::Get, path, args),
         ask: Ask::Stat {
             path: ByteText::new(alloc),

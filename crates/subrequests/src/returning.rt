@@ -5,8 +5,8 @@ ghost use Rattle.subrequests.specs.Families.{HasFirst, HasReply, IsTaken, end_st
 ghost use Rattle.node_seats.specs.Joining.{joined_place};
 ghost use Rattle.node_seats.specs.Seats.{takes_up, withheld_text};
 
-use byte_text::{ByteText, OutOfMemory};
-use node_line::node_turn::{Capture, MOST_WITHHELD, Node, Place, Stage, fill, put, take};
+use byte_text::OutOfMemory;
+use node_line::node_turn::{Capture, Node, Place, Stage, Withheld, fill, put, take};
 use node_line::ssi_values::Table;
 use std::alloc::Global;
 
@@ -31,7 +31,7 @@ fn status_at(stage: &Stage) -> u16
 }
 
 /// Whether the stub of a node takes the place of this body: it is empty, or its status is 400 or more.
-fn is_stubbed(stage: &Stage, body: &ByteText) -> bool
+fn is_stubbed(stage: &Stage, body: &Withheld) -> bool
     ensures { result ≡ stubbed stage.now body.now }
 {
     body.is_empty() || status_at(stage) >= 400
@@ -42,17 +42,17 @@ pub(crate) fn taken(
     alloc: Global,
     stage: &Stage,
     place: &mut Place,
-) -> Result<ByteText, OutOfMemory>
+) -> Result<Withheld, OutOfMemory>
     ensures { IfOk result (λ text. IsTaken stage.now text place.old place.new) }
 {
     match place {
         Place::Captured { stub, text } => {
-            let body = take(text, ByteText::new(alloc));
+            let body = take(text, Withheld::new(alloc));
             match take(stub, None) {
                 None => Ok(body),
                 Some(stub) => {
                     if is_stubbed(stage, &body) {
-                        return Ok(stub);
+                        return Ok(Withheld::from_text(alloc, stub)?);
                     }
                     Ok(body)
                 }
@@ -63,7 +63,7 @@ pub(crate) fn taken(
 }
 
 /// A node has the body for which it waited: it goes on with its page.
-pub(crate) fn put_reply(alloc: Global, node: &mut Node, body: ByteText) -> Result<(), OutOfMemory>
+pub(crate) fn put_reply(alloc: Global, node: &mut Node, body: Withheld) -> Result<(), OutOfMemory>
     ensures { OnOk result (HasReply body node.old node.new) }
 {
     match take(&mut node.stage, Stage::Begins(Table::new(alloc))) {
@@ -158,48 +158,45 @@ pub(crate) fn put_joined(node: &mut Node)
 }
 
 /// A node is over: the bytes of its parent that it keeps before its own.
-pub(crate) fn take_before(alloc: Global, node: &mut Node) -> ByteText
+pub(crate) fn take_before(alloc: Global, node: &mut Node) -> Withheld
     ensures node { node.new ≡ record node.old { before = []; over = true } }
     ensures taken { result ≡ node.old.before }
 {
     node.over = true;
-    take(&mut node.before, ByteText::new(alloc))
+    take(&mut node.before, Withheld::new(alloc))
 }
 
 /// A text before another.
-pub(crate) fn both(first: ByteText, second: &[u8]) -> Result<ByteText, OutOfMemory>
-    ensures { IfOk result (λ both. both ≡ first ++ second.now) }
+pub(crate) fn both(first: Withheld, second: Withheld) -> Result<Withheld, OutOfMemory>
+    ensures { IfOk result (λ both. both ≡ first ++ second) }
 {
-    if first.len().saturating_add(second.len()) > MOST_WITHHELD {
-        return Err(OutOfMemory);
-    }
     let mut both = first;
-    both.extend(second)?;
+    both.append(second)?;
     Ok(both)
 }
 
 /// More bytes of its parent come right before those of a node.
-pub(crate) fn put_before(alloc: Global, node: &mut Node, text: ByteText) -> Result<(), OutOfMemory>
+pub(crate) fn put_before(alloc: Global, node: &mut Node, text: Withheld) -> Result<(), OutOfMemory>
     ensures { OnOk result (node.new ≡ record node.old { before = text ++ node.old.before }) }
 {
-    let after = take(&mut node.before, ByteText::new(alloc));
-    let before = both(text, after.as_slice())?;
+    let after = take(&mut node.before, Withheld::new(alloc));
+    let before = both(text, after)?;
     put(&mut node.before, before);
     Ok(())
 }
 
 /// Bytes come before those of a node that are withheld.
-pub(crate) fn put_first(alloc: Global, node: &mut Node, text: ByteText) -> Result<(), OutOfMemory>
+pub(crate) fn put_first(alloc: Global, node: &mut Node, text: Withheld) -> Result<(), OutOfMemory>
     ensures { OnOk result (HasFirst text node.old node.new) }
 {
     let after = take_text(alloc, &mut node.place)?;
-    let all = both(text, after.as_slice())?;
+    let all = both(text, after)?;
     put_text(&mut node.place, all);
     Ok(())
 }
 
 /// The bytes that a node withholds to which bytes of its subrequests come; it has none then.
-pub(crate) fn take_text(alloc: Global, place: &mut Place) -> Result<ByteText, OutOfMemory>
+pub(crate) fn take_text(alloc: Global, place: &mut Place) -> Result<Withheld, OutOfMemory>
     ensures text { IfOk result (λ text. text ≡ withheld_text place.old) }
     ensures takes { OnOk result (takes_up place.old ≡ true) }
     ensures place { OnOk result (place.new ≡ with_text [] place.old) }
@@ -207,13 +204,13 @@ pub(crate) fn take_text(alloc: Global, place: &mut Place) -> Result<ByteText, Ou
     match place {
         Place::Row => Err(OutOfMemory),
         Place::Stub { stub: _, text: _ } => Err(OutOfMemory),
-        Place::Gathers { stub: _, text } => Ok(take(text, ByteText::new(alloc))),
-        Place::Captured { stub: _, text } => Ok(take(text, ByteText::new(alloc))),
+        Place::Gathers { stub: _, text } => Ok(take(text, Withheld::new(alloc))),
+        Place::Captured { stub: _, text } => Ok(take(text, Withheld::new(alloc))),
     }
 }
 
 /// Other bytes are withheld.
-fn put_text(place: &mut Place, bytes: ByteText)
+fn put_text(place: &mut Place, bytes: Withheld)
     ensures { place.new ≡ with_text bytes place.old }
 {
     match place {

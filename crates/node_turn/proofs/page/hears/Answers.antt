@@ -21,7 +21,7 @@ returns-in-Some-2-clause-acts c = λ g p levels patterns path file vars is.
     let bytes = from_source b.source file in
     let scene = c.args.scene.now in
     let page = c.in-Some.page in
-    let now = c.captured.new.self in
+    let now = c.captures-2.new.page in
     let same = c.deref_mut.ensures.value in
     let text = c.in-Some-2.text in
     let placed = c.with_bytes-body.ensures.others in
@@ -31,7 +31,7 @@ returns-in-Some-2-clause-acts c = λ g p levels patterns path file vars is.
     ∙ (sym (ap (λ k. k capture.name capture.text) (paged.captured_is g p levels scene is w answer page.value bytes))
     ∙ (ap (λ name. page_captured w answer scene page.value name capture.text bytes) (sym c.as_slice.ensures)
     ∙ (ap (λ (x : Page). page_captured w answer scene x c.as_slice.result.now capture.text bytes) (sym same)
-    ∙ (c.in_ok-text.ensures.goes_on w answer bytes
+    ∙ (c.in_ok-text.ensures w answer bytes
     ∙ (ap (λ t. text_then t (page_rest w answer scene now bytes)) c.in-Some-2.is
     ∙ (ap (Write text) (paged.page_is g p levels scene is w answer now bytes)
     ∙ sym (serving.body_placed w site p levels c.with_bytes-body.result.value b.answered _ _ (placed.0 ∙ c.apart-body.ensures.answered, placed.1 ∙ c.apart-body.ensures.source, placed.2) file text c.with_bytes-body.ensures.hand)))))))))
@@ -46,7 +46,7 @@ returns-clause-acts c = λ g p levels patterns path file vars is.
     let bytes = from_source b.source file in
     let scene = c.args.scene.now in
     let page = c.in-Some.page in
-    let now = c.captured.new.self in
+    let now = c.captures-2.new.page in
     let same = c.deref_mut.ensures.value in
     let placed = c.with_bytes-body-in-None.ensures.others in
     subst (λ (s : Stage). Works vars (captured_act w site p levels answer b.page bytes capture.name capture.text) (stage_act w patterns site p levels path s file)) (sym c.fill-in-None.ensures.put)
@@ -55,7 +55,7 @@ returns-clause-acts c = λ g p levels patterns path file vars is.
     ∙ (sym (ap (λ k. k capture.name capture.text) (paged.captured_is g p levels scene is w answer page.value bytes))
     ∙ (ap (λ name. page_captured w answer scene page.value name capture.text bytes) (sym c.as_slice.ensures)
     ∙ (ap (λ (x : Page). page_captured w answer scene x c.as_slice.result.now capture.text bytes) (sym same)
-    ∙ (c.in_ok-text.ensures.goes_on w answer bytes
+    ∙ (c.in_ok-text.ensures w answer bytes
     ∙ (ap (λ t. text_then t (page_rest w answer scene now bytes)) c.in-None.is
     ∙ (paged.page_is g p levels scene is w answer now bytes
     ∙ sym (serving.body_served w site p levels c.with_bytes-body-in-None.result.value b.answered _ _ (placed.0 ∙ c.apart-body.ensures.answered, placed.1 ∙ c.apart-body.ensures.source, placed.2) file)))))))))

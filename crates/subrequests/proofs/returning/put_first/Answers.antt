@@ -12,5 +12,5 @@ returns c =
       is =
           ap (λ (p : Place). record n { place = p })
           (c.put_text.ensures ∙ ap (with_text c.in_ok-all.all) c.in_ok-after.ensures.place ∙ joining.text_twice [] c.in_ok-all.all n.place
-          ∙ ap (λ t. with_text t n.place) (c.in_ok-all.ensures ∙ ap (λ t. c.args.text ++ t) (c.as_slice.ensures ∙ c.in_ok-after.ensures.text)));
+          ∙ ap (λ t. with_text t n.place) (c.in_ok-all.ensures ∙ ap (λ t. c.args.text ++ t) c.in_ok-after.ensures.text));
     }
