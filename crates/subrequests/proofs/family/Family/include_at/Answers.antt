@@ -12,8 +12,8 @@ use Rattle.family_nodes.proofs.Sets as sets
 use Rattle.subrequests.proofs.Wholes as wholes
 use Rattle.subrequests.proofs.family.Family.include_at.Goals as goal
 
-pub returns-in-Some-clause-steps : goal.returns-in-Some-clause-steps
-returns-in-Some-clause-steps c = λ ps g.
+pub returns-in_ok-put_before-in-Some-clause-steps : goal.returns-in_ok-put_before-in-Some-clause-steps
+returns-in_ok-put_before-in-Some-clause-steps c = λ ps g.
     let f = c.args.self.now in
     let nodes = f.nodes in
     let at = c.args.at in
@@ -25,7 +25,7 @@ returns-in-Some-clause-steps c = λ ps g.
     let there = wholes.here_is is_ending nodes at old c.requires.there c.node_mut-node.ensures.value in
     let b = including.beside_is f.order nodes at old place text there c.requires.whole c.requires.there c.requires.seated c.requires.bare c.requires.inner c.in_ok-text.ensures in
     let p = b.0 in
-    let moved : c.in_ok-text-2.text ≡ old.before ++ text = c.in_ok-text-2.ensures ∙ ap (λ t. t ++ c.as_slice.result.now) c.take_before-before.ensures.taken ∙ ap (λ t. old.before ++ t) c.as_slice.ensures in
+    let moved : c.in_ok-text-2.text ≡ old.before ++ text = c.in_ok-text-2.ensures ∙ ap (λ t. t ++ text) c.take_before-before.ensures.taken in
     let y = c.in-Some.next in
     let n = c.node_mut.result.now in
     let n' = c.put_before.new.node in
@@ -38,8 +38,8 @@ returns-in-Some-clause-steps c = λ ps g.
     (including.ends_next f.order nodes at old place p text b.1 gone gone_is y n n' next here is w ps g.site.now f.main texts) (as_itself p) c.end.new.self c.end.ensures.row c.end.ensures.opened)
     (λ trees. including.texts_next f.order nodes at old place p text b.1 gone gone_is y n n' next here is trees)
 
-pub returns-in-Some-clause-whole : goal.returns-in-Some-clause-whole
-returns-in-Some-clause-whole c =
+pub returns-in_ok-put_before-in-Some-clause-whole : goal.returns-in_ok-put_before-in-Some-clause-whole
+returns-in_ok-put_before-in-Some-clause-whole c =
     let f = c.args.self.now in
     let nodes = f.nodes in
     let at = c.args.at in
@@ -51,7 +51,7 @@ returns-in-Some-clause-whole c =
     let there = wholes.here_is is_ending nodes at old c.requires.there c.node_mut-node.ensures.value in
     let b = including.beside_is f.order nodes at old place text there c.requires.whole c.requires.there c.requires.seated c.requires.bare c.requires.inner c.in_ok-text.ensures in
     let p = b.0 in
-    let moved : c.in_ok-text-2.text ≡ old.before ++ text = c.in_ok-text-2.ensures ∙ ap (λ t. t ++ c.as_slice.result.now) c.take_before-before.ensures.taken ∙ ap (λ t. old.before ++ t) c.as_slice.ensures in
+    let moved : c.in_ok-text-2.text ≡ old.before ++ text = c.in_ok-text-2.ensures ∙ ap (λ t. t ++ text) c.take_before-before.ensures.taken in
     let y = c.in-Some.next in
     let n = c.node_mut.result.now in
     let n' = c.put_before.new.node in
@@ -61,8 +61,8 @@ returns-in-Some-clause-whole c =
     including.sound_next f.order nodes at old place p text b.1 gone gone_is y n n' next here is c.end.new.self
     (including.sound_over f.order nodes at old place p text b.1 gone gone_is c.end.new.self c.requires.whole c.requires.child c.end.ensures.row c.end.ensures.opened)
 
-pub returns-in-Some-clause-ended : goal.returns-in-Some-clause-ended
-returns-in-Some-clause-ended c =
+pub returns-in_ok-put_before-in-Some-clause-ended : goal.returns-in_ok-put_before-in-Some-clause-ended
+returns-in_ok-put_before-in-Some-clause-ended c =
     let f = c.args.self.now in
     let nodes = f.nodes in
     let at = c.args.at in
@@ -74,7 +74,7 @@ returns-in-Some-clause-ended c =
     let there = wholes.here_is is_ending nodes at old c.requires.there c.node_mut-node.ensures.value in
     let b = including.beside_is f.order nodes at old place text there c.requires.whole c.requires.there c.requires.seated c.requires.bare c.requires.inner c.in_ok-text.ensures in
     let p = b.0 in
-    let moved : c.in_ok-text-2.text ≡ old.before ++ text = c.in_ok-text-2.ensures ∙ ap (λ t. t ++ c.as_slice.result.now) c.take_before-before.ensures.taken ∙ ap (λ t. old.before ++ t) c.as_slice.ensures in
+    let moved : c.in_ok-text-2.text ≡ old.before ++ text = c.in_ok-text-2.ensures ∙ ap (λ t. t ++ text) c.take_before-before.ensures.taken in
     let y = c.in-Some.next in
     let n = c.node_mut.result.now in
     let n' = c.put_before.new.node in
@@ -83,8 +83,8 @@ returns-in-Some-clause-ended c =
     let is : n' ≡ record n { before = (old.before ++ text) ++ n.before } = c.in_ok-put_before-in-Some.ensures ∙ ap (λ t. record n { before = t ++ n.before }) moved in
     including.over_next f.order nodes at old place p text b.1 gone gone_is y n n' next here is
 
-pub returns-clause-steps : goal.returns-clause-steps
-returns-clause-steps c = λ ps g.
+pub returns-in_ok-put_first-in-None-clause-steps : goal.returns-in_ok-put_first-in-None-clause-steps
+returns-in_ok-put_first-in-None-clause-steps c = λ ps g.
     let f = c.args.self.now in
     let nodes = f.nodes in
     let at = c.args.at in
@@ -96,7 +96,7 @@ returns-clause-steps c = λ ps g.
     let there = wholes.here_is is_ending nodes at old c.requires.there c.node_mut-node.ensures.value in
     let b = including.beside_is f.order nodes at old place text there c.requires.whole c.requires.there c.requires.seated c.requires.bare c.requires.inner c.in_ok-text.ensures in
     let p = b.0 in
-    let moved : c.in_ok-text-2.text ≡ old.before ++ text = c.in_ok-text-2.ensures ∙ ap (λ t. t ++ c.as_slice.result.now) c.take_before-before.ensures.taken ∙ ap (λ t. old.before ++ t) c.as_slice.ensures in
+    let moved : c.in_ok-text-2.text ≡ old.before ++ text = c.in_ok-text-2.ensures ∙ ap (λ t. t ++ text) c.take_before-before.ensures.taken in
     let q = c.node_mut-in-None.result.now in
     let p' = c.put_first.new.node in
     let none = subst (IsNextInner (set nodes at gone) old.parent at) c.in-None.is c.next_inner_of.ensures in
@@ -108,8 +108,8 @@ returns-clause-steps c = λ ps g.
     (including.ends_first f.order nodes at old place p text b.1 gone gone_is p' first none w ps g.site.now f.main texts) (including.like_first f.order nodes at old place p text b.1 gone gone_is p' first none) c.end.new.self c.end.ensures.row c.end.ensures.opened)
     (λ trees. including.texts_first f.order nodes at old place p text b.1 gone gone_is p' first none trees)
 
-pub returns-clause-whole : goal.returns-clause-whole
-returns-clause-whole c =
+pub returns-in_ok-put_first-in-None-clause-whole : goal.returns-in_ok-put_first-in-None-clause-whole
+returns-in_ok-put_first-in-None-clause-whole c =
     let f = c.args.self.now in
     let nodes = f.nodes in
     let at = c.args.at in
@@ -121,7 +121,7 @@ returns-clause-whole c =
     let there = wholes.here_is is_ending nodes at old c.requires.there c.node_mut-node.ensures.value in
     let b = including.beside_is f.order nodes at old place text there c.requires.whole c.requires.there c.requires.seated c.requires.bare c.requires.inner c.in_ok-text.ensures in
     let p = b.0 in
-    let moved : c.in_ok-text-2.text ≡ old.before ++ text = c.in_ok-text-2.ensures ∙ ap (λ t. t ++ c.as_slice.result.now) c.take_before-before.ensures.taken ∙ ap (λ t. old.before ++ t) c.as_slice.ensures in
+    let moved : c.in_ok-text-2.text ≡ old.before ++ text = c.in_ok-text-2.ensures ∙ ap (λ t. t ++ text) c.take_before-before.ensures.taken in
     let q = c.node_mut-in-None.result.now in
     let p' = c.put_first.new.node in
     let none = subst (IsNextInner (set nodes at gone) old.parent at) c.in-None.is c.next_inner_of.ensures in
@@ -130,8 +130,8 @@ returns-clause-whole c =
     including.sound_first f.order nodes at old place p text b.1 gone gone_is p' first none c.end.new.self
     (including.sound_over f.order nodes at old place p text b.1 gone gone_is c.end.new.self c.requires.whole c.requires.child c.end.ensures.row c.end.ensures.opened)
 
-pub returns-clause-ended : goal.returns-clause-ended
-returns-clause-ended c =
+pub returns-in_ok-put_first-in-None-clause-ended : goal.returns-in_ok-put_first-in-None-clause-ended
+returns-in_ok-put_first-in-None-clause-ended c =
     let f = c.args.self.now in
     let nodes = f.nodes in
     let at = c.args.at in
@@ -143,7 +143,7 @@ returns-clause-ended c =
     let there = wholes.here_is is_ending nodes at old c.requires.there c.node_mut-node.ensures.value in
     let b = including.beside_is f.order nodes at old place text there c.requires.whole c.requires.there c.requires.seated c.requires.bare c.requires.inner c.in_ok-text.ensures in
     let p = b.0 in
-    let moved : c.in_ok-text-2.text ≡ old.before ++ text = c.in_ok-text-2.ensures ∙ ap (λ t. t ++ c.as_slice.result.now) c.take_before-before.ensures.taken ∙ ap (λ t. old.before ++ t) c.as_slice.ensures in
+    let moved : c.in_ok-text-2.text ≡ old.before ++ text = c.in_ok-text-2.ensures ∙ ap (λ t. t ++ text) c.take_before-before.ensures.taken in
     let q = c.node_mut-in-None.result.now in
     let p' = c.put_first.new.node in
     let none = subst (IsNextInner (set nodes at gone) old.parent at) c.in-None.is c.next_inner_of.ensures in
