@@ -1,7 +1,7 @@
 #!/bin/bash
 # Tries the program over real files and real sockets: what the proofs end at. Each case prints a line, good, bad or left out
 # with the reason; the status is 1 where one is bad, and 124 where none is but two minutes were too few. Loopback alone, in a folder of its own.
-# usage: tests/edge.sh [1..9 or bad..], all of them where none is said; NGX=PROGRAM tests/edge.sh tries another program
+# usage: tests/edge.sh [1..10 or bad..], all of them where none is said; NGX=PROGRAM tests/edge.sh tries another program
 set -u
 top=$(cd "$(dirname "$0")/.." && pwd)
 program=${NGX:-$top/ngx}
@@ -92,6 +92,16 @@ def parse(text, end):
     return status, body, end
 
 def answer(s): return parse(*rest_of(s))
+
+def chunks(body):
+    """A body that came in chunks, or None."""
+    all = b''
+    while body:
+        size, _, body = body.partition(b'\r\n')
+        count = int(size, 16)
+        if count == 0: return all if body == b'\r\n' else None
+        all, body = all + body[:count], body[count + 2:]
+    return None
 
 os.mkdir('root')
 static = 'http { server { listen 127.0.0.1:PORT; root %s/root; location / { } } }' % work
@@ -391,8 +401,29 @@ def last():
         told('9. and once one is closed the next is served', server.get('/')[0] == 200)
         for s in links: s.close()
 
+# 10. Bodies that are withheld: into a variable, or until it is known whether a stub is shown.
+def withheld():
+    pages = f'{work}/pages'
+    os.mkdir(pages)
+    for name, text in (('large', b'a' * 10000000), ('fits', b'b' * 16384), ('over', b'b' * 16385),
+                       ('captured', b'A<!--# include virtual="/$NAME" set="x" -->B<!--# echo var="x" default="none" -->C'),
+                       ('stubbed', b'<!--# block name="s" -->stub<!--# endblock -->A<!--# include virtual="/failed" stub="s" -->C')):
+        if name == 'captured':
+            for part in ('large', 'fits', 'over'): open(f'{pages}/{name}-{part}.html', 'wb').write(text.replace(b'$NAME', part.encode()))
+        else: open(f'{pages}/{name}' + ('.html' if name == 'stubbed' else ''), 'wb').write(text)
+    failed = b'A[an error occurred while processing the directive]BnoneC'
+    with Server('http { server { listen 127.0.0.1:PORT; root %s; ssi on; subrequest_output_buffer_size 16384; location = /failed { error_page 404 /large; return 404; } } }' % pages) as server:
+        for part, wanted in (('fits', b'AB' + b'b' * 16384 + b'C'), ('over', failed), ('large', failed)):
+            status, body, end = server.get(f'/captured-{part}.html')
+            told(f'10. a body for a variable: {part}', (status, chunks(body)) == (200, wanted), f'{status} {len(body)} {end}')
+        status, body, end = server.get('/stubbed.html')
+        told('10. a stub in place of a failed body of 10 MB', (status, chunks(body)) == (200, b'AstubC'), f'{status} {len(body)} {end}')
+        try: most = next(int(line.split()[1]) for line in open(f'/proc/{server.run.pid}/status') if line.startswith('VmHWM'))
+        except OSError: most = 0
+        told('10. which take no room', most < 9000, f'{most} kB')
+
 cases = [(1, replaced), (2, special), (3, errors), (3, full), (4, families), (5, wildcards), (6, turns), (7, closes),
-         (8, words), (9, last), ('bad', folders), ('bad', stopped), ('bad', often)]
+         (8, words), (9, last), (10, withheld), ('bad', folders), ('bad', stopped), ('bad', often)]
 for number, case in cases:
     if not wanted or str(number) in wanted: case()
 print(f'{"some are bad" if bad else "all are good"}, in {time.time() - began:.0f} seconds')
