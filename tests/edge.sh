@@ -373,6 +373,9 @@ def words():
     for asked, usage in (['--help'], 'ngx <COMMAND>'), (['-h'], 'ngx <COMMAND>'), (['serve', '--help'], 'ngx serve [OPTIONS] <CONF>'), (['check', 'a', '-h'], 'ngx check <CONF>'):
         got = run(*asked)
         told(f"8. {' '.join(asked)} prints the help", got[0] == 0 and f'\nUsage: {usage}\n' in got[1] and 'Exit status:' in got[1] and not got[2], got)
+    for asked in (('check', 'none.conf'), ('replay', 'none.replay')):
+        got = run(*asked)
+        told(f"8. {' '.join(asked)} says why the file can't be read", f'ngx: {asked[1]}: ' in got[2] and got[1], got)
     for asked in ('--version', '-V'):
         got = run(asked)
         told(f'8. {asked} prints the version', got[0] == 0 and got[1].startswith('ngx ') and got[1].count('\n') == 1 and not got[2], got)

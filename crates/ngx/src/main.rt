@@ -15,7 +15,7 @@ use std::{env, fs, io};
 use std_outside::{HostFiles, HostSink};
 
 /// The exit statuses where a configuration has a fault, where the words are no command, where the files fail, where
-/// listening does, and where memory runs out.
+/// listening does, where memory runs out, and where a script has a fault.
 const CONF_FAULT: u8 = 1;
 
 const USAGE_FAULT: u8 = 2;
@@ -25,6 +25,8 @@ const FILES_FAULT: u8 = 4;
 const LISTEN_FAULT: u8 = 6;
 
 const OUT_OF_MEMORY: u8 = 7;
+
+const SCRIPT_FAULT: u8 = 8;
 
 // Says why a file can't be read, if it can't.
 fn tell_unread<R: Files + Eprint>(rt: &R, path: &str) -> io::Result<()> {
@@ -58,7 +60,7 @@ fn tell_why<R: Files + Eprint>(
 ) -> io::Result<()> {
     match (code, words.get(2), unheard) {
         (USAGE_FAULT, _, _) => tell_usage(rt, alloc, words),
-        (CONF_FAULT | FILES_FAULT, Some(path), _) => tell_unread(rt, path.as_str()),
+        (CONF_FAULT | FILES_FAULT | SCRIPT_FAULT, Some(path), _) => tell_unread(rt, path.as_str()),
         (LISTEN_FAULT, _, Some(fault)) => tell_unheard(rt, fault),
         _ => Ok(()),
     }
