@@ -1,8 +1,8 @@
 #!/bin/bash
 # Measures `ngx serve` and Debian's nginx (one worker, no access log) in turn on this machine, for `return 200 hi`, a file, or a
-# page with ten includes of 100 bytes each: wrk with one thread over 1, 16 and 256 connections, or with THREADS of them where there are
-# as many connections (one thread is full beside either server for `hi`, so that it is measured too). Prints, as medians over the
-# rounds, requests a second and microseconds of processor time a request of both, and how many times nginx's ours are.
+# page with ten includes of 100 bytes each: wrk over 1, 16 and 256 connections, with THREADS threads, 2 unless that is set, and one over
+# one connection. (One thread is full beside either server for `hi`, so that with THREADS=1 wrk is measured and not they.) Prints, as
+# medians over the rounds, requests a second and microseconds of processor time a request of both, and how many times nginx's ours are.
 # usage: bench/serve.sh [seconds of a measurement, 3] [rounds, 3] [hi, page, or the bytes of the file, hi] [close]
 # With `close` each request has a connection of its own, which it asks to be closed.
 set -eu
@@ -62,7 +62,7 @@ measure() { # server, connections: requests a second, and microseconds a request
     local before after text requests threads
     kill -0 "$server" || { echo "$1 has ended: is port $port free?" >&2; exit 1; }
     before=$(ticks)
-    threads=${THREADS:-1}
+    threads=${THREADS:-2}
     [ "$2" -ge "$threads" ] || threads=1
     text=$(taskset -c 2-$((1 + threads)) wrk -t"$threads" -c"$2" -d"${seconds}s" "${asks[@]}" "http://127.0.0.1:$port/$what")
     after=$(ticks)
