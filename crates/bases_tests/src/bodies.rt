@@ -89,7 +89,7 @@ fn page_of(
         if page.waits() {
             return Err("parts wait")?;
         }
-        page.feed(alloc, block)?;
+        page.feed(alloc, ByteText::from_slice(alloc, block)?)?;
         assert!(rt; !done(alloc, &mut page, &scene, &vars, &mut out)?);
     }
     if page.waits() {

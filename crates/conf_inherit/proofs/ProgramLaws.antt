@@ -81,7 +81,7 @@ length-pushed (x ∷ xs) y = ap suc (length-pushed xs y)
 pub pattern-there : (all : List SetPattern) (n : ℕ) (p : SetPattern) → slice_get all n ≡ Some p → pattern_at (patterns_seen all) n ≡ pattern_seen p
 pattern-there all n p h = ap (λ o. unwrap_or o no_pattern) (get-map pattern_seen all n ∙ ap (option_map pattern_seen) h)
 
--- those behind some of a set have the numbers behind theirs
+-- those after some of a set have the numbers after theirs
 pub patterns-there : (old more all : List SetPattern) → Keeps (old ++ more) all → AllAt (pattern_at (patterns_seen all)) (length old) (map pattern_seen more)
 unfolding AllAt
 patterns-there old [] all k = tt

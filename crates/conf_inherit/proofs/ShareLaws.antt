@@ -86,7 +86,7 @@ pub record AreSaid (level : List Directive) (own_index : Option IndexNames) (own
   pub ssi_types : Says has_types media_seen own_ssi (lists_at level).ssi_types
   pub addition_types : Says has_types media_seen own_addition (lists_at level).addition_types
 
--- each is kept, those of `addition_types` behind those of `ssi_types`
+-- each is kept, those of `addition_types` after those of `ssi_types`
 pub record ArePlaced (level : List Directive) (old new : Shelf) (between : List MediaTypes) (outer s : Shared)
     (own_index : Option IndexNames) (own_pages : Option PageRules) (own_rules : Option Rules) (own_sets : Option AuthSets) (own_ssi own_addition : Option MediaTypes) : Type 0 where
   pub index : IsPlaced old.indexes.items new.indexes.items own_index level outer.index s.index

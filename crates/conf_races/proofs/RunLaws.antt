@@ -21,7 +21,7 @@ no_files : (last : ℕ) → files_behind last [] ≡ []
 unfolding files_behind
 no_files last = refl
 
--- the run of the first directive, and the runs behind it
+-- the run of the first directive, and the runs after it
 run_first : (run last : ℕ) (d : Directive) (ds : List Directive) → runs_behind run last (d ∷ ds) ≡ in_run (cond (eqb d.file last) run (suc run)) d ∷ runs_behind (cond (eqb d.file last) run (suc run)) d.file ds
 run_first run last d ds =
     runs_next run last d ds

@@ -47,7 +47,7 @@ module _ (w : World) (site : Site) (p : Phases) (left : ℕ) (text : List ℕ) w
       b.source.left + length bytes ≡ a.source.left → b.answered ≡ a.answered → b.page ≡ a.page →
       served_act w site p left (answer_seen site p a.answered) a.page (later a (bytes ++ text)) ≡ served_act w site p left (answer_seen site p b.answered) b.page (later b text)
   more_came a b bytes few t n an pg =
-      let act = λ (x : Answered) (y : Option (Box Page)) (z : List ℕ). served_act w site p left (answer_seen site p x) y z in
+      let act = λ (x : Answered) (y : Option Page) (z : List ℕ). served_act w site p left (answer_seen site p x) y z in
       ap (act a.answered a.page) (moved a.source.text bytes a.source.left text few)
       ∙ (ap (λ z. act a.answered a.page (z ++ padded (a.source.left - length bytes) text)) (sym t)
       ∙ (ap (λ m. act a.answered a.page (b.source.text ++ padded m text)) (let e : a.source.left - length bytes ≡ b.source.left = omega (arith, n, few) in e)

@@ -42,7 +42,8 @@ fn split(
     let mut state = SsiState::new(alloc);
     let mut out = Vec::new(alloc);
     let cut = first.min(document.len());
-    state.feed(alloc, &document[..cut], &mut out)?;
+    let begin = ByteText::from_slice(alloc, &document[..cut])?;
+    state.feed_text(alloc, begin, &mut out)?;
     let mut state = SsiState::from_undecided(alloc, state.undecided())?;
     for block in document[cut..].chunks(size.max(1)) {
         state.feed(alloc, block, &mut out)?;

@@ -1,5 +1,6 @@
 use byte_text::ByteQueue;
 use outgoing::Outgoing;
+use std::mem::replace;
 use std::process::Abort;
 use std::test::Fail;
 
@@ -33,14 +34,17 @@ fn put_piece(outgoing: &mut Outgoing, piece: &[u8], text: &mut Vec<u8>) -> Resul
     Ok(())
 }
 
-/// The response with this body, which comes in pieces of `size` bytes and a last one that is taken whole.
+/// The response with this body, which comes in pieces of `size` bytes and a last one that is taken whole. `room` is where the room of
+/// one response is kept for the next.
 fn response(
     rt: &HostRuntime,
     chunked: bool,
     body: &[u8],
     sizes: &[usize],
+    room: &mut Vec<u8>,
 ) -> Result<Vec<u8>, Fail> {
-    let mut outgoing = Outgoing::new(rt.alloc(), HEAD, chunked)?;
+    let kept = replace(room, Vec::new(rt.alloc()));
+    let mut outgoing = Outgoing::new(rt.alloc(), HEAD, chunked, kept)?;
     let mut text = Vec::new(rt.alloc());
     let mut rest = body;
     for size in sizes {
@@ -50,7 +54,7 @@ fn response(
     }
     outgoing.put_all(rest)?;
     let mut queue = ByteQueue::new(rt.alloc());
-    outgoing.finish(&mut queue)?;
+    outgoing.finish(&mut queue, room)?;
     text.extend_from_slice(queue.front())?;
     Ok(text)
 }
@@ -77,9 +81,10 @@ fn chunks(rt: &HostRuntime, body: &[u8]) -> Result<Vec<u8>, Fail> {
 fn bodies_leave_in_pieces(rt: HostRuntime) -> Result<(), Fail> {
     let body = body(&rt, 38 * 4096 + 880)?;
     let sizes = [1, 4095, 4096, 70000, 0, 17];
-    let framed = response(&rt, true, body.as_slice(), sizes.as_slice())?;
+    let mut room = Vec::new(rt.alloc());
+    let framed = response(&rt, true, body.as_slice(), sizes.as_slice(), &mut room)?;
     assert!(rt; framed.as_slice() == chunks(&rt, body.as_slice())?.as_slice());
-    let plain = response(&rt, false, body.as_slice(), sizes.as_slice())?;
+    let plain = response(&rt, false, body.as_slice(), sizes.as_slice(), &mut room)?;
     assert!(rt; plain.starts_with(HEAD));
     assert!(rt; plain.ends_with(body.as_slice()));
     assert_eq!(rt; plain.len(), HEAD.len() + body.len());
@@ -87,9 +92,22 @@ fn bodies_leave_in_pieces(rt: HostRuntime) -> Result<(), Fail> {
 }
 
 #[test]
+fn the_next_response_has_the_room_of_the_last(rt: HostRuntime) -> Result<(), Fail> {
+    let body = body(&rt, 5000)?;
+    let sizes = [100, 4000];
+    let mut room = Vec::new(rt.alloc());
+    let first = response(&rt, true, body.as_slice(), sizes.as_slice(), &mut room)?;
+    assert!(rt; room.capacity() >= 65536);
+    let second = response(&rt, true, body.as_slice(), sizes.as_slice(), &mut room)?;
+    assert!(rt; room.capacity() >= 65536);
+    assert!(rt; first.as_slice() == second.as_slice());
+    Ok(())
+}
+
+#[test]
 fn no_more_is_pending_than_there_is_room_for(rt: HostRuntime) -> Result<(), Fail> {
     let body = body(&rt, 70000)?;
-    let mut plain = Outgoing::new(rt.alloc(), HEAD, false)?;
+    let mut plain = Outgoing::new(rt.alloc(), HEAD, false, Vec::new(rt.alloc()))?;
     assert_eq!(rt; plain.put(body.as_slice()), 65536 - HEAD.len());
     assert_eq!(rt; plain.put(b"x"), 0);
     plain.used(10.min(plain.pending().len()));
@@ -97,9 +115,10 @@ fn no_more_is_pending_than_there_is_room_for(rt: HostRuntime) -> Result<(), Fail
     plain.put_all(body.as_slice())?;
     assert_eq!(rt; plain.pending().len(), 65536 + 70000);
     assert_eq!(rt; plain.put(b"x"), 0);
-    let mut framed = Outgoing::new(rt.alloc(), HEAD, true)?;
+    let mut framed = Outgoing::new(rt.alloc(), HEAD, true, Vec::new(rt.alloc()))?;
     assert_eq!(rt; framed.put(body.as_slice()), 15 * 4096 + 4095);
     assert_eq!(rt; framed.pending().len(), HEAD.len() + 15 * 4104);
-    assert!(rt; Outgoing::new(rt.alloc(), body.as_slice(), true).is_err());
+    let room = Vec::new(rt.alloc());
+    assert!(rt; Outgoing::new(rt.alloc(), body.as_slice(), true, room).is_err());
     Ok(())
 }

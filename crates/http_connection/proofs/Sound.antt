@@ -20,8 +20,9 @@ use Rattle.response_flow.specs.request_flow.declared.flow.Flow.{Flow}
 use Rattle.std.specs.Global.{Box}
 use Rattle.response_flow.specs.declared.flight.Flight.{Flight}
 use Rattle.response_flow.specs.declared.flight.Flight.TheVariants.{Alone, Asking, Page}
-use Rattle.response_flow.specs.Flights.{FlightFits, are_done, jobs_by, most_kept, next_of, page_ready, pending_by, ready_by, shown_kept}
+use Rattle.response_flow.specs.Flights.{FlightFits, jobs_by, most_kept, next_of, page_ready, pending_by, ready_by, shown_kept}
 use Rattle.response_flow.specs.page_response.declared.pages.Pages.{Pages}
+use Rattle.response_flow.specs.subrequests.Families.{are_done}
 use Rattle.response_flow.specs.subrequests.Wants as family
 use Rattle.response_flow.specs.request_flow.declared.flow.Stage.{Stage}
 use Rattle.response_flow.specs.request_flow.declared.flow.Stage.TheVariants.{Asked, Told, Reading, Came}

@@ -137,7 +137,7 @@ held_on (Stops cause started s b none e) = e.held
 unheld : {A : Type 0} (v : ConnView) → v.held ≡ false → is_live v ≡ true → A
 unheld v f live = let h = live_held v live in absurd (let e : true ≡ false = sym h ∙ f in cc)
 
--- A connection whose link is is_open stands so after an event.
+-- A connection whose link is open is so after an event.
 pub stands_passed : {L F R L' F' R' : Type 0} (terms : Terms) (whole : Addr → Addr → Course) (files : FilesSeen) (ticks : List Tick) (now : Start) (ground : Ground) (v v' : ConnView) (l l' : LinkView) (used used' is_open is_open' : Bool) (came went : List ℕ) → (L' → L) → (F' → F) → (R' → R) →
     (v.raceless ≡ true → (trees : Trees) → Agree files.trees files.newest trees → Holds ground trees) → now ≡ last_start ticks → is_open' ≡ is_open →
     l'.local ≡ l.local → l'.peer ≡ l.peer → l'.taken ≡ l.taken ++ came → l'.sent ≡ l.sent ++ went → EndsOn v v' l l' →
@@ -191,7 +191,7 @@ stands_closed terms whole files ticks v v' l used used' is_open is_open' is is' 
 stands_closed terms whole files ticks v v' l used used' is_open is_open' is is' gone sound shut (TurnedAway held o t s w) = absurd (let e : true ≡ false = sym is ∙ o in cc)
 stands_closed terms whole files ticks v v' l used used' is_open is_open' is is' gone sound shut (Closed last held o s h a) = absurd (let e : true ≡ false = sym is ∙ o in cc)
 
--- less may stand behind a cause
+-- less may be there after a cause
 pub passed_weaker : {L F R L' F' R' : Type 0} {now : Start} {ground : Ground} {v v' : ConnView} {came went : List ℕ} → (L → L') → (F → F') → (R → R') → Passed now ground L F R v v' came went → Passed now ground L' F' R' v v' came went
 passed_weaker l f r (Goes started is w) = Goes started is w
 passed_weaker l f r (Stops cause started is b none s) = Stops cause started is (behind l f r (λ h. h) (λ t. t) cause b) none s

@@ -1,4 +1,4 @@
--- The events of a core go on standing beside what was answered.
+-- The events of a core still agree with what was answered.
 use Rattle.std.proofs.Common.{◌≡◌, ℕ, Bool, true, false, List, [], ◌∷◌, ◌++◌, flat_map, length, Option, None, Some, refl, sym, subst, ap, ◌∙◌, append_assoc}
 use Rattle.std.proofs.lemmas.List.{append-nil, take-append-le}
 use Rattle.std.proofs.lemmas.Grind.{flat_map-append}
@@ -169,7 +169,7 @@ stand_none events links files clock = stand_same events events links links files
 from_start : {A : Type 0} (now since : List A) → Grew (Some []) now since → now ≡ since
 from_start now since g = let none : [] ≡ g.earlier = cc in g.longer ∙ ap (λ xs. xs ++ since) (sym none)
 
--- so all that was given stands beside all that was answered
+-- so all that was given agrees with all that was answered
 pub beside_from_start : {A B : Type 0} (come_of : Given → List B) (beside : A → List B) (events events' : Option (List Given)) (answers answers' : Option (List A)) →
     events ≡ Some [] → answers ≡ Some [] → Beside come_of beside events events' answers answers' →
     (given : List Given) (answered : List A) → events' ≡ Some given → answers' ≡ Some answered → flat_map come_of given ≡ flat_map beside answered

@@ -45,7 +45,7 @@ adds_none tree folder path start out none = record {
   own = λ within name child e. absurd (none name (name_of child) e);
 }
 
--- a path at which nothing stands
+-- a path at which nothing is
 pub adds_absent : (tree : Tree) (folder path : List ℕ) (start : ℕ) (out : List (List ℕ)) → ¬ (tree path ≢ Nothing) → AddsName tree folder path start out out
 adds_absent tree folder path start out absent = record {
   added = [];
@@ -79,7 +79,7 @@ adds_one tree folder path start out name is e there = record {
     child : IsChild tree folder name
     child = record { some = is.some; one = is.one; there = λ h. there (ap tree e ∙ h) }
 
--- what stands somewhere was stored there
+-- what is somewhere was stored there
 pub has_path : (below : Item) (items : List Stored) (of : ℕ) (path : List ℕ) → item_over below items of path ≢ Nothing → (below ≢ Nothing) ⊎ HasPath items path
 unfolding item_over
 has_path below [] of path h = inl h
@@ -151,18 +151,18 @@ adding_ends tree folder out new a = record {
     found name (inl h) = h
     found name (inr h) = absurd h
 
--- what stands behind the folder's front
+-- what comes after the folder's front
 rest_is : (folder front path rest name : List ℕ) → front ≡ front_of folder → path ≡ front ++ rest → path ≡ child_path folder name → rest ≡ 47 ∷ name
 rest_is folder front path rest name is e h =
     append_cancel_left front rest (47 ∷ name) (sym e ∙ h ∙ child_path_is folder name ∙ ap (λ f. f ++ 47 ∷ name) (sym is))
 
--- no slash stands behind the front
+-- no slash comes after the front
 pub no_slash : (folder front path slash rest : List ℕ) → front ≡ front_of folder → path ≡ front ++ rest → slash ≡ 47 ∷ [] →
     ((name : List ℕ) → rest ≢ slash ++ name) → (name : List ℕ) → IsName name → path ≢ child_path folder name
 no_slash folder front path slash rest is e s none name n h =
     none name (rest_is folder front path rest name is e h ∙ ap (λ f. f ++ name) (sym s))
 
--- what stands behind the slash is no name
+-- what comes after the slash is no name
 pub no_name : (folder front path slash rest found : List ℕ) → front ≡ front_of folder → path ≡ front ++ rest → slash ≡ 47 ∷ [] → rest ≡ slash ++ found →
     ¬ IsName found → (name : List ℕ) → IsName name → path ≢ child_path folder name
 no_name folder front path slash rest found is e s r none name n h =

@@ -1,4 +1,4 @@
--- What stands where, as items are stored one after another.
+-- What is where, as items are stored one after another.
 use Rattle.std.proofs.Common.{◌≡◌, ℕ, suc, ◌-◌, ◌<◌, ◌≤◌, true, false, List, [], ◌∷◌, ◌++◌, length, take, get_or, refl, sym, ap, ◌∙◌, arith}
 use Rattle.std.specs.Prelude.{if◌then◌else◌}
 use Rattle.std.proofs.Math.Seq.{take-suc}
@@ -43,7 +43,7 @@ pub store_replaces : (items : List Stored) (path : List ℕ) (item : StoredItem)
     Replaces from path item (item_in items) (item_in (items ++ record { path = path; item = item; from = from } ∷ []))
 store_replaces items path item from of q = item_over_push Nothing items (record { path = path; item = item; from = from }) of q
 
--- none stand in the first none
+-- none are in the first none
 pub none_in_front : (items : List Stored) (k of : ℕ) (path : List ℕ) → k ≤ 0 → item_in (take k items) of path ≡ Nothing
 none_in_front items k of path h =
     ap (λ n. item_in (take n items) of path) (let e : k ≡ 0 = omega arith in e) ∙ item_over_empty Nothing of path

@@ -11,7 +11,6 @@ use Rattle.family_meaning.specs.request_meaning.Serving.{World, Serving, Answer}
 use Rattle.node_turn.specs.request_phases.declared.state.Phases.{Phases}
 use Rattle.family_meaning.specs.Moves.{AllEnd, IsGood}
 use Rattle.family_meaning.specs.Suspended.{document_rest}
-use Rattle.std.specs.Global.{Box}
 use Rattle.filter_api.specs.Members.{Machine}
 use Rattle.filter_api.specs.declared.stage.Stage.{Stage as Filter}
 use Rattle.ssi_text.specs.Marks.{Mark, marks}
@@ -76,9 +75,9 @@ page_good : (w : World) (site : Site) (p : Phases) (left : ℕ) (answer : Answer
 unfolding page_at document_rest
 page_good w site p left answer page bytes h = all_then IsGood _ (λ u. Done answer) (λ u. h)
 
-placed_good : (w : World) (site : Site) (p : Phases) (left : ℕ) (answer : Answer) (page : Option (Box Page)) (bytes more : List ℕ) → IsGood answer → AllEnd IsGood (placed_act w site p left answer page bytes more)
+placed_good : (w : World) (site : Site) (p : Phases) (left : ℕ) (answer : Answer) (page : Option Page) (bytes more : List ℕ) → IsGood answer → AllEnd IsGood (placed_act w site p left answer page bytes more)
 placed_good w site p left answer None bytes more h = h
-placed_good w site p left answer (Some page) bytes more h = page_good w site p left answer page.value more h
+placed_good w site p left answer (Some page) bytes more h = page_good w site p left answer page more h
 
 stage_good : (w : World) (patterns : List SetPattern) (site : Site) (p : Phases) (left : ℕ) (path : List ℕ) (s : Stage) (text : List ℕ) → shows s ≡ true → AllEnd IsGood (stage_act w patterns site p left path s text)
 stage_good w patterns site p left path (stages.Begins ssi) text e = cc
@@ -93,9 +92,9 @@ stage_good w patterns site p left path (stages.Captures c) text e = cc
 stage_good w patterns site p left path (stages.Ends a) text e = cc
 
 -- further on too
-served_good : (w : World) (site : Site) (p : Phases) (left : ℕ) (answer : Answer) (page : Option (Box Page)) (text : List ℕ) → IsGood answer → AllEnd IsGood (served_act w site p left answer page text)
+served_good : (w : World) (site : Site) (p : Phases) (left : ℕ) (answer : Answer) (page : Option Page) (text : List ℕ) → IsGood answer → AllEnd IsGood (served_act w site p left answer page text)
 served_good w site p left answer None text h = h
-served_good w site p left answer (Some page) text h = page_good w site p left answer page.value text h
+served_good w site p left answer (Some page) text h = page_good w site p left answer page text h
 
 document_good : (w : World) (answer : Answer) (doc : Doc) (parts : List Mark) (machines : List Machine) (stages : List Filter) (bytes : List ℕ) → IsGood answer → AllEnd IsGood (document_rest w answer doc parts machines stages bytes)
 unfolding document_rest
@@ -107,9 +106,9 @@ heard_page w site p left answer page bytes name text h =
     all_then IsGood _ (λ doc. document_rest w answer doc (marks (waiting page)) (machines w page.facts) (stages_of page) bytes)
     (λ doc. document_good w answer doc (marks (waiting page)) (machines w page.facts) (stages_of page) bytes h)
 
-captured_good : (w : World) (site : Site) (p : Phases) (left : ℕ) (answer : Answer) (page : Option (Box Page)) (more name text : List ℕ) → IsGood answer → AllEnd IsGood (captured_act w site p left answer page more name text)
+captured_good : (w : World) (site : Site) (p : Phases) (left : ℕ) (answer : Answer) (page : Option Page) (more name text : List ℕ) → IsGood answer → AllEnd IsGood (captured_act w site p left answer page more name text)
 captured_good w site p left answer None more name text h = h
-captured_good w site p left answer (Some page) more name text h = heard_page w site p left answer page.value more name text h
+captured_good w site p left answer (Some page) more name text h = heard_page w site p left answer page more name text h
 
 module _ (w : World) (patterns : List SetPattern) (site : Site) (p : Phases) (left : ℕ) (path text : List ℕ) where
   pub stage_ends : (s : Stage) → good s ≡ true → AllEnd IsGood (stage_act w patterns site p left path s text)
@@ -152,10 +151,10 @@ writes w patterns site p left path text (stages.Places b) e =
     more [] ys h = λ z. h refl
     more (x ∷ xs) ys h = λ z. cc
 
-    by : (page : Option (Box Page)) → hand b.value ≢ [] →
+    by : (page : Option Page) → hand b.value ≢ [] →
         (bytes : List ℕ) × (m : Serving Answer) × (bytes ≢ []) × (placed_act w site p left (answer_seen site p b.value.answered) page (hand b.value) (later b.value text) ≡ Write bytes m)
     by None h = (hand b.value ++ later b.value text, Done (answer_seen site p b.value.answered), more (hand b.value) (later b.value text) h, refl)
-    by (Some page) h = (hand b.value, page_at w site p left (answer_seen site p b.value.answered) page.value (later b.value text), h, refl)
+    by (Some page) h = (hand b.value, page_at w site p left (answer_seen site p b.value.answered) page (later b.value text), h, refl)
 writes w patterns site p left path text (stages.Serves b) e = cc
 writes w patterns site p left path text (stages.Reads b) e = cc
 writes w patterns site p left path text (stages.Captures c) e = cc

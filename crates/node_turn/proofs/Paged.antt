@@ -28,7 +28,7 @@ use Rattle.node_turn.specs.declared.answered.Answered.{Answered}
 abbrev page_doc : World → Answer → Doc → Page → List ℕ → Serving Answer
 page_doc w answer d page bytes = document_rest w answer d (marks (waiting page)) (machines w page.facts) (stages_of page) bytes
 
--- and behind a body that goes into a variable of it
+-- and after a body that goes into a variable of it
 abbrev captured_page : World → Answer → Doc → Page → (bytes name text : List ℕ) → Serving Answer
 captured_page w answer d page bytes name text = captured d name text >>= λ doc. page_doc w answer doc page bytes
 

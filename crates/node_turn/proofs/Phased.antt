@@ -5,7 +5,7 @@ use Rattle.acts.specs.Act.{Done, Write, Stat, ◌>>=◌, settled, settled_then}
 use Rattle.acts.proofs.ActLaws.{settles_in_turn, settled_stays}
 use Rattle.file_tree.specs.declared.job.Ask.{Ask}
 use Rattle.node_turn.specs.Stages.{ask_or}
-use Rattle.node_turn.specs.Nodes.{asked_path, path_or, IsFor, lent, of_method, padded, told_item, len_of, told_length, bytes_for, body_then, after_phases, served_as, with_main}
+use Rattle.node_turn.specs.Nodes.{asked_path, path_or, IsFor, lender, lent, of_method, padded, told_item, len_of, told_length, bytes_for, body_then, after_phases, served_as, with_main}
 use Rattle.file_tree.specs.Tree.{Item, text_of, tree_of, node_of}
 use Rattle.file_tree.specs.declared.job.Node.{Node as FileNode}
 use Rattle.file_tree.specs.declared.job.Node.TheVariants as files
@@ -133,22 +133,22 @@ reply_so w site p text reply o made e s h =
     subst (λ x. IsReply reply (bytes_for o text) (prepared_as w (asked_in p) (standing_seen site p.at) (bytes_for o text) x)) e
     (h w (bytes_for o text) s (subst (λ x. FitsFile x (bytes_for o text)) (sym e) (fits o text)))
 
--- a text with nothing of a file behind it
+-- a text with nothing of a file after it
 pub none_behind : (bytes text : List ℕ) → bytes ++ padded 0 text ≡ bytes
 unfolding padded
 none_behind bytes text = append-nil bytes
 
 -- phases that were lent a main request have it still, and give it back
-pub given_back : (main other : Main) (p given after back : Phases) → given ≡ lent main p → IsOfMain given.main after.main → back ≡ lent other after → lent main back ≡ after
+pub given_back : (main other : Main) (p given after back : Phases) → given ≡ lent main p → IsOfMain given.main after.main → back ≡ record after { main = lender after.main other } → lent main back ≡ after
 given_back main other p given after back g o b =
     ap (lent main) b
     ∙ ap (λ x. record after { main = x }) (sym (o ∙ ap (λ (q : Phases). record (q.main) { method = after.main.method }) g))
 
-pub same_main : (main : Main) (p after : Phases) (given back : Main) (lended : Phases) → lended ≡ lent main p → given ≡ of_method main.method p.main → IsOfMain lended.main after.main →
-    back ≡ of_method given.method after.main → back ≡ main
+pub same_main : (main : Main) (p after : Phases) (given back : Main) (lended : Phases) → lended ≡ lent main p → given ≡ lender main p.main → IsOfMain lended.main after.main →
+    back ≡ lender given after.main → back ≡ main
 same_main main p after given back lended l g o b =
-    b ∙ (ap (λ m. of_method (given.method) m) (o ∙ ap (λ (q : Phases). record (q.main) { method = after.main.method }) l)
-    ∙ ap (λ (m : Main). of_method m.method main) g)
+    b ∙ (ap (lender given) (o ∙ ap (λ (q : Phases). record (q.main) { method = after.main.method }) l)
+    ∙ ap (λ (m : Main). lender m (of_method after.main.method main)) g)
 
 -- phases that see a main request by their own method, with no copy of it
 pub seen_main : (main one : Main) (p given : Phases) → one ≡ of_method p.main.method main → given ≡ record p { main = of_method main.method p.main } →

@@ -5,7 +5,6 @@ use Rattle.acts.specs.Act.{Done, Write}
 use Rattle.page_body.specs.site_model.declared.site.Site.{Site}
 use Rattle.request_reply.specs.request_meaning.Serving.{World, Serving, Answer}
 use Rattle.request_reply.specs.request_phases.declared.state.Phases.{Phases}
-use Rattle.std.specs.Global.{Box}
 use Rattle.page_body.specs.declared.page.Page.{Page}
 use Rattle.node_turn.specs.Nodes.{later, padded, page_at, placed_act, served_act}
 use Rattle.node_turn.specs.declared.node.Body.{Body}
@@ -15,7 +14,7 @@ use Rattle.node_turn.specs.Turns.Works.{Rests, Placed}
 use Rattle.node_turn.proofs.Serving.{same_work, both}
 
 module _ (w : World) (site : Site) (p : Phases) (left : ℕ) (answer : Answer) where
-  pub placed_so : (page : Option (Box Page)) (bytes : List ℕ) (from count : ℕ) (later : List ℕ) →
+  pub placed_so : (page : Option Page) (bytes : List ℕ) (from count : ℕ) (later : List ℕ) →
       PlacesAs (take count (drop from bytes)) (placed_act w site p left answer page (drop from bytes) later) (placed_act w site p left answer page (drop (from + count) bytes) later)
   placed_so None bytes from count later =
       let h = drop from bytes in
@@ -27,7 +26,7 @@ module _ (w : World) (site : Site) (p : Phases) (left : ℕ) (answer : Answer) w
       }
   placed_so (Some page) bytes from count later =
       let h = drop from bytes in
-      let rest = page_at w site p left answer page.value later in
+      let rest = page_at w site p left answer page later in
       record {
         more = drop count h;
         rest = rest;
@@ -36,7 +35,7 @@ module _ (w : World) (site : Site) (p : Phases) (left : ℕ) (answer : Answer) w
       }
 
   -- so are all that are at hand
-  pub whole_so : (page : Option (Box Page)) (bytes : List ℕ) (from next : ℕ) (later : List ℕ) → length bytes ≤ next →
+  pub whole_so : (page : Option Page) (bytes : List ℕ) (from next : ℕ) (later : List ℕ) → length bytes ≤ next →
       PlacesAs (drop from bytes) (placed_act w site p left answer page (drop from bytes) later) (placed_act w site p left answer page (drop next bytes) later)
   whole_so None bytes from next later e = record {
     more = later;
@@ -45,7 +44,7 @@ module _ (w : World) (site : Site) (p : Phases) (left : ℕ) (answer : Answer) w
     works = λ vars. same_work (ap (λ t. Write (t ++ later) (Done answer)) (sym (drop_of_length-le bytes e)));
   }
   whole_so (Some page) bytes from next later e =
-      let rest = page_at w site p left answer page.value later in
+      let rest = page_at w site p left answer page later in
       record {
         more = [];
         rest = rest;
@@ -54,14 +53,14 @@ module _ (w : World) (site : Site) (p : Phases) (left : ℕ) (answer : Answer) w
       }
 
   -- all of them are
-  pub all_so : (page : Option (Box Page)) (bytes : List ℕ) (from : ℕ) (later : List ℕ) (vars : Vars) → length bytes ≤ from →
+  pub all_so : (page : Option Page) (bytes : List ℕ) (from : ℕ) (later : List ℕ) (vars : Vars) → length bytes ≤ from →
       Works vars (placed_act w site p left answer page (drop from bytes) later) (served_act w site p left answer page later)
   all_so None bytes from later vars e = same_work (ap (λ t. Write (t ++ later) (Done answer)) (drop_of_length-le bytes e))
   all_so (Some page) bytes from later vars e =
-      both (same_work (ap (λ t. Write t (page_at w site p left answer page.value later)) (drop_of_length-le bytes e))) (Placed Rests)
+      both (same_work (ap (λ t. Write t (page_at w site p left answer page later)) (drop_of_length-le bytes e))) (Placed Rests)
 
   -- and nothing more comes
-  pub over_so : (page : Option (Box Page)) (bytes : List ℕ) (from : ℕ) (later : List ℕ) (vars : Vars) → length bytes ≤ from → page ≡ None → later ≡ [] →
+  pub over_so : (page : Option Page) (bytes : List ℕ) (from : ℕ) (later : List ℕ) (vars : Vars) → length bytes ≤ from → page ≡ None → later ≡ [] →
       Works vars (placed_act w site p left answer page (drop from bytes) later) (Done answer)
   over_so page bytes from later vars e none h =
       both (same_work (ap (λ y. placed_act w site p left answer y (drop from bytes) later) none

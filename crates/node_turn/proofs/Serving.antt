@@ -1,5 +1,5 @@
 -- The parts of a page in the acts of its node.
-use Rattle.std.proofs.Common.{◌≡◌, ℕ, suc, ◌&&◌, ◌==◌, not, Bool, true, false, List, [], ◌∷◌, ◌++◌, length, Option, refl, ap, ◌∙◌, subst, append_assoc}
+use Rattle.std.proofs.Common.{◌≡◌, ℕ, suc, ◌&&◌, ◌==◌, not, Bool, true, false, List, [], ◌∷◌, ◌++◌, length, Option, None, Some, is_some, refl, ap, ◌∙◌, subst, append_assoc}
 use Rattle.acts.specs.Vars.{Vars}
 use Rattle.acts.specs.Act.{Write}
 use Rattle.request_reply.specs.request_meaning.Serving.{Serving, Answer}
@@ -10,7 +10,6 @@ use Rattle.page_body.specs.Reading.Writing.{Whole, Piece}
 use Rattle.page_body.specs.site_model.declared.site.Site.{Site}
 use Rattle.request_reply.specs.request_meaning.Serving.{World}
 use Rattle.request_reply.specs.request_phases.declared.state.Phases.{Phases}
-use Rattle.std.specs.Global.{Box}
 use Rattle.page_body.specs.declared.page.Page.{Page}
 use Rattle.node_turn.specs.Nodes.{answer_seen, captured_act, padded, from_source, hand, later, placed_act, served_act}
 use Rattle.node_turn.specs.declared.answered.Answered.{Answered}
@@ -71,9 +70,19 @@ spent s file e =
     ap (λ t. t ++ padded s.left file) (empty_is s.text (left_of (length s.text == 0) (s.left == 0 && not s.unread) e))
     ∙ ap (λ n. padded n file) (zero_is s.left (left_of (s.left == 0) (not s.unread) (right_of (length s.text == 0) (s.left == 0 && not s.unread) e)))
 
+-- ---- pages that are there, and not
+
+pub none_of : {A : Type 0} (o : Option A) → is_some o ≡ false → o ≡ None
+none_of None e = refl
+none_of (Some x) e = cc
+
+pub some_of : {A : Type 0} (o : Option A) → is_some o ≡ true → (x : A) × (o ≡ Some x)
+some_of None e = cc
+some_of (Some x) e = (x, refl)
+
 -- ---- bodies
 
-module _ (w : World) (site : Site) (p : Phases) (left : ℕ) (b : Body) (answered : Answered) (source : Source) (page : Option (Box Page))
+module _ (w : World) (site : Site) (p : Phases) (left : ℕ) (b : Body) (answered : Answered) (source : Source) (page : Option Page)
     (same : (b.answered ≡ answered) × (b.source ≡ source) × (b.page ≡ page)) (file : List ℕ) where
   pub body_served : served_act w site p left (answer_seen site p b.answered) b.page (later b file) ≡ served_act w site p left (answer_seen site p answered) page (from_source source file)
   body_served =

@@ -31,7 +31,6 @@ use Rattle.http_moment.specs.Shown.{default_format}
 use Rattle.std.specs.Prelude.{option_map, unwrap_or, zero, suc, ◌∷◌}
 use Rattle.page_body.specs.Pages.{waiting, stages_of}
 use Rattle.page_body.specs.declared.page.Page.{Page}
-use Rattle.std.specs.Global.{Box}
 use Rattle.node_turn.specs.declared.answered.Answered.{Answered}
 use Rattle.node_turn.specs.declared.node.Body.{Body}
 use Rattle.node_turn.specs.declared.node.Source.{Source}
@@ -43,6 +42,18 @@ use Rattle.node_turn.specs.declared.node.Stage.TheVariants.{Begins, Asks, Told, 
 -- with another method
 abbrev pub of_method : Method → Main → Main
 of_method method main = record main { method = method }
+
+-- a main request that has of another one what may have memory, but for its method
+abbrev pub lender : Main → Main → Main
+lender main other = record main {
+  asked = other.asked;
+  target = other.target;
+  host = other.host;
+  server_name = other.server_name;
+  date = other.date;
+  fields = other.fields;
+  folder = other.folder;
+}
 
 -- phases to which a main request is lent, whose method stays their own
 abbrev pub lent : Main → Phases → Phases
@@ -165,19 +176,19 @@ captured_at w site p left answer page bytes name text = do
   doc ← captured (doc_at site p left page.document) name text
   document_rest w answer doc (marks (waiting page)) (machines w page.facts) (stages_of page) bytes
 
-abbrev pub captured_act : World → Site → Phases → (left : ℕ) → Answer → Option (Box Page) → (more name text : List ℕ) → Serving Answer
+abbrev pub captured_act : World → Site → Phases → (left : ℕ) → Answer → Option Page → (more name text : List ℕ) → Serving Answer
 captured_act w site p left answer None more name text = Done answer
-captured_act w site p left answer (Some page) more name text = captured_at w site p left answer page.value more name text
+captured_act w site p left answer (Some page) more name text = captured_at w site p left answer page more name text
 
 -- bytes that are placed next, and what follows, where this is still to come of the file
-abbrev pub placed_act : World → Site → Phases → (left : ℕ) → Answer → Option (Box Page) → (bytes more : List ℕ) → Serving Answer
+abbrev pub placed_act : World → Site → Phases → (left : ℕ) → Answer → Option Page → (bytes more : List ℕ) → Serving Answer
 placed_act w site p left answer None bytes more = Write (bytes ++ more) (Done answer)
-placed_act w site p left answer (Some page) bytes more = Write bytes (page_at w site p left answer page.value more)
+placed_act w site p left answer (Some page) bytes more = Write bytes (page_at w site p left answer page more)
 
 -- what follows them
-abbrev pub served_act : World → Site → Phases → (left : ℕ) → Answer → Option (Box Page) → (more : List ℕ) → Serving Answer
+abbrev pub served_act : World → Site → Phases → (left : ℕ) → Answer → Option Page → (more : List ℕ) → Serving Answer
 served_act w site p left answer None more = Write more (Done answer)
-served_act w site p left answer (Some page) more = page_at w site p left answer page.value more
+served_act w site p left answer (Some page) more = page_at w site p left answer page more
 
 abbrev pub hand : Body → List ℕ
 hand b = drop b.from b.bytes

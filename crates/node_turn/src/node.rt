@@ -26,7 +26,7 @@ pub struct Body {
     pub bytes: ByteText,
     pub from: usize,
     pub source: Source,
-    pub page: Option<Box<Page>>,
+    pub page: Option<Page>,
     ghost within: { from ≤ length bytes },
 }
 

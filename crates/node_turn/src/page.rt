@@ -10,8 +10,9 @@ ghost use Rattle.request_reply.specs.request_phases.declared.state.Phases.{Phase
 ghost use Rattle.page_body.specs.ssi_exec.declared.document.Scene.{Scene as SceneView};
 ghost use Rattle.acts.specs.Act.{Done};
 ghost use Rattle.page_body.specs.Pages.{Does, page_captured, page_rest, stop_of, text_then, waits};
+ghost use Rattle.page_body.specs.declared.page.Page.{Page as PageView};
 ghost use Rattle.node_turn.specs.Nodes.{answer_seen, captured_act, captured_at, from_source, hand, later, page_at, served_act};
-ghost use Rattle.node_turn.specs.Served.{ServesTo, WaitsAt, is_spent as source_spent};
+ghost use Rattle.node_turn.specs.Served.{NextPart, ServesTo, WaitsAt, is_spent as source_spent};
 ghost use Rattle.node_turn.specs.Turns.{IsSceneOf};
 
 use crate::node::{Body, Capture, Source, Stage};
@@ -37,29 +38,16 @@ pub(crate) enum Served {
     Wants,
 }
 
-/// A body of which these bytes are placed next, with its page again.
-fn with_bytes(body: Box<Body>, bytes: ByteText, page: Option<Box<Page>>) -> Box<Body>
+/// A body of which these bytes are placed next.
+fn with_bytes(body: Box<Body>, bytes: ByteText) -> Box<Body>
     ensures others { (result.value.answered ≡ body.value.answered)
-        × (result.value.source ≡ body.value.source) × (result.value.page ≡ page) }
+        × (result.value.source ≡ body.value.source) × (result.value.page ≡ body.value.page) }
     ensures hand { hand result.value ≡ bytes }
 {
     let mut body = body;
     body.from = 0;
     body.bytes = bytes;
-    body.page = page;
     body
-}
-
-/// The page of a body, which has none then.
-fn apart(body: Box<Body>) -> (Box<Body>, Option<Box<Page>>)
-    ensures page { result.1 ≡ body.value.page }
-    ensures answered { result.0.value.answered ≡ body.value.answered }
-    ensures source { result.0.value.source ≡ body.value.source }
-    ensures left { result.0.value.page ≡ None }
-{
-    let mut body = body;
-    let page = take(&mut body.page, None);
-    (body, page)
 }
 
 /// Whether nothing more comes.
@@ -81,8 +69,8 @@ fn supplies(alloc: Global, source: &mut Source, page: &mut Page) -> Result<bool,
         return Ok(false);
     }
     if !source.text.is_empty() {
-        page.feed(alloc, source.text.as_slice())?;
-        put(&mut source.text, ByteText::new(alloc));
+        let text = take(&mut source.text, ByteText::new(alloc));
+        page.feed(alloc, text)?;
         return Ok(false);
     }
     if !is_spent(source) {
@@ -92,56 +80,81 @@ fn supplies(alloc: Global, source: &mut Source, page: &mut Page) -> Result<bool,
     Ok(false)
 }
 
-/// What is done for the next part of a page.
+/// The next part of a page, as what is done for it; none where a block of its file is to be asked first.
+fn next_part(
+    alloc: Global,
+    scene: &Scene<'_>,
+    vars: &VarTable,
+    source: &mut Source,
+    page: &mut Page,
+) -> Result<Option<Doing>, OutOfMemory>
+    ensures { IfOk result (λ found.
+        NextPart scene.now vars.now page.old source.old page.new source.new found) }
+{
+    if supplies(alloc, source, page)? {
+        return Ok(None);
+    }
+    let doing = page.next(alloc, scene, vars)?;
+    Ok(Some(doing))
+}
+
+/// The next part of the page of a body, which stays in its place.
+fn body_next(
+    alloc: Global,
+    scene: &Scene<'_>,
+    vars: &VarTable,
+    body: &mut Body,
+) -> Result<Option<Doing>, OutOfMemory>
+    ensures { IfOk result (λ found. (page : PageView) → body.old.page ≡ Some page
+        → (new : PageView) × (body.new.page ≡ Some new)
+        × (body.new.answered ≡ body.old.answered)
+        × NextPart scene.now vars.now page body.old.source new body.new.source found) }
+{
+    match &mut body.page {
+        Some(page) => Ok(next_part(alloc, scene, vars, &mut body.source, page)?),
+        None => Err(OutOfMemory),
+    }
+}
+
+/// What is done for the next part of the page of a body.
 fn done(
     alloc: Global,
     scene: &Scene<'_>,
     stage: &mut Stage,
     body: Box<Body>,
-    page: Box<Page>,
     doing: Doing,
 ) -> Result<Served, OutOfMemory>
     ensures acts { IfOk result (λ served. (g : GroundView) (p : PhasesView) (levels : ℕ)
         (patterns : List SetPattern) (path file : List ℕ) (vars : Vars) (old : Serving Answer)
-        → IsSceneOf g p levels scene.now
+        (page : PageView) → body.value.page ≡ Some page → IsSceneOf g p levels scene.now
         → let w = world_in patterns g shipped in
         let answer = answer_seen g.site.now p body.value.answered in
-        let new = page_at w g.site.now p levels answer page.value (later body.value file) in
+        let new = page_at w g.site.now p levels answer page (later body.value file) in
         Does p.main vars doing old new
-        (captured_at w g.site.now p levels answer page.value (later body.value file))
+        (captured_at w g.site.now p levels answer page (later body.value file))
         → (stop_of doing ≡ Some true → source_spent body.value.source ≡ true → old ≡ Done answer)
         → ServesTo g p levels patterns path file vars old stage.new served) }
     ensures waits { IfOk result (λ served. WaitsAt served stage.new) }
 {
     match doing {
         Doing::Nothing => {
-            let body = with_bytes(body, ByteText::new(alloc), Some(page));
             fill(stage, Stage::Serves(body));
             Ok(Served::On)
         }
         Doing::Writes(text) => {
-            let body = with_bytes(body, text, Some(page));
-            fill(stage, Stage::Places(body));
+            fill(stage, Stage::Places(with_bytes(body, text)));
             Ok(Served::On)
         }
         Doing::Includes(child) => {
-            let body = with_bytes(body, ByteText::new(alloc), Some(page));
             fill(stage, Stage::Serves(body));
             Ok(Served::Opens(child))
         }
         Doing::Captures { name, child } => {
-            let none = Withheld::new(alloc);
-            let body = with_bytes(body, ByteText::new(alloc), Some(page));
-            let capture = Capture {
-                body,
-                name,
-                text: none,
-            };
-            fill(stage, Stage::Captures(capture));
+            let text = Withheld::new(alloc);
+            fill(stage, Stage::Captures(Capture { body, name, text }));
             Ok(Served::Asks(child))
         }
         Doing::NeedsMore => {
-            let body = with_bytes(body, ByteText::new(alloc), Some(page));
             fill(stage, Stage::Serves(body));
             Ok(Served::On)
         }
@@ -155,32 +168,22 @@ fn done(
     }
 }
 
-/// Takes up the next part of a page.
-fn page_serves(
-    alloc: Global,
-    scene: &Scene<'_>,
-    vars: &VarTable,
-    stage: &mut Stage,
-    body: Box<Body>,
-    page: Box<Page>,
-) -> Result<Served, OutOfMemory>
-    ensures acts { IfOk result (λ served. (g : GroundView) (p : PhasesView) (levels : ℕ)
-        (patterns : List SetPattern) (path file : List ℕ) → IsSceneOf g p levels scene.now
-        → ServesTo g p levels patterns path file vars.now
-        (page_at (world_in patterns g shipped) g.site.now p levels
-        (answer_seen g.site.now p body.value.answered) page.value
-        (later body.value file)) stage.new served) }
-    ensures waits { IfOk result (λ served. WaitsAt served stage.new) }
+/// Goes on with a body that is sent as it is, of which nothing is at hand.
+fn file_serves(stage: &mut Stage, body: Box<Body>) -> Served
+    ensures acts { body.value.page ≡ None → (g : GroundView) (p : PhasesView) (levels : ℕ)
+        (patterns : List SetPattern) (path file : List ℕ) (vars : Vars)
+        → ServesTo g p levels patterns path file vars
+        (served_act (world_in patterns g shipped) g.site.now p levels
+        (answer_seen g.site.now p body.value.answered) body.value.page (later body.value file))
+        stage.new result }
+    ensures waits { WaitsAt result stage.new }
 {
-    let mut body = body;
-    let mut page = page;
-    if supplies(alloc, &mut body.source, &mut page)? {
-        let body = with_bytes(body, ByteText::new(alloc), Some(page));
-        fill(stage, Stage::Serves(body));
-        return Ok(Served::Wants);
+    if is_spent(&body.source) {
+        fill(stage, Stage::Ends(body));
+        return Served::On;
     }
-    let doing = page.next(alloc, scene, vars)?;
-    Ok(done(alloc, scene, stage, body, page, doing)?)
+    fill(stage, Stage::Serves(body));
+    Served::Wants
 }
 
 /// Goes on with a body of which nothing is at hand.
@@ -199,14 +202,13 @@ pub(crate) fn serves(
         stage.new served) }
     ensures waits { IfOk result (λ served. WaitsAt served stage.new) }
 {
-    let (body, page) = apart(body);
-    match page {
-        Some(page) => Ok(page_serves(alloc, scene, vars, stage, body, page)?),
+    if body.page.is_none() {
+        return Ok(file_serves(stage, body));
+    }
+    let mut body = body;
+    match body_next(alloc, scene, vars, &mut body)? {
+        Some(doing) => Ok(done(alloc, scene, stage, body, doing)?),
         None => {
-            if is_spent(&body.source) {
-                fill(stage, Stage::Ends(body));
-                return Ok(Served::On);
-            }
             fill(stage, Stage::Serves(body));
             Ok(Served::Wants)
         }
@@ -236,6 +238,27 @@ fn captures(
     Ok(text)
 }
 
+/// The page of a body has the body of a subrequest now, and stays in its place. The text that is written for it, if there is one.
+fn body_hears(
+    alloc: Global,
+    scene: &Scene<'_>,
+    body: &mut Body,
+    name: &[u8],
+    text: Withheld,
+) -> Result<Option<ByteText>, OutOfMemory>
+    ensures { IfOk result (λ found. (page : PageView) → body.old.page ≡ Some page
+        → (new : PageView) × (body.new.page ≡ Some new)
+        × (body.new.answered ≡ body.old.answered) × (body.new.source ≡ body.old.source)
+        × ((w : World) (answer : Answer) (bytes : List ℕ)
+        → page_captured w answer scene.now page name.now text bytes
+        ≡ text_then found (page_rest w answer scene.now new bytes))) }
+{
+    match &mut body.page {
+        Some(page) => Ok(captures(alloc, scene, page, name, text)?),
+        None => Err(OutOfMemory),
+    }
+}
+
 /// Goes on with a body whose page has the body of a subrequest now.
 pub(crate) fn hears(
     alloc: Global,
@@ -252,19 +275,16 @@ pub(crate) fn hears(
     ensures waits { IfOk result (λ served. WaitsAt served stage.new) }
 {
     let Capture { body, name, text } = capture;
-    let (body, page) = apart(body);
-    let Some(page) = page else {
+    if body.page.is_none() {
         return Err(OutOfMemory);
-    };
-    let mut page = page;
-    match captures(alloc, scene, &mut page, name.as_slice(), text)? {
+    }
+    let mut body = body;
+    match body_hears(alloc, scene, &mut body, name.as_slice(), text)? {
         Some(text) => {
-            let body = with_bytes(body, text, Some(page));
-            fill(stage, Stage::Places(body));
+            fill(stage, Stage::Places(with_bytes(body, text)));
             Ok(Served::On)
         }
         None => {
-            let body = with_bytes(body, ByteText::new(alloc), Some(page));
             fill(stage, Stage::Serves(body));
             Ok(Served::On)
         }

@@ -17,7 +17,7 @@ ghost use Rattle.node_turn.specs.Stages.{is_asking};
 ghost use Rattle.node_turn.specs.declared.node.Stage.TheVariants.{Begins as BeginsView, Told as ToldView};
 
 use crate::answered::{Answered, Parted, apart};
-use crate::lending::lend;
+use crate::lending::{give_back, lend_to};
 use crate::node::{Body, Source, Stage};
 use byte_text::{ByteText, OutOfMemory};
 use error_page::page_text;
@@ -159,7 +159,7 @@ fn paged(
         filtered_rest w levels ssi answer facts (source.text ++ padded source.left file)
         ≡ stage_act w patterns g.site.now p levels path stage file) }
 {
-    let page = Box::new(alloc, Page::new(alloc, &facts, ssi)?)?;
+    let page = Page::new(alloc, &facts, ssi)?;
     let body = Body {
         answered,
         bytes: ByteText::new(alloc),
@@ -335,10 +335,10 @@ pub(crate) fn begins(
     ensures kept { patterns.new ≡ patterns.old }
 {
     let Footing { ground, left } = footing;
-    lend(main, phases);
+    lend_to(main, phases);
     let step = begin(alloc, ground, patterns, phases, vars)?;
     let turned = after_step(alloc, ground, phases, left, ssi, step, 0)?;
-    lend(main, phases);
+    give_back(main, phases);
     Ok(turned)
 }
 
@@ -381,9 +381,9 @@ pub(crate) fn resumes(
 {
     let Footing { ground, left } = footing;
     let Told { wait, file, ssi } = told;
-    lend(main, phases);
+    lend_to(main, phases);
     let step = resume(alloc, ground, wait, file, patterns, phases, vars)?;
     let turned = after_step(alloc, ground, phases, left, ssi, step, len_of(file))?;
-    lend(main, phases);
+    give_back(main, phases);
     Ok(turned)
 }

@@ -7,6 +7,7 @@ use byte_text::{ByteQueue, OutOfMemory};
 use chunk_out::ChunkState;
 use std::alloc::Global;
 use std::marker::Model;
+use std::mem::swap;
 
 /// How many bytes may be pending, but for those of `put_all`.
 const MOST: usize = 65536;
@@ -33,8 +34,8 @@ fn moved_down(bytes: &mut Vec<u8>, start: usize) -> usize
     0
 }
 
-/// A buffer with the head of a response.
-fn reserved(alloc: Global, head: &[u8]) -> Result<Vec<u8>, OutOfMemory>
+/// A buffer with the head of a response, in this room as far as it goes.
+fn reserved(head: &[u8], room: Vec<u8>) -> Result<Vec<u8>, OutOfMemory>
     ensures items { IfOk result (λ bytes. bytes.items ≡ head.now) }
     ensures small { IfOk result (λ bytes. length head.now ≤ most) }
     ensures room { IfOk result (λ bytes. 131072 ≤ vec_capacity bytes) }
@@ -42,7 +43,9 @@ fn reserved(alloc: Global, head: &[u8]) -> Result<Vec<u8>, OutOfMemory>
     if head.len() > MOST {
         return Err(OutOfMemory);
     }
-    let mut bytes = Vec::with_capacity(alloc, ROOM)?;
+    let mut bytes = room;
+    bytes.clear();
+    bytes.reserve(ROOM)?;
     bytes.extend_from_slice(head)?;
     Ok(bytes)
 }
@@ -72,15 +75,20 @@ impl Model for Outgoing {
 
 impl Outgoing {
     /// The head of a response, before the first byte of its body; `chunked` says whether the body
-    /// is framed. It takes all the memory that later calls but `put_all` and `finish` need. No head
-    /// has more than 65536 bytes.
-    pub fn new(alloc: Global, head: &[u8], chunked: bool) -> Result<Outgoing, OutOfMemory>
+    /// is framed. It takes all the memory that later calls but `put_all` and `finish` need, in
+    /// `room` as far as that goes, whatever bytes are in it. No head has more than 65536 bytes.
+    pub fn new(
+        alloc: Global,
+        head: &[u8],
+        chunked: bool,
+        room: Vec<u8>,
+    ) -> Result<Outgoing, OutOfMemory>
         ensures pending { IfOk result (λ outgoing. outgoing.pending ≡ head.now) }
         ensures block { IfOk result (λ outgoing.
             outgoing.block ≡ (if chunked then Some [] else None)) }
         ensures bounded { IfOk result (λ outgoing. length outgoing.pending ≤ most) }
     {
-        let bytes = reserved(alloc, head)?;
+        let bytes = reserved(head, room)?;
         let framing = begun(alloc, chunked)?;
         Ok(Outgoing {
             bytes,
@@ -151,8 +159,9 @@ impl Outgoing {
 
     /// Ends the body, and hands all that is still to be written to the queue: how many of these
     /// bytes are the tail of a body in chunks, its last chunk and the empty one; 0 of one that isn't
-    /// in chunks. After want of memory the queue is as before.
-    pub fn finish(self, out: &mut ByteQueue) -> Result<usize, OutOfMemory>
+    /// in chunks. Its own room is put in the place of `room`, for the next response, unless it has
+    /// grown. After want of memory the queue is as before.
+    pub fn finish(self, out: &mut ByteQueue, room: &mut Vec<u8>) -> Result<usize, OutOfMemory>
         ensures ok { OnOk result (out.new ≡ out.old ++ to_come self []) }
         ensures tail { IfOk result (λ tail. tail ≡ length (framed_as self.block [])) }
         ensures few { waiting self.block < 4096 }
@@ -161,6 +170,9 @@ impl Outgoing {
         let mut bytes = self.bytes;
         let tail = end(self.framing, &mut bytes)?;
         out.append(&bytes.as_slice()[self.start..])?;
+        if bytes.capacity() <= ROOM {
+            swap(room, &mut bytes);
+        }
         Ok(tail)
     }
 }

@@ -77,11 +77,11 @@ impl Page {
     }
 
     /// A block of the file came.
-    pub fn feed(&mut self, alloc: Global, block: &[u8]) -> Result<(), OutOfMemory>
+    pub fn feed(&mut self, alloc: Global, block: ByteText) -> Result<(), OutOfMemory>
         requires { waits self.old ≡ false }
         ensures comes { OnOk result ((scene : SceneView) (w : World) (answer : Answer)
             (more : List ℕ) → w.members ≡ shipped
-            → page_rest w answer scene self.old (block.now ++ more)
+            → page_rest w answer scene self.old (block ++ more)
             ≡ page_rest w answer scene self.new more) }
         ensures stays { OnOk result (is_finished self.new ≡ is_finished self.old) }
     {

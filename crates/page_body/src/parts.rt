@@ -26,30 +26,29 @@ pub(crate) fn is_added(facts: &Facts) -> bool
     facts.main && (facts.status == 200 && (facts.addition_type && (facts.before || facts.after)))
 }
 
-/// The parts of a block: where it isn't split, it is one text.
+/// The parts of a block: where it isn't split, or is all text, it is one text, with no copy.
 pub(crate) fn block_parts(
     alloc: Global,
     split: &mut SsiState,
     is_split: bool,
-    block: &[u8],
+    block: ByteText,
     out: &mut Vec<Part>,
 ) -> Result<(), OutOfMemory>
     ensures undecided { OnOk result ((facts : FactsView) → split_stage is_split split.new
         ≡ (stage_feeds (ssi_machine facts) (split_stage is_split split.old)
-        (map Byte block.now)).0) }
+        (map Byte block)).0) }
     ensures out { OnOk result ((facts : FactsView) → marks out.new.items ≡ marks out.old.items
         ++ (stage_feeds (ssi_machine facts) (split_stage is_split split.old)
-        (map Byte block.now)).1) }
+        (map Byte block)).1) }
 {
     if block.is_empty() {
         return Ok(());
     }
     if is_split {
-        split.feed(alloc, block, out)?;
+        split.feed_text(alloc, block, out)?;
         return Ok(());
     }
-    let text = ByteText::from_slice(alloc, block)?;
-    push_part(out, Part::Text(text))?;
+    push_part(out, Part::Text(block))?;
     Ok(())
 }
 

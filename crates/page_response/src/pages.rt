@@ -83,7 +83,8 @@ fn put_rest(order: &mut Order, outgoing: &mut Outgoing, sent: u64) -> Result<u64
 }
 
 impl Pages {
-    /// A page whose head is put now. Its body comes in chunks or ends with the connection.
+    /// A page whose head is put now. Its body comes in chunks or ends with the connection. Its bytes
+    /// are kept in `room` as far as that goes, whatever is in it.
     ///
     /// # Errors
     /// `OutOfMemory`.
@@ -93,6 +94,7 @@ impl Pages {
         head: &[u8],
         chunked: bool,
         status: u16,
+        room: Vec<u8>,
     ) -> Result<Pages, OutOfMemory>
         ensures family { IfOk result (λ p. p.family ≡ family) }
         ensures outgoing { IfOk result (λ p. (p.outgoing.pending ≡ head.now)
@@ -103,7 +105,7 @@ impl Pages {
     {
         Ok(Pages {
             family,
-            outgoing: Outgoing::new(alloc, head, chunked)?,
+            outgoing: Outgoing::new(alloc, head, chunked, room)?,
             status,
             sent: 0,
             steps: MOST_STEPS,
@@ -252,11 +254,12 @@ impl Pages {
     }
 
     /// A page whose nodes are all over is put after what is kept for the peer, whole: how many
-    /// bytes its body has, and its tail.
+    /// bytes its body has, and its tail. The room of its bytes is put in the place of `room`, for
+    /// the next page.
     ///
     /// # Errors
     /// `OutOfMemory`.
-    pub fn finish(self, out: &mut ByteQueue) -> Result<Finished, OutOfMemory>
+    pub fn finish(self, out: &mut ByteQueue, room: &mut Vec<u8>) -> Result<Finished, OutOfMemory>
         requires { IsWhole self.family }
         ensures put { OnOk result ((w : World) (patterns : List SetPattern) (site : SiteRow)
             (trees : Trees) → IsAllOver w patterns site trees self
@@ -278,7 +281,7 @@ impl Pages {
         let mut outgoing = outgoing;
         order.end(0);
         let size = put_rest(&mut order, &mut outgoing, sent)?;
-        let tail = outgoing.finish(out)?;
+        let tail = outgoing.finish(out, room)?;
         Ok(Finished { size, tail })
     }
 }

@@ -21,7 +21,7 @@ one_within x q h =
     let within : h.0 < 1 = h.1 in let first : h.0 ≡ 0 = omega arith in
     sym (ap (λ k. get_or (x ∷ []) k q) first) ∙ h.2
 
--- a section's file stands at this path, or below it
+-- a section's file is at this path, or below it
 abbrev Lies : List Conf → List ℕ → Type 0
 Lies [] p = ⊥
 Lies (conf ∷ confs) p = (bytes_eq conf.path p ≡ true) ⊎ ((is_some (below p conf.path) ≡ true) ⊎ Lies confs p)
@@ -42,7 +42,7 @@ below_lies (conf ∷ confs) p e = go (is_some (below p conf.path)) refl e (below
     go true is f more = inr (inl is)
     go false is f more = inr (inr (more f))
 
--- what stands somewhere is a section's file, or lies above one
+-- what is somewhere is a section's file, or lies above one
 there_lies : (confs : List Conf) (p : List ℕ) → conf_tree confs p ≢ Nothing → Lies confs p
 there_lies confs p there = go (text_at confs p) refl (has_below confs p) refl
   where
@@ -72,7 +72,7 @@ lies_there confs p l = go (text_at confs p) (has_below confs p) (lies_either con
     go None false (inl e) = λ f. cc
     go None false (inr e) = λ f. cc
 
--- a text is its first name, or goes on behind a slash
+-- a text is its first name, or goes on after a slash
 splits : (rest : List ℕ) → (rest ≡ first_name rest) ⊎ (is_some (behind (first_name rest ++ 47 ∷ []) rest) ≡ true)
 splits [] = inl refl
 splits (b ∷ bs) = go (eqb b 47) refl (splits bs)
@@ -133,7 +133,7 @@ no_slash (b ∷ bs) h = go (eqb b 47) refl h (no_slash bs)
         cases (inl here) = let same : b ≡ 47 = one_within b 47 here in let f : eqb b 47 ≡ true = grind (arith, nat_tests) in cc
         cases (inr there) = more there
 
--- the path of a name, and what stands below it
+-- the path of a name, and what is below it
 child_is : (folder name : List ℕ) → child_path folder name ≡ (front_of folder ++ 47 ∷ []) ++ name
 child_is folder name = plain folder ∙ sym (append_assoc (front_of folder) (47 ∷ []) name)
   where

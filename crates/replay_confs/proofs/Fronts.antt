@@ -33,7 +33,7 @@ pub behind_found : (front text : List ℕ) (r : Option (Bor (List ℕ))) → Mat
 behind_found front text None m = sym (behind_none front text m)
 behind_found front text (Some x) m = sym (ap (behind front) m ∙ behind_front front x.now)
 
--- one front behind another
+-- one front after another
 abbrev pub behind_then : Option (List ℕ) → List ℕ → Option (List ℕ)
 behind_then None next = None
 behind_then (Some rest) next = behind next rest

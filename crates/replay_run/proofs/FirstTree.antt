@@ -11,7 +11,7 @@ use Rattle.replay_text.specs.declared.parts.TreeLine.{TreeLine}
 use Rattle.replay_run.specs.Told.{Told, path_of, item_of, item_by, tree_by, told_first}
 use Rattle.replay_run.proofs.Growing.{told_same}
 
--- a line behind the others
+-- a line after the others
 item_more : (below : Item) (xs : List TreeLine) (l : TreeLine) (q : List ℕ) → item_by below (xs ++ l ∷ []) q ≡ cond (bytes_eq (path_of l) q) (item_of l) (item_by below xs q)
 item_more below [] l q = refl
 item_more below (x ∷ xs) l q = item_more (cond (bytes_eq (path_of x) q) (item_of x) below) xs l q

@@ -24,7 +24,7 @@ grows path item told = go (nat_lt told.newest (next_number told.newest)) refl
         record { rises = omega arith; same = λ of h q. before (next_number told.newest) of (bytes_eq path q) item (told.trees of q) (omega arith) }
     go false is = record { rises = omega arith; same = λ of h q. refl }
 
--- the number behind one that isn't its type's last
+-- the number after one that isn't its type's last
 pub next_above : (n : ℕ) → n < 2 ^ 64 - 1 → n < next_number n
 unfolding next_number
 next_above n h = omega arith

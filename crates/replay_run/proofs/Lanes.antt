@@ -21,7 +21,7 @@ none_more c xs i x h none e ne =
     let f : eqb x.conn c ≡ false = grind (arith, nat_tests) in
     ap (has_lane c) (take_more xs i x h ∙ ap (λ y. take i xs ++ y ∷ []) (sym e)) ∙ has-append c (take i xs) (x ∷ []) ∙ ap (λ r. r || (eqb x.conn c || false)) none ∙ ap (λ t. t || false) f
 
--- the first stands here
+-- the first is here
 pub at_place : (c : ℕ) (xs : List LaneOf) (i : ℕ) (x : LaneOf) → i < length xs → has_lane c (take i xs) ≡ false → x ≡ get_or xs i x → x.conn ≡ c → LaneAt c xs i
 at_place c xs i x h none e n = record {
   front = take i xs;
@@ -33,7 +33,7 @@ at_place c xs i x h none e n = record {
   before = none;
 }
 
--- what lies behind a front without the connection
+-- what comes after a front without the connection
 lane-append : (c : ℕ) (xs ys : List LaneOf) → has_lane c xs ≡ false → lane_in (xs ++ ys) c ≡ lane_in ys c
 lane-append c [] ys h = refl
 lane-append c (x ∷ xs) ys h = case (eqb x.conn c) (has_lane c xs) h (lane-append c xs ys)
@@ -107,7 +107,7 @@ conn_at c lanes i here at is = ap (λ (l : LaneOf). l.conn) (same_there c lanes 
 pub sum_at : (f : LaneOf → ℕ) (c : ℕ) (lanes : List LaneOf) (i : ℕ) (here new : LaneOf) → LaneAt c lanes i → here ≡ get_or lanes i here → sum_by f (set lanes i new) + f here ≡ sum_by f lanes + f new
 sum_at f c lanes i here new at is = ap (λ x. sum_by f (set lanes i new) + f x) is ∙ sum_by-set f lanes i new here (within c lanes i at)
 
--- an empty lane behind the others changes nothing
+-- an empty lane after the others changes nothing
 pub same_added : (c : ℕ) (lanes new : List LaneOf) (l : LaneOf) → new ≡ lanes ++ l ∷ [] → shown_lane l ≡ empty_lane → (q : ℕ) → lane_in new q ≡ lane_in lanes q
 same_added c lanes new l e empty q = ap (λ xs. lane_in xs q) e ∙ go lanes
   where

@@ -21,7 +21,7 @@ plays_on terms lines i l a told told' old mid new k r k' r' k'' r'' h is e f sam
     (subst (λ n. Plays terms (take i lines ++ l ∷ []) told old k r new n r'') (sym e) (subst (λ n. Plays terms (take i lines ++ l ∷ []) told old k r new (skipped_after a k') n) (sym f)
     (plays_more terms (take i lines) l a told old mid new k r k' r' p (subst (λ (t : Told). LineDoes terms t l a mid new) same d))))
 
--- what the files tell behind one line more
+-- what the files tell after one line more
 pub told_on : (lines : List EventLine) (i : ℕ) (l : EventLine) (told told' told'' : Told) → i < length lines → l ≡ get_or lines i l → told' ≡ told_in (take i lines) told → told'' ≡ told_after l told' → told'' ≡ told_in (take (i + 1) lines) told
 told_on lines i l told told' told'' h is same next =
     next ∙ ap (told_after l) same ∙ sym (told_more (take i lines) l told) ∙ ap (λ xs. told_in xs told) (sym (take_more lines i l h ∙ ap (λ x. take i lines ++ x ∷ []) (sym is)))

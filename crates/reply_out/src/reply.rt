@@ -30,6 +30,8 @@ pub struct Workspace {
     pub head_room: HeadRoom,
     /// The room of a large response that went out.
     pub out_room: OutRoom,
+    /// The room of the bytes of a page that is over, for those of the next one.
+    pub page_room: Vec<u8>,
     /// The patterns of the site that is served.
     pub patterns: PatternSet,
     /// The room of a request that is over, for the next one.
@@ -46,6 +48,7 @@ impl Workspace {
             heads: Heads::new(alloc),
             head_room: HeadRoom::new(alloc),
             out_room: OutRoom::new(alloc),
+            page_room: Vec::new(alloc),
             patterns,
             spare: None,
         }

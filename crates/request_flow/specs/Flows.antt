@@ -239,7 +239,7 @@ stage_opened (Told request wait node) = request.value.opened
 stage_opened (Reading sending left) = 0
 stage_opened (Came sending left placed) = 0
 
--- it has asked so many
+-- it has asked this many
 abbrev pub StageOpened : (count : ℕ) → Stage → Type 0
 StageOpened count (Asked request wait) = request.value.opened ≡ count
 StageOpened count (Told request wait node) = request.value.opened ≡ count

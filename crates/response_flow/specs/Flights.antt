@@ -1,5 +1,5 @@
 -- A response in flight: what is still to come of it, what it waits for, and how far it is.
-use Rattle.std.specs.Prelude.{◌≡◌, ℕ, ◌≤◌, ◌+◌, ◌-◌, ◌*◌, ◌/◌, ◌^◌, ◌==◌, min, nat_le, Bool, true, false, not, ◌&&◌, ◌||◌, List, [], ◌∷◌, length, take, is_none, Option, None, Some, if◌then◌else◌, ◌++◌, ◌⊎◌, is_some}
+use Rattle.std.specs.Prelude.{◌≡◌, ℕ, ◌≤◌, ◌+◌, ◌-◌, ◌*◌, ◌/◌, ◌^◌, ◌==◌, min, nat_le, Bool, true, false, ◌&&◌, ◌||◌, List, [], ◌∷◌, length, take, is_none, Option, None, Some, if◌then◌else◌, ◌++◌, ◌⊎◌, is_some}
 use Rattle.file_tree.specs.Tree.{Trees, tree_of}
 use Rattle.ngx_outside.specs.Views.{Job, no_bytes}
 use Rattle.ngx_pattern.specs.Pattern.{Pattern as SetPattern}
@@ -7,10 +7,7 @@ use Rattle.site_model.specs.declared.site.Site.{Site}
 use Rattle.request_meaning.specs.Serving.{World}
 use Rattle.chunk_out.specs.Chunks.{block_size, chunk}
 use Rattle.outgoing.specs.Leaving.{most}
-use Rattle.std.specs.List.{list_all}
-use Rattle.access_flow.specs.node_turn.Stages.{is_ending}
-use Rattle.access_flow.specs.node_turn.declared.node.Node.{Node}
-use Rattle.subrequests.specs.Families.{over_node}
+use Rattle.subrequests.specs.Families.{are_done}
 use Rattle.subrequests.specs.Moved.{IsWhole}
 use Rattle.subrequests.specs.Wants as family
 use Rattle.page_response.specs.Pages.{EndsIn, IsReached, bytes_left, nodes_asked, pages_left, whole_length}
@@ -152,14 +149,6 @@ jobs_by (Page p) = family.jobs_of p.pages.value.family
 abbrev pub jobs_of : Option Flight → List Job
 jobs_of None = []
 jobs_of (Some flight) = jobs_by flight
-
--- the first node has come to its answer, and no other goes on
-abbrev pub is_last : Node → Bool
-is_last n = is_ending n.stage && (not n.over && n.children == 0)
-
-abbrev pub are_done : List Node → Bool
-are_done [] = false
-are_done (n ∷ nodes) = is_last n && list_all over_node nodes
 
 -- The first node of a page is the one that can run: to end the page, where no other goes on; and, so that a page always goes on,
 -- where no node can run, none asks the files and nothing is to be written.

@@ -54,7 +54,7 @@ fn source_of(alloc: Global, known: Known) -> Source
     }
 }
 
-/// Begins the page of a request on whose body filters act.
+/// Begins the page of a request on whose body filters act, with its bytes in this room.
 ///
 /// # Errors
 /// `OutOfMemory`.
@@ -62,6 +62,7 @@ pub(crate) fn opened(
     alloc: Global,
     ground: &Ground<'_>,
     start: PageStart,
+    room: Vec<u8>,
 ) -> Result<PageFlow, OutOfMemory>
     requires told { IsTold start.page }
     ensures opens { (patterns : List SetPattern) → IfOk result (λ p.
@@ -105,7 +106,7 @@ pub(crate) fn opened(
         opened,
     };
     let family = Family::begin(alloc, ground, phases, vars, decided)?;
-    let pages = Pages::begin(alloc, family, head.as_slice(), chunked, status)?;
+    let pages = Pages::begin(alloc, family, head.as_slice(), chunked, status, room)?;
     Ok(PageFlow {
         pages: Box::new(alloc, pages)?,
         server,

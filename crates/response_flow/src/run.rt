@@ -95,14 +95,15 @@ fn alone(onward: FlowOnward) -> Onward
     }
 }
 
-/// A page that is over: what is still unsent of it is kept for the peer. `level` is the number of
-/// the level that answers where its head was put now.
+/// A page that is over: what is still unsent of it is kept for the peer, and the room of its bytes
+/// for the next page. `level` is the number of the level that answers where its head was put now.
 #[tactic(auto, unfolding(crate::specs::Flights::most_kept))]
 fn ends(
     pages: Pages,
     out: &mut ByteQueue,
     closing: bool,
     level: Option<u32>,
+    room: &mut Vec<u8>,
 ) -> Result<Onward, OutOfMemory>
     requires whole { IsWhole pages.family }
     requires unsent { out.old ≡ [] }
@@ -119,7 +120,7 @@ fn ends(
 {
     row_tells_still();
     let status = pages.status;
-    let finished = pages.finish(out)?;
+    let finished = pages.finish(out, room)?;
     if out.len() > MOST_KEPT {
         return Err(OutOfMemory);
     }
@@ -183,7 +184,13 @@ fn run_page(
     match inside.run(space.alloc, ground, &mut space.patterns, at) {
         Ok(FamilyRan::Rests) => {
             if at == 0 && pages.family.is_done() {
-                return Ok(Ran::On(ends(Box::into_inner(pages), out, closing, level)?));
+                return Ok(Ran::On(ends(
+                    Box::into_inner(pages),
+                    out,
+                    closing,
+                    level,
+                    &mut space.page_room,
+                )?));
             }
             Ok(Ran::On(Onward {
                 flight: Some(Flight::Page(PageFlow {
@@ -245,7 +252,8 @@ fn opens(
 {
     let closing = start.closing;
     let level = start.level;
-    let page = opened(space.alloc, ground, start)?;
+    let room = take(&mut space.page_room, Vec::new(space.alloc));
+    let page = opened(space.alloc, ground, start, room)?;
     Ok(run_page(space, ground, page, 0, out, closing, Some(level))?)
 }
 
@@ -583,11 +591,12 @@ fn page_passes(
     }
 }
 
-/// Ends a page that is over, in its place.
+/// Ends a page that is over, in its place; the room of its bytes is kept for the next page.
 fn page_ends(
     flight: &mut Option<Flight>,
     out: &mut ByteQueue,
     closing: bool,
+    room: &mut Vec<u8>,
 ) -> Result<Passed, OutOfMemory>
     requires page { (p : PageFlowView) × (flight.old ≡ Some (PageFlight p))
         × IsWhole p.pages.value.family }
@@ -608,7 +617,7 @@ fn page_ends(
 {
     match take(flight, None) {
         Some(Flight::Page(page)) => {
-            let onward = ends(Box::into_inner(page.pages), out, closing, None)?;
+            let onward = ends(Box::into_inner(page.pages), out, closing, None, room)?;
             Ok(goes_on(flight, onward))
         }
         Some(Flight::Alone(_)) => unreachable!(),
@@ -777,7 +786,7 @@ pub fn run_in_place(
         None => unreachable!(),
     };
     match over {
-        Some(true) => Ok(page_ends(flight, out, closing)?),
+        Some(true) => Ok(page_ends(flight, out, closing, &mut space.page_room)?),
         Some(false) => Ok(Passed::On {
             closing,
             log: None,

@@ -5,19 +5,16 @@ ghost use Rattle.ngx_outside.specs.Views.{ask_in};
 ghost use Rattle.ngx_pattern.specs.Pattern.{Pattern as SetPattern};
 ghost use Rattle.request_meaning.specs.Serving.{World};
 ghost use Rattle.site_model.specs.declared.site.Site.{Site as SiteRow};
-ghost use Rattle.std.specs.List.{list_all};
-ghost use Rattle.subrequests.specs.Families.{over_node};
 ghost use Rattle.subrequests.specs.Moved.{IsWhole};
 ghost use Rattle.subrequests.specs.Wants.{first_job as job_first, first_of, is_among};
 ghost use Rattle.request_flow.specs.Flows.{shown_most};
-ghost use Rattle.response_flow.specs.Flights.{FlightFits, FlightReached, FlightServedBy, flight_left, flight_rest, flight_tree, are_done as are_done_nodes, ends_first as ends_first_page, is_last as is_last_node, is_stuck as is_stuck_page, jobs_of, next_of, pending_of, ready_of, shown_kept, unsent_of};
+ghost use Rattle.response_flow.specs.Flights.{FlightFits, FlightReached, FlightServedBy, flight_left, flight_rest, flight_tree, ends_first as ends_first_page, is_stuck as is_stuck_page, jobs_of, next_of, pending_of, ready_of, shown_kept, unsent_of};
 ghost use Rattle.response_flow.specs.Flights.{page_left};
 ghost use Rattle.response_flow.specs.Writes.{Writes, with_bytes};
 ghost use Rattle.outgoing.specs.Leaving.{most};
 ghost use Rattle.page_response.specs.Pages.{IsReached, pages_left};
 
 use crate::flight::{Flight, PageFlow};
-use access_flow::node_turn::{Node, Stage};
 use access_flow::{AccessFlow, is_inner, may_run as access_may_run, waits as access_waits};
 use byte_text::ByteQueue;
 use file_tree::Ask;
@@ -142,38 +139,6 @@ pub fn first_job(flight: &Option<Flight>) -> Option<u32>
     }
 }
 
-fn is_over(node: &Node) -> bool
-    ensures { result ≡ over_node node.now }
-{
-    node.over
-}
-
-fn all_over(nodes: &[Node]) -> bool
-    ensures { result ≡ list_all over_node nodes.now }
-{
-    nodes.iter().all(|node| is_over(node))
-}
-
-/// Whether a node has come to its answer, and no subrequest of it goes on.
-fn is_last(node: &Node) -> bool
-    ensures { result ≡ is_last_node node.now }
-{
-    match &node.stage {
-        Stage::Ends(_) => !node.over && node.children == 0,
-        _ => false,
-    }
-}
-
-/// Whether the first of these nodes has come to its answer, and no other goes on.
-fn are_done(nodes: &[Node]) -> bool
-    ensures { result ≡ are_done_nodes nodes.now }
-{
-    match nodes {
-        [] => false,
-        [first, others @ ..] => is_last(first) && all_over(others),
-    }
-}
-
 /// Whether nothing of a page can go on that isn't over: that never comes about.
 fn is_stuck(pages: &Pages) -> bool
     requires { IsWhole pages.now.family }
@@ -189,7 +154,7 @@ fn ends_first(pages: &Pages) -> bool
     requires { IsWhole pages.now.family }
     ensures { result ≡ ends_first_page pages.now }
 {
-    are_done(pages.family.nodes.as_slice()) || is_stuck(pages)
+    pages.family.is_done() || is_stuck(pages)
 }
 
 /// The first node that can run.

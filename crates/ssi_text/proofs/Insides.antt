@@ -89,7 +89,7 @@ pub unescaped-past : (out bs all : List ℕ) (i : ℕ) → length bs ≤ i → o
 unfolding unescaped
 unescaped-past out bs all i h p = sym (append-nil out) ∙ ap (λ z. out ++ unescaped z) (sym (drop_all i bs h)) ∙ p
 
-no_more : (x y : Bool) → (x || y) ≡ false → (x ≡ false) × (y ≡ false)
+pub no_more : (x y : Bool) → (x || y) ≡ false → (x ≡ false) × (y ≡ false)
 no_more true y e = cc
 no_more false y e = (refl, e)
 
@@ -177,7 +177,7 @@ abbrev pub valued : List ℕ → ℕ → List ℕ → Option ℕ → Option (Par
 valued name n bytes None = None
 valued name n bytes (Some k) = Some (record { name = lowercase name; value = unescaped (take (k - 1) bytes) }, n + (2 + k))
 
-assigned_long : (name : List ℕ) (n : ℕ) (bs : List ℕ) → 2 ≤ length bs → assigned name n bs ≡ (if (get_or bs 0 0 == 61) && is_quote (get_or bs 1 0) then valued name n (drop 2 bs) (quoted (get_or bs 1 0) (drop 2 bs)) else None)
+pub assigned_long : (name : List ℕ) (n : ℕ) (bs : List ℕ) → 2 ≤ length bs → assigned name n bs ≡ (if (get_or bs 0 0 == 61) && is_quote (get_or bs 1 0) then valued name n (drop 2 bs) (quoted (get_or bs 1 0) (drop 2 bs)) else None)
 unfolding assigned
 assigned_long name n [] h = absurd (omega arith)
 assigned_long name n (a ∷ []) h = absurd (omega arith)

@@ -4,3 +4,5 @@ pub mod Steps
 pub mod Feeds
 pub mod Insides
 pub mod Opens
+pub mod Shorter
+pub mod Onward

@@ -1,7 +1,7 @@
 -- One step of the scans.
-use Rattle.std.proofs.Common.{◌≡◌, ℕ, suc, ◌+◌, ◌<◌, ◌≤◌, Bool, ◌||◌, ◌&&◌, not, true, false, ◌==◌, List, [], ◌∷◌, Option, None, Some, length, get_or, drop, refl, sym, ap, ◌∙◌, arith, length-drop, if◌then◌else◌}
+use Rattle.std.proofs.Common.{◌≡◌, ℕ, zero, suc, ◌+◌, ◌<◌, ◌≤◌, Bool, ◌||◌, ◌&&◌, not, true, false, ◌==◌, List, [], ◌∷◌, Option, None, Some, length, get_or, drop, refl, sym, ap, ◌∙◌, arith, length-drop, if◌then◌else◌}
 use Rattle.std.proofs.lemmas.List.{drop_more, drop_all, drop-drop}
-use Rattle.std.proofs.lemmas.Bool.{eq-eqb, ne_eqb}
+use Rattle.std.proofs.lemmas.Bool.{eqb-true, eq-eqb, ne_eqb}
 use Rattle.ssi_text.specs.declared.place.Begun.TheVariants.{Yes, No, Maybe}
 use Rattle.ssi_text.specs.Split.{begins}
 use Rattle.std.specs.List.{prefix_len}
@@ -70,7 +70,7 @@ end-within place bs i e = omega (arith, ends-long place (drop i bs) e, length-dr
 
 -- a run of plain bytes
 
-none_of : (x y : Bool) → not (x || y) ≡ true → (x ≡ false) × (y ≡ false)
+pub none_of : (x y : Bool) → not (x || y) ≡ true → (x ≡ false) × (y ≡ false)
 none_of true y e = cc
 none_of false true e = cc
 none_of false false e = (refl, refl)
@@ -164,3 +164,35 @@ size-taken bs i o h e is =
       | false ↦ refl
     ]
     ∙ size-on Outside bs i h e
+
+-- as many plain bytes as one likes
+pub size-skip : (n : ℕ) (bs : List ℕ) → n ≤ prefix_len is_plain bs → add n (size Outside (drop n bs)) ≡ size Outside bs
+size-skip zero bs h = add-none (size Outside bs)
+size-skip (suc n) [] h = let none : suc n ≤ 0 = h in absurd (omega arith)
+size-skip (suc n) (b ∷ bs) h =
+    elim (is_plain b) as (λ t. is_plain b ≡ t → suc n ≤ (if t then 1 + prefix_len is_plain bs else 0) → add (suc n) (size Outside (drop n bs)) ≡ size Outside (b ∷ bs)) [
+      | true ↦ λ e g. sym (one_more-add n (size Outside (drop n bs))) ∙ ap one_more (size-skip n bs (omega arith)) ∙ sym (size-plain b bs e)
+      | false ↦ λ e g. absurd (omega arith)
+    ] refl h
+
+pub size-three : (bs : List ℕ) → closes bs ≡ true → size Outside bs ≡ Some 3
+size-three [] e = cc
+size-three (b ∷ bs) e = size-cons Outside b bs ∙ ap (λ t. if t then Some 3 else one_more (size (behind Outside b) bs)) e
+
+quote_dash : (q : ℕ) → is_quote q ≡ true → (q == 45) ≡ false
+quote_dash q e =
+    elim (q == 34) as (λ t. (q == 34) ≡ t → (t || (q == 39)) ≡ true → (q == 45) ≡ false) [
+      | true ↦ λ t _. ap (λ z. z == 45) (eqb-true q 34 t)
+      | false ↦ λ _ h. ap (λ z. z == 45) (eqb-true q 39 h)
+    ] refl e
+
+-- `=` and a value in quotes
+pub size-assigned : (a q : ℕ) (bs : List ℕ) (k : ℕ) → (a == 61) ≡ true → is_quote q ≡ true → Some k ≡ quoted q bs → size Outside (a ∷ (q ∷ bs)) ≡ add (2 + k) (size Outside (drop (2 + k) (a ∷ (q ∷ bs))))
+size-assigned a q bs k ea eq ek =
+    let o = size Outside (drop k bs) in
+    size-plain a (q ∷ bs) (ap is_plain (eqb-true a 61 ea))
+    ∙ ap one_more (size-cons Outside q bs ∙ ap (λ t. if t then Some 3 else one_more (size (behind Outside q) bs)) (closes-dash q bs (quote_dash q eq)))
+    ∙ ap (λ t. one_more (one_more (size (if t then Within q else Outside) bs))) eq
+    ∙ ap (λ z. one_more (one_more z)) (size-quoted q bs ∙ ap (after bs) (sym ek))
+    ∙ ap one_more (one_more-add k o) ∙ one_more-add (suc k) o
+    ∙ ap (λ m. add m (size Outside (drop m (a ∷ (q ∷ bs))))) (let two : suc (suc k) ≡ 2 + k = omega arith in two)

@@ -1,6 +1,6 @@
 -- One step of the split, by what is at the front.
 use Rattle.std.proofs.Common.{◌≡◌, ℕ, zero, suc, ◌+◌, ◌-◌, ◌<◌, ◌≤◌, nat_le, true, false, ◌==◌, List, [], ◌∷◌, ◌++◌, Option, None, Some, map, length, get_or, drop, take, refl, sym, ap, ◌∙◌, arith, append_assoc, append-nil, length-drop, length-take, if◌then◌else◌, subst}
-use Rattle.std.proofs.lemmas.List.{drop_all, drop-drop, get_or-drop}
+use Rattle.std.proofs.lemmas.List.{take_all, drop_all, drop-drop, get_or-drop}
 use Rattle.std.proofs.lemmas.Bool.{eqb-true, eq-eqb, le-leb, lt-leb}
 use Rattle.memchr.specs.Find.{OccursAt, Nowhere, Passes, is_byte}
 use Rattle.ssi_text.specs.declared.part.Part.{Part}
@@ -133,6 +133,12 @@ moved-end a b bs rest p e = (sym (ap (λ z. b ++ z.0) e ∙ append-nil b) ∙ p.
 pub split-past : (bs : List ℕ) (at : ℕ) → length bs ≤ at → split 0 (drop at bs) ≡ ([], drop at bs)
 unfolding split
 split-past bs at h = let e : drop at bs ≡ [] = drop_all at bs h in ap (split 0) e ∙ ap (λ z. ([], z)) (sym e)
+
+-- all of it is text
+pub all-text : (bs : List ℕ) (n : ℕ) → length bs ≤ n → split 0 bs ≡ with_text (take n bs) (split 0 (drop n bs)) → split 0 bs ≡ (map Byte bs, [])
+all-text bs n h is =
+    is ∙ (ap (with_text (take n bs)) (split-past bs n h ∙ ap (λ z. ([], z)) (drop_all n bs h))
+    ∙ (ap (λ t. (map Byte t ++ [], [])) (take_all n bs h) ∙ ap (λ z. (z, [])) (append-nil (map Byte bs))))
 
 pub marks-append : (xs ys : List Part) → marks (xs ++ ys) ≡ marks xs ++ marks ys
 marks-append [] ys = refl

@@ -4,3 +4,4 @@ pub mod Split
 pub mod Moves
 pub mod Laws
 pub mod Names
+pub mod Reads

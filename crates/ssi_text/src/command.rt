@@ -15,14 +15,14 @@ fn is_space(byte: u8) -> bool
     byte == b' ' || byte == b'\t' || byte == b'\n' || byte == b'\r'
 }
 
-fn is_word(byte: u8) -> bool
+pub fn is_word(byte: u8) -> bool
     ensures { result ≡ is_word_byte byte }
 {
     !(is_space(byte) || byte == b'=' || is_quote(byte))
 }
 
 /// How many bytes of white space come first.
-fn space_len(bytes: &[u8]) -> usize
+pub fn space_len(bytes: &[u8]) -> usize
     ensures value { result ≡ prefix_len is_space_byte bytes.now }
     ensures within { result ≤ length bytes.now }
 {
@@ -78,7 +78,11 @@ fn begins_value(equals: u8, quote: u8) -> bool
 }
 
 /// The value after a parameter's name, and the parameter with the number of its bytes.
-fn assigned(alloc: Global, name: &[u8], bytes: &[u8]) -> Result<Option<(Param, usize)>, OutOfMemory>
+pub fn assigned(
+    alloc: Global,
+    name: &[u8],
+    bytes: &[u8],
+) -> Result<Option<(Param, usize)>, OutOfMemory>
     ensures value { IfOk result (λ found. found
         ≡ assigned_of name.now (length name.now) bytes.now) }
     ensures within { IfOk result (λ found. IfSome found

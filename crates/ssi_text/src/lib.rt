@@ -6,6 +6,7 @@ mod laws;
 mod name;
 mod part;
 mod place;
+mod read;
 mod scan;
 mod state;
 

@@ -41,7 +41,7 @@ pub fn rest_of(bytes: &[u8], at: usize) -> &[u8]
 }
 
 /// Whether the bytes begin with `-->`.
-fn closes(bytes: &[u8]) -> bool
+pub fn closes(bytes: &[u8]) -> bool
     ensures { result ≡ closes_at bytes.now }
 {
     match bytes {
@@ -51,7 +51,7 @@ fn closes(bytes: &[u8]) -> bool
 }
 
 /// Whether a byte outside quotes neither ends the command nor opens a quote.
-fn is_plain(byte: u8) -> bool
+pub fn is_plain(byte: u8) -> bool
     ensures { result ≡ is_plain_byte byte }
 {
     !(byte == b'-' || is_quote(byte))

@@ -1,5 +1,5 @@
 // The scan of bytes that may go on.
-ghost use Rattle.std.specs.Prelude.{◌≡◌, ℕ, ◌+◌, ◌-◌, ◌<◌, ◌≤◌, ◌++◌, [], ◌∷◌, length, take, drop, map, IfOk, IfSome, IfNone, MatchOption, IsTrue, false};
+ghost use Rattle.std.specs.Prelude.{◌≡◌, ℕ, ◌+◌, ◌-◌, ◌<◌, ◌≤◌, ◌++◌, [], ◌∷◌, length, take, drop, map, IfOk, IfSome, IfNone, MatchOption, IsTrue, true, false};
 ghost use Rattle.ssi_text.specs.Marks.{Byte, marks, part_marks};
 ghost use Rattle.ssi_text.specs.Moves.{Moved};
 ghost use Rattle.ssi_text.specs.Split.{split, with_text, limit, begins, begun as begun_front, front, opening};
@@ -8,6 +8,7 @@ ghost use Rattle.ssi_text.specs.Commands.{Outside, size};
 use crate::command::made;
 use crate::part::{Front, Part};
 use crate::place::{Begun, begins_with, rest_of, size_of_command};
+use crate::read::read_command;
 use byte_text::{ByteText, OutOfMemory};
 use memchr::{memchr, memmem};
 use std::alloc::Global;
@@ -82,6 +83,13 @@ fn text_len_at_end(bytes: &[u8]) -> usize
     len
 }
 
+/// Whether all bytes are text, whatever comes after them.
+pub fn is_text(bytes: &[u8]) -> bool
+    ensures { result ≡ true → split 0 bytes.now ≡ (map Byte bytes.now, []) }
+{
+    text_len(bytes) == bytes.len()
+}
+
 /// As many of the bytes as a command may have.
 fn first_bytes(bytes: &[u8]) -> &[u8]
     ensures value { result.now ≡ take limit bytes.now }
@@ -114,8 +122,10 @@ fn inside_of(bytes: &[u8], size: usize) -> &[u8]
     &inside[..size.saturating_sub(3)]
 }
 
-/// What a command is that has begun.
-fn begun(alloc: Global, bytes: &[u8]) -> Result<Front, OutOfMemory>
+/// What a command is that has begun: its end is searched for, and then its inside read.
+// Most commands are read as they come, so this is seldom called.
+#[inline(never)]
+fn searched(alloc: Global, bytes: &[u8]) -> Result<Front, OutOfMemory>
     requires { 5 ≤ length bytes.now }
     ensures { IfOk result (λ found. found
         ≡ begun_front bytes.now (size Outside (drop 5 (take limit bytes.now)))) }
@@ -135,6 +145,21 @@ fn begun(alloc: Global, bytes: &[u8]) -> Result<Front, OutOfMemory>
     }
 }
 
+/// What a command is that has begun.
+fn begun(alloc: Global, bytes: &[u8]) -> Result<Front, OutOfMemory>
+    requires { 5 ≤ length bytes.now }
+    ensures { IfOk result (λ found. found
+        ≡ begun_front bytes.now (size Outside (drop 5 (take limit bytes.now)))) }
+{
+    match read_command(alloc, behind_opening(bytes))? {
+        Some((part, n)) => Ok(Front::Whole(part, 5 + n)),
+        None => {
+            let found = searched(alloc, bytes)?;
+            Ok(found)
+        }
+    }
+}
+
 /// What is at the front.
 fn front_of(alloc: Global, bytes: &[u8]) -> Result<Front, OutOfMemory>
     ensures { IfOk result (λ found. found ≡ front bytes.now) }
@@ -149,8 +174,9 @@ fn front_of(alloc: Global, bytes: &[u8]) -> Result<Front, OutOfMemory>
     }
 }
 
+/// Adds a part.
 #[inline(always)]
-fn push_part(out: &mut Vec<Part>, part: Part) -> Result<(), OutOfMemory>
+pub fn push_part(out: &mut Vec<Part>, part: Part) -> Result<(), OutOfMemory>
     ensures { IfOk result (λ _. marks out.new.items ≡ marks out.old.items ++ part_marks part) }
 {
     out.push(part)?;
@@ -181,6 +207,7 @@ fn take_text(alloc: Global, bytes: &[u8], out: &mut Vec<Part>) -> Result<usize, 
 }
 
 /// Takes what is at the front: nothing, where it is open.
+#[inline(never)]
 fn take_front(alloc: Global, bytes: &[u8], out: &mut Vec<Part>) -> Result<usize, OutOfMemory>
     requires { 0 < length bytes.now }
     ensures within { IfOk result (λ n. n ≤ length bytes.now) }

@@ -5,8 +5,8 @@ ghost use Rattle.ssi_text.specs.Split.{split, parts};
 
 use crate::part::Part;
 use crate::place::rest_of;
-use crate::scan::{push_text, split_bytes};
-use byte_text::{ByteQueue, OutOfMemory};
+use crate::scan::{is_text, push_part, push_text, split_bytes};
+use byte_text::{ByteQueue, ByteText, OutOfMemory};
 use std::alloc::Global;
 use std::marker::Model;
 
@@ -98,6 +98,26 @@ impl SsiState {
                 return Ok(());
             }
         }
+    }
+
+    /// The next bytes of the document, as `feed` takes them, in a text of their own: where all of it is text it becomes
+    /// a part as it is, with no copy.
+    pub fn feed_text(
+        &mut self,
+        alloc: Global,
+        piece: ByteText,
+        out: &mut Vec<Part>,
+    ) -> Result<(), OutOfMemory>
+        ensures out { IfOk result (λ _. marks out.new.items
+            ≡ marks out.old.items ++ (split 0 (self.old ++ piece)).0) }
+        ensures undecided { IfOk result (λ _. self.new ≡ (split 0 (self.old ++ piece)).1) }
+    {
+        if self.undecided.is_empty() && is_text(piece.as_slice()) {
+            push_part(out, Part::Text(piece))?;
+            return Ok(());
+        }
+        self.feed(alloc, piece.as_slice(), out)?;
+        Ok(())
     }
 
     /// The document ends, so what is undecided is text; another may begin. After want of memory the state and `out` may only

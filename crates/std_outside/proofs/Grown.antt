@@ -2,7 +2,7 @@
 use Rattle.std.proofs.Common.{◌≡◌, List, [], ◌++◌, sym, ap, ◌∙◌, append_assoc}
 use Rattle.std.proofs.lemmas.List.{append-nil}
 
--- new is old with more behind it
+-- new is old with more after it
 pub record Longer {X : Type 0} (old new : List X) : Type 0 where
   pub added : List X
   pub whole : new ≡ old ++ added

@@ -17,7 +17,7 @@ use Rattle.family_order.specs.Acts.{IsOver}
 use Rattle.family_order.specs.Items.Stance.{Going}
 use Rattle.family_order.specs.Laws.{ShowsTheSame}
 use Rattle.node_line.specs.node_turn.Stages.{is_ending, is_in_row, is_placing, is_reading, is_serving, is_turning, node_act, can_place}
-use Rattle.subrequests.specs.Families.{AreDone, IsSound, captured_at, goes_on_at, in_row_at, over_node}
+use Rattle.subrequests.specs.Families.{IsSound, are_done, captured_at, goes_on_at, in_row_at, is_last, over_node}
 use Rattle.node_seats.specs.Seats.{doing_by, is_captured, most_levels, seen}
 use Rattle.node_seats.proofs.Seated.{in_row_is}
 use Rattle.node_line.specs.node_turn.declared.node.Place.{Place}
@@ -47,6 +47,10 @@ right_of false b e = cc
 pub none_of : {A : Type 0} (o : Option A) → is_some o ≡ false → o ≡ None
 none_of None e = refl
 none_of (Some x) e = cc
+
+pub asks_none : {A : Type 0} (o : Option A) → is_none o ≡ true → o ≡ None
+asks_none None e = refl
+asks_none (Some x) e = cc
 
 pub some_same : {A : Type 0} (x y : A) → Some x ≡ Some y → x ≡ y
 some_same x y e = ap (λ o. unwrap_or o x) e
@@ -156,25 +160,31 @@ none_goes (n ∷ nodes) (suc j) e = none_goes nodes j (right_of n.over (list_all
 false_true : {A : Type 0} → false ≡ true → A
 false_true e = cc
 
-pub done_is : (w : World) (patterns : List SetPattern) (site : Site) (main : Main) (row : Row) (nodes : List Node) (texts : ℕ → List ℕ) → AreDone nodes → IsSound row nodes →
+pub done_is : (w : World) (patterns : List SetPattern) (site : Site) (main : Main) (row : Row) (nodes : List Node) (texts : ℕ → List ℕ) → are_done nodes ≡ true → IsSound row nodes →
     (answer : Answer) × IsOver (seen w patterns site main row nodes texts) answer
-done_is w patterns site main row [] texts e sound = absurd e
+done_is w patterns site main row [] texts e sound = cc
 done_is w patterns site main row (n ∷ nodes) texts e sound =
-    let is = e.0 in
-    let act = ended_act w patterns site main n (texts 0) is.0 in (
+    let last = left_of (is_last n) (list_all over_node nodes) e in
+    let ends = left_of (is_ending n.stage) (not n.over && (is_in_row n.place && (is_none n.asks && n.children == 0))) last in
+    let after = right_of (is_ending n.stage) (not n.over && (is_in_row n.place && (is_none n.asks && n.children == 0))) last in
+    let goes = left_of (not n.over) (is_in_row n.place && (is_none n.asks && n.children == 0)) after in
+    let placed = right_of (not n.over) (is_in_row n.place && (is_none n.asks && n.children == 0)) after in
+    let in_row = left_of (is_in_row n.place) (is_none n.asks && n.children == 0) placed in
+    let asks = asks_none n.asks (left_of (is_none n.asks) (n.children == 0) (right_of (is_in_row n.place) (is_none n.asks && n.children == 0) placed)) in
+    let act = ended_act w patterns site main n (texts 0) ends in (
       act.0,
       record {
         left = n.left;
         stands =
-            in_row_is (doing_by w patterns site main texts) (n ∷ nodes) most_levels 0 n refl (row_is n.place is.2) is.3 ∙ ap (Going n.left) act.1;
-        goes_on = sound.going 0 ∙ ap not is.1;
+            in_row_is (doing_by w patterns site main texts) (n ∷ nodes) most_levels 0 n refl (row_is n.place in_row) asks ∙ ap (Going n.left) act.1;
+        goes_on = sound.going 0 ∙ goes;
         alone = alone;
       },
     )
   where
     alone : (j : ℕ) → is_open j row.pieces ≡ true → j ≡ 0
     alone zero h = refl
-    alone (suc j) h = false_true (sym (none_goes nodes j e.1) ∙ sym (sound.going (suc j)) ∙ h)
+    alone (suc j) h = false_true (sym (none_goes nodes j (right_of (is_last n) (list_all over_node nodes) e)) ∙ sym (sound.going (suc j)) ∙ h)
 
 -- ---- answers
 

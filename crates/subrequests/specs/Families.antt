@@ -1,5 +1,5 @@
 -- A family as its nodes keep it.
-use Rattle.std.specs.Prelude.{◌≡◌, ℕ, ◌-◌, ◌≤◌, ◌&&◌, Bool, true, false, not, List, [], ◌∷◌, ◌++◌, length, slice_get, Option, None, Some, nat_le, nat_lt, ◌==◌, ◌||◌}
+use Rattle.std.specs.Prelude.{◌≡◌, ℕ, ◌-◌, ◌≤◌, ◌&&◌, Bool, true, false, not, List, [], ◌∷◌, ◌++◌, length, slice_get, Option, None, Some, is_none, nat_le, nat_lt, ◌==◌, ◌||◌}
 use Rattle.std.specs.List.{list_all}
 use Rattle.file_tree.specs.Tree.{Trees}
 use Rattle.ngx_pattern.specs.Pattern.{Pattern as SetPattern}
@@ -95,10 +95,14 @@ abbrev pub gathers_at : Option Node → Bool
 gathers_at None = false
 gathers_at (Some n) = is_gathering n.place
 
--- the first of these nodes has come to its answer, and all others are over
-abbrev pub AreDone : List Node → Type 0
-AreDone [] = ⊥
-AreDone (n ∷ nodes) = ((is_ending n.stage ≡ true) × (n.over ≡ false) × (is_in_row n.place ≡ true) × (n.asks ≡ None)) × (list_all over_node nodes ≡ true)
+-- the node has come to its answer, which goes to the row, and no subrequest of it goes on
+abbrev pub is_last : Node → Bool
+is_last n = is_ending n.stage && (not n.over && (is_in_row n.place && (is_none n.asks && n.children == 0)))
+
+-- this is so of the first node, and all others are over
+abbrev pub are_done : List Node → Bool
+are_done [] = false
+are_done (n ∷ nodes) = is_last n && list_all over_node nodes
 
 -- the status of the answer to which the node has come, and 0 where it has come to none
 abbrev pub end_status : Stage → ℕ

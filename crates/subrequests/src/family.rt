@@ -7,8 +7,8 @@ ghost use Rattle.request_meaning.specs.Serving.{World};
 ghost use Rattle.node_line.specs.request_phases.Rounds.{IsGround};
 ghost use Rattle.node_line.specs.request_phases.declared.ground.Ground.{Ground as GroundView};
 ghost use Rattle.site_model.specs.declared.site.Site.{Site as SiteRow};
-ghost use Rattle.node_line.specs.node_turn.Stages.{is_ending, is_in_row as in_row, is_placing, is_serving, is_turning, item_asked, may_fetch};
-ghost use Rattle.subrequests.specs.Families.{AreDone, goes_on_at, in_row_at, over_node};
+ghost use Rattle.node_line.specs.node_turn.Stages.{is_in_row as in_row, is_placing, is_serving, is_turning, item_asked, may_fetch};
+ghost use Rattle.subrequests.specs.Families.{are_done as are_done_nodes, goes_on_at, in_row_at, is_last as is_last_node, over_node};
 ghost use Rattle.node_seats.specs.Seats.{is_seated as has_seat};
 ghost use Rattle.std.specs.List.{list_all};
 ghost use Rattle.subrequests.specs.Moved.{BeginsWith, Comes, IsDone, IsFromAt, IsWhole, Keeps, OverrunsBy, Steps, files, fits_at, meant, stands};
@@ -116,12 +116,11 @@ fn all_over(nodes: &[Node]) -> bool
 
 /// Whether a node has come to its answer, and no subrequest of it goes on.
 fn is_last(node: &Node) -> bool
-    ensures { result ≡ true → (is_ending node.now.stage ≡ true) × (node.now.over ≡ false)
-        × (in_row node.now.place ≡ true) × (node.now.asks ≡ None) }
+    ensures { result ≡ is_last_node node.now }
 {
     match &node.stage {
         Stage::Ends(_) => {
-            !node.over && is_in_row(&node.place) && node.asks.is_none() && node.children == 0
+            !node.over && (is_in_row(&node.place) && (node.asks.is_none() && node.children == 0))
         }
         _ => false,
     }
@@ -129,7 +128,7 @@ fn is_last(node: &Node) -> bool
 
 /// Whether the first of these nodes has come to its answer, and all others are over.
 fn are_done(nodes: &[Node]) -> bool
-    ensures { result ≡ true → AreDone nodes.now }
+    ensures { result ≡ are_done_nodes nodes.now }
 {
     match nodes {
         [] => false,
@@ -214,7 +213,8 @@ impl Family {
 
     /// Whether all nodes are over but that of the main request, which has come to its answer.
     pub fn is_done(&self) -> bool
-        ensures { result ≡ true → IsWhole self.now
+        ensures exact { result ≡ are_done_nodes self.now.nodes }
+        ensures done { result ≡ true → IsWhole self.now
             → ((patterns : List SetPattern) (g : GroundView) → IsDone patterns g self.now) }
     {
         are_done(self.nodes.as_slice())

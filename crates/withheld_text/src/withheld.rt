@@ -116,7 +116,7 @@ impl Withheld {
         Ok(())
     }
 
-    /// The bytes that are kept: all, or so many of them that they are too many for a variable.
+    /// The bytes that are kept: all, or more of them than a variable may have.
     pub fn into_front(self) -> ByteText
         ensures { IsFront self result }
     {

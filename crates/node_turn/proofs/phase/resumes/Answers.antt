@@ -21,10 +21,10 @@ returns-clause-turns c = λ path text.
     let step = c.in_ok-step.step in
     let turned = c.in_ok-turned.turned in
     let left = c.args.footing.left in
-    ap (λ p. settled (served_as w left c.args.told.ssi (phases_told w ps site p c.args.told.wait item)) old) (sym c.lend.ensures.phases)
-    ∙ (phased.in_turn (phases_told w ps site c.lend.new.phases c.args.told.wait item) (phases_left w ps site (text_of item) q step) (after_phases w left c.args.told.ssi) old new
+    ap (λ p. settled (served_as w left c.args.told.ssi (phases_told w ps site p c.args.told.wait item)) old) (sym c.lend_to.ensures.phases)
+    ∙ (phased.in_turn (phases_told w ps site c.lend_to.new.phases c.args.told.wait item) (phases_left w ps site (text_of item) q step) (after_phases w left c.args.told.ssi) old new
     (c.in_ok-step.ensures.does item (phased.told_node c.args.told.file text) shipped)
     ∙ (ap (λ b. settled (served_as w left c.args.told.ssi (phases_left w ps site b q step)) new) (phased.told_text c.args.told.file text ∙ ap (λ n. padded n text) (sym c.len_of.ensures))
     ∙ (c.in_ok-turned.ensures.turns ps path text new
     ∙ ap (λ p. (stage_act w ps site p left (path_or turned.path path) turned.stage text, new))
-    (sym (phased.given_back main c.lend.new.main c.args.phases.now c.lend.new.phases q c.lend-2.new.phases c.lend.ensures.phases c.in_ok-step.ensures.main c.lend-2.ensures.phases)))))
+    (sym (phased.given_back main c.lend_to.new.main c.args.phases.now c.lend_to.new.phases q c.give_back.new.phases c.lend_to.ensures.phases c.in_ok-step.ensures.main c.give_back.ensures.phases)))))

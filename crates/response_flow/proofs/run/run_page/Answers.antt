@@ -24,7 +24,7 @@ returns-then-is_done-clause-runs c = λ trees before from first raceless reached
     let r = c.into_inner.result in
     let go = goes.rested patterns g c.deref_mut-inside.result.now p q c.in-Ok-Rests.field-0 c.deref_mut-inside.ensures.value c.in-Ok-Rests.ensures.ran c.in-Ok-Rests.field-0-is in
     let left = goes.same_left w patterns site trees p q (go.same trees raceless reached) go.status in
-    let done = subst (λ (x : Pages). c.is_done.result ≡ true → IsWhole x.family → ((ps : List SetPattern) (h : Ground) → IsDone ps h x.family)) c.deref.ensures c.is_done.ensures in
+    let done = subst (λ (x : Pages). c.is_done.result ≡ true → IsWhole x.family → ((ps : List SetPattern) (h : Ground) → IsDone ps h x.family)) c.deref.ensures c.is_done.ensures.done in
     c.in_ok-ends-in-Ok-Rests.ensures.ends w patterns site trees before from first
     (subst (λ x. IsAllOver w patterns site trees x) (sym c.into_inner.ensures) (done c.if-is_done.true go.whole patterns g (files trees q.family)))
     (subst (λ x. Continues site before (page_left w patterns site trees x) from [] first c.args.closing None c.args.level) (sym c.into_inner.ensures)

@@ -13,6 +13,6 @@ unfolding page_rest
 returns-clause-comes c = λ scene w answer more members.
     let page = c.args.self.now in
     block_comes w answer (doc_seen scene page.document) page.facts (splits page) (adds page) page.split c.block_parts.new.split page.parts.items c.block_parts.new.out.items c.reverse.new.self.items
-    c.args.block.now more members (none_waits page.parts.items c.requires) c.reverse.ensures.items
-    (subst (λ on. split_stage on c.block_parts.new.split ≡ (stage_feeds (ssi_machine page.facts) (split_stage on page.split) (map Byte c.args.block.now)).0) c.splits-is_split.ensures (c.in_ok-block_parts.ensures.undecided page.facts))
-    (subst (λ on. marks c.block_parts.new.out.items ≡ marks page.parts.items ++ (stage_feeds (ssi_machine page.facts) (split_stage on page.split) (map Byte c.args.block.now)).1) c.splits-is_split.ensures (c.in_ok-block_parts.ensures.out page.facts))
+    c.args.block more members (none_waits page.parts.items c.requires) c.reverse.ensures.items
+    (subst (λ on. split_stage on c.block_parts.new.split ≡ (stage_feeds (ssi_machine page.facts) (split_stage on page.split) (map Byte c.args.block)).0) c.splits-is_split.ensures (c.in_ok-block_parts.ensures.undecided page.facts))
+    (subst (λ on. marks c.block_parts.new.out.items ≡ marks page.parts.items ++ (stage_feeds (ssi_machine page.facts) (split_stage on page.split) (map Byte c.args.block)).1) c.splits-is_split.ensures (c.in_ok-block_parts.ensures.out page.facts))
