@@ -1,6 +1,6 @@
 //! Tests of the crates that find what is answered: names that are tried, pages of errors, servers and locations, the race
-//! check, the bodies of pages. What a definition answers is in rows (`proofs/Rows.antt`), which the check computes; the tests
-//! run the code.
+//! check, the bodies of pages, and the order in which their parts leave. What a definition answers is in rows
+//! (`proofs/Rows.antt`), which the check computes; the tests run the code.
 #![tactic(auto)]
 
 #[cfg(test)]
@@ -19,3 +19,5 @@ mod servers;
 mod sites;
 #[cfg(test)]
 mod tries;
+#[cfg(test)]
+mod written_order;

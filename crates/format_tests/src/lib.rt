@@ -20,5 +20,3 @@ mod scripts;
 mod targets;
 #[cfg(test)]
 mod values;
-#[cfg(test)]
-mod written_order;
