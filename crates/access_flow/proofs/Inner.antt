@@ -1,5 +1,5 @@
 -- What is still to come while a subrequest is asked, act by act.
-use Rattle.std.proofs.Common.{◌≡◌, ℕ, ◌+◌, Bool, true, false, List, [], Option, None, refl, sym, ap, ◌∙◌, subst, zero-add, arith}
+use Rattle.std.proofs.Common.{◌≡◌, ℕ, ◌+◌, Bool, true, false, List, [], Option, None, refl, sym, ap, ◌∙◌, subst, zero-add, arith, Bor}
 use Rattle.acts.specs.Vars.{Vars}
 use Rattle.acts.specs.Act.{Done, Stat, ◌>>=◌, ◌>>◌, settled, settled_then}
 use Rattle.acts.proofs.ActLaws.{settles_in_turn, settled_stays}
@@ -147,11 +147,11 @@ settles_left w site tree t p old new m n vars vars' is e =
     ∙ sym (inner_settles w tree t m n (λ a. phases_admitted w site (lent old p) a.status a.request) vars vars' e)
 
 -- its question is answered
-pub told_left : (w : World) (patterns : List SetPattern) (site : Site) (trees : Trees) (f : AccessFlow) (stage : Stage) (job : Ask) (wait : Wait) (node : Node) (given : JobAnswer) →
-    stage ≡ AskedStage wait → given ≡ answer.Stat node → IsFrom trees job given →
+pub told_left : {text : Bor (List ℕ)} (w : World) (patterns : List SetPattern) (site : Site) (trees : Trees) (f : AccessFlow) (stage : Stage) (job : Ask) (wait : Wait) (node : Node) (given : JobAnswer) →
+    stage ≡ AskedStage wait → given ≡ answer.Stat node text → IsFrom trees job given →
     stage_rest w patterns site (trees f.of) f (Told wait node) (item_asked trees job) ≡ stage_rest w patterns site (trees f.of) f stage (item_asked trees job)
 told_left w patterns site trees f stage (ask.Stat path of) wait node given es eg from =
-    let same = told_same (trees of path) node (subst (λ a. IsFrom trees (ask.Stat path of) a) eg from) in
+    let same = told_same (trees of path) node (subst (λ a. IsFrom trees (ask.Stat path of) a) eg from).0 in
     ap (λ item. inner_left w site (trees f.of) f (phases_told w patterns site f.inner wait item)) same
     ∙ sym (ap (λ s. stage_rest w patterns site (trees f.of) f s (trees of path)) es)
 told_left w patterns site trees f stage (ask.Read path start count of) wait node given es eg from =

@@ -14,7 +14,8 @@ use Rattle.request_flow.specs.family_order.Items.Stance.{Waiting}
 use Rattle.request_flow.specs.family_rest.Reached.{Reached}
 use Rattle.node_turn.specs.request_phases.Admitted.{phases_admitted}
 use Rattle.node_turn.specs.request_phases.Rounds.{asked_from, phases_told}
-use Rattle.request_flow.specs.Reached.{IsReachedAt, WentReached, path_asked, told_text_item}
+use Rattle.request_flow.specs.Flows.{told_text_item}
+use Rattle.request_flow.specs.Reached.{IsReachedAt, WentReached, path_asked}
 use Rattle.request_flow.specs.Rests.{finished}
 use Rattle.access_flow.specs.declared.flow.AccessFlow.{AccessFlow}
 use Rattle.access_flow.specs.declared.flow.Stage.{Stage}

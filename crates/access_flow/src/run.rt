@@ -246,7 +246,7 @@ pub fn answered(flow: &mut AccessFlow, answer: JobAnswer<'_>)
 {
     match take_stage(&mut flow.stage) {
         Stage::Asked(wait) => match answer {
-            JobAnswer::Stat(node) => put(&mut flow.stage, Stage::Told { wait, node }),
+            JobAnswer::Stat(node, _) => put(&mut flow.stage, Stage::Told { wait, node }),
             JobAnswer::Read(_) => unreachable!(),
         },
         Stage::Begins => unreachable!(),

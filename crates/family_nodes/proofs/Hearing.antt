@@ -1,13 +1,14 @@
 -- Answers to the jobs of a node.
-use Rattle.std.proofs.Common.{◌≡◌, ℕ, zero, suc, ◌+◌, ◌-◌, ◌≤◌, true, List, [], ◌∷◌, ◌++◌, length, take, drop, Option, None, refl, sym, ap, ◌∙◌, subst, append_assoc, take-append-drop, drop-drop, length-drop, arith}
+use Rattle.std.proofs.Common.{◌≡◌, ◌≢◌, ℕ, zero, suc, ◌+◌, ◌-◌, ◌≤◌, true, List, [], ◌∷◌, ◌++◌, length, take, drop, Option, None, refl, sym, ap, ◌∙◌, subst, append_assoc, take-append-drop, drop-drop, length-drop, arith}
 use Rattle.std.proofs.lemmas.Bool.{eqb-true}
 use Rattle.std.specs.Borrow.{Bor}
 use Rattle.acts.specs.Act.{Done, Write, ◌>>=◌}
 use Rattle.acts.specs.Vars.{Vars}
-use Rattle.file_tree.specs.Tree.{Item, AFile, AFolder, ALocked, Nothing, Trees, HoldsBytes, IsFrom, is_fitting, node_of, text_of, tree_of}
+use Rattle.file_tree.specs.Tree.{Item, AFile, AFolder, ALocked, Nothing, Trees, HoldsBytes, IsFrom, IsTextOf, is_fitting, known_text, node_of, text_of, tree_of}
 use Rattle.file_tree.specs.declared.job.Ask.{Ask}
 use Rattle.file_tree.specs.declared.job.Ask.TheVariants as asks
 use Rattle.file_tree.specs.declared.job.JobAnswer.TheVariants as answers
+use Rattle.file_tree.specs.declared.job.Found.{Found}
 use Rattle.file_tree.specs.declared.job.Node.{Node as FileNode}
 use Rattle.site_model.specs.declared.site.Site.{Site}
 use Rattle.ngx_pattern.specs.Pattern.{Pattern as SetPattern}
@@ -20,7 +21,7 @@ use Rattle.node_line.specs.request_phases.declared.state.Phases.{Phases}
 use Rattle.std.specs.Global.{Box}
 use Rattle.node_line.specs.page_body.declared.page.Page.{Page}
 use Rattle.node_line.specs.node_turn.Stages.{asks_from, item_asked, node_act, text_in}
-use Rattle.node_line.specs.node_turn.Nodes.{answer_seen, asked_path, hand, later, lent, padded, placed_act, served_act, served_as, stage_act, told_item}
+use Rattle.node_line.specs.node_turn.Nodes.{answer_seen, asked_path, hand, later, lent, padded, placed_act, served_act, served_as, stage_act, found_item, told_item}
 use Rattle.node_line.specs.node_turn.declared.answered.Answered.{Answered}
 use Rattle.family_nodes.specs.Told.{Hears}
 use Rattle.family_nodes.specs.Told.Hears.{Learned, Came}
@@ -105,24 +106,35 @@ told_same AFolder file e = ap (λ n. told_item n []) e
 told_same ALocked file e = ap (λ n. told_item n []) e
 told_same Nothing file e = ap (λ n. told_item n []) e
 
-told_at : (trees : Trees) (ask : Ask) (file : FileNode) → is_fitting ask (answers.Stat file) ≡ true → IsFrom trees ask (answers.Stat file) →
-    told_item file (drop 0 (text_of (item_asked trees ask))) ≡ trees (tree_of ask) (asked_path ask)
-told_at trees (asks.Stat path of) file fits from = told_same (trees of path) file from
-told_at trees (asks.Read path start count of) file fits from = absurd from
+known_same : (known text : List ℕ) → (known ≢ [] → text ≡ known) → known_text known text ≡ text
+known_same [] text h = refl
+known_same (b ∷ known) text h = sym (h (λ e. never e))
+  where
+    never : b ∷ known ≡ [] → ⊥
+    never e = cc
+
+-- an item of which this was found is as it was found
+found_same : (item : Item) (found : Found) → found.node ≡ node_of item → IsTextOf item found.text → found_item found (text_of item) ≡ item
+found_same item found n t = ap (told_item found.node) (known_same found.text (text_of item) t) ∙ told_same item found.node n
+
+found_at : (trees : Trees) (ask : Ask) (found : Found) (text : Bor (List ℕ)) → found.text ≡ text.now → is_fitting ask (answers.Stat found.node text) ≡ true → IsFrom trees ask (answers.Stat found.node text) →
+    found_item found (drop 0 (text_of (item_asked trees ask))) ≡ trees (tree_of ask) (asked_path ask)
+found_at trees (asks.Stat path of) found text same fits from = found_same (trees of path) found from.0 (subst (IsTextOf (trees of path)) (sym same) from.1)
+found_at trees (asks.Read path start count of) found text same fits from = absurd from
 
 module _ (w : World) (patterns : List SetPattern) (site : Site) (main : Main) (n : Node) (answer : JobAnswer) where
-  pub learned : (new : Node) (wait : Wait) (file : FileNode) (ssi : Vars) → n.stage ≡ stages.Asks wait ssi → new ≡ record n { stage = stages.Told wait file ssi; start = 0 } →
-      answer ≡ answers.Stat file → is_fitting n.ask answer ≡ true →
+  pub learned : (new : Node) (wait : Wait) (file : Found) (text : Bor (List ℕ)) (ssi : Vars) → n.stage ≡ stages.Asks wait ssi → new ≡ record n { stage = stages.Told wait file ssi; start = 0 } →
+      answer ≡ answers.Stat file.node text → file.text ≡ text.now → is_fitting n.ask answer ≡ true →
       Hears n.ask answer (λ trees. text_in trees n) (λ trees. text_in trees new) (node_act w patterns site main n) (node_act w patterns site main new)
   unfolding ◌>>=◌
-  learned new wait file ssi es en ea fits =
+  learned new wait file text ssi es en ea same fits =
       let p = lent main n.phases in
       let then : Item → Serving Answer = λ item. served_as w n.left ssi (phases_told w patterns site p wait item) in
       let told : Node = record n { stage = stages.Told wait file ssi; start = 0 } in
       subst (λ (m : Node). Hears n.ask answer (λ trees. text_in trees n) (λ trees. text_in trees m) (node_act w patterns site main n) (node_act w patterns site main m)) (sym en)
       (subst (λ a. Hears n.ask a (λ trees. text_in trees n) (λ trees. text_in trees told) (node_act w patterns site main n) (node_act w patterns site main told)) (sym ea)
-      (Learned (asked_path n.ask) then (told_item file) (λ text. ap (λ s. stage_act w patterns site p n.left (asked_path n.ask) s text) es) (λ text. refl)
-      (λ trees from. told_at trees n.ask file (subst (λ a. is_fitting n.ask a ≡ true) ea fits) from)))
+      (Learned (asked_path n.ask) then (found_item file) (λ text. ap (λ s. stage_act w patterns site p n.left (asked_path n.ask) s text) es) (λ text. refl)
+      (λ trees from. found_at trees n.ask file text same (subst (λ a. is_fitting n.ask a ≡ true) ea fits) from)))
 
   pub block_came : (new : Node) (body : Box Body) (bytes : Bor (List ℕ)) → n.stage ≡ stages.Reads body →
       ((text : List ℕ) → stage_act w patterns site (lent main n.phases) n.left (asked_path n.ask) (stages.Reads body) (bytes.now ++ text) ≡ node_act w patterns site main new text) →

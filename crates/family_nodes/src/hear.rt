@@ -13,7 +13,7 @@ ghost use Rattle.family_nodes.specs.Told.{Hears};
 ghost use Rattle.node_line.specs.node_turn.declared.node.Stage.TheVariants.{Reads as ReadsView, Told as ToldView};
 
 use byte_text::{ByteText, OutOfMemory};
-use file_tree::{Ask, JobAnswer, Node as FileNode};
+use file_tree::{Ask, Found, JobAnswer};
 use node_line::node_turn::{Body, Node, Stage, fill, take};
 use node_line::request_phases::Wait;
 use node_line::ssi_values::Table;
@@ -119,7 +119,7 @@ fn sum(a: u64, b: u64) -> Option<u64>
 }
 
 /// A node is told what is at the path for which it asked.
-fn put_told(node: &mut Node, wait: Wait, file: FileNode, ssi: Table)
+fn put_told(node: &mut Node, wait: Wait, file: Found, ssi: Table)
     ensures { node.new ≡ record node.old { stage = ToldView wait file ssi; start = 0 } }
 {
     fill(&mut node.stage, Stage::Told { wait, file, ssi });
@@ -167,7 +167,8 @@ pub fn hears(alloc: Global, node: &mut Node, answer: JobAnswer<'_>) -> Result<()
 {
     let stage = take(&mut node.stage, Stage::Begins(Table::new(alloc)));
     match (stage, answer) {
-        (Stage::Asks { wait, ssi }, JobAnswer::Stat(file)) => {
+        (Stage::Asks { wait, ssi }, JobAnswer::Stat(there, text)) => {
+            let file = Found::new(alloc, there, text)?;
             put_told(node, wait, file, ssi);
             Ok(())
         }

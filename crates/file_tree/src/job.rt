@@ -1,8 +1,9 @@
 // What is asked of the files, and what they answer.
-ghost use Rattle.std.specs.Prelude.{◌≡◌};
+ghost use Rattle.std.specs.Prelude.{◌≡◌, IfOk};
 ghost use Rattle.file_tree.specs.Tree.{is_fitting as fits};
 
-use byte_text::ByteText;
+use byte_text::{ByteText, OutOfMemory};
+use std::alloc::Global;
 
 /// What is at a path: a file with its length in bytes and its date in seconds since 1970, a folder, a node that may not
 /// be read, or nothing.
@@ -36,8 +37,30 @@ pub enum Ask {
 /// of the request that asked for it.
 #[derive(Clone, Copy, Debug)]
 pub enum JobAnswer<'a> {
-    Stat(Node),
+    /// What is at the path, and all bytes of the file that is there, or none: files that keep a small file at hand
+    /// bring its bytes with the answer, so that it isn't read after that.
+    Stat(Node, &'a [u8]),
     Read(&'a [u8]),
+}
+
+/// What was told of a path, as it is kept: what is there, and all bytes of the file that is there, or none.
+#[derive(Drop)]
+pub struct Found {
+    pub node: Node,
+    pub text: ByteText,
+}
+
+impl Found {
+    /// With a copy of the bytes that came.
+    pub fn new(alloc: Global, node: Node, bytes: &[u8]) -> Result<Found, OutOfMemory>
+        ensures node { IfOk result (λ found. found.node ≡ node) }
+        ensures text { IfOk result (λ found. found.text ≡ bytes.now) }
+    {
+        Ok(Found {
+            node,
+            text: ByteText::from_slice(alloc, bytes)?,
+        })
+    }
 }
 
 /// Whether an answer is of the job's kind, and of its length.
@@ -45,7 +68,7 @@ pub fn is_fitting(ask: &Ask, answer: JobAnswer) -> bool
     ensures { result ≡ fits ask.now answer.entry }
 {
     match (ask, answer) {
-        (Ask::Stat { path: _, of: _ }, JobAnswer::Stat(_)) => true,
+        (Ask::Stat { path: _, of: _ }, JobAnswer::Stat(_, _)) => true,
         (
             Ask::Read {
                 path: _,

@@ -3,4 +3,4 @@
 
 mod job;
 
-pub use job::{Ask, JobAnswer, Node, is_fitting};
+pub use job::{Ask, Found, JobAnswer, Node, is_fitting};

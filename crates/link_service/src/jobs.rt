@@ -38,6 +38,14 @@ fn runs_if<E: EventCore>(core: &mut E, conn: u32, node: u32)
     ran_if(core, conn, node);
 }
 
+// The bytes that came with a look: those that are lent, where it found all of a file.
+#[inline(always)]
+fn bytes_of<F: Files>(files: &F, whole: bool) -> &[u8]
+    ensures { result.now ≢ [] → (whole ≡ true) × ((F.seen files.now).block ≡ result.now) }
+{
+    if whole { files.block() } else { b"" }
+}
+
 // Answers the job of a node from the files, or tells the core that it failed: whether a large block came. None where the node has no
 // job.
 #[inline(always)]
@@ -65,8 +73,11 @@ fn job_if<E: EventCore, F: Files>(
     };
     match ask {
         Ask::Stat { path, of } => {
-            match files.stat(path.as_slice(), *of) {
-                Ok(node_there) => file_done(core, conn, node, JobAnswer::Stat(node_there)),
+            match files.look(path.as_slice(), *of) {
+                Ok(look) => {
+                    let text = bytes_of(files, look.whole);
+                    file_done(core, conn, node, JobAnswer::Stat(look.node, text));
+                }
                 Err(Failed) => job_failed(core, conn, node),
             }
             Ok(Some(false))

@@ -1,7 +1,8 @@
 -- What files and sinks tell of their calls.
 use Rattle.std.specs.Prelude.{◌≡◌, ◌≢◌, ℕ, ◌≤◌, Bool, true, List, ◌++◌, length, Contains, ◌↔◌, Result, OnOk, OnErr, IfOk}
-use Rattle.file_tree.specs.Tree.{Tree, Trees, AFolder, node_of, HoldsBytes, IsChild}
+use Rattle.file_tree.specs.Tree.{Tree, Trees, AFolder, node_of, text_of, HoldsBytes, IsChild}
 use Rattle.file_tree.specs.declared.job.Node.{Node}
+use Rattle.ngx_outside.specs.declared.files.Look.{Look}
 use Rattle.ngx_outside.specs.declared.files.Listing.{Listing}
 use Rattle.ngx_outside.specs.declared.files.Listing.TheVariants as listing
 
@@ -13,6 +14,16 @@ pub record Grow (version later : ℕ) (old new : Trees) : Type 0 where
 -- a stat answers what the tree has there, where files tell
 abbrev pub Stats : {E : Type 0} → Bool → Tree → List ℕ → Result Node E → Type 0
 Stats tells tree path result = IfOk result (λ node. tells ≡ true → node ≡ node_of (tree path))
+
+-- what a look tells of what the tree has there, where files tell: what it is, and where it says so all
+-- bytes of the file, which are lent
+abbrev pub Found : Tree → List ℕ → List ℕ → Look → Type 0
+Found tree path block look = (look.node ≡ node_of (tree path)) ×
+    (look.whole ≡ true → text_of (tree path) ≡ block)
+
+abbrev pub Looks : {E : Type 0} → Bool → Tree → List ℕ → List ℕ → Result Look E → Type 0
+Looks tells tree path block result = IfOk result (λ look. tells ≡ true →
+    Found tree path block look)
 
 -- the block that a read lends has exactly `count` bytes, those that the file has there where files
 -- tell

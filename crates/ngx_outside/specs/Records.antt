@@ -7,6 +7,7 @@ use Rattle.file_tree.specs.declared.job.JobAnswer.{JobAnswer}
 use Rattle.file_tree.specs.declared.job.JobAnswer.TheVariants as answer
 use Rattle.ngx_outside.specs.declared.event.Event.{Event}
 use Rattle.ngx_outside.specs.declared.event.Event.TheVariants as ev
+use Rattle.ngx_outside.specs.declared.files.Look.{Look}
 use Rattle.ngx_outside.specs.declared.links.Notice.{Notice}
 use Rattle.ngx_outside.specs.declared.links.Notice.TheVariants as notice
 use Rattle.ngx_outside.specs.declared.links.Input.{Input}
@@ -26,8 +27,9 @@ pub data FileAnswer : Type 0 where
   Bytes : (bytes : List ℕ) → FileAnswer
   Failed : FileAnswer
 
+-- bytes of a file that came with a stat aren't told
 abbrev pub answer_of : JobAnswer → FileAnswer
-answer_of (answer.Stat node) = Stat node
+answer_of (answer.Stat node text) = Stat node
 answer_of (answer.Read bytes) = Bytes bytes.now
 
 -- an event, with its bytes as they were given
@@ -129,6 +131,10 @@ of_clock (Gone conn) = []
 abbrev pub stat_answer : {E : Type 0} → Result Node E → FileAnswer
 stat_answer (Ok node) = Stat node
 stat_answer (Err e) = Failed
+
+abbrev pub look_answer : {E : Type 0} → Result Look E → FileAnswer
+look_answer (Ok look) = Stat look.node
+look_answer (Err e) = Failed
 
 -- what a read of a file answered that lends this block
 abbrev pub block_answer : {E : Type 0} → List ℕ → Result (Unit {0}) E → FileAnswer

@@ -1,8 +1,8 @@
 // What reads files.
 ghost use Rattle.std.specs.Prelude.{◌≡◌, ◌≤◌, OnOk, IsErrOf};
 ghost use Rattle.ngx_outside.specs.Causes.{HasCause};
-ghost use Rattle.ngx_outside.specs.Records.{Adds, ReadTold, Failed as NotRead, block_answer, stat_answer};
-ghost use Rattle.ngx_outside.specs.Outside.{Grow, Stats, Lends, Reads, Lists};
+ghost use Rattle.ngx_outside.specs.Records.{Adds, ReadTold, Failed as NotRead, block_answer, look_answer, stat_answer};
+ghost use Rattle.ngx_outside.specs.Outside.{Grow, Stats, Looks, Lends, Reads, Lists};
 ghost use Rattle.ngx_outside.specs.Seen.{FilesSeen};
 ghost use Rattle.ngx_outside.specs.declared.sink.Failed.{Failed};
 ghost use Rattle.ngx_outside.specs.declared.files.FileFault.TheVariants.{OutOfMemory as NoMemory, Failed as ReadFailed};
@@ -44,6 +44,13 @@ pub enum Listing {
     Missing,
 }
 
+/// What is at a path, and whether all bytes of the file that is there are lent.
+#[derive(Clone, Copy, Debug, PartialEq, Eq)]
+pub struct Look {
+    pub node: Node,
+    pub whole: bool,
+}
+
 /// Files, of which there may be several versions: the tree may change while requests run, and a job asks of the tree
 /// with the number that was newest when its request started.
 pub trait Files {
@@ -71,6 +78,24 @@ pub trait Files {
         ensures grow { Grow (seen self.old).newest (seen self.new).newest (seen self.old).trees
             (seen self.new).trees }
         ensures cause { HasCause (seen self.old).faults (seen self.new).faults result (record {}) };
+
+    /// What is at a path in the tree of a number. Files that have all bytes of a small file at hand lend them with it: they are
+    /// the block from now on, and the file needn't be read.
+    fn look(&mut self, path: &[u8], of: u64) -> Result<Look, Failed>
+        requires { of ≤ (seen self.old).newest }
+        ensures look { Looks (seen self.old).tells ((seen self.old).trees of) path.now
+            (seen self.new).block result }
+        ensures answers { Adds (look_answer result) (seen self.old).answers
+            (seen self.new).answers }
+        ensures tells { (seen self.new).tells ≡ (seen self.old).tells }
+        ensures versions { (seen self.new).versions ≡ (seen self.old).versions }
+        ensures grow { Grow (seen self.old).newest (seen self.new).newest (seen self.old).trees
+            (seen self.new).trees }
+        ensures cause { HasCause (seen self.old).faults (seen self.new).faults result (record {}) }
+    {
+        let node = self.stat(path, of)?;
+        Ok(Look { node, whole: false })
+    }
 
     /// The block that was read last, which is lent: none before the first read, and anything after one that failed.
     fn block(&self) -> &[u8]

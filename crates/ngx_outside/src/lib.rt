@@ -11,7 +11,7 @@ mod sink;
 
 pub use engine::EventCore;
 pub use event::{Entry, Event, StepAnswer, StopCause, Want};
-pub use files::{FileFault, Files, Listing};
+pub use files::{FileFault, Files, Listing, Look};
 pub use laws::{
     all_is_logged_when_idle, all_is_sent_when_idle, all_is_sent_when_shut, shut_is_exact,
     steps_keep_track, stops_keep_track, tracks_begin, tracks_narrow,

@@ -1,12 +1,12 @@
 -- What follows the phases of a node.
-use Rattle.std.proofs.Common.{◌≡◌, ℕ, zero, suc, true, is_some, List, [], ◌∷◌, ◌++◌, length, Option, None, Some, refl, sym, ap, ◌∙◌, subst, append-nil}
+use Rattle.std.proofs.Common.{◌≡◌, ◌==◌, ℕ, zero, suc, true, false, is_some, List, [], ◌∷◌, ◌++◌, length, Option, None, Some, refl, sym, ap, ◌∙◌, subst, append-nil}
 use Rattle.acts.specs.Vars.{Vars}
 use Rattle.acts.specs.Act.{Done, Write, Stat, ◌>>=◌, settled, settled_then}
 use Rattle.acts.proofs.ActLaws.{settles_in_turn, settled_stays}
 use Rattle.file_tree.specs.declared.job.Ask.{Ask}
 use Rattle.node_turn.specs.Stages.{ask_or}
 use Rattle.node_turn.specs.Nodes.{asked_path, path_or, IsFor, lender, lent, of_method, padded, told_item, len_of, told_length, bytes_for, body_then, after_phases, served_as, with_main}
-use Rattle.file_tree.specs.Tree.{Item, text_of, tree_of, node_of}
+use Rattle.file_tree.specs.Tree.{known_text, Item, text_of, tree_of, node_of}
 use Rattle.file_tree.specs.declared.job.Node.{Node as FileNode}
 use Rattle.file_tree.specs.declared.job.Node.TheVariants as files
 use Rattle.page_body.specs.site_model.declared.site.Site.{Site}
@@ -35,6 +35,17 @@ unfolding padded
 padded_length zero bytes = refl
 padded_length (suc n) [] = ap suc (padded_length n [])
 padded_length (suc n) (b ∷ bytes) = ap suc (padded_length n bytes)
+
+pub padded_whole : (bytes : List ℕ) → padded (length bytes) bytes ≡ bytes
+unfolding padded
+padded_whole [] = refl
+padded_whole (b ∷ bytes) = ap (λ t. b ∷ t) (padded_whole bytes)
+
+-- a file of which all is known
+pub all_known : (known : List ℕ) (len : ℕ) (text : List ℕ) → (length known == 0) ≡ false → length known ≡ len → known ++ padded 0 text ≡ padded len (known_text known text)
+unfolding padded
+all_known [] len text some e = cc
+all_known (b ∷ known) len text some e = append-nil (b ∷ known) ∙ (sym (padded_whole (b ∷ known)) ∙ ap (λ n. padded n (b ∷ known)) e)
 
 pub told_text : (file : FileNode) (text : List ℕ) → text_of (told_item file text) ≡ padded (len_of file) text
 unfolding padded

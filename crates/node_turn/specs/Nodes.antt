@@ -2,9 +2,10 @@
 use Rattle.std.specs.Prelude.{◌≡◌, ℕ, List, [], ◌++◌, drop, Option, None, Some}
 use Rattle.acts.specs.Vars.{Vars}
 use Rattle.acts.specs.Act.{Done, Stat, Write, ◌>>=◌, ◌>>◌}
-use Rattle.file_tree.specs.Tree.{Item, AFile, AFolder, ALocked, Nothing}
+use Rattle.file_tree.specs.Tree.{Item, AFile, AFolder, ALocked, Nothing, known_text}
 use Rattle.file_tree.specs.declared.job.Ask.{Ask}
 use Rattle.file_tree.specs.declared.job.Ask.TheVariants as asks
+use Rattle.file_tree.specs.declared.job.Found.{Found}
 use Rattle.file_tree.specs.declared.job.Node.{Node as FileNode}
 use Rattle.file_tree.specs.declared.job.Node.TheVariants as files
 use Rattle.http_types.specs.declared.words.Method.{Method}
@@ -108,6 +109,10 @@ told_item files.Folder text = AFolder
 told_item files.Locked text = ALocked
 told_item files.Missing text = Nothing
 
+-- what was found at a path, where a file has this text of which nothing is known
+abbrev pub found_item : Found → List ℕ → Item
+found_item found text = told_item found.node (known_text found.text text)
+
 -- the path for which a job asks
 abbrev pub asked_path : Ask → List ℕ
 asked_path (asks.Stat path of) = path
@@ -205,7 +210,7 @@ abbrev pub stage_act : World → List SetPattern → Site → Phases → (left :
 stage_act w patterns site p left path (Begins ssi) text = served_as w left ssi (rounds w p.changes (asked_from p Start))
 stage_act w patterns site p left path (Asks wait ssi) text =
     served_as w left ssi (Stat path (λ item. phases_told w patterns site p wait item))
-stage_act w patterns site p left path (Told wait file ssi) text = served_as w left ssi (phases_told w patterns site p wait (told_item file text))
+stage_act w patterns site p left path (Told wait file ssi) text = served_as w left ssi (phases_told w patterns site p wait (found_item file text))
 stage_act w patterns site p left path (Places b) text =
     placed_act w site p left (answer_seen site p b.value.answered) b.value.page (hand b.value) (later b.value text)
 stage_act w patterns site p left path (Serves b) text =

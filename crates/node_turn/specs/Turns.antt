@@ -2,6 +2,7 @@
 use Rattle.std.specs.Prelude.{◌≡◌, ℕ, List, [], ◌++◌, Option}
 use Rattle.acts.specs.Vars.{Vars, look}
 use Rattle.acts.specs.Act.{Get, Write, settled}
+use Rattle.file_tree.specs.Tree.{known_text}
 use Rattle.ngx_pattern.specs.Pattern.{Pattern as SetPattern}
 use Rattle.page_body.specs.site_model.Levels.{raw_level}
 use Rattle.request_reply.specs.rewrite_code.Places.{standing_seen}
@@ -24,11 +25,12 @@ pub record IsSceneOf (g : Ground) (p : Phases) (left : ℕ) (scene : Scene) : Ty
   pub server : scene.server.now ≡ g.server.now
   pub levels : scene.left ≡ left
 
--- The body that follows what phases decided settles as the act of this stage, whatever the file is and whatever is set.
-abbrev pub AnswersAs : Ground → Phases → (left : ℕ) → Vars → Conclusion → Stage → Type 0
-AnswersAs g p left ssi outcome stage = (patterns : List SetPattern) (path text : List ℕ) (vars : Vars) →
+-- The body that follows what phases decided settles as the act of this stage, whatever the file is, of which these bytes are
+-- known, and whatever is set.
+abbrev pub AnswersAs : Ground → Phases → (left : ℕ) → Vars → Conclusion → (known : List ℕ) → Stage → Type 0
+AnswersAs g p left ssi outcome known stage = (patterns : List SetPattern) (path text : List ℕ) (vars : Vars) →
     let w = world_in patterns g shipped in
-    settled (after_phases w left ssi (prepared_as w (asked_in p) (standing_seen g.site.now p.at) (bytes_for outcome text) outcome)) vars
+    settled (after_phases w left ssi (prepared_as w (asked_in p) (standing_seen g.site.now p.at) (bytes_for outcome (known_text known text)) outcome)) vars
     ≡ (stage_act w patterns g.site.now p left path stage text, vars)
 
 -- A node reads variables one by one, has placed nothing, or has one text to place in place of two.

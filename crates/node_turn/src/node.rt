@@ -3,7 +3,7 @@ ghost use Rattle.std.specs.Prelude.{◌≤◌, length};
 
 use crate::answered::Answered;
 use byte_text::ByteText;
-use file_tree::{Ask, Node as FileNode};
+use file_tree::{Ask, Found};
 use page_body::Page;
 use page_body::ssi_values::Table;
 use request_reply::request_phases::{Phases, Wait};
@@ -45,16 +45,9 @@ pub enum Stage {
     /// Its phases haven't begun.
     Begins(Table),
     /// The files are asked what is at a path.
-    Asks {
-        wait: Wait,
-        ssi: Table,
-    },
+    Asks { wait: Wait, ssi: Table },
     /// They told it.
-    Told {
-        wait: Wait,
-        file: FileNode,
-        ssi: Table,
-    },
+    Told { wait: Wait, file: Found, ssi: Table },
     /// Bytes of its body are placed next.
     Places(Box<Body>),
     /// The next part of its page is taken up, or the next block of its file is asked.

@@ -2,6 +2,7 @@
 ghost use Rattle.std.specs.Prelude.{◌≡◌, ◌++◌, ℕ, List, true, false, is_some, IfOk, None, Some};
 ghost use Rattle.acts.specs.Act.{settled};
 ghost use Rattle.acts.specs.Vars.{Vars};
+ghost use Rattle.file_tree.specs.Tree.{known_text};
 ghost use Rattle.ngx_pattern.specs.Pattern.{Pattern as SetPattern};
 ghost use Rattle.request_reply.specs.request_meaning.Laws.{shipped};
 ghost use Rattle.request_reply.specs.request_phases.Rounds.{IsGround, world_in};
@@ -11,7 +12,7 @@ ghost use Rattle.request_reply.specs.request_phases.declared.ground.Ground.{Grou
 ghost use Rattle.request_reply.specs.request_phases.declared.state.Phases.{Phases as PhasesView};
 ghost use Rattle.request_reply.specs.Replies.{sent_as};
 ghost use Rattle.page_body.specs.Pages.{filtered_rest};
-ghost use Rattle.node_turn.specs.Nodes.{answer_seen, body_then, bytes_for, len_of as told_len, lent, padded, path_or, served_as, stage_act, told_length, with_main};
+ghost use Rattle.node_turn.specs.Nodes.{answer_seen, body_then, bytes_for, from_source, len_of as told_len, lent, padded, path_or, served_as, stage_act, told_length, with_main};
 ghost use Rattle.node_turn.specs.Turns.{IsSceneOf, AnswersAs};
 ghost use Rattle.node_turn.specs.Stages.{is_asking};
 ghost use Rattle.node_turn.specs.declared.node.Stage.TheVariants.{Begins as BeginsView, Told as ToldView};
@@ -21,7 +22,7 @@ use crate::lending::{give_back, lend_to};
 use crate::node::{Body, Source, Stage};
 use byte_text::{ByteText, OutOfMemory};
 use error_page::page_text;
-use file_tree::{Ask, Node as FileNode};
+use file_tree::{Ask, Found, Node as FileNode};
 use filter_api::Facts;
 use ngx_pattern::PatternSet;
 use page_body::Page;
@@ -198,7 +199,29 @@ fn sent(
     }
 }
 
-/// Begins the body of what phases decided.
+/// The bytes of a file of this length, of which all are known, or none.
+fn source_of(known: ByteText, len: u64) -> Result<Source, OutOfMemory>
+    ensures { IfOk result (λ source. (text : List ℕ) →
+        from_source source text ≡ padded len (known_text known text)) }
+{
+    if known.is_empty() {
+        return Ok(Source {
+            text: known,
+            left: len,
+            unread: true,
+        });
+    }
+    if known.len() as u64 != len {
+        return Err(OutOfMemory);
+    }
+    Ok(Source {
+        text: known,
+        left: 0,
+        unread: false,
+    })
+}
+
+/// Begins the body of what phases decided, where these bytes of its file are known: all, or none.
 ///
 /// # Errors
 /// `OutOfMemory`.
@@ -210,10 +233,11 @@ pub fn answering(
     left: u32,
     ssi: Table,
     outcome: Conclusion,
+    known: ByteText,
 ) -> Result<Stage, OutOfMemory>
     ensures asks { IfOk result (λ stage. is_asking stage ≡ false) }
     ensures acts { IfOk result (λ stage.
-        AnswersAs ground.now phases.now left ssi outcome stage) }
+        AnswersAs ground.now phases.now left ssi outcome known stage) }
 {
     let len = file_len(&outcome);
     let reply = reply_of(alloc, ground.site, phases, outcome)?;
@@ -239,11 +263,7 @@ pub fn answering(
             Ok(sent(alloc, &scene, answered, facts, ssi, source)?)
         }
         ReplyBody::File => {
-            let source = Source {
-                text: ByteText::new(alloc),
-                left: len,
-                unread: true,
-            };
+            let source = source_of(known, len)?;
             Ok(sent(alloc, &scene, answered, facts, ssi, source)?)
         }
     }
@@ -267,12 +287,13 @@ fn after_step(
     ssi: Table,
     step: Step,
     len: u64,
+    known: ByteText,
 ) -> Result<Turned, OutOfMemory>
     ensures turns { IfOk result (λ turned. (patterns : List SetPattern) (path text : List ℕ)
         (vars : Vars) → let w = world_in patterns ground.now shipped in
         let site = ground.now.site.now in
         settled (served_as w left ssi
-        (phases_left w patterns site (padded len text) phases.now step)) vars
+        (phases_left w patterns site (padded len (known_text known text)) phases.now step)) vars
         ≡ (
           stage_act w patterns site phases.now left (path_or turned.path path) turned.stage text,
           vars,
@@ -291,7 +312,7 @@ fn after_step(
         Step::Answers(outcome) => {
             let outcome = with_length(len, outcome);
             Ok(Turned {
-                stage: answering(alloc, ground, phases, left, ssi, outcome)?,
+                stage: answering(alloc, ground, phases, left, ssi, outcome, known)?,
                 path: None,
             })
         }
@@ -337,7 +358,8 @@ pub(crate) fn begins(
     let Footing { ground, left } = footing;
     lend_to(main, phases);
     let step = begin(alloc, ground, patterns, phases, vars)?;
-    let turned = after_step(alloc, ground, phases, left, ssi, step, 0)?;
+    let known = ByteText::new(alloc);
+    let turned = after_step(alloc, ground, phases, left, ssi, step, 0, known)?;
     give_back(main, phases);
     Ok(turned)
 }
@@ -347,7 +369,7 @@ pub(crate) fn begins(
 #[derive(Drop)]
 pub(crate) struct Told {
     pub(crate) wait: Wait,
-    pub(crate) file: FileNode,
+    pub(crate) file: Found,
     pub(crate) ssi: Table,
 }
 
@@ -381,9 +403,10 @@ pub(crate) fn resumes(
 {
     let Footing { ground, left } = footing;
     let Told { wait, file, ssi } = told;
+    let Found { node, text } = file;
     lend_to(main, phases);
-    let step = resume(alloc, ground, wait, file, patterns, phases, vars)?;
-    let turned = after_step(alloc, ground, phases, left, ssi, step, len_of(file))?;
+    let step = resume(alloc, ground, wait, node, patterns, phases, vars)?;
+    let turned = after_step(alloc, ground, phases, left, ssi, step, len_of(node), text)?;
     give_back(main, phases);
     Ok(turned)
 }

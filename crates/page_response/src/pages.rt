@@ -10,6 +10,7 @@ ghost use Rattle.site_model.specs.declared.site.Site.{Site as SiteRow};
 ghost use Rattle.subrequests.specs.Moved.{IsFromAt, IsWhole, fits_at};
 ghost use Rattle.page_response.specs.Pages.{AreClosed, EndsIn, IsAllOver, IsReached, IsSame, bytes_left, nodes_asked, pages_left, whole_length};
 ghost use Rattle.page_response.specs.Ran.{RunsTo};
+ghost use Rattle.subrequests.specs.declared.family.Ran.TheVariants.{Rests as HasRested};
 
 use byte_text::{ByteQueue, OutOfMemory};
 use family_order::race_meaning::shipped_are_fit;
@@ -178,6 +179,8 @@ impl Pages {
         ensures tree { OnOk result (self.new.family.tree ≡ self.old.family.tree) }
         ensures kind { OnOk result (is_some self.new.outgoing.block
             ≡ is_some self.old.outgoing.block) }
+        ensures spent { IfOk result (λ ran. ran ≡ HasRested
+            → self.new.steps + 1 ≡ self.old.steps) }
         ensures kept { patterns.new ≡ patterns.old }
     {
         steps_keep_still();
@@ -211,6 +214,7 @@ impl Pages {
             IsReached w patterns site self.old → IsReached w patterns site self.new) }
         ensures whole { OnOk result (IsWhole self.new.family) }
         ensures lowers { OnOk result (pages_left self.new < pages_left self.old) }
+        ensures spent { OnOk result (self.new.steps + 1 ≡ self.old.steps) }
         ensures others { OnOk result ((self.new.status ≡ self.old.status)
             × (self.new.family.tree ≡ self.old.family.tree)
             × (self.new.outgoing ≡ self.old.outgoing)) }
@@ -242,6 +246,7 @@ impl Pages {
         ensures whole { IsWhole self.old.family → IsWhole self.new.family }
         ensures bounded { length self.new.outgoing.pending ≤ most }
         ensures lowers { 0 < count → pages_left self.new < pages_left self.old }
+        ensures spent { self.old.steps ≤ self.new.steps + 1 }
         ensures others { (self.new.status ≡ self.old.status)
             × (self.new.family.tree ≡ self.old.family.tree) }
         ensures kind { is_some self.new.outgoing.block ≡ is_some self.old.outgoing.block }

@@ -1,5 +1,5 @@
 -- What the files found is an answer to the job, and answering it lowers the work that is left.
-use Rattle.std.proofs.Common.{◌≡◌, ℕ, ◌<◌, Bool, true, false, List, length, None, Some, refl, sym, ap, ◌∙◌, subst, arith, Bor}
+use Rattle.std.proofs.Common.{◌≡◌, ℕ, ◌<◌, Bool, true, false, List, [], length, None, Some, refl, sym, ap, ◌∙◌, subst, arith, Bor}
 use Rattle.std.proofs.lemmas.Bool.Decides.{nat_tests}
 use Rattle.file_tree.specs.Tree.{Trees, HoldsBytes, IsFrom, is_fitting}
 use Rattle.file_tree.specs.declared.job.Ask.{Ask}
@@ -14,13 +14,13 @@ use Rattle.ngx_outside.specs.declared.event.StepAnswer.TheVariants.{Done, Skippe
 use Rattle.replay_run.specs.declared.jobs.JobResult.TheVariants as found
 use Rattle.replay_run.specs.Scene.{IsFound}
 
-pub node_from : (trees : Trees) (a : Ask) (node : Node) (block : List ℕ) → IsFound trees a (found.Node node) block → IsFrom trees a (answer.Stat node)
-node_from trees (ask.Stat path of) node block f = f
-node_from trees (ask.Read path start count of) node block f = absurd f
+pub node_from : (trees : Trees) (a : Ask) (node : Node) (text : Bor (List ℕ)) (block : List ℕ) → text.now ≡ [] → IsFound trees a (found.Node node) block → IsFrom trees a (answer.Stat node text)
+node_from trees (ask.Stat path of) node text block none f = (f, λ some. absurd (some none))
+node_from trees (ask.Read path start count of) node text block none f = absurd f
 
-pub node_fits : (trees : Trees) (a : Ask) (node : Node) (block : List ℕ) → IsFound trees a (found.Node node) block → is_fitting a (answer.Stat node) ≡ true
-node_fits trees (ask.Stat path of) node block f = refl
-node_fits trees (ask.Read path start count of) node block f = absurd f
+pub node_fits : (trees : Trees) (a : Ask) (node : Node) (text : Bor (List ℕ)) (block : List ℕ) → IsFound trees a (found.Node node) block → is_fitting a (answer.Stat node text) ≡ true
+node_fits trees (ask.Stat path of) node text block f = refl
+node_fits trees (ask.Read path start count of) node text block f = absurd f
 
 pub block_from : (trees : Trees) (a : Ask) (bytes : Bor (List ℕ)) (block : List ℕ) → bytes.now ≡ block → IsFound trees a found.Block block → IsFrom trees a (answer.Read bytes)
 block_from trees (ask.Stat path of) bytes block e f = absurd f
@@ -32,7 +32,7 @@ block_fits trees (ask.Read path start count of) bytes block e f = let n : length
 
 pub nothing_from : (trees : Trees) (a : Ask) (block : List ℕ) → IsFound trees a found.Nothing block → (given : JobAnswer) → ¬ IsFrom trees a given
 nothing_from trees (ask.Stat path of) block f given = absurd f
-nothing_from trees (ask.Read path start count of) block f (answer.Stat node) = λ from. from
+nothing_from trees (ask.Read path start count of) block f (answer.Stat node text) = λ from. from
 nothing_from trees (ask.Read path start count of) block f (answer.Read bytes) = f bytes.now
 
 clash : {A : Type 0} (b : Bool) → b ≡ true → b ≡ false → A

@@ -2,7 +2,7 @@
 use Rattle.std.proofs.Common.{◌≡◌, ℕ, ◌≤◌, Bool, true, false, ◌&&◌, List, [], ◌++◌, take, Some, refl, sym, ap, ◌∙◌, subst, append_assoc}
 use Rattle.std.specs.Prelude.{is_none}
 use Rattle.std.proofs.lemmas.List.{append-nil}
-use Rattle.file_tree.specs.Tree.{Item, Trees, HoldsBytes, IsFrom, node_of, tree_of}
+use Rattle.file_tree.specs.Tree.{Item, Trees, HoldsBytes, IsFrom, node_of, text_of, tree_of}
 use Rattle.file_tree.specs.declared.job.Ask.{Ask}
 use Rattle.file_tree.specs.declared.job.Ask.TheVariants as ask
 use Rattle.file_tree.specs.declared.job.JobAnswer.{JobAnswer}
@@ -118,11 +118,12 @@ run_passed course now conn node OutOfMemory old new s = refused_stops s
 
 -- what the files told is so in all trees that agree with it
 from_agree : (told : Told) (trees : Trees) (a : Ask) (given : JobAnswer) → Agree told.trees told.newest trees → tree_of a ≤ told.newest → IsFrom told.trees a given → IsFrom trees a given
-from_agree told trees (ask.Stat path of) (answer.Stat node) agree known from = from ∙ ap node_of (sym (agree.same of known path))
+from_agree told trees (ask.Stat path of) (answer.Stat node text) agree known from =
+    let same = agree.same of known path in (from.0 ∙ ap node_of (sym same), λ some. ap text_of same ∙ from.1 some)
 from_agree told trees (ask.Read path start count of) (answer.Read bytes) agree known from =
     subst (λ (item : Item). HoldsBytes item start count bytes.now) (sym (agree.same of known path)) from
 from_agree told trees (ask.Stat path of) (answer.Read bytes) agree known from = absurd from
-from_agree told trees (ask.Read path start count of) (answer.Stat node) agree known from = absurd from
+from_agree told trees (ask.Read path start count of) (answer.Stat node text) agree known from = absurd from
 
 pub job_done_passed : {told : Told} (course : Course) (now : Start) (conn node : ℕ) (a : Ask) (given : JobAnswer) (r : StepAnswer) (old new : ConnView) → StepsOwn course now (ev.FileDone conn node given) r old new →
     ask_in old.jobs node ≡ Some a → tree_of a ≤ told.newest → IsFrom told.trees a given → Passed told old new [] []

@@ -72,7 +72,7 @@ fn give_found<E: EventCore>(
         JobResult::Node(node_there) => core.step(Event::FileDone {
             conn,
             node,
-            answer: JobAnswer::Stat(node_there),
+            answer: JobAnswer::Stat(node_there, b""),
         }),
         JobResult::Block => core.step(Event::FileDone {
             conn,

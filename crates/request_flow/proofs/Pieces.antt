@@ -1,9 +1,10 @@
 -- Jobs are answered, and the blocks of a file are placed.
-use Rattle.std.proofs.Common.{◌≡◌, ℕ, ◌+◌, ◌-◌, ◌≤◌, min, Bool, true, false, ◌&&◌, eqb, List, ◌++◌, length, take, drop, None, Some, refl, sym, ap, ◌∙◌, subst, append_assoc, length-drop, arith, Bor}
+use Rattle.std.proofs.Common.{◌≡◌, ◌≢◌, ℕ, ◌+◌, ◌-◌, ◌≤◌, min, Bool, true, false, ◌&&◌, eqb, List, [], ◌∷◌, ◌++◌, length, take, drop, None, Some, refl, sym, ap, ◌∙◌, subst, append_assoc, length-drop, arith, Bor}
 use Rattle.std.specs.Prelude.{nat_le}
 use Rattle.std.proofs.lemmas.List.{drop-drop}
 use Rattle.std.proofs.lemmas.Bool.Decides.{nat_tests}
-use Rattle.file_tree.specs.Tree.{Item, AFile, AFolder, ALocked, Nothing, Trees, HoldsBytes, IsFrom, is_fitting, node_of, text_of}
+use Rattle.file_tree.specs.Tree.{Item, AFile, AFolder, ALocked, Nothing, Trees, HoldsBytes, IsFrom, IsTextOf, is_fitting, known_text, node_of, text_of}
+use Rattle.file_tree.specs.declared.job.Found.{Found}
 use Rattle.file_tree.specs.declared.job.Node.{Node}
 use Rattle.file_tree.specs.declared.job.Node.TheVariants as node
 use Rattle.file_tree.specs.declared.job.Ask.{Ask}
@@ -21,7 +22,7 @@ use Rattle.request_flow.specs.declared.flow.Flow.{Flow}
 use Rattle.request_flow.specs.Padded.{padded}
 use Rattle.request_flow.specs.Rests.{Rest, no_rest, closes_after, Follows}
 use Rattle.ngx_outside.specs.Stepped.{IsReading}
-use Rattle.request_flow.specs.Flows.{count_asked, told_item, file_rest, told_rest, one_rest, item_asked, stage_fits, is_block, placed_most, block_most, file_length}
+use Rattle.request_flow.specs.Flows.{count_asked, told_item, told_text_item, file_rest, told_rest, one_rest, item_asked, stage_fits, is_block, placed_most, block_most, file_length}
 use Rattle.request_flow.proofs.Padding.{padded_length, padded_split, padded_within, padded_whole, padded_none}
 
 abbrev flow_at : Ask → Stage → Flow
@@ -44,6 +45,25 @@ told_same AFolder node e = ap (λ n. told_item n AFolder) e
 told_same ALocked node e = ap (λ n. told_item n ALocked) e
 told_same Nothing node e = ap (λ n. told_item n Nothing) e
 
+known_same : (known text : List ℕ) → (known ≢ [] → text ≡ known) → known_text known text ≡ text
+known_same [] text h = refl
+known_same (b ∷ known) text h = sym (h (λ e. never e))
+  where
+    never : b ∷ known ≡ [] → ⊥
+    never e = cc
+
+-- what is told of an item says nothing of it but its text
+told_by_text : (node : Node) (item : Item) → told_text_item node (text_of item) ≡ told_item node item
+told_by_text (node.File len date) item = refl
+told_by_text node.Folder item = refl
+told_by_text node.Locked item = refl
+told_by_text node.Missing item = refl
+
+-- what was found of it changes nothing of it
+pub found_same : (item : Item) (node : Node) (known text : List ℕ) → known ≡ text → (node ≡ node_of item) × IsTextOf item text → told_text_item node (known_text known (text_of item)) ≡ item
+found_same item node known text same from =
+    ap (told_text_item node) (known_same known (text_of item) (subst (IsTextOf item) (sym same) from.1)) ∙ (told_by_text node item ∙ told_same item node from.0)
+
 -- what is told of an item is there
 pub told_node : (node : Node) (item : Item) → node_of (told_item node item) ≡ node
 told_node (node.File len date) item = ap (λ n. node.File n date) (padded_length len (text_of item))
@@ -58,14 +78,14 @@ told_text node.Locked item = sym (padded_none (text_of item))
 told_text node.Missing item = sym (padded_none (text_of item))
 
 module _ (w : World) (patterns : List SetPattern) (site : Site) (trees : Trees) where
-  pub asked_follows : (job : Ask) (stage : Stage) (request : _) (wait : Wait) (node : Node) (given : JobAnswer) (out : List ℕ) (closing : Bool) →
-      stage ≡ Asked request wait → given ≡ answer.Stat node → IsFrom trees job given →
-      Follows site (one_rest w patterns site (flow_at job stage) trees) (one_rest w patterns site (flow_at job (Told request wait node)) trees) out out closing closing None None
-  asked_follows (ask.Stat path of) stage request wait node given out closing es eg from =
-      let same = told_same (trees of path) node (subst (λ a. IsFrom trees (ask.Stat path of) a) eg from) in
+  pub asked_follows : (job : Ask) (stage : Stage) (request : _) (wait : Wait) (found : Found) (text : Bor (List ℕ)) (given : JobAnswer) (out : List ℕ) (closing : Bool) →
+      stage ≡ Asked request wait → given ≡ answer.Stat found.node text → found.text ≡ text.now → IsFrom trees job given →
+      Follows site (one_rest w patterns site (flow_at job stage) trees) (one_rest w patterns site (flow_at job (Told request wait found)) trees) out out closing closing None None
+  asked_follows (ask.Stat path of) stage request wait found text given out closing es eg et from =
+      let same = found_same (trees of path) found.node found.text text.now et (subst (λ a. IsFrom trees (ask.Stat path of) a) eg from) in
       same_follows site _ _ out closing
       (ap (told_rest w patterns site (trees of) request.value wait) same ∙ sym (ap (λ s. one_rest w patterns site (flow_at (ask.Stat path of) s) trees) es))
-  asked_follows (ask.Read path start count of) stage request wait node given out closing es eg from =
+  asked_follows (ask.Read path start count of) stage request wait found text given out closing es eg et from =
       absurd (subst (λ a. IsFrom trees (ask.Read path start count of) a) eg from)
 
   -- the next block is asked, or what came isn't all placed

@@ -1,9 +1,10 @@
 -- A response is put.
-use Rattle.std.proofs.Common.{◌≡◌, ◌≤◌, ℕ, ◌+◌, ◌-◌, Bool, true, false, not, ◌&&◌, ◌||◌, cond, List, [], ◌∷◌, ◌++◌, length, drop, Option, None, Some, option_map, refl, sym, ap, ◌∙◌, subst, append_assoc, arith}
+use Rattle.std.proofs.Common.{◌≡◌, ◌==◌, ◌≤◌, ℕ, suc, ◌+◌, ◌-◌, Bool, true, false, not, ◌&&◌, ◌||◌, cond, List, [], ◌∷◌, ◌++◌, length, drop, Option, None, Some, option_map, refl, sym, ap, ◌∙◌, subst, append_assoc, arith}
 use Rattle.std.specs.Prelude.{is_none}
+use Rattle.std.proofs.lemmas.Bool.{eqb-true}
 use Rattle.std.proofs.lemmas.List.{append-nil}
 use Rattle.acts.specs.Vars.{Vars}
-use Rattle.file_tree.specs.Tree.{Item, Trees, text_of}
+use Rattle.file_tree.specs.Tree.{AFile, Item, Trees, known_text, text_of}
 use Rattle.filter_api.specs.declared.facts.Facts.{Facts}
 use Rattle.ngx_pattern.specs.Pattern.{Pattern as SetPattern}
 use Rattle.resp_head.specs.Head.{head_of}
@@ -36,7 +37,7 @@ use Rattle.request_flow.specs.declared.steps.Known.{Known}
 use Rattle.request_flow.specs.declared.steps.Known.TheVariants.{Nothing, Told}
 use Rattle.request_flow.specs.Terms.{terms_seen}
 use Rattle.request_flow.specs.Padded.{padded}
-use Rattle.request_flow.proofs.Padding.{padded_length}
+use Rattle.request_flow.proofs.Padding.{padded_length, padded_whole}
 use Rattle.request_flow.specs.Rests.{Rest, no_rest, Follows}
 use Rattle.request_flow.specs.Flows.{file_rest}
 use Rattle.reply_out.specs.Puts.{head_seen, sent_now, content_now, put_now, stays_seen}
@@ -265,10 +266,38 @@ module _ (site : Site) (number : ℕ) (t : Terms) (l : Level) (reply : Reply) (b
       true_false : true ≡ false → ⊥
       true_false e = cc
 
+  -- its head is put, and all of a file after it
+  pub whole_follows : (len : ℕ) (text after : List ℕ) → t.no_body ≡ false → p.answer.gone ≡ false → content_now reply t ≡ [] →
+      plain_bytes p.body ≡ text → length text ≡ len → after ≡ out' ++ text →
+      Follows site (prepared_rest (terms_seen t) p vars) no_rest out after closing closing' (Some (reply.status, len)) (Some number)
+  whole_follows len text after body there bare is_text long put =
+      let f = file_follows len (AFile text 0) body there bare (is_text ∙ (sym (padded_whole text) ∙ ap (λ n. padded n text) long)) (ap length is_text ∙ long) in
+      record {
+        bytes =
+            append-nil after ∙ (put ∙ (ap (λ b. out' ++ b) (sym (padded_whole text) ∙ (ap (λ n. padded n text) long ∙ ap (padded len) (sym (none_gone len text)))) ∙ f.bytes));
+        closes = f.closes;
+        logged = f.logged;
+        level = f.level;
+        subs = f.subs;
+      }
+
 -- the same, said of what is equal
 pub moved_follows : (site : Site) (q q' r r' : Rest) (out out' : List ℕ) (closing c c' : Bool) (log log' : Option (ℕ × ℕ)) (number number' : Option ℕ) → q' ≡ q → r' ≡ r → c' ≡ c → log' ≡ log → number' ≡ number →
     Follows site q r out out' closing c log number → Follows site q' r' out out' closing c' log' number'
 moved_follows site q q' r r' out out' closing c c' log log' number number' eq er ec el en f = rw eq (rw er (rw ec (rw el (rw en f))))
+
+-- ---- what is known of a file
+
+pub unknown : (known text : List ℕ) → (length known == 0) ≡ true → known_text known text ≡ text
+unknown [] text e = refl
+unknown (b ∷ known) text e = no_more (length known) (eqb-true (length (b ∷ known)) 0 e)
+  where
+    no_more : {A : Type 0} (n : ℕ) → suc n ≡ 0 → A
+    no_more n e = cc
+
+pub whole_known : (known : List ℕ) (len : ℕ) (text : List ℕ) → (length known == 0) ≡ false → length known ≡ len → padded len (known_text known text) ≡ known
+whole_known [] len text some e = cc
+whole_known (b ∷ known) len text some e = ap (λ n. padded n (b ∷ known)) (sym e) ∙ padded_whole (b ∷ known)
 
 -- ---- a reply is what was prepared
 

@@ -1,9 +1,10 @@
 -- A request in flight: what is still to come of its response, and how far it is.
 use Rattle.std.specs.Global.{Box}
 use Rattle.std.specs.Prelude.{◌≡◌, ℕ, ◌+◌, ◌-◌, ◌*◌, ◌^◌, ◌==◌, min, nat_le, nat_lt, Bool, true, false, not, ◌&&◌, List, [], ◌∷◌, length, drop, Option, None, Some, if◌then◌else◌}
-use Rattle.file_tree.specs.Tree.{Item, AFile, AFolder, ALocked, Nothing, Tree, Trees, text_of, tree_of}
+use Rattle.file_tree.specs.Tree.{Item, AFile, AFolder, ALocked, Nothing, Tree, Trees, known_text, text_of, tree_of}
 use Rattle.file_tree.specs.declared.job.Node.{Node}
 use Rattle.file_tree.specs.declared.job.Node.TheVariants as node
+use Rattle.file_tree.specs.declared.job.Found.{Found}
 use Rattle.file_tree.specs.declared.job.Ask.{Ask}
 use Rattle.file_tree.specs.declared.job.Ask.TheVariants as ask
 use Rattle.ngx_outside.specs.Views.{Job}
@@ -31,6 +32,14 @@ told_item node.Folder item = AFolder
 told_item node.Locked item = ALocked
 told_item node.Missing item = Nothing
 
+-- the same, where a file has this text
+abbrev pub told_text_item : Node → (text : List ℕ) → Item
+told_text_item node text = told_item node (AFile text 0)
+
+-- what was found of an item, of a file with all its bytes or none
+abbrev pub found_item : Found → Item → Item
+found_item found item = told_text_item found.node (known_text found.text (text_of item))
+
 -- this many bytes of a file are to come
 abbrev pub file_rest : Sending → (left : ℕ) → Item → Rest
 file_rest sending left item =
@@ -51,8 +60,8 @@ told_rest w patterns site tree request wait item =
 abbrev pub stage_rest : World → List SetPattern → Site → Tree → Stage → Item → Rest
 stage_rest w patterns site tree (Asked request wait) item =
     told_rest w patterns site tree request.value wait item
-stage_rest w patterns site tree (Told request wait node) item =
-    told_rest w patterns site tree request.value wait (told_item node item)
+stage_rest w patterns site tree (Told request wait found) item =
+    told_rest w patterns site tree request.value wait (found_item found item)
 stage_rest w patterns site tree (Reading sending left) item = file_rest sending left item
 stage_rest w patterns site tree (Came sending left placed) item = file_rest sending left item
 
@@ -76,7 +85,7 @@ flow_rest w patterns site (Some flow) trees = one_rest w patterns site flow.valu
 -- its job waits for an answer
 abbrev pub waits : Stage → Bool
 waits (Asked request wait) = true
-waits (Told request wait node) = false
+waits (Told request wait found) = false
 waits (Reading sending left) = true
 waits (Came sending left placed) = false
 
@@ -98,14 +107,14 @@ kept_most = 114688
 -- it can run on
 abbrev pub may_run : Stage → Bool
 may_run (Asked request wait) = false
-may_run (Told request wait node) = true
+may_run (Told request wait found) = true
 may_run (Reading sending left) = false
 may_run (Came sending left placed) = nat_lt placed placed_most
 
 -- a block of its file came
 abbrev pub is_sending : Stage → Bool
 is_sending (Asked request wait) = false
-is_sending (Told request wait node) = false
+is_sending (Told request wait found) = false
 is_sending (Reading sending left) = false
 is_sending (Came sending left placed) = true
 
@@ -122,14 +131,14 @@ jobs_of (Some flow) = if waits flow.value.stage then record { node = 0; ask = fl
 -- how many of the bytes for a peer are shown as pending: those that are placed
 abbrev pub shown_by : Stage → ℕ
 shown_by (Asked request wait) = shown_most
-shown_by (Told request wait node) = shown_most
+shown_by (Told request wait found) = shown_most
 shown_by (Reading sending left) = shown_most
 shown_by (Came sending left placed) = if nat_lt placed shown_most then placed else shown_most
 
 -- where this many of them were written
 abbrev pub stage_written : Stage → ℕ → Stage
 stage_written (Asked request wait) count = Asked request wait
-stage_written (Told request wait node) count = Told request wait node
+stage_written (Told request wait found) count = Told request wait found
 stage_written (Reading sending left) count = Reading sending left
 stage_written (Came sending left placed) count = Came sending left (placed - count)
 
@@ -153,7 +162,7 @@ count_asked (ask.Read path start count of) = count
 -- how far a request is fits its job and the bytes for its peer, of which there are this many
 abbrev pub stage_fits : Ask → Stage → (size : ℕ) → Bool
 stage_fits job (Asked request wait) size = is_stat job && (size == 0)
-stage_fits job (Told request wait node) size = is_stat job && (size == 0)
+stage_fits job (Told request wait found) size = is_stat job && (size == 0)
 stage_fits job (Reading sending left) size =
     (nat_le left sending.len && is_block sending.len left job) && nat_le size placed_most
 stage_fits job (Came sending left placed) size =
@@ -183,7 +192,7 @@ asking_most = flow_most + 2 ^ 33 + 2
 
 abbrev pub stage_left : Stage → (size : ℕ) → ℕ
 stage_left (Asked request wait) size = flow_most + 2 * request.value.questions + 2
-stage_left (Told request wait node) size = flow_most + 2 * request.value.questions + 1
+stage_left (Told request wait found) size = flow_most + 2 * request.value.questions + 1
 stage_left (Reading sending left) size = 8 * left + 2
 stage_left (Came sending left placed) size =
     (size - placed) + (8 * left + (if left == 0 then 1 else 3))
@@ -195,7 +204,7 @@ flow_left (Some flow) size = stage_left flow.value.stage size
 -- ---- a request that was told what is at its path
 
 abbrev pub heard_flow : Heard → Flow
-heard_flow h = record { ask = h.ask; stage = Told h.request h.wait h.node }
+heard_flow h = record { ask = h.ask; stage = Told h.request h.wait h.found }
 
 -- the length of what is at a path, where that is a file
 abbrev pub file_length : Node → ℕ
@@ -210,20 +219,20 @@ file_length node.Missing = 0
 -- within its phases
 abbrev pub stage_server : Stage → ℕ
 stage_server (Asked request wait) = request.value.server
-stage_server (Told request wait node) = request.value.server
+stage_server (Told request wait found) = request.value.server
 stage_server (Reading sending left) = 0
 stage_server (Came sending left placed) = 0
 
 abbrev pub stage_length : Stage → ℕ
 stage_length (Asked request wait) = request.value.length
-stage_length (Told request wait node) = request.value.length
+stage_length (Told request wait found) = request.value.length
 stage_length (Reading sending left) = 0
 stage_length (Came sending left placed) = 0
 
 -- it is served so
 abbrev pub StageBy : (server length : ℕ) → Stage → Type 0
 StageBy server length (Asked request wait) = (request.value.server ≡ server) × (request.value.length ≡ length)
-StageBy server length (Told request wait node) =
+StageBy server length (Told request wait found) =
     (request.value.server ≡ server) × (request.value.length ≡ length)
 StageBy server length (Reading sending left) = Unit {0}
 StageBy server length (Came sending left placed) = Unit {0}
@@ -235,14 +244,14 @@ IsServedBy server length (Some flow) = StageBy server length flow.value.stage
 -- how many subrequests it has asked whether it is let in, which matters as long as it is within its phases
 abbrev pub stage_opened : Stage → ℕ
 stage_opened (Asked request wait) = request.value.opened
-stage_opened (Told request wait node) = request.value.opened
+stage_opened (Told request wait found) = request.value.opened
 stage_opened (Reading sending left) = 0
 stage_opened (Came sending left placed) = 0
 
 -- it has asked this many
 abbrev pub StageOpened : (count : ℕ) → Stage → Type 0
 StageOpened count (Asked request wait) = request.value.opened ≡ count
-StageOpened count (Told request wait node) = request.value.opened ≡ count
+StageOpened count (Told request wait found) = request.value.opened ≡ count
 StageOpened count (Reading sending left) = Unit {0}
 StageOpened count (Came sending left placed) = Unit {0}
 

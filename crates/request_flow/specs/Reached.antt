@@ -3,9 +3,7 @@ use Rattle.std.specs.Global.{Box}
 use Rattle.std.specs.Prelude.{◌≡◌, ℕ, List, Option, None, Some}
 use Rattle.acts.specs.Act.{Stat, settled}
 use Rattle.acts.specs.Vars.{Vars}
-use Rattle.file_tree.specs.Tree.{AFile, Item}
 use Rattle.file_tree.specs.declared.job.Ask.{Ask}
-use Rattle.file_tree.specs.declared.job.Node.{Node}
 use Rattle.file_tree.specs.declared.job.Ask.TheVariants as asks
 use Rattle.ngx_pattern.specs.Pattern.{Pattern as SetPattern}
 use Rattle.site_model.specs.declared.site.Site.{Site}
@@ -24,7 +22,7 @@ use Rattle.request_flow.specs.declared.flow.Stage.TheVariants.{Asked, Told, Read
 use Rattle.request_flow.specs.declared.page.PageStart.{PageStart}
 use Rattle.request_flow.specs.declared.page.Went.{Went}
 use Rattle.request_flow.specs.declared.page.Went.TheVariants as went
-use Rattle.request_flow.specs.Flows.{told_item}
+use Rattle.request_flow.specs.Flows.{told_text_item}
 use Rattle.request_flow.specs.Padded.{padded}
 use Rattle.request_flow.specs.Pages.{page_act}
 use Rattle.request_flow.specs.Rests.{finished}
@@ -45,16 +43,12 @@ abbrev pub path_asked : Ask → List ℕ
 path_asked (asks.Stat path of) = path
 path_asked (asks.Read path start count of) = path
 
--- what is told of an item, where a file has this text
-abbrev pub told_text_item : Node → (text : List ℕ) → Item
-told_text_item node text = told_item node (AFile text 0)
-
 -- steps have led to a request in its phases; after them it doesn't matter
 abbrev pub StageReached : World → List SetPattern → Site → (path : List ℕ) → Stage → Type 0
 StageReached w patterns site path (Asked request wait) =
     IsReachedAt w (finished w (Stat path (λ item. phases_told w patterns site request.value.phases wait item))) request.value.vars
-StageReached w patterns site path (Told request wait node) =
-    (text : List ℕ) → IsReachedAt w (finished w (phases_told w patterns site request.value.phases wait (told_text_item node text))) request.value.vars
+StageReached w patterns site path (Told request wait found) =
+    (text : List ℕ) → IsReachedAt w (finished w (phases_told w patterns site request.value.phases wait (told_text_item found.node text))) request.value.vars
 StageReached w patterns site path (Reading sending left) = Unit {0}
 StageReached w patterns site path (Came sending left placed) = Unit {0}
 

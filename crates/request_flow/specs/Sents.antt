@@ -1,7 +1,7 @@
 -- What is sent for a reply.
 use Rattle.std.specs.Prelude.{ℕ, ◌&&◌, ◌||◌, Bool, true, false, not, List, [], Option, None, Some, is_none, if◌then◌else◌}
 use Rattle.acts.specs.Vars.{Vars}
-use Rattle.file_tree.specs.Tree.{Tree, Trees, text_of, tree_of}
+use Rattle.file_tree.specs.Tree.{Tree, Trees, known_text, text_of, tree_of}
 use Rattle.ngx_pattern.specs.Pattern.{Pattern as SetPattern}
 use Rattle.site_model.specs.declared.site.Site.{Site}
 use Rattle.request_meaning.specs.Serving.{World, Answer, Prepared, Body as MeantBody}
@@ -34,7 +34,7 @@ is_plain t reply = (reply.known || t.no_body) && is_none reply.facts
 -- the bytes of the file that was told last
 abbrev pub known_bytes : Known → Trees → List ℕ
 known_bytes (Nothing of) trees = []
-known_bytes (Told f) trees = padded f.len (text_of (item_asked trees f.ask))
+known_bytes (Told f) trees = padded f.len (known_text f.text (text_of (item_asked trees f.ask)))
 
 abbrev pub known_tree : Known → ℕ
 known_tree (Nothing of) = of

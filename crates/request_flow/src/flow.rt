@@ -3,7 +3,7 @@ ghost use Rattle.std.specs.Prelude.{◌≡◌, ◌≤◌};
 ghost use Rattle.request_flow.specs.Flows.{waits as waits_for, may_run as can_run, shown_by as shown_at, stage_written, stage_server, stage_length};
 
 use crate::blocks::Sending;
-use file_tree::{Ask, Node};
+use file_tree::{Ask, Found};
 use reply_out::InPhases;
 use reply_out::request_phases::Wait;
 
@@ -26,7 +26,7 @@ pub enum Stage {
     Told {
         request: Box<InPhases>,
         wait: Wait,
-        node: Node,
+        found: Found,
     },
     /// A block of its file is asked; this many bytes are to come, with it.
     Reading {
@@ -72,7 +72,7 @@ pub fn waits(stage: &Stage) -> bool
         Stage::Told {
             request: _,
             wait: _,
-            node: _,
+            found: _,
         } => false,
         Stage::Reading {
             sending: _,
@@ -99,7 +99,7 @@ pub fn may_run(stage: &Stage) -> bool
         Stage::Told {
             request: _,
             wait: _,
-            node: _,
+            found: _,
         } => true,
         Stage::Reading {
             sending: _,
@@ -123,7 +123,7 @@ pub fn server_of(stage: &Stage) -> u32
         Stage::Told {
             request,
             wait: _,
-            node: _,
+            found: _,
         } => request.server,
         Stage::Reading {
             sending: _,
@@ -147,7 +147,7 @@ pub fn length_of(stage: &Stage) -> u64
         Stage::Told {
             request,
             wait: _,
-            node: _,
+            found: _,
         } => request.length,
         Stage::Reading {
             sending: _,
@@ -179,7 +179,7 @@ pub fn shown_by(stage: &Stage) -> usize
         Stage::Told {
             request: _,
             wait: _,
-            node: _,
+            found: _,
         } => SHOWN,
         Stage::Reading {
             sending: _,
@@ -204,7 +204,7 @@ pub fn wrote(flow: &mut Box<Flow>, count: usize)
         Stage::Told {
             request: _,
             wait: _,
-            node: _,
+            found: _,
         } => {}
         Stage::Reading {
             sending: _,

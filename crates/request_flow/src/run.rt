@@ -20,7 +20,7 @@ use crate::page::Went;
 use crate::slot::put;
 use crate::steps::{FileAt, Known, go_on};
 use byte_text::{ByteQueue, ByteText, OutOfMemory};
-use file_tree::{Ask, JobAnswer, Node};
+use file_tree::{Ask, Found, JobAnswer, Node};
 use reply_out::request_phases::{Ground, Wait, resume};
 use reply_out::{InPhases, Workspace};
 use std::alloc::Global;
@@ -47,7 +47,7 @@ struct Heard {
     ask: Ask,
     request: Box<InPhases>,
     wait: Wait,
-    node: Node,
+    found: Found,
     /// Where it was kept, as room for what comes of it.
     room: Box<Flow>,
 }
@@ -91,16 +91,22 @@ fn run_told(
         ask,
         mut request,
         wait,
-        node,
+        found,
         room,
     } = heard;
+    let Found { node, text } = found;
     let alloc = space.alloc;
     let inside = &mut *request;
     let (phases, vars) = (&mut inside.phases, &mut inside.vars);
     match resume(alloc, ground, wait, node, &mut space.patterns, phases, vars) {
         Ok(step) => {
             let len = length_of(node);
-            let known = Known::Told(FileAt { ask, len, room });
+            let known = Known::Told(FileAt {
+                ask,
+                len,
+                text,
+                room,
+            });
             Ok(go_on(space, ground, request, step, known, out, closing)?)
         }
         Err(OutOfMemory) => {
@@ -122,7 +128,7 @@ pub fn is_sending(flow: &Flow) -> bool
         Stage::Told {
             request: _,
             wait: _,
-            node: _,
+            found: _,
         } => false,
         Stage::Reading {
             sending: _,
@@ -287,13 +293,13 @@ pub fn run_on(
         Stage::Told {
             request,
             wait,
-            node,
+            found,
         } => {
             let heard = Heard {
                 ask,
                 request,
                 wait,
-                node,
+                found,
                 room,
             };
             Ok(run_told(space, ground, heard, out, closing)?)
@@ -388,6 +394,7 @@ pub fn came(flow: &mut Box<Flow>, placed: usize)
 /// `OutOfMemory` where a block doesn't fit; the request is then not to be answered.
 #[tactic(auto, unfolding(crate::specs::Flows::placed_most, crate::specs::Flows::block_most, crate::specs::Flows::kept_most))]
 pub fn answered(
+    alloc: Global,
     flow: &mut Box<Flow>,
     out: &mut ByteQueue,
     answer: JobAnswer<'_>,
@@ -412,13 +419,14 @@ pub fn answered(
 {
     let flow = &mut **flow;
     match (take_stage(&mut flow.stage), answer) {
-        (Stage::Asked { request, wait }, JobAnswer::Stat(node)) => {
+        (Stage::Asked { request, wait }, JobAnswer::Stat(node, text)) => {
+            let found = Found::new(alloc, node, text)?;
             put(
                 &mut flow.stage,
                 Stage::Told {
                     request,
                     wait,
-                    node,
+                    found,
                 },
             );
             Ok(())

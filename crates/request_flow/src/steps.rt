@@ -1,5 +1,5 @@
 // A request starts, and goes on from step to step of its phases.
-ghost use Rattle.std.specs.Prelude.{◌≡◌, ◌≤◌, ◌<◌, ◌+◌, ◌-◌, ◌*◌, ◌||◌, not, [], List, ℕ, true, false, length, is_some, IfOk, None, Some};
+ghost use Rattle.std.specs.Prelude.{◌≡◌, ◌≤◌, ◌<◌, ◌+◌, ◌-◌, ◌*◌, ◌++◌, ◌||◌, not, [], List, ℕ, true, false, length, is_some, IfOk, OnOk, None, Some};
 ghost use Rattle.file_tree.specs.Tree.{Trees, tree_of};
 ghost use Rattle.ngx_pattern.specs.Pattern.{Pattern as SetPattern};
 ghost use Rattle.reply_out.specs.pattern_search.Found.{patterns_seen};
@@ -34,12 +34,13 @@ use reply_out::request_reply::{Body, Reply, reply_of};
 use reply_out::{InPhases, Terms, Workspace, put_reply, stays};
 use std::alloc::Global;
 
-/// What a job told of its path, how many bytes of it are a file's, and the room of the request that
+/// What a job told of its path, how many bytes of it are a file's, all these bytes or none, and the room of the request that
 /// asked, for what comes of it.
 #[derive(Drop)]
 pub struct FileAt {
     pub ask: Ask,
     pub len: u64,
+    pub text: ByteText,
     pub room: Box<Flow>,
 }
 
@@ -137,8 +138,8 @@ fn over(number: u32, status: u16, size: u64, closing: bool) -> Onward
       log = Some (status, size);
       level = Some number;
     } }
-    ensures fits { (count : ℕ) → count ≤ 65536 → flow_fits result.flow count ≡ true }
-    ensures lowers { (count : ℕ) → count ≤ 65536 → count + flow_left result.flow count < flow_most }
+    ensures fits { (count : ℕ) → count ≤ 81920 → flow_fits result.flow count ≡ true }
+    ensures lowers { (count : ℕ) → count ≤ 81920 → count + flow_left result.flow count < flow_most }
 {
     Onward {
         flow: None,
@@ -175,7 +176,12 @@ fn reading(number: u32, status: u16, file: FileAt, closing: bool) -> Onward
     ensures reached { (w : World) (patterns : List SetPattern) (site : SiteRow) →
         FlowReached w patterns site result.flow }
 {
-    let FileAt { ask, len, room } = file;
+    let FileAt {
+        ask,
+        len,
+        text: _,
+        room,
+    } = file;
     let flow = Flow {
         ask: next_block(ask, len, len),
         stage: Stage::Reading {
@@ -191,7 +197,24 @@ fn reading(number: u32, status: u16, file: FileAt, closing: bool) -> Onward
     }
 }
 
-/// Puts the head of the response to what phases decided, and its body where that isn't a file.
+/// No more bytes of a file are put at once, of which all are known.
+const WHOLE: usize = 16384;
+
+/// Puts a file of which all bytes are known.
+fn put_whole(out: &mut ByteQueue, file: &FileAt) -> Result<(), OutOfMemory>
+    ensures put { OnOk result (out.new ≡ out.old ++ file.now.text) }
+    ensures len { OnOk result (length file.now.text ≡ file.now.len) }
+    ensures few { OnOk result (length file.now.text ≤ 16384) }
+{
+    if file.text.len() as u64 != file.len || WHOLE < file.text.len() {
+        return Err(OutOfMemory);
+    }
+    out.append(file.text.as_slice())?;
+    Ok(())
+}
+
+/// Puts the head of the response to what phases decided, and its body where that isn't a file, or a file of which all bytes
+/// are known.
 /// Bodies on which a filter acts aren't served yet: there is no memory for them.
 fn answer(
     space: &mut Workspace,
@@ -237,7 +260,13 @@ fn answer(
     let closing = closes(closing, keep);
     match file {
         None => Ok(over(number, status, size, closing)),
-        Some(file) => Ok(reading(number, status, file, closing)),
+        Some(file) => {
+            if file.text.is_empty() {
+                return Ok(reading(number, status, file, closing));
+            }
+            put_whole(out, &file)?;
+            Ok(over(number, status, file.len, closing))
+        }
     }
 }
 

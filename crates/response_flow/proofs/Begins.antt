@@ -3,7 +3,7 @@ use Rattle.std.proofs.Common.{◌≡◌, ℕ, zero, suc, ◌+◌, ◌-◌, ◌�
 use Rattle.std.proofs.lemmas.List.{append-nil}
 use Rattle.acts.specs.Act.{Done, ◌>>=◌, settled}
 use Rattle.acts.specs.Vars.{Vars}
-use Rattle.file_tree.specs.Tree.{Nothing, Tree, Trees}
+use Rattle.file_tree.specs.Tree.{Nothing, Tree, Trees, known_text}
 use Rattle.ngx_pattern.specs.Pattern.{Pattern as SetPattern}
 use Rattle.site_model.specs.declared.site.Site.{Site}
 use Rattle.outgoing.specs.Leaving.{framed_as, most}
@@ -40,7 +40,7 @@ use Rattle.request_flow.specs.declared.page.PageStart.{PageStart}
 use Rattle.request_flow.specs.declared.steps.Known.{Known}
 use Rattle.request_flow.specs.declared.steps.Known.TheVariants as knowns
 use Rattle.response_flow.specs.Flights.{most_kept, page_left, page_most, with_opened}
-use Rattle.response_flow.specs.Opens.{known_text}
+use Rattle.response_flow.specs.Opens.{bytes_known, file_text}
 
 -- ---- the bytes of the file
 
@@ -69,7 +69,7 @@ told_bytes w a s len text (outcomes.Page code) e = refl
 told_bytes w a s len text (outcomes.Redirect code to) e = refl
 told_bytes w a s len text outcomes.Close e = refl
 
-known_is : (known : Known) (trees : Trees) → known_bytes known trees ≡ flow.padded (known_len known) (known_text known trees)
+known_is : (known : Known) (trees : Trees) → known_bytes known trees ≡ flow.padded (known_len known) (known_text (bytes_known known) (file_text known trees))
 unfolding flow.padded
 known_is (knowns.Nothing of) trees = refl
 known_is (knowns.Told f) trees = refl
@@ -133,8 +133,8 @@ put_together page came subs pending block status sent body asked ep eb es en ec 
     ∙ ap (λ b. record { bytes = page.head ++ b; stays = true; logs = (page.status, length came.body) ∷ []; values = None; subs = subs }) (framed_cases page.chunked came.body)))))))
 
 module _ (laws : ReachedStaysWell) (keep : StepsKeepStill) (fit : ShippedAreFit) (patterns : List SetPattern) (g : Ground) (start : PageStart) (p : Pages)
-    (told : IsTold start.page) (begins : BeginsWith g start.request.value.phases start.request.value.vars start.page.outcome p.family)
-    (text : (trees : Trees) → files trees p.family 0 ≡ known_text start.page.known trees) (tree_is : p.family.tree ≡ known_tree start.page.known)
+    (told : IsTold start.page) (begins : BeginsWith g start.request.value.phases start.request.value.vars start.page.outcome (bytes_known start.page.known) p.family)
+    (text : (trees : Trees) → files trees p.family 0 ≡ file_text start.page.known trees) (tree_is : p.family.tree ≡ known_tree start.page.known)
     (many : length p.family.nodes ≡ 1 + start.request.value.opened) where
   abbrev w : World
   w = world_in patterns g shipped
@@ -148,6 +148,9 @@ module _ (laws : ReachedStaysWell) (keep : StepsKeepStill) (fit : ShippedAreFit)
   abbrev len : ℕ
   len = known_len start.page.known
 
+  abbrev known : List ℕ
+  known = bytes_known start.page.known
+
   abbrev made : List ℕ → Serving Answer
   made t = after_phases w most_depth [] (prepared_as w (asked_in start.request.value.phases) (standing_seen site start.request.value.phases.at) (bytes_for start.page.outcome t) start.page.outcome)
 
@@ -159,20 +162,21 @@ module _ (laws : ReachedStaysWell) (keep : StepsKeepStill) (fit : ShippedAreFit)
 
   pub reached : PageReached w patterns site start → IsReached w patterns site p
   reached h = λ texts.
-      let s = h (texts 0) in
+      let t = known_text known (texts 0) in
+      let s = h t in
       laws.goes w no_files (alone 0 1 (Going most_depth s.first)) s.table (meant w patterns site texts p.family) p.family.vars s.reached
-      (begins patterns no_files texts s.first s.table (s.same ∙ ap (λ a. settled a vars) (act_is (texts 0)))).goes
+      (begins patterns no_files texts s.first s.table (s.same ∙ ap (λ a. settled a vars) (act_is t))).goes
 
   pub same : (trees : Trees) → IsRaceless w.server → PageReached w patterns site start → p.outgoing.pending ≡ start.page.head → p.outgoing.block ≡ cond start.page.chunked (Some []) None →
       p.status ≡ start.page.status → p.sent ≡ 0 → page_left w patterns site trees p ≡ with_opened start.request.value.opened (start_rest w patterns site trees start)
   same trees raceless h ep eb es en =
       let f = p.family in
       let tree = trees f.tree in
-      let t = known_text start.page.known trees in
+      let t = known_text known (file_text start.page.known trees) in
       let texts = files trees f in
       let s = h t in
       let act = page_act w patterns site start.request.value start.page in
-      let o = begins patterns tree texts s.first s.table (s.same ∙ ap (λ a. settled a vars) (act_is t ∙ ap made (sym (text trees)))) in
+      let o = begins patterns tree texts s.first s.table (s.same ∙ ap (λ a. settled a vars) (act_is t ∙ ap (λ x. made (known_text known x)) (sym (text trees)))) in
       let went = keep.goes w (fit w refl) raceless tree (alone 0 1 (Going most_depth s.first)) s.table (meant w patterns site texts f) f.vars s.reached o.goes in
       let body : (left_in w patterns site trees p).body ≡ (run tree (reply w tree most_depth) (act (flow.padded len t)) vars).body =
       sym (went.body ∙ ap (λ b. b ++ (left_in w patterns site trees p).body) (sym went.output))

@@ -20,9 +20,14 @@ use Rattle.request_flow.specs.Flows.{item_asked}
 use Rattle.response_flow.specs.Flights.{page_left, page_most, most_kept, with_opened}
 
 -- the text of the file that was told last
-abbrev pub known_text : Known → Trees → List ℕ
-known_text (Nothing of) trees = text_of (trees of [])
-known_text (Told f) trees = text_of (item_asked trees f.ask)
+abbrev pub file_text : Known → Trees → List ℕ
+file_text (Nothing of) trees = text_of (trees of [])
+file_text (Told f) trees = text_of (item_asked trees f.ask)
+
+-- what is known of its bytes: all, or none
+abbrev pub bytes_known : Known → List ℕ
+bytes_known (Nothing of) = []
+bytes_known (Told f) = f.text
 
 -- As much is still to come of it as of its request, whatever is still to come of the files.
 pub record Opens (patterns : List SetPattern) (g : Ground) (start : PageStart) (p : Pages) : Type 0 where

@@ -57,7 +57,7 @@ pub fn answered(
             Ok(())
         }
         Some(Flight::Alone(flow)) => {
-            flow_answered(flow, out, answer)?;
+            flow_answered(alloc, flow, out, answer)?;
             Ok(())
         }
         Some(Flight::Asking(flow)) => {

@@ -5,7 +5,7 @@ ghost use Rattle.access_flow.specs.node_turn.Stages.{item_asked};
 ghost use Rattle.request_flow.specs.Sents.{known_tree};
 ghost use Rattle.ngx_pattern.specs.Pattern.{Pattern as SetPattern};
 ghost use Rattle.request_flow.specs.Pages.{IsTold};
-ghost use Rattle.response_flow.specs.Opens.{Opens, known_text};
+ghost use Rattle.response_flow.specs.Opens.{Opens, bytes_known, file_text};
 
 use crate::flight::PageFlow;
 use byte_text::{ByteText, OutOfMemory};
@@ -20,15 +20,17 @@ use std::alloc::Global;
 use subrequests::{Decided, Family};
 
 /// The job that told what is known of the files; where nothing is known yet, one that asks nothing.
-/// The number of the tree.
+/// The number of the tree, and what is known of the file's bytes: all, or none.
 struct Source {
     ask: Ask,
     tree: u64,
+    known: ByteText,
 }
 
 fn source_of(alloc: Global, known: Known) -> Source
     ensures text { (trees : Trees)
-        → text_of (item_asked trees result.ask) ≡ known_text known trees }
+        → text_of (item_asked trees result.ask) ≡ file_text known trees }
+    ensures known { result.known ≡ bytes_known known }
     ensures tree { result.tree ≡ known_tree known }
 {
     match known {
@@ -38,8 +40,9 @@ fn source_of(alloc: Global, known: Known) -> Source
                 of,
             },
             tree: of,
+            known: ByteText::new(alloc),
         },
-        Known::Told(FileAt { ask, .. }) => {
+        Known::Told(FileAt { ask, text, .. }) => {
             let tree = match &ask {
                 Ask::Stat { path: _, of } => *of,
                 Ask::Read {
@@ -49,7 +52,11 @@ fn source_of(alloc: Global, known: Known) -> Source
                     of,
                 } => *of,
             };
-            Source { ask, tree }
+            Source {
+                ask,
+                tree,
+                known: text,
+            }
         }
     }
 }
@@ -98,11 +105,12 @@ pub(crate) fn opened(
         questions: _,
         opened,
     } = Box::into_inner(request);
-    let Source { ask, tree } = source_of(alloc, known);
+    let Source { ask, tree, known } = source_of(alloc, known);
     let decided = Decided {
         outcome,
         ask,
         tree,
+        known,
         opened,
     };
     let family = Family::begin(alloc, ground, phases, vars, decided)?;

@@ -9,7 +9,7 @@ use crate::room::{Room, is_for_room, read_into};
 use byte_text::{ByteQueue, ByteText, ByteTexts, OutOfMemory};
 use file_tree::Node;
 use libc::types::rlimit;
-use ngx_outside::{Failed, FileFault, Files, Listing};
+use ngx_outside::{Failed, FileFault, Files, Listing, Look};
 use std::alloc::Global;
 use std::fs::OpenFile;
 use std::io::ErrorKind;
@@ -302,6 +302,15 @@ fn read_file_to<F: FileExt + AsRawFd + OpenFile + Drop>(
     Ok(())
 }
 
+// Lends all bytes of the file that was shown last, where it is small and keeps them; whether it does.
+#[inline(always)]
+fn lends_shown<F: Drop>(kept: &KeptFiles<F>, room: &mut Room, len: u64) -> bool {
+    match kept.bytes_shown(len) {
+        Some(bytes) => room.copy(bytes).is_ok(),
+        None => false,
+    }
+}
+
 // How many files may be kept open: half of the descriptors that the process may have, so that the others are left to links.
 fn most_kept() -> usize {
     let mut limit = rlimit {
@@ -431,6 +440,15 @@ where
                 Err(Failed)
             }
         }
+    }
+
+    fn look(&mut self, path: &[u8], of: u64) -> Result<Look, Failed> {
+        let node = self.stat(path, of)?;
+        let whole = match node {
+            Node::File { len, date: _ } => lends_shown(&self.kept, &mut self.room, len),
+            _ => false,
+        };
+        Ok(Look { node, whole })
     }
 
     fn block(&self) -> &[u8] {

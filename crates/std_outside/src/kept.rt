@@ -378,6 +378,15 @@ impl<F: Drop> KeptFiles<F> {
         }
     }
 
+    /// All bytes of the file that was shown or read last, where it keeps them, they are this many and are some.
+    #[inline(always)]
+    pub fn bytes_shown(&self, len: u64) -> Option<&[u8]> {
+        if len == 0 {
+            return None;
+        }
+        self.file_at(self.near)?.bytes(len)
+    }
+
     // Closes the file of a place.
     fn close(&mut self, place: Slot) {
         if let Some(bucket) = self.buckets.get_mut(place.bucket) {

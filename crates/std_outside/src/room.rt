@@ -174,9 +174,9 @@ impl Room {
         Ok(())
     }
 
-    // Lends these bytes, which a small file keeps: they are copied, as the host would do.
+    /// Lends these bytes, which a small file keeps: they are copied, as the host would do.
     #[inline(always)]
-    fn copy(&mut self, bytes: &[u8]) -> Result<(), FileFault>
+    pub(crate) fn copy(&mut self, bytes: &[u8]) -> Result<(), FileFault>
         ensures { OnOk result (length self.new ≡ length bytes.now) }
     {
         let count = bytes.len();

@@ -2,7 +2,7 @@
 use Rattle.std.specs.Prelude.{◌≡◌, ◌≢◌, ℕ, ◌+◌, ◌&&◌, ◌==◌, not, Bool, true, false, List, [], length, slice_get, slice_set, Option, None, Some}
 use Rattle.acts.specs.Act.{Inner, settled}
 use Rattle.acts.specs.Vars.{Vars}
-use Rattle.file_tree.specs.Tree.{IsFrom, Tree, Trees, is_fitting, tree_of}
+use Rattle.file_tree.specs.Tree.{IsFrom, Tree, Trees, is_fitting, known_text, tree_of}
 use Rattle.file_tree.specs.declared.job.JobAnswer.{JobAnswer}
 use Rattle.ngx_pattern.specs.Pattern.{Pattern as SetPattern}
 use Rattle.site_model.specs.declared.site.Site.{Site}
@@ -125,11 +125,11 @@ fits_at tree (Some n) answer = is_fitting n.ask answer && (not n.over && (tree_o
 
 -- It begins with the body of what phases decided: a main request alone, which may open fifty levels, comes to it without a subrequest
 -- where its acts settle as that body does.
-abbrev pub BeginsWith : Ground → Phases → Vars → Conclusion → Family → Type 0
-BeginsWith g p vars outcome f = (patterns : List SetPattern) (tree : Tree) (texts : ℕ → List ℕ) (first : Serving Answer) (table : Vars) →
+abbrev pub BeginsWith : Ground → Phases → Vars → Conclusion → (known : List ℕ) → Family → Type 0
+BeginsWith g p vars outcome known f = (patterns : List SetPattern) (tree : Tree) (texts : ℕ → List ℕ) (first : Serving Answer) (table : Vars) →
     let w = world_in patterns g shipped in
     let site = g.site.now in
-    settled first table ≡ settled (after_phases w most_depth [] (prepared_as w (asked_in p) (standing_seen site p.at) (bytes_for outcome (texts 0)) outcome)) vars
+    settled first table ≡ settled (after_phases w most_depth [] (prepared_as w (asked_in p) (standing_seen site p.at) (bytes_for outcome (known_text known (texts 0))) outcome)) vars
     → Opening w tree 0 (alone 0 1 (Going most_depth first)) table (meant w patterns site texts f) f.vars
 
 -- All its nodes are over but that of the main request, which has come to its answer.

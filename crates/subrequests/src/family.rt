@@ -64,13 +64,14 @@ const MOST_LEFT: u32 = 50;
 const MOST_STEPS: u32 = u32::MAX;
 
 /// What the phases of a main request came to: what its body is; the job that told of its file, and
-/// the number of the tree from which it is answered; and how many subrequests were opened before,
-/// which decided on its access and are over.
+/// the number of the tree from which it is answered; all bytes of that file that are known, or
+/// none; and how many subrequests were opened before, which decided on its access and are over.
 #[derive(Drop)]
 pub struct Decided {
     pub outcome: Conclusion,
     pub ask: Ask,
     pub tree: u64,
+    pub known: ByteText,
     pub opened: u8,
 }
 
@@ -159,7 +160,7 @@ impl Family {
         vars: VarTable,
         decided: Decided,
     ) -> Result<Family, OutOfMemory>
-        ensures begins { IfOk result (λ f. BeginsWith ground.now phases vars decided.outcome f) }
+        ensures begins { IfOk result (λ f. BeginsWith ground.now phases vars decided.outcome decided.known f) }
         ensures files { IfOk result (λ f. (trees : Trees) →
             files trees f 0 ≡ text_of (item_asked trees decided.ask)) }
         ensures whole { IfOk result (λ f. IsWhole f) }
@@ -171,6 +172,7 @@ impl Family {
             outcome,
             ask,
             tree,
+            known,
             opened,
         } = decided;
         let mut phases = phases;
@@ -181,6 +183,7 @@ impl Family {
             MOST_LEFT,
             Table::new(alloc),
             outcome,
+            known,
         )?;
         let mut main = blank_main(alloc, Method::Get);
         lend(&mut main, &mut phases);

@@ -59,7 +59,7 @@ fn copy_answer(alloc: Global, answer: JobAnswer) -> Result<FileTold, OutOfMemory
     ensures { IfOk result (λ copy. file_answer copy ≡ answer_of answer.entry) }
 {
     match answer {
-        JobAnswer::Stat(node) => Ok(FileTold::Stat(node)),
+        JobAnswer::Stat(node, _) => Ok(FileTold::Stat(node)),
         JobAnswer::Read(bytes) => Ok(FileTold::Bytes(ByteText::from_slice(alloc, bytes)?)),
     }
 }

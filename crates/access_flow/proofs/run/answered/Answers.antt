@@ -1,7 +1,8 @@
 use Rattle.std.proofs.Common.{◌≡◌, sym, ◌∙◌, subst}
 use Rattle.node_turn.specs.request_phases.Rounds.{phases_told}
 use Rattle.request_flow.specs.Flows.{item_asked}
-use Rattle.request_flow.specs.Reached.{path_asked, told_text_item}
+use Rattle.request_flow.specs.Flows.{told_text_item}
+use Rattle.request_flow.specs.Reached.{path_asked}
 use Rattle.access_flow.specs.Flows.{by_answer, stage_rest}
 use Rattle.access_flow.specs.Reached.{StageReached}
 use Rattle.access_flow.specs.declared.flow.Stage.{Stage}

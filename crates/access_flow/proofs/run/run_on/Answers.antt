@@ -6,7 +6,7 @@ use Rattle.request_meaning.specs.Serving.From.{Start}
 use Rattle.node_turn.specs.request_phases.Rounds.{asked_from, phases_left, phases_told, world_in}
 use Rattle.request_flow.specs.Flows.{item_asked, told_item}
 use Rattle.request_flow.specs.Pages.{GoesTo}
-use Rattle.request_flow.specs.Reached.{told_text_item}
+use Rattle.request_flow.specs.Flows.{told_text_item}
 use Rattle.access_flow.specs.Flows.{access_left, stage_rest}
 use Rattle.access_flow.specs.Reached.{AccessReached, StageReached}
 use Rattle.access_flow.proofs.Inner.{replied_is, went_left}

@@ -1,5 +1,6 @@
 use Rattle.std.proofs.Common.{ap, ◌∙◌, sym}
 use Rattle.acts.specs.Act.{settled}
+use Rattle.file_tree.specs.Tree.{known_text}
 use Rattle.request_reply.specs.request_meaning.Laws.{shipped}
 use Rattle.request_reply.specs.request_meaning.Phases.{rounds}
 use Rattle.request_reply.specs.request_meaning.Serving.From.{Start}
@@ -23,9 +24,10 @@ returns-clause-turns c = λ path text.
     let turned = c.in_ok-turned.turned in
     let left = c.args.footing.left in
     let given = c.lend_to.new.phases in
+    let bytes = padded 0 (known_text c.new-known.result text) in
     ap (λ (p : Phases). settled (served_as w left c.args.ssi (rounds w p.changes (asked_from p Start))) old) (sym c.lend_to.ensures.phases)
-    ∙ (phased.in_turn (rounds w given.changes (asked_from given Start)) (phases_left w ps site (padded 0 text) q step) (after_phases w left c.args.ssi) old new
-    (c.in_ok-step.ensures.does (padded 0 text) shipped)
+    ∙ (phased.in_turn (rounds w given.changes (asked_from given Start)) (phases_left w ps site bytes q step) (after_phases w left c.args.ssi) old new
+    (c.in_ok-step.ensures.does bytes shipped)
     ∙ (c.in_ok-turned.ensures.turns ps path text new
     ∙ ap (λ p. (stage_act w ps site p left (path_or turned.path path) turned.stage text, new))
     (sym (phased.given_back main c.lend_to.new.main c.args.phases.now given q c.give_back.new.phases c.lend_to.ensures.phases c.in_ok-step.ensures.main c.give_back.ensures.phases))))

@@ -7,14 +7,14 @@ use Rattle.replay_run.proofs.jobs.give_found.Goals as goal
 
 pub returns-in-Node-clause-answers : goal.returns-in-Node-clause-answers
 returns-in-Node-clause-answers g c = λ told a waits known f.
-    Answers a (answer.Stat c.in-Node.node_there) waits known (node_from told.trees a c.in-Node.node_there c.args.block.now (subst (λ x. IsFound told.trees a x c.args.block.now) c.in-Node.is f))
+    Answers a (answer.Stat c.in-Node.node_there _) waits known (node_from told.trees a c.in-Node.node_there _ c.args.block.now refl (subst (λ x. IsFound told.trees a x c.args.block.now) c.in-Node.is f))
     (record { steps = c.step.ensures.steps; moment = c.step.ensures.now; ended = c.step.ensures.ended })
 
 pub returns-in-Node-clause-falls : goal.returns-in-Node-clause-falls
 returns-in-Node-clause-falls g c = λ told a waits f.
     let e = g.E.EventCore in
-    done_falls nobody.course (e.seen c.args.core.now).now (e.seen c.args.core.now).terms.price c.args.conn c.args.node a (answer.Stat c.in-Node.node_there) c.step.result ((e.seen c.args.core.now).view c.args.conn) ((e.seen c.step.new.self).view c.args.conn) (e.seen c.args.core.now).left (e.seen c.step.new.self).left
-    c.step.ensures.steps.own c.step.ensures.left waits (node_fits told.trees a c.in-Node.node_there c.args.block.now (subst (λ x. IsFound told.trees a x c.args.block.now) c.in-Node.is f))
+    done_falls nobody.course (e.seen c.args.core.now).now (e.seen c.args.core.now).terms.price c.args.conn c.args.node a (answer.Stat c.in-Node.node_there _) c.step.result ((e.seen c.args.core.now).view c.args.conn) ((e.seen c.step.new.self).view c.args.conn) (e.seen c.args.core.now).left (e.seen c.step.new.self).left
+    c.step.ensures.steps.own c.step.ensures.left waits (node_fits told.trees a c.in-Node.node_there _ c.args.block.now (subst (λ x. IsFound told.trees a x c.args.block.now) c.in-Node.is f))
 
 pub returns-in-Block-clause-answers : goal.returns-in-Block-clause-answers
 returns-in-Block-clause-answers g c = λ told a waits known f.
