@@ -23,7 +23,7 @@ use Rattle.node_line.proofs.Joins.{joins, joins_under}
 use Rattle.family_order.proofs.Wells.{well-doing}
 use Rattle.family_rest.specs.Laws.{IsQuiet}
 use Rattle.family_rest.specs.Opened.{opened_by, opened_going, opened_move, opened_quietly}
-use Rattle.node_turn.specs.Turns.{Works, PlacesAs}
+use Rattle.node_turn.specs.Turns.{TurnsTo, Works, PlacesAs}
 use Rattle.node_turn.specs.Turns.Works.{Rests as WorksRest, Reads as WorksRead, Placed as WorksPlaced, Merges as WorksMerge}
 use Rattle.node_line.specs.Stances.{Opening, Own, Seat, Spot, filling, owned, place_by, stance_at, stance_so, under}
 use Rattle.node_line.specs.Stances.Own.{Beside, Below}
@@ -184,7 +184,7 @@ module _ (w : World) (tree : Tree) (laws : ShowsTheSame) (h at : ℕ) (seat : Se
       by InRow = stance_step w tree laws h f goes_on 0 (Going left m) (Going left (settled m vars).0) vars (settled m vars).1 (Thinks h (stands w tree laws h f goes_on (Going left m))) refl
       by (Inside own s rest) = own_thinks w tree laws h f goes_on own s (Gives at left m rest) (Gives at left (settled m vars).0 rest) vars (settled m vars).1 Here
 
-  pub thinks : (m n : Serving Answer) (vars vars' : Vars) → settled m vars ≡ (n, vars') → Opening w tree 0 (now m) vars (now n) vars'
+  thinks : (m n : Serving Answer) (vars vars' : Vars) → settled m vars ≡ (n, vars') → Opening w tree 0 (now m) vars (now n) vars'
   thinks m n vars vars' e = subst (λ (s : Serving Answer × Vars). Opening w tree 0 (now m) vars (now s.0) s.1) e (thinks_once m vars)
 
   reads : (name : List ℕ) (k : Option (List ℕ) → Serving Answer) (vars : Vars) → Opening w tree 0 (now (Get name k)) vars (now (k (look vars name))) vars
@@ -214,6 +214,10 @@ module _ (w : World) (tree : Tree) (laws : ShowsTheSame) (h at : ℕ) (seat : Se
   works vars _ n (WorksRead {name} {k} q) = then (reads name k vars) (works vars (k (look vars name)) n q)
   works vars _ n (WorksPlaced {k} q) = then (places_none k vars) (works vars k n q)
   works vars _ n (WorksMerge {first} {second} {k} q) = then (merges first second k vars) (works vars (Write (first ++ second) k) n q)
+
+  -- its phases go on, and then it by itself
+  pub turns : (m n : Serving Answer) (vars vars' : Vars) → TurnsTo vars vars' m n → Opening w tree 0 (now m) vars (now n) vars'
+  turns m n vars vars' t = then (thinks m t.turned vars vars' t.settles) (works vars' t.turned n t.works)
 
   -- its question is answered
   pub record Learning (path : List ℕ) (k : Item → Serving Answer) (vars : Vars) : Type 0 where

@@ -2,7 +2,6 @@
 use Rattle.std.proofs.Common.{◌≡◌, ℕ, ◌==◌, Bool, true, false, cond, List, [], ◌++◌, refl, sym, ap, ◌∙◌, subst}
 use Rattle.std.proofs.lemmas.Bool.{eqb-true}
 use Rattle.acts.specs.Vars.{Vars}
-use Rattle.acts.specs.Act.{settled}
 use Rattle.file_tree.specs.Tree.{Tree}
 use Rattle.ngx_pattern.specs.Pattern.{Pattern as SetPattern}
 use Rattle.ngx_variables.specs.declared.request.Main.{Main}
@@ -12,7 +11,7 @@ use Rattle.request_meaning.specs.Serving.{World, Serving, Answer}
 use Rattle.family_order.specs.Items.{Stance, Family, IsAlike, with_stance, doing}
 use Rattle.family_order.specs.Laws.{ShowsTheSame}
 use Rattle.node_line.specs.node_turn.Stages.{hand_at, withheld_more, is_in_row, node_act}
-use Rattle.node_line.specs.node_turn.Turns.{PlacesAs, Works}
+use Rattle.node_line.specs.node_turn.Turns.{PlacesAs, TurnsTo, Works}
 use Rattle.node_line.specs.node_turn.declared.node.Node.{Node}
 use Rattle.node_line.specs.node_turn.declared.node.Place.{Place}
 use Rattle.node_line.specs.node_turn.declared.node.Place.TheVariants.{Row, Stub, Gathers, Captured}
@@ -63,11 +62,11 @@ module _ (laws : ShowsTheSame) (w : World) (patterns : List SetPattern) (site : 
     now_new : (f : Family) → doing s.h (stance_so (s.seat old.place) at old.left (act new)) f ≡ doing s.h (so new) f
     now_new f = ap (λ n. doing s.h (stance_so (s.seat old.place) at n (act new)) f) (sym left) ∙ ap (λ p. doing s.h (stance_so (s.seat p) at new.left (act new)) f) (sym place)
 
-    -- it thinks
-    pub turned : (vars' : Vars) → settled (act old) vars ≡ (act new, vars') → Opening w tree 0 before vars (seen w patterns site main row nodes' texts) vars'
-    turned vars' acts =
+    -- its phases go on, and then it by itself
+    pub turned : (vars' : Vars) → TurnsTo vars vars' (act old) (act new) → Opening w tree 0 before vars (seen w patterns site main row nodes' texts) vars'
+    turned vars' t =
         steps.alike begins
-        (steps.then (steps.thinks w tree laws s.h at (s.seat old.place) old.left before goes_on (act old) (act new) vars vars' acts)
+        (steps.then (steps.turns w tree laws s.h at (s.seat old.place) old.left before goes_on (act old) (act new) vars vars' t)
         (subst (λ f. Opening w tree 0 f vars' (seen w patterns site main row nodes' texts) vars') (sym (now_new before))
         (steps.alike (ends before row nodes' new r like refl refl refl (λ j e. refl)) steps.stays)))
 

@@ -1,6 +1,7 @@
 mod Phased
 mod Paged
 mod Serving
+mod Turning
 mod Placing
 mod Fronts
 pub mod Walks

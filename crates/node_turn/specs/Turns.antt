@@ -25,20 +25,26 @@ pub record IsSceneOf (g : Ground) (p : Phases) (left : ℕ) (scene : Scene) : Ty
   pub server : scene.server.now ≡ g.server.now
   pub levels : scene.left ≡ left
 
--- The body that follows what phases decided settles as the act of this stage, whatever the file is, of which these bytes are
--- known, and whatever is set.
-abbrev pub AnswersAs : Ground → Phases → (left : ℕ) → Vars → Conclusion → (known : List ℕ) → Stage → Type 0
-AnswersAs g p left ssi outcome known stage = (patterns : List SetPattern) (path text : List ℕ) (vars : Vars) →
-    let w = world_in patterns g shipped in
-    settled (after_phases w left ssi (prepared_as w (asked_in p) (standing_seen g.site.now p.at) (bytes_for outcome (known_text known text)) outcome)) vars
-    ≡ (stage_act w patterns g.site.now p left path stage text, vars)
-
 -- A node reads variables one by one, has placed nothing, or has one text to place in place of two.
 pub data Works (vars : Vars) : Serving Answer → Serving Answer → Type 0 where
   Rests : {m : Serving Answer} → Works vars m m
   Reads : {name : List ℕ} {k : Option (List ℕ) → Serving Answer} {m : Serving Answer} → Works vars (k (look vars name)) m → Works vars (Get name k) m
   Placed : {k m : Serving Answer} → Works vars k m → Works vars (Write [] k) m
   Merges : {first second : List ℕ} {k m : Serving Answer} → Works vars (Write (first ++ second) k) m → Works vars (Write first (Write second k)) m
+
+-- Variables are read and written at once, up to the next act that others may come between; and from there the node goes on by itself.
+pub record TurnsTo (before after : Vars) (old new : Serving Answer) : Type 0 where
+  pub turned : Serving Answer
+  pub settles : settled old before ≡ (turned, after)
+  pub works : Works after turned new
+
+-- The body that follows what phases decided comes so to the act of this stage, whatever the file is, of which these bytes are
+-- known, and whatever is set.
+abbrev pub AnswersAs : Ground → Phases → (left : ℕ) → Vars → Conclusion → (known : List ℕ) → Stage → Type 0
+AnswersAs g p left ssi outcome known stage = (patterns : List SetPattern) (path text : List ℕ) (vars : Vars) →
+    let w = world_in patterns g shipped in
+    TurnsTo vars vars (after_phases w left ssi (prepared_as w (asked_in p) (standing_seen g.site.now p.at) (bytes_for outcome (known_text known text)) outcome))
+    (stage_act w patterns g.site.now p left path stage text)
 
 -- Bytes are placed: some of what the act writes next, after which it does the rest, up to another act of its own.
 pub record PlacesAs (some : List ℕ) (old new : Serving Answer) : Type 0 where

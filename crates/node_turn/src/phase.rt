@@ -1,6 +1,5 @@
 // The phases of a node.
 ghost use Rattle.std.specs.Prelude.{◌≡◌, ◌++◌, ℕ, List, true, false, is_some, IfOk, None, Some};
-ghost use Rattle.acts.specs.Act.{settled};
 ghost use Rattle.acts.specs.Vars.{Vars};
 ghost use Rattle.file_tree.specs.Tree.{known_text};
 ghost use Rattle.ngx_pattern.specs.Pattern.{Pattern as SetPattern};
@@ -13,7 +12,7 @@ ghost use Rattle.request_reply.specs.request_phases.declared.state.Phases.{Phase
 ghost use Rattle.request_reply.specs.Replies.{sent_as};
 ghost use Rattle.page_body.specs.Pages.{filtered_rest};
 ghost use Rattle.node_turn.specs.Nodes.{answer_seen, body_then, bytes_for, from_source, len_of as told_len, lent, padded, path_or, served_as, stage_act, told_length, with_main};
-ghost use Rattle.node_turn.specs.Turns.{IsSceneOf, AnswersAs};
+ghost use Rattle.node_turn.specs.Turns.{IsSceneOf, AnswersAs, TurnsTo};
 ghost use Rattle.node_turn.specs.Stages.{is_asking};
 ghost use Rattle.node_turn.specs.declared.node.Stage.TheVariants.{Begins as BeginsView, Told as ToldView};
 
@@ -25,10 +24,10 @@ use error_page::page_text;
 use file_tree::{Ask, Found, Node as FileNode};
 use filter_api::Facts;
 use ngx_pattern::PatternSet;
-use page_body::Page;
 use page_body::ngx_variables::{Main, VarTable};
 use page_body::ssi_exec::Scene;
 use page_body::ssi_values::Table;
+use page_body::{Page, is_plain};
 use request_reply::request_phases::{Conclusion, Ground, Phases, Step, Wait, begin, resume};
 use request_reply::{Body as ReplyBody, reply_of};
 use std::alloc::Global;
@@ -171,6 +170,13 @@ fn paged(
     Ok(Stage::Places(Box::new(alloc, body)?))
 }
 
+/// Whether all of a source is at hand.
+fn is_whole(source: &Source) -> bool
+    ensures { result ≡ true → source.now.left ≡ 0 }
+{
+    source.left == 0 && !source.unread
+}
+
 /// The body of a text or a file, as it is sent.
 #[inline(always)]
 fn sent(
@@ -186,16 +192,21 @@ fn sent(
         (patterns : List SetPattern) (path file : List ℕ) (vars : Vars)
         → IsSceneOf g p levels scene.now
         → let w = world_in patterns g shipped in let answer = answer_seen g.site.now p answered in
-        settled (body_then w levels ssi answer
-        (sent_as facts (source.text ++ padded source.left file))) vars
-        ≡ (stage_act w patterns g.site.now p levels path stage file, vars)) }
+        TurnsTo vars vars
+        (body_then w levels ssi answer (sent_as facts (source.text ++ padded source.left file)))
+        (stage_act w patterns g.site.now p levels path stage file)) }
 {
     match facts {
         None => {
             let Source { text, left, unread } = source;
             Ok(plain(alloc, answered, text, left, unread)?)
         }
-        Some(facts) => Ok(paged(alloc, scene, answered, facts, ssi, source)?),
+        Some(facts) => {
+            if is_whole(&source) && is_plain(&facts, source.text.as_slice()) {
+                return Ok(plain(alloc, answered, source.text, 0, false)?);
+            }
+            Ok(paged(alloc, scene, answered, facts, ssi, source)?)
+        }
     }
 }
 
@@ -292,12 +303,9 @@ fn after_step(
     ensures turns { IfOk result (λ turned. (patterns : List SetPattern) (path text : List ℕ)
         (vars : Vars) → let w = world_in patterns ground.now shipped in
         let site = ground.now.site.now in
-        settled (served_as w left ssi
-        (phases_left w patterns site (padded len (known_text known text)) phases.now step)) vars
-        ≡ (
-          stage_act w patterns site phases.now left (path_or turned.path path) turned.stage text,
-          vars,
-        )) }
+        TurnsTo vars vars (served_as w left ssi
+        (phases_left w patterns site (padded len (known_text known text)) phases.now step))
+        (stage_act w patterns site phases.now left (path_or turned.path path) turned.stage text)) }
     ensures asks { IfOk result (λ turned. is_some turned.path ≡ true
         → is_asking turned.stage ≡ true) }
     ensures path { IfOk result (λ turned. is_asking turned.stage ≡ true
@@ -341,13 +349,10 @@ pub(crate) fn begins(
     ensures turns { IfOk result (λ turned. (path text : List ℕ) →
         let g = footing.entry.ground.now in let left = footing.entry.left in
         let w = world_in patterns.old g shipped in let site = g.site.now in
-        settled (stage_act w patterns.old site (lent main.old phases.old) left path
-        (BeginsView ssi) text) vars.old
-        ≡ (
-          stage_act w patterns.old site (lent main.old phases.new) left
-              (path_or turned.path path) turned.stage text,
-          vars.new,
-        )) }
+        TurnsTo vars.old vars.new (stage_act w patterns.old site (lent main.old phases.old) left
+        path (BeginsView ssi) text)
+        (stage_act w patterns.old site (lent main.old phases.new) left (path_or turned.path path)
+        turned.stage text)) }
     ensures asks { IfOk result (λ turned. is_some turned.path ≡ true
         → is_asking turned.stage ≡ true) }
     ensures path { IfOk result (λ turned. is_asking turned.stage ≡ true
@@ -387,13 +392,10 @@ pub(crate) fn resumes(
     ensures turns { IfOk result (λ turned. (path text : List ℕ) →
         let g = footing.entry.ground.now in let left = footing.entry.left in
         let w = world_in patterns.old g shipped in let site = g.site.now in
-        settled (stage_act w patterns.old site (lent main.old phases.old) left path
-        (ToldView told.wait told.file told.ssi) text) vars.old
-        ≡ (
-          stage_act w patterns.old site (lent main.old phases.new) left
-              (path_or turned.path path) turned.stage text,
-          vars.new,
-        )) }
+        TurnsTo vars.old vars.new (stage_act w patterns.old site (lent main.old phases.old) left
+        path (ToldView told.wait told.file told.ssi) text)
+        (stage_act w patterns.old site (lent main.old phases.new) left (path_or turned.path path)
+        turned.stage text)) }
     ensures asks { IfOk result (λ turned. is_some turned.path ≡ true
         → is_asking turned.stage ≡ true) }
     ensures path { IfOk result (λ turned. is_asking turned.stage ≡ true

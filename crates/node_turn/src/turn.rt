@@ -1,6 +1,5 @@
 // A node goes on by itself.
 ghost use Rattle.std.specs.Prelude.{◌≡◌, ◌≤◌, ◌+◌, ◌==◌, ℕ, List, IfOk, OnOk, true, false, drop, take, length};
-ghost use Rattle.acts.specs.Act.{settled};
 ghost use Rattle.acts.specs.Vars.{Vars};
 ghost use Rattle.file_tree.specs.Tree.{Trees, tree_of};
 ghost use Rattle.ngx_pattern.specs.Pattern.{Pattern as SetPattern};
@@ -16,7 +15,7 @@ ghost use Rattle.node_turn.specs.Stages.{IsSameNode, ask_or, block_of, hand_at, 
 ghost use Rattle.node_turn.specs.Nodes.{answer_seen, asked_path, captured_act, hand, later, lent, placed_act, served_act, stage_act, with_main};
 ghost use Rattle.node_turn.specs.Served.{ServesTo, WaitsAt};
 ghost use Rattle.node_turn.specs.Taken.{TakesTo, WaitsBy};
-ghost use Rattle.node_turn.specs.Turns.{PlacesAs, Works};
+ghost use Rattle.node_turn.specs.Turns.{PlacesAs, TurnsTo, Works};
 ghost use Rattle.node_turn.specs.declared.node.Stage.TheVariants.{Places as PlacesView, Reads as ReadsView};
 
 use crate::lending::lend_method;
@@ -76,8 +75,8 @@ pub fn turns(
     requires turning { is_turning node.old.stage ≡ true }
     ensures acts { OnOk result ((text : List ℕ) →
         let w = world_in patterns.old ground.now shipped in let site = ground.now.site.now in
-        settled (node_act w patterns.old site main.old node.old text) vars.old
-        ≡ (node_act w patterns.old site main.old node.new text, vars.new)) }
+        TurnsTo vars.old vars.new (node_act w patterns.old site main.old node.old text)
+        (node_act w patterns.old site main.old node.new text)) }
     ensures node { OnOk result (IsSameNode node.old node.new) }
     ensures place { OnOk result (node.new.place ≡ node.old.place) }
     ensures file { OnOk result (is_asking node.new.stage ≡ false →

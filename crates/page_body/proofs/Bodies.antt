@@ -25,7 +25,7 @@ use Rattle.page_body.proofs.Alone.{alone_part}
 -- ---- text
 
 -- what is written byte by byte, and then goes on
-each_bound : {A B : Type 0} (text : List ℕ) (m : Serving A) (k : A → Serving B) → (each_written text m >>= k) ≡ each_written text (m >>= k)
+pub each_bound : {A B : Type 0} (text : List ℕ) (m : Serving A) (k : A → Serving B) → (each_written text m >>= k) ≡ each_written text (m >>= k)
 unfolding each_written ◌>>=◌
 each_bound [] m k = refl
 each_bound (b ∷ text) m k = ap (λ m. Write (b ∷ []) m) (each_bound text m k)

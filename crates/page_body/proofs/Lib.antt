@@ -3,3 +3,4 @@ pub mod Alone
 pub mod Bodies
 pub mod Chains
 pub mod Pages
+pub mod Unfiltered

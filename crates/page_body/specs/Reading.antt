@@ -1,8 +1,8 @@
 -- Acts that read variables one after another, and texts that are written in pieces.
-use Rattle.std.specs.Prelude.{◌≡◌, ℕ, List, ◌++◌, Option}
+use Rattle.std.specs.Prelude.{◌≡◌, ℕ, List, [], ◌++◌, Option}
 use Rattle.acts.specs.Vars.{Vars, look}
-use Rattle.acts.specs.Act.{Get, Write, settled}
-use Rattle.family_meaning.specs.request_meaning.Serving.{Serving}
+use Rattle.acts.specs.Act.{Done, Get, Write, settled}
+use Rattle.family_meaning.specs.request_meaning.Serving.{Answer, Serving}
 
 -- Some of the variables with which an act begins are read, one after another, and this is left of it. Others may come between
 -- those reads and what is left, which `settled` leaves no room for.
@@ -23,3 +23,9 @@ ReadingSettles A = (m n : Serving A) (vars : Vars) → ReadsTo A vars m n → se
 -- a text that is written has settled
 abbrev pub WritingSettles : Type 0 → Type 0
 WritingSettles A = (text : List ℕ) (m n : Serving A) (vars : Vars) → Writing A text m n → settled m vars ≡ (m, vars)
+
+-- After nothing this text is written, and then the answer is there.
+pub record IsWritten (text : List ℕ) (act : Serving Answer) (answer : Answer) : Type 0 where
+  pub rest : Serving Answer
+  pub begins : act ≡ Write [] rest
+  pub writes : Writing Answer text rest (Done answer)

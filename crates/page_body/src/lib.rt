@@ -6,10 +6,12 @@ mod doing;
 mod laws;
 mod page;
 mod parts;
+mod plain;
 
 pub use doing::Doing;
 pub use laws::{reading_settles, writing_settles};
 pub use ngx_variables;
 pub use page::Page;
+pub use plain::is_plain;
 pub use ssi_exec;
 pub use ssi_exec::ssi_values;

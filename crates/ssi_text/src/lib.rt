@@ -13,4 +13,5 @@ mod state;
 pub use laws::{pieces_make_no_difference, what_is_undecided_is_open};
 pub use name::Name;
 pub use part::{Param, Params, Part};
+pub use scan::is_text;
 pub use state::SsiState;

@@ -16,6 +16,7 @@ use Rattle.family_order.specs.Items.{Family, alone, doing, with_stance}
 use Rattle.family_order.specs.Items.Stance.{Going}
 use Rattle.family_order.specs.Laws.{ShowsTheSame}
 use Rattle.node_line.specs.node_turn.Stages.{is_in_row, node_act}
+use Rattle.node_line.specs.node_turn.Turns.{TurnsTo}
 use Rattle.subrequests.specs.Families.{ArePast, IsSound, first_row, goes_on_at, is_past, rises_at}
 use Rattle.node_seats.specs.Seats.{doing_by, is_captured, most_levels, seen, stance_in}
 use Rattle.node_seats.proofs.Seated.{in_row_is}
@@ -137,13 +138,14 @@ module _ (row : Row) (nodes : List Node) (count : ℕ) (n : Node) (first : row �
 
 module _ (laws : ShowsTheSame) (w : World) (tree : Tree) (ps : List SetPattern) (site : Site) (main : Main) (row : Row) (nodes : List Node) (texts : ℕ → List ℕ) (vars : Vars) (count : ℕ) (n : Node) (m : Serving Answer)
     (first : row ≡ first_row (1 + count)) (past : ArePast (n ∷ []) nodes count) (left : n.left ≡ 50) (place : n.place ≡ InRow) (none : n.asks ≡ None) where
-  pub begins : (table : Vars) → settled m table ≡ (node_act w ps site main n (texts 0), vars) → Opening w tree 0 (alone 0 1 (Going 50 m)) table (seen w ps site main row nodes texts) vars
-  begins table e =
+  pub begins : (table before : Vars) (k : Serving Answer) → settled m table ≡ settled k before → TurnsTo before vars k (node_act w ps site main n (texts 0)) → Opening w tree 0 (alone 0 1 (Going 50 m)) table (seen w ps site main row nodes texts) vars
+  begins table before k e u =
+      let t : TurnsTo table vars m (node_act w ps site main n (texts 0)) = record { turned = u.turned; settles = e ∙ u.settles; works = u.works } in
       let f : Family = record { row = row; output = []; stance = λ j. Going 50 m; root = 0 } in
       steps.alike (laws.numbers (alone 0 1 (Going 50 m)) (1 + count) (let few : 1 ≤ 1 + count = omega arith in few))
       (subst (λ (r : Row). Opening w tree 0 (record { row = r; output = []; stance = λ j. Going 50 m; root = 0 }) table (seen w ps site main row nodes texts) vars) first
       (steps.alike (laws.others f (with_stance 0 (Going 50 m) f.stance) (λ j h. same (j == 0)))
-      (steps.then (steps.thinks w tree laws 0 0 InItsRow 50 f (open_first row nodes count n first past) m (node_act w ps site main n (texts 0)) table vars e)
+      (steps.then (steps.turns w tree laws 0 0 InItsRow 50 f (open_first row nodes count n first past) m (node_act w ps site main n (texts 0)) table vars t)
       (steps.alike (laws.others (doing 0 (Going 50 (node_act w ps site main n (texts 0))) f) (stance_in (doing_by w ps site main texts) nodes most_levels) (λ j h. is j (only row nodes count n first past j h))) steps.stays))))
     where
       same : (b : Bool) → Going 50 m ≡ cond b (Going 50 m) (Going 50 m)

@@ -3,7 +3,7 @@ use Rattle.std.proofs.Common.{◌≡◌, ◌≢◌, ◌≤◌, ◌<◌, ℕ, zer
 use Rattle.std.proofs.lemmas.Bool.{eqb-true}
 use Rattle.std.proofs.lemmas.Bool.Decides.{nat_tests}
 use Rattle.acts.specs.Vars.{Vars}
-use Rattle.acts.specs.Act.{Done, Inner, settled}
+use Rattle.acts.specs.Act.{Done, Inner}
 use Rattle.file_tree.specs.Tree.{Tree, Trees, text_of}
 use Rattle.ngx_pattern.specs.Pattern.{Pattern as SetPattern}
 use Rattle.ngx_variables.specs.declared.request.Main.{Main}
@@ -30,7 +30,7 @@ use Rattle.node_seats.proofs.Stepping as stepping
 use Rattle.subrequests.specs.Moved.{SameTexts}
 use Rattle.node_line.specs.Stances.{Opening, place_by, stance_at, under}
 use Rattle.node_line.specs.node_turn.Nodes.{asked_path, lent, stage_act, stage_heard}
-use Rattle.node_line.specs.node_turn.Turns.{Works, PlacesAs}
+use Rattle.node_line.specs.node_turn.Turns.{TurnsTo, Works, PlacesAs}
 use Rattle.node_line.specs.node_turn.declared.node.Node.{Node}
 use Rattle.node_line.specs.node_turn.declared.node.Stage.{Stage}
 use Rattle.node_line.specs.node_turn.declared.node.Stage.TheVariants as at_stage
@@ -298,7 +298,7 @@ module _ (laws : ShowsTheSame) (w : World) (patterns : List SetPattern) (site : 
   put : (new : Node) → new.asks ≡ old.asks → Replaced (doing_by w patterns site main texts) nodes (doing_by w patterns site main texts) (set nodes at new) at old new
   put new asks = replaced w patterns site main texts texts nodes at old new there (asks_none nodes at old there seat) (asks ∙ asks_none nodes at old there seat) (λ j e. refl)
 
-  pub turned : (vars' : Vars) (new : Node) → IsSameNode old new → new.place ≡ old.place → settled (act old) vars ≡ (act new, vars') →
+  pub turned : (vars' : Vars) (new : Node) → IsSameNode old new → new.place ≡ old.place → TurnsTo vars vars' (act old) (act new) →
       Opening w tree 0 before vars (seen w patterns site main row (set nodes at new) texts) vars'
   turned vars' new same place acts =
       stepping.turned laws w patterns site main row nodes texts at old (its_seat w patterns site main row nodes texts at old there sound goes_on seat)

@@ -8,6 +8,7 @@ use Rattle.request_reply.specs.request_phases.Rounds.{asked_from, phases_left, w
 use Rattle.request_reply.specs.request_phases.declared.state.Phases.{Phases}
 use Rattle.node_turn.specs.Nodes.{after_phases, padded, path_or, served_as, stage_act}
 use Rattle.node_turn.proofs.Phased as phased
+use Rattle.node_turn.proofs.Turning.{turns_by, turns_on}
 use Rattle.node_turn.proofs.phase.begins.Goals as goal
 
 pub returns-clause-turns : goal.returns-clause-turns
@@ -25,9 +26,9 @@ returns-clause-turns c = λ path text.
     let left = c.args.footing.left in
     let given = c.lend_to.new.phases in
     let bytes = padded 0 (known_text c.new-known.result text) in
-    ap (λ (p : Phases). settled (served_as w left c.args.ssi (rounds w p.changes (asked_from p Start))) old) (sym c.lend_to.ensures.phases)
-    ∙ (phased.in_turn (rounds w given.changes (asked_from given Start)) (phases_left w ps site bytes q step) (after_phases w left c.args.ssi) old new
-    (c.in_ok-step.ensures.does bytes shipped)
-    ∙ (c.in_ok-turned.ensures.turns ps path text new
-    ∙ ap (λ p. (stage_act w ps site p left (path_or turned.path path) turned.stage text, new))
+    turns_by (ap (λ (p : Phases). settled (served_as w left c.args.ssi (rounds w p.changes (asked_from p Start))) old) (sym c.lend_to.ensures.phases)
+    ∙ phased.in_turn (rounds w given.changes (asked_from given Start)) (phases_left w ps site bytes q step) (after_phases w left c.args.ssi) old new
+    (c.in_ok-step.ensures.does bytes shipped))
+    (turns_on (c.in_ok-turned.ensures.turns ps path text new)
+    (ap (λ p. stage_act w ps site p left (path_or turned.path path) turned.stage text)
     (sym (phased.given_back main c.lend_to.new.main c.args.phases.now given q c.give_back.new.phases c.lend_to.ensures.phases c.in_ok-step.ensures.main c.give_back.ensures.phases))))

@@ -8,6 +8,7 @@ use Rattle.node_turn.specs.Nodes.{asked_path, lent, stage_act}
 use Rattle.node_turn.specs.declared.node.Node.{Node}
 use Rattle.node_turn.specs.declared.node.Stage.TheVariants.{Begins, Told}
 use Rattle.node_turn.proofs.Phased as phased
+use Rattle.node_turn.proofs.Turning.{turns_by, turns_on}
 use Rattle.node_turn.proofs.turn.turns.Goals as goal
 
 pub returns-in_ok-turned-in-Begins-clause-acts : goal.returns-in_ok-turned-in-Begins-clause-acts
@@ -22,12 +23,12 @@ returns-in_ok-turned-in-Begins-clause-acts c = λ text.
     let new = c.begins.new.vars in
     let turned = c.in_ok-turned-in-Begins.turned in
     let phases = c.begins.new.phases in
-    ap (λ s. settled (stage_act w ps site (lent main old.phases) old.left (asked_path old.ask) s text) vars) (sym c.stage_of.ensures.stage ∙ c.in-Begins.is)
-    ∙ (ap (λ (n : Node). settled (stage_act w ps site (lent main n.phases) old.left (asked_path old.ask) (Begins c.in-Begins.ssi) text) vars) (sym c.stage_of.ensures.node)
-    ∙ (c.in_ok-turned-in-Begins.ensures.turns (asked_path old.ask) text
-    ∙ (ap (λ path. (stage_act w ps site (lent main phases) old.left path turned.stage text, new)) (phased.asked_or turned.path c.args.of old.ask)
-    ∙ (ap (λ (n : Node). (stage_act w ps site (lent main phases) n.left (asked_path (ask_or turned.path c.args.of n.ask)) turned.stage text, new)) (sym c.stage_of.ensures.node)
-    ∙ ap (λ (n : Node). (node_act w ps site main n text, new)) (sym c.put_turned.ensures)))))
+    turns_by (ap (λ s. settled (stage_act w ps site (lent main old.phases) old.left (asked_path old.ask) s text) vars) (sym c.stage_of.ensures.stage ∙ c.in-Begins.is)
+    ∙ (ap (λ (n : Node). settled (stage_act w ps site (lent main n.phases) old.left (asked_path old.ask) (Begins c.in-Begins.ssi) text) vars) (sym c.stage_of.ensures.node)))
+    (turns_on (c.in_ok-turned-in-Begins.ensures.turns (asked_path old.ask) text)
+    (ap (λ path. stage_act w ps site (lent main phases) old.left path turned.stage text) (phased.asked_or turned.path c.args.of old.ask)
+    ∙ (ap (λ (n : Node). stage_act w ps site (lent main phases) n.left (asked_path (ask_or turned.path c.args.of n.ask)) turned.stage text) (sym c.stage_of.ensures.node)
+    ∙ ap (λ (n : Node). node_act w ps site main n text) (sym c.put_turned.ensures))))
 
 pub returns-in_ok-turned-in-Told-clause-acts : goal.returns-in_ok-turned-in-Told-clause-acts
 returns-in_ok-turned-in-Told-clause-acts c = λ text.
@@ -41,12 +42,12 @@ returns-in_ok-turned-in-Told-clause-acts c = λ text.
     let new = c.resumes.new.vars in
     let turned = c.in_ok-turned-in-Told.turned in
     let phases = c.resumes.new.phases in
-    ap (λ s. settled (stage_act w ps site (lent main old.phases) old.left (asked_path old.ask) s text) vars) (sym c.stage_of.ensures.stage ∙ c.in-Told.is)
-    ∙ (ap (λ (n : Node). settled (stage_act w ps site (lent main n.phases) old.left (asked_path old.ask) (Told c.in-Told.wait c.in-Told.file c.in-Told.ssi) text) vars) (sym c.stage_of.ensures.node)
-    ∙ (c.in_ok-turned-in-Told.ensures.turns (asked_path old.ask) text
-    ∙ (ap (λ path. (stage_act w ps site (lent main phases) old.left path turned.stage text, new)) (phased.asked_or turned.path c.args.of old.ask)
-    ∙ (ap (λ (n : Node). (stage_act w ps site (lent main phases) n.left (asked_path (ask_or turned.path c.args.of n.ask)) turned.stage text, new)) (sym c.stage_of.ensures.node)
-    ∙ ap (λ (n : Node). (node_act w ps site main n text, new)) (sym c.put_turned-in-Told.ensures)))))
+    turns_by (ap (λ s. settled (stage_act w ps site (lent main old.phases) old.left (asked_path old.ask) s text) vars) (sym c.stage_of.ensures.stage ∙ c.in-Told.is)
+    ∙ (ap (λ (n : Node). settled (stage_act w ps site (lent main n.phases) old.left (asked_path old.ask) (Told c.in-Told.wait c.in-Told.file c.in-Told.ssi) text) vars) (sym c.stage_of.ensures.node)))
+    (turns_on (c.in_ok-turned-in-Told.ensures.turns (asked_path old.ask) text)
+    (ap (λ path. stage_act w ps site (lent main phases) old.left path turned.stage text) (phased.asked_or turned.path c.args.of old.ask)
+    ∙ (ap (λ (n : Node). stage_act w ps site (lent main phases) n.left (asked_path (ask_or turned.path c.args.of n.ask)) turned.stage text) (sym c.stage_of.ensures.node)
+    ∙ ap (λ (n : Node). node_act w ps site main n text) (sym c.put_turned-in-Told.ensures))))
 
 pub returns-in_ok-turned-in-Begins-clause-tree : goal.returns-in_ok-turned-in-Begins-clause-tree
 returns-in_ok-turned-in-Begins-clause-tree c = λ asks.
