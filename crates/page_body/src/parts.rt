@@ -12,6 +12,10 @@ use filter_api::{Facts, push_part};
 use ssi_text::{Part, SsiState};
 use std::alloc::Global;
 
+/// From the beginning there is room for this many parts of a block, which take less than 1024 bytes: as much as the C library
+/// keeps at hand.
+const FEW_PARTS: usize = 15;
+
 /// Whether the filter of server side includes acts.
 pub(crate) fn is_split(facts: &Facts) -> bool
     ensures { result ≡ splits facts.now }
@@ -45,6 +49,7 @@ pub(crate) fn block_parts(
         return Ok(());
     }
     if is_split {
+        out.reserve(FEW_PARTS)?;
         split.feed_text(alloc, block, out)?;
         return Ok(());
     }

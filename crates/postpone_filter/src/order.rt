@@ -51,6 +51,14 @@ impl Model for Order {
         × (starts_over (pieces_of o.parts.items o.nodes.items) ≡ false) };
 }
 
+/// Whether a node has a buffer, so that no text can be its buffer.
+fn has_buffer(nodes: &[Node], id: u32) -> bool {
+    match nodes.get(id as usize) {
+        Some(node) => node.has_buffer(),
+        None => false,
+    }
+}
+
 impl Order {
     /// The order of a new response: node 0, which has placed nothing.
     pub fn new(alloc: Global) -> Result<Order, OutOfMemory>
@@ -98,6 +106,9 @@ impl Order {
         ensures opened { (j : ℕ) → is_open j self.new.pieces ≡ is_open j self.old.pieces }
         ensures back { IfSome result (λ back. (back ≡ text) × (self.new ≡ self.old)) }
     {
+        if has_buffer(self.nodes.as_slice(), id) {
+            return Some(text);
+        }
         match place_of(&self.parts, self.passed, &mut self.nodes, id) {
             Some(at) => Some(put_text(&mut self.parts, &mut self.nodes, at, id, text)?),
             None => Some(text),

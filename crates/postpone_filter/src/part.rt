@@ -130,6 +130,11 @@ fn insert_reserved(parts: &mut VecDeque<Part>, at: usize, part: Part)
     ensures len { deque_len parts.new ≡ deque_len parts.old + 1 }
     ensures capacity { deque_capacity parts.old ≤ deque_capacity parts.new }
 {
+    // As a rule its place is the last one.
+    if at == parts.len() {
+        parts.push_back_reserved(part);
+        return;
+    }
     // It can't fail: there is room.
     match parts.insert(at, part) {
         Ok(()) => {}

@@ -1,6 +1,6 @@
 // Which body filters act on a body (<https://nginx.org/en/docs/http/ngx_http_ssi_module.html#ssi_types>,
 // ngx_http_addition_module.html#addition_types).
-ghost use Rattle.std.specs.Prelude.{◌≡◌, ◌&&◌, ◌||◌, bytes_eq, if◌then◌else◌, Some, None};
+ghost use Rattle.std.specs.Prelude.{◌≡◌, ◌&&◌, ◌||◌, bytes_eq, codes, if◌then◌else◌, Some, None};
 ghost use Rattle.std.specs.List.{list_any};
 ghost use Rattle.request_phases.specs.rewrite_code.Places.{standing_seen};
 ghost use Rattle.request_phases.specs.site_whole.Whole.{media_at};
@@ -20,11 +20,18 @@ fn is_listed(kind: &[u8], types: &[ByteText]) -> bool
     types.iter().any(|text| kind == text.as_slice())
 }
 
+fn is_html(kind: &[u8]) -> bool
+    ensures { result ≡ bytes_eq kind.now (codes "text/html") }
+{
+    kind == b"text/html".as_slice()
+}
+
 /// Whether a media type is one of a list of the site's, to which text/html belongs.
-fn is_among(site: &Site, number: Option<u32>, kind: &[u8]) -> bool
+fn is_among(site: &Site, number: Option<u32>, kind: &[u8], html: bool) -> bool
+    requires { html ≡ bytes_eq kind.now (codes "text/html") }
     ensures { result ≡ is_in_media (media_at site.now number) kind.now }
 {
-    if kind == b"text/html".as_slice() {
+    if html {
         return true;
     }
     let Some(number) = number else {
@@ -48,12 +55,13 @@ fn told(site: &Site, level: &Level, phases: &Phases, status: u16, kind: &[u8]) -
     requires { level.now ≡ raw_level site.now phases.now.at.level }
     ensures { result ≡ facts_of (standing_seen site.now phases.now.at) status kind.now }
 {
+    let html = is_html(kind);
     Facts {
         ssi: level.ssi,
-        ssi_type: is_among(site, level.ssi_types, kind),
+        ssi_type: is_among(site, level.ssi_types, kind, html),
         before: level.before.is_some(),
         after: level.after.is_some(),
-        addition_type: is_among(site, level.addition_types, kind),
+        addition_type: is_among(site, level.addition_types, kind, html),
         status,
         main: is_main(phases.at.request.role),
     }

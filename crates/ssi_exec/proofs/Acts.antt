@@ -163,6 +163,13 @@ pub is_include_is : (doc : Doc) (ps : List Param) → (go_together ps && is_ther
 unfolding is_include
 is_include_is doc ps = ap (λ b. go_together ps && b) (block_there doc (param (codes "stub") ps))
 
+pub apart : (doc : Doc) (ps : List Param) → go_together ps ≡ false → is_include doc ps ≡ false
+apart doc ps e = sym (is_include_is doc ps) ∙ ap (λ b. b && is_there doc.blocks (param (codes "stub") ps)) e
+
+pub with_stub : (doc : Doc) (ps : List Param) (stub : Option (List ℕ)) (b : Bool) → stub ≡ param (codes "stub") ps → go_together ps ≡ true → is_there doc.blocks stub ≡ b → is_include doc ps ≡ b
+with_stub doc ps stub b e good f =
+    sym (is_include_is doc ps) ∙ (ap (λ g. g && is_there doc.blocks (param (codes "stub") ps)) good ∙ (ap (λ o. is_there doc.blocks o) (sym e) ∙ f))
+
 pub stub_same : (doc : Doc) (o : Option (List ℕ)) → stub_in doc.blocks o ≡ stub_of doc o
 stub_same doc None = refl
 stub_same doc (Some name) = refl

@@ -1,4 +1,5 @@
 mod Acts
+mod Alone
 mod Inside
 mod Ifs
 mod Wordings

@@ -1,19 +1,20 @@
 // The command `include`, what a captured body comes to, and the bodies that additions put before and after a document.
-ghost use Rattle.std.specs.Prelude.{◌≡◌, ◌≢◌, ℕ, ◌+◌, ◌-◌, ◌<◌, ◌≤◌, ◌==◌, ◌++◌, ◌&&◌, not, codes, length, take, IfOk, None, Some, option_map, unwrap_or, is_some, if◌then◌else◌};
+ghost use Rattle.std.specs.Prelude.{◌≡◌, ◌≢◌, ℕ, ◌+◌, ◌-◌, ◌<◌, ◌≤◌, ◌==◌, ◌++◌, List, codes, length, take, IfOk, None, Some, option_map, unwrap_or, is_some, if◌then◌else◌};
 ghost use Rattle.std.specs.List.{suffix_len};
 ghost use Rattle.std.specs.Result.{result_ok};
 ghost use Rattle.uri_text.specs.Target.{normal_of};
 ghost use Rattle.ngx_variables.specs.Grammar.{begins_with};
 ghost use Rattle.ssi_exec.specs.declared.document.Scene.{Scene as SceneView};
 ghost use Rattle.ssi_text.specs.declared.part.Part.{Part as PartView};
-ghost use Rattle.request_meaning.specs.Commands.{captured, child_of, folder_of, has as there_is, in_folder as at_folder, include_at, include_child, include_done, included, included_name as name_included, is_wait as is_yes_or_no, is_waited as waits, param as value_of};
-ghost use Rattle.ssi_exec.specs.Includes.{folder_path, go_together, is_there, stub_in};
+ghost use Rattle.ssi_text.specs.declared.part.Param.{Param as ParamView};
+ghost use Rattle.request_meaning.specs.Commands.{captured, child_of, folder_of, in_folder as at_folder, include_at, include_child, include_done, included, param as value_of};
+ghost use Rattle.ssi_exec.specs.Includes.{Says, folder_path, is_there, stub_in};
 ghost use Rattle.request_meaning.specs.Documents.{oops};
 ghost use Rattle.request_meaning.specs.Bodies.{added_part};
 ghost use Rattle.ssi_exec.specs.Scenes.{child_seen, doc_seen, served_act, written, DoesPart};
 
+use crate::asked::{Asked, read_asked};
 use crate::document::{Child, Document, Scene, Served};
-use crate::words::{has, is_word, param, text_of};
 use byte_text::{ByteText, OutOfMemory};
 use ngx_variables::VarTable;
 use ssi_text::Param;
@@ -28,37 +29,6 @@ pub struct Target {
     args: ByteText,
 }
 
-fn is_wait(text: Option<&[u8]>) -> bool
-    ensures { result ≡ is_yes_or_no (option_map (λ t. t.now) text.entry) }
-{
-    match text {
-        Some(text) => is_word(text, b"yes") || is_word(text, b"no"),
-        None => true,
-    }
-}
-
-/// Whether an include names a path, by `virtual` or by `file`.
-fn names_one(ps: &[Param]) -> bool
-    ensures { result ≡ (if there_is (codes "virtual") ps.now
-        then not (there_is (codes "file") ps.now) else there_is (codes "file") ps.now) }
-{
-    if has(b"virtual", ps) {
-        !has(b"file", ps)
-    } else {
-        has(b"file", ps)
-    }
-}
-
-/// Whether the parameters of an include go together.
-fn go_together(ps: &[Param]) -> bool
-    ensures { result ≡ go_together ps.now }
-{
-    names_one(ps)
-        && !(has(b"stub", ps) && has(b"set", ps))
-        && !(has(b"wait", ps) && has(b"file", ps))
-        && is_wait(param(b"wait", ps))
-}
-
 /// Whether the block of a stub is there.
 fn is_there(blocks: &Table, name: Option<&[u8]>) -> bool
     ensures { result ≡ is_there blocks.now (option_map (λ n. n.now) name.entry) }
@@ -67,13 +37,6 @@ fn is_there(blocks: &Table, name: Option<&[u8]>) -> bool
         Some(name) => blocks.get(name).is_some(),
         None => true,
     }
-}
-
-/// Whether the document waits for the end of an include.
-fn is_waited(ps: &[Param]) -> bool
-    ensures { result ≡ waits ps.now }
-{
-    has(b"file", ps) || has(b"set", ps) || is_word(text_of(b"wait", ps), b"yes")
 }
 
 /// A path up to its last slash, with it.
@@ -171,16 +134,8 @@ fn copied(alloc: Global, text: Option<&[u8]>) -> Result<Option<ByteText>, OutOfM
     }
 }
 
-fn included_name(ps: &[Param]) -> &[u8]
-    ensures { result.now ≡ name_included ps.now }
-{
-    match param(b"virtual", ps) {
-        Some(name) => name,
-        None => text_of(b"file", ps),
-    }
-}
-
 /// The text of a stub, by the name of its block.
+#[inline(always)]
 fn stub_of(
     alloc: Global,
     blocks: &Table,
@@ -199,29 +154,27 @@ fn stub_of(
 }
 
 impl Document {
-    /// Whether the parameters of an include go together, and its stub's block is there.
-    fn is_include(&self, ps: &[Param]) -> bool
-        ensures { result ≡ (go_together ps.now
-            && is_there self.now.blocks (value_of (codes "stub") ps.now)) }
-    {
-        go_together(ps) && is_there(&self.blocks, param(b"stub", ps))
-    }
-
     /// The subrequest of an include, whose document begins with this one's variables.
     #[inline(always)]
-    fn child_of(&self, alloc: Global, ps: &[Param], target: Target) -> Result<Child, OutOfMemory>
-        ensures { IfOk result (λ child. (scene : SceneView) → child_seen scene.main.now child
-            ≡ child_of (doc_seen scene self.now) ps.now target.path target.args) }
+    fn child_of(
+        &self,
+        alloc: Global,
+        asked: Asked<'_>,
+        target: Target,
+    ) -> Result<Child, OutOfMemory>
+        ensures { IfOk result (λ child. (scene : SceneView) (ps : List ParamView)
+            → Says asked.entry ps → child_seen scene.main.now child
+            ≡ child_of (doc_seen scene self.now) ps target.path target.args) }
     {
         let Target { path, args } = target;
         let ssi = self.ssi.copy(alloc)?;
-        let stub = stub_of(alloc, &self.blocks, param(b"stub", ps))?;
+        let stub = stub_of(alloc, &self.blocks, asked.stub)?;
         Ok(Child {
             path,
             args,
             ssi,
             stub,
-            waited: is_waited(ps),
+            waited: asked.waited,
         })
     }
 
@@ -241,17 +194,18 @@ impl Document {
     fn include_child(
         &self,
         alloc: Global,
-        ps: &[Param],
+        asked: Asked<'_>,
         target: Target,
     ) -> Result<Served, OutOfMemory>
         ensures { IfOk result (λ served. (scene : SceneView) (part : PartView)
+            (ps : List ParamView) → Says asked.entry ps
             → include_child (doc_seen scene self.now)
-            (child_of (doc_seen scene self.now) ps.now target.path target.args)
-            (value_of (codes "set") ps.now)
+            (child_of (doc_seen scene self.now) ps target.path target.args)
+            (value_of (codes "set") ps)
             ≡ served_act part served (doc_seen scene self.now)) }
     {
-        let child = self.child_of(alloc, ps, target)?;
-        match param(b"set", ps) {
+        let child = self.child_of(alloc, asked, target)?;
+        match asked.set {
             Some(name) => {
                 let name = lowercase(alloc, name)?;
                 Ok(Served::Captures { name, child })
@@ -266,11 +220,11 @@ impl Document {
         &self,
         alloc: Global,
         scene: &Scene<'_>,
-        ps: &[Param],
+        asked: Asked<'_>,
         text: &[u8],
     ) -> Result<Served, OutOfMemory>
-        ensures { IfOk result (λ served. (part : PartView)
-            → include_at (doc_seen scene.now self.now) ps.now
+        ensures { IfOk result (λ served. (part : PartView) (ps : List ParamView) → Says asked.entry ps
+            → include_at (doc_seen scene.now self.now) ps
             (normal_of (at_folder (doc_seen scene.now self.now) text.now)
             scene.now.server.now.merge)
             ≡ served_act part served (doc_seen scene.now self.now)) }
@@ -283,7 +237,7 @@ impl Document {
                     let served = self.fails(alloc, scene)?;
                     return Ok(served);
                 }
-                let child = self.include_child(alloc, ps, target)?;
+                let child = self.include_child(alloc, asked, target)?;
                 Ok(child)
             }
             None => {
@@ -306,19 +260,22 @@ impl Document {
             (λ w. include_done w (doc_seen scene.now self.now) ps.now) part served self.now) }
     {
         filled_settles();
-        if !self.is_include(ps) {
+        let Some(asked) = read_asked(ps) else {
+            let served = self.fails(alloc, scene)?;
+            return Ok(served);
+        };
+        if !is_there(&self.blocks, asked.stub) {
             let served = self.fails(alloc, scene)?;
             return Ok(served);
         }
-        let name = included_name(ps);
-        if is_of_itself(name) {
-            let child = self.include_at(alloc, scene, ps, name)?;
+        if is_of_itself(asked.name) {
+            let child = self.include_at(alloc, scene, asked, asked.name)?;
             return Ok(child);
         }
-        let text = self.filled_in(alloc, scene, vars, name)?;
+        let text = self.filled_in(alloc, scene, vars, asked.name)?;
         match text {
             Some(text) => {
-                let child = self.include_at(alloc, scene, ps, text.as_slice())?;
+                let child = self.include_at(alloc, scene, asked, text.as_slice())?;
                 Ok(child)
             }
             None => {

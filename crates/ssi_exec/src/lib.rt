@@ -2,6 +2,7 @@
 //! and what it leaves of the document (nginx's ngx_http_ssi_module).
 #![tactic(auto)]
 
+mod asked;
 mod blocks;
 mod branches;
 mod document;

@@ -129,6 +129,10 @@ fn word_in(words: &[Word], name: &[u8]) -> Option<Word>
 pub(crate) fn word_named(name: &[u8]) -> Option<Word>
     ensures { option_map word_seen result ≡ named_word name.now }
 {
+    // Most commands are includes.
+    if is_word(name, Word::Include.name()) {
+        return Some(Word::Include);
+    }
     word_in(&WORDS, name)
 }
 
